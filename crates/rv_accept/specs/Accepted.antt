@@ -1,4 +1,4 @@
--- The job that an accepted one becomes: it expects the actual results of its run.
+-- The job that an accepted job becomes: it expects the actual results of its run.
 use Rattle.std.specs.Prelude.{Some, Option, ℕ, List}
 use Rattle.rv_jobs.specs.declared_job.ExpectedConsole.{ExpectedConsole}
 use Rattle.rv_jobs.specs.declared_job.ExpectedConsole.TheVariants.{Text}
@@ -8,21 +8,22 @@ use Rattle.rv_jobs.specs.declared_job.Job.{Job}
 use Rattle.rv_rows.specs.declared_row.RowEnd.{RowEnd}
 use Rattle.rv_rows.specs.declared_row.RowEnd.TheVariants as ending
 
--- the actual exit code, if one is expected
+-- the new value of `expect_exit`: the actual exit code, if an exit code is expected and the run exited; otherwise the old value
 abbrev pub actual_exit : Option ℕ → RowEnd → Option ℕ
 actual_exit (Some code) (ending.Exit met) = Some met
 actual_exit expected _ = expected
 
--- the kind of the actual fault, if a fault is expected
+-- the new value of `expect_end`: the actual kind of fault, if a fault is expected and the run faulted; otherwise the old value
 abbrev pub actual_end : Option ExpectedEnd → RowEnd → Option ExpectedEnd
 actual_end (Some (expected.Fault kind)) (ending.Fault met pc value) = Some (expected.Fault met)
 actual_end expected _ = expected
 
--- the actual bytes of the console, if the expected ones are in the list itself
+-- the new value of `expect_console`: the actual console, if the list contains the expected text; otherwise the old value
 abbrev pub actual_console : Option ExpectedConsole → List ℕ → Option ExpectedConsole
 actual_console (Some (Text bytes)) console = Some (Text console)
 actual_console expected console = expected
 
+-- the job that an accepted job becomes: it expects the actual end and console of its run
 abbrev pub accepted_job : Job → RowEnd → List ℕ → Job
 accepted_job job end console = record job {
   expect_exit = actual_exit job.expect_exit end;

@@ -9,22 +9,23 @@ use Rattle.rv_rows.specs.Verdict.{did_run, exits_with, has_expected_end, has_exp
 use Rattle.rv_accept.specs.declared.ends.Acceptance.{Acceptance}
 use Rattle.rv_accept.specs.declared.ends.Acceptance.TheVariants as acceptance
 
--- the job ran and ended as expected: with exit 0 if no end is expected
+-- whether the job ran and ended as expected: with exit 0 if no end is expected
 abbrev pub ended_as_expected : Option ℕ → Option ExpectedEnd → RowEnd → Bool
 ended_as_expected exit how end = did_run end
     && (has_expected_exit exit end
     && (has_expected_end how end && (is_some exit || (is_some how || exits_with 0 end))))
 
--- an exit if an exit code is expected, or a fault if one is, whatever the code or the kind
+-- whether the job exited and an exit code is expected, or faulted and a fault is, whatever the code or the kind
 abbrev pub ended_in_expected_way : Option ℕ → Option ExpectedEnd → RowEnd → Bool
 ended_in_expected_way (Some code) None (ending.Exit met) = true
 ended_in_expected_way None (Some (expected.Fault kind)) (ending.Fault met pc value) = true
 ended_in_expected_way _ _ _ = false
 
+-- whether an end is accepted, given the expected exit code and the expected end
 abbrev pub is_accepted : Acceptance → Option ℕ → Option ExpectedEnd → RowEnd → Bool
 is_accepted acceptance.Expected exit how end = ended_as_expected exit how end
 is_accepted acceptance.InExpectedWay exit how end = ended_as_expected exit how end || ended_in_expected_way exit how end
 
--- the run ended so that its job is accepted
+-- whether a job that ended this way is accepted
 abbrev pub is_accepted_end : Acceptance → Job → RowEnd → Bool
 is_accepted_end acceptance job end = is_accepted acceptance job.expect_exit job.expect_end end

@@ -1,4 +1,4 @@
--- The jobs that those of a list become when some are accepted.
+-- The jobs of a list after some of them have been accepted.
 use Rattle.std.specs.Prelude.{List, [], ◌∷◌, Option, Some, None}
 use Rattle.rv_jobs.specs.declared_job.Job.{Job}
 use Rattle.rv_rows.specs.declared_row.Row.{Row}
@@ -6,12 +6,12 @@ use Rattle.rv_accept.specs.Accepted.{accepted_job}
 use Rattle.rv_accept.specs.Runs.{accepted_row}
 use Rattle.rv_accept.specs.declared.runs.JobRun.{JobRun}
 
--- an accepted job with the values of its row, and any other job unchanged
+-- the job with the values of its row, if it is accepted, and otherwise unchanged
 abbrev pub meant_job : Job → Option Row → Job
 meant_job job None = job
 meant_job job (Some row) = accepted_job job row.ending row.console
 
--- the intended job for each job and its run, if it has one
+-- the jobs of the list after accepting runs: each accepted job has the values of its row, the others are unchanged
 unfoldable pub intended_jobs : List Job → List (Option JobRun) → List Job
 intended_jobs [] runs = []
 intended_jobs (job ∷ jobs) [] = job ∷ jobs

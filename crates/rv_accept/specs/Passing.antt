@@ -11,11 +11,12 @@ use Rattle.rv_rows.specs.declared_row.Row.{Row}
 use Rattle.rv_rows.specs.declared_row.Verdict.{Verdict}
 use Rattle.rv_rows.specs.declared_row.Verdict.TheVariants as verdict
 
--- the verdict is a pass, or nothing is expected
+-- whether the verdict is pass, or none since the job has no expectations
 abbrev pub is_pass_or_unasked : Verdict → Bool
 is_pass_or_unasked verdict.Fail = false
 is_pass_or_unasked _ = true
 
+-- the outcome of the run that a row describes
 abbrev pub outcome_of_row : Row → Outcome
 outcome_of_row row = record {
   ending = row.ending;
@@ -24,13 +25,13 @@ outcome_of_row row = record {
   signature = row.signature;
 }
 
--- the job with this row finds its image unchanged, if it ran, and in its golden files the texts that it gave
+-- a later run of the job reads the same image, if the job ran, and finds the results of its row in its golden files
 pub record FindsItsFiles (earlier later : List Answer) (job : Job) (row : Row) : Type 0 where
   pub image : IsTrue (did_run row.ending) → kept_for later job.image ≡ kept_for earlier job.image
   pub signature : IfSome job.expect_signature (λ path. kept_for later path ≡ kept.Content (lines_of_signature row.signature))
   pub console : IfSome (console_path job.expect_console) (λ path. kept_for later path ≡ kept.Content row.console)
 
--- the job with this row ran, and ended as it expects, if it expects some end
+-- the job ran, and ended as it expects
 pub record EndedWell (job : Job) (row : Row) : Type 0 where
   pub ran : IsTrue (did_run row.ending)
   pub exit : IsTrue (has_expected_exit job.expect_exit row.ending)

@@ -1,4 +1,4 @@
--- The jobs of a list that were run, and whether they are rejected.
+-- The jobs of a list that were run, and why some of them are skipped.
 use Rattle.std.specs.Prelude.{◌&&◌, ◌||◌, Bool, not, List, [], ◌∷◌, Option, Some, None, drop, if◌then◌else◌, is_some, option_map, slice_get}
 use Rattle.std.specs.Str.{is_utf8}
 use Rattle.rv_jobs.specs.declared_job.Job.{Job}
@@ -16,39 +16,40 @@ use Rattle.rv_accept.specs.declared.standing.CurrentVerdict.{CurrentVerdict}
 use Rattle.rv_accept.specs.declared.standing.CurrentVerdict.TheVariants as standing
 use Rattle.rv_accept.specs.declared.values.ValueKey.TheVariants as key
 
+-- the reason to skip a job because of its end; none if the end is accepted
 abbrev pub why_end_is_left : Acceptance → Job → RowEnd → Option RejectReason
 why_end_is_left asked job end = if is_accepted_end asked job end then None else Some why.End
 
--- whether the console that is to be a text in the list is UTF-8
+-- the reason to skip a job because of its console: the list contains the expected text, and the actual one is not UTF-8
 abbrev pub why_text_is_left : Job → Row → Option RejectReason
 why_text_is_left job row =
     if is_value_changed key.Console job row && not (is_utf8 row.console) then Some why.NoText else None
 
--- why a chosen job is rejected if some of its expectations can be taken from its run
+-- the reason to skip a job because of its end or its console; none if both are accepted
 abbrev pub why_left : Acceptance → Job → Row → Option RejectReason
 why_left asked job row = if is_accepted_end asked job row.ending then why_text_is_left job row else Some why.End
 
--- whether a job has an expectation that can be taken from its run
+-- whether a job has an expectation whose value is taken from its run
 abbrev pub takes_from_run : Job → Bool
 takes_from_run job = is_some job.expect_exit || (is_some job.expect_end || (is_some job.expect_console
     || is_some job.expect_signature))
 
--- why a job that differs from the one that it is compared with is rejected: an end that is not accepted comes first
+-- the reason to skip a job that differs from its `same_as` job: its end, if it is not accepted, or else the difference
 abbrev pub why_differing_is_left : Acceptance → Job → RowEnd → RejectReason
 why_differing_is_left asked job end = if takes_from_run job && not (is_accepted_end asked job end) then why.End else why.Differs
 
--- why a chosen job is rejected, if it is: a job that currently passes is not, and a job that fails is, unless its run gives what it expects
+-- the reason to skip a chosen job; none if it currently passes, or if it fails and its run can be accepted
 abbrev pub why_chosen_is_left : Acceptance → CurrentVerdict → Job → Row → Option RejectReason
 why_chosen_is_left asked standing.Passes job row = None
 why_chosen_is_left asked standing.Fails job row = if takes_from_run job then why_left asked job row else Some why.End
 why_chosen_is_left asked standing.Differs job row = Some (why_differing_is_left asked job row.ending)
 
--- why a job that is not chosen is rejected: it gives texts for its golden files only if it currently passes or ended exactly as expected
+-- the reason to skip a job that is not chosen; none if it currently passes or ended exactly as expected
 abbrev pub why_sharing_is_left : CurrentVerdict → Job → RowEnd → Option RejectReason
 why_sharing_is_left standing.Passes job end = None
 why_sharing_is_left _ job end = why_end_is_left acceptance.Expected job end
 
--- the run of a job
+-- the run of a job with this row: whether the job is chosen, and why it is skipped, if it is
 abbrev pub judged_run : Acceptance → Job → Candidate → Row → JobRun
 judged_run asked job candidate row = record {
   row = row;
@@ -57,40 +58,44 @@ judged_run asked job candidate row = record {
       else why_sharing_is_left candidate.standing job row.ending;
 }
 
--- the first of some rows if a job is selected
+-- the first of the rows, if the job is selected
 abbrev pub row_if : Bool → List Row → Option Row
 row_if marked rows = if marked then slice_get rows 0 else None
 
+-- the rows after those of the job: without the first one, if the job is selected
 abbrev pub rest_if : Bool → List Row → List Row
 rest_if marked rows = if marked then drop 1 rows else rows
 
--- the rows of the selected jobs, in order, each at the index of its job
+-- the rows of the selected jobs, each at the index of its job
 unfoldable pub indexed_rows : List Bool → List Row → List (Option Row)
 indexed_rows [] rows = []
 indexed_rows (marked ∷ marks) rows = row_if marked rows ∷ indexed_rows marks (rest_if marked rows)
 
+-- the row at an index, if there is one
 abbrev pub row_or_none : Option (Option Row) → Option Row
 row_or_none None = None
 row_or_none (Some row) = row
 
+-- the first row, if there is one
 abbrev pub first_row : List (Option Row) → Option Row
 first_row rows = row_or_none (slice_get rows 0)
 
--- the runs of the jobs, with the rows of those that were run
+-- the runs of the jobs, each accepted or skipped; none for a job without a row
 unfoldable pub judged_runs : Acceptance → List Job → List Candidate → List (Option Row) → List (Option JobRun)
 judged_runs asked [] candidates rows = []
 judged_runs asked (job ∷ jobs) [] rows = []
 judged_runs asked (job ∷ jobs) (candidate ∷ candidates) rows =
     option_map (judged_run asked job candidate) (first_row rows) ∷ judged_runs asked jobs candidates (drop 1 rows)
 
--- the job is chosen and accepted
+-- whether the job of a run is chosen and was not skipped
 abbrev pub is_accepted_run : JobRun → Bool
 is_accepted_run run = run.is_chosen && not (is_some run.left)
 
--- the row whose values replace those of the job, if it is accepted
+-- the row of a run, if its job is chosen and was not skipped
 abbrev pub row_if_accepted : JobRun → Option Row
 row_if_accepted run = if is_accepted_run run then Some run.row else None
 
+-- the row of a run, if there is one and its job is chosen and was not skipped
 abbrev pub accepted_row : Option JobRun → Option Row
 accepted_row None = None
 accepted_row (Some run) = row_if_accepted run

@@ -5,55 +5,58 @@ use Rattle.std.specs.Str.{bytes_eq}
 use Rattle.rv_jobs.specs.declared_job.Job.{Job}
 use Rattle.rv_jobs.specs.Jobs.{console_path}
 
+-- whether a path is named and equals `path`
 abbrev pub is_path : List ℕ → Option (List ℕ) → Bool
 is_path path None = false
 is_path path (Some named) = bytes_eq path named
 
--- the job expects its console or its signature to be the contents of the file
+-- whether the job names the golden file at the path, for its console or its signature
 abbrev pub names_golden_file : List ℕ → Job → Bool
 names_golden_file path job = is_path path (console_path job.expect_console) || is_path path job.expect_signature
 
--- a selected job names the file
+-- whether a selected job names the golden file at the path
 unfoldable pub is_named_by_marked : List ℕ → List Job → List Bool → Bool
 is_named_by_marked path [] marks = false
 is_named_by_marked path (job ∷ jobs) [] = false
 is_named_by_marked path (job ∷ jobs) (marked ∷ marks) =
     (marked && names_golden_file path job) || is_named_by_marked path jobs marks
 
+-- whether a path is given, and a selected job names the golden file there
 abbrev pub is_file_of_marked : List Job → List Bool → Option (List ℕ) → Bool
 is_file_of_marked jobs marks None = false
 is_file_of_marked jobs marks (Some path) = is_named_by_marked path jobs marks
 
--- the job names a file that a selected one names
+-- whether a job names a golden file that a selected job names
 abbrev pub shares_with_marked : List Job → List Bool → Job → Bool
 shares_with_marked jobs marks job = is_file_of_marked jobs marks (console_path job.expect_console)
     || is_file_of_marked jobs marks job.expect_signature
 
--- the selection of the chosen jobs and of those that share a file with one
+-- the selection of the chosen jobs and of those that share a golden file with a chosen one; `all` and `chosen` are for the whole list
 unfoldable pub sharing_marks : List Job → List Bool → List Job → List Bool → List Bool
 sharing_marks all chosen [] marks = []
 sharing_marks all chosen (job ∷ jobs) [] = []
 sharing_marks all chosen (job ∷ jobs) (marked ∷ marks) =
     (marked || shares_with_marked all chosen job) ∷ sharing_marks all chosen jobs marks
 
+-- whether an index is named and equals `place`
 abbrev pub is_place : ℕ → Option ℕ → Bool
 is_place place None = false
 is_place place (Some named) = place == named
 
--- a selected job names the one at the index by `same_as`
+-- whether a selected job names the job at index `place` by `same_as`
 unfoldable pub is_compared_with : ℕ → List Job → List Bool → Bool
 is_compared_with place [] marks = false
 is_compared_with place (job ∷ jobs) [] = false
 is_compared_with place (job ∷ jobs) (marked ∷ marks) =
     (marked && is_place place job.same_as) || is_compared_with place jobs marks
 
--- the selection of the jobs from an index on, together with those that later selected jobs are compared with
+-- the selection of these jobs, and of those that later selected jobs name by `same_as`; `place` is the first job's index
 unfoldable pub marks_with_compared : ℕ → List Job → List Bool → List Bool
 marks_with_compared place [] marks = []
 marks_with_compared place (job ∷ jobs) [] = []
 marks_with_compared place (job ∷ jobs) (marked ∷ marks) =
     (marked || is_compared_with place jobs marks) ∷ marks_with_compared (place + 1) jobs marks
 
--- the selection of the jobs that run for the chosen ones
+-- the selection of the jobs to run: the chosen ones, those that share a golden file with one, and those that these name by `same_as`
 abbrev pub jobs_to_run : List Job → List Bool → List Bool
 jobs_to_run jobs chosen = marks_with_compared 0 jobs (sharing_marks jobs chosen jobs chosen)

@@ -14,23 +14,24 @@ use Rattle.rv_accept.specs.BasicString.{basic_string}
 use Rattle.rv_accept.specs.declared.values.ValueKey.{ValueKey}
 use Rattle.rv_accept.specs.declared.values.ValueKey.TheVariants as key
 
+-- the name of a key, as the list writes it
 abbrev pub value_key_name : ValueKey → List ℕ
 value_key_name key.Exit = codes "expect_exit"
 value_key_name key.End = codes "expect_end"
 value_key_name key.Console = codes "expect_console"
 
--- the console is the text that the list expects, if it has one
+-- whether the console is the text that the list contains, if it contains one
 abbrev pub has_text : Option ExpectedConsole → List ℕ → Bool
 has_text (Some (Text bytes)) console = bytes_eq bytes console
 has_text _ console = true
 
--- whether the value of a key changes if the job is accepted
+-- whether the value of the key changes if the job is accepted with this row
 abbrev pub is_value_changed : ValueKey → Job → Row → Bool
 is_value_changed key.Exit job row = not (has_expected_exit job.expect_exit row.ending)
 is_value_changed key.End job row = not (has_expected_end job.expect_end row.ending)
 is_value_changed key.Console job row = not (has_text job.expect_console row.console)
 
--- the actual value of the run, in TOML
+-- the new value of a key in TOML; empty if the run has no value for it
 unfoldable pub new_value_text : ValueKey → RowEnd → List ℕ → List ℕ
 new_value_text key.Exit (ending.Exit code) console = decimal code
 new_value_text key.End (ending.Fault kind pc value) console = basic_string (fault_name kind)

@@ -5,7 +5,7 @@ ghost use Rattle.rv_accept.specs.BasicString.{basic_string, byte_text, byte_text
 
 use std::alloc::{AllocError, Global};
 
-/// Appends a text as a TOML basic string, on one line.
+/// Appends a text as a TOML basic string on one line.
 #[tactic(auto, unfolding(crate::specs::BasicString::basic_string))]
 pub fn push_basic_string(alloc: Global, out: &mut Vec<u8>, text: &[u8]) -> Result<(), AllocError>
     ensures { OnOk result (out.new.items ≡ out.old.items ++ basic_string text.now) }
@@ -18,6 +18,7 @@ pub fn push_basic_string(alloc: Global, out: &mut Vec<u8>, text: &[u8]) -> Resul
     Ok(())
 }
 
+// Appends a byte as it is written in a TOML string.
 fn push_byte(alloc: Global, out: &mut Vec<u8>, byte: u8) -> Result<(), AllocError>
     ensures { OnOk result (out.new.items ≡ out.old.items ++ byte_text byte) }
 {
@@ -27,7 +28,7 @@ fn push_byte(alloc: Global, out: &mut Vec<u8>, byte: u8) -> Result<(), AllocErro
     }
 }
 
-// Returns the two-character escape of a byte, such as `\n`, if it has one.
+// Returns the two-character escape of a byte in a TOML string, such as `\n`, if it has one.
 fn short_escape(byte: u8) -> Option<&'static str>
     ensures { option_map (λ text. text.now) result ≡ short_escape byte }
 {
@@ -55,6 +56,7 @@ fn push_unless_short(alloc: Global, out: &mut Vec<u8>, byte: u8) -> Result<(), A
     out.extend_from_slice(digits.as_bytes())
 }
 
+// Whether a byte is a control character of ASCII.
 fn is_other_control(byte: u8) -> bool
     ensures { result ≡ is_other_control byte }
 {

@@ -1,4 +1,4 @@
-//! What a job that was run claims about the golden files that it names.
+//! The texts that the jobs that were run give their golden files.
 
 ghost use Rattle.std.specs.Prelude.{◌≡◌, ◌++◌, ◌+◌, ◌^◌, ◌<◌, IfOk, OnOk, length, option_map};
 ghost use Rattle.std.specs.List.{flat_map};
@@ -12,7 +12,7 @@ use rv_jobs::{Bytes, Job, Text};
 use rv_rows::{Row, Words, word_line};
 use std::alloc::{AllocError, Global};
 
-/// The part of a run's results that a golden file contains.
+/// Which result of a run a golden file contains.
 #[derive(Clone, Copy, Debug, PartialEq, Eq)]
 pub enum Part {
     /// The console's bytes: the key `expect_console_file`.
@@ -28,11 +28,11 @@ pub struct GoldenText {
     pub job: usize,
     pub part: Part,
     pub path: Text,
-    /// `None` if the job is rejected.
+    /// `None` if the job was skipped.
     pub text: Option<Bytes>,
 }
 
-// Appends the golden files that a job names: the console's, and then the signature's. Only an accepted job gives them a text.
+// Appends the texts that a job gives its golden files, first the console's and then the signature's; no texts if it is not accepted.
 fn push_claims(
     alloc: Global,
     claims: &mut Vec<GoldenText>,
@@ -54,7 +54,7 @@ fn push_claims(
     Ok(())
 }
 
-/// Returns the claims of all jobs that were run on golden files, in list order.
+/// Returns the texts that the jobs give their golden files, in list order.
 pub fn golden_texts_of_runs(
     alloc: Global,
     jobs: &[Job],
@@ -67,7 +67,7 @@ pub fn golden_texts_of_runs(
     Ok(claims)
 }
 
-// Appends the claims of the jobs from an index on.
+// Appends the texts that the jobs give their golden files; `place` is the index of the first of these jobs.
 #[tactic(auto, unfolding(crate::specs::Claims::golden_texts_of_runs))]
 fn push_claims_of_runs(
     alloc: Global,
@@ -89,6 +89,7 @@ fn push_claims_of_runs(
     }
 }
 
+// Appends the texts that a job gives its golden files; nothing if it was not run, and no texts if it was skipped.
 fn push_claims_of_run(
     alloc: Global,
     claims: &mut Vec<GoldenText>,
@@ -104,7 +105,7 @@ fn push_claims_of_run(
     }
 }
 
-/// Returns the file with a job's expected console, if one is named.
+/// Returns the path of the golden file for a job's console, if one is named.
 pub fn console_path(job: &Job) -> Option<&str>
     ensures { option_map (λ path. path.now) result ≡ console_path job.now.expect_console }
 {

@@ -6,7 +6,7 @@ ghost use Rattle.rv_accept.specs.Edits.{edited_from, piece};
 use rv_jobs::Bytes;
 use std::alloc::{AllocError, Global};
 
-/// The replacement for the bytes of a text from one offset up to, but not including, another.
+/// A replacement for the bytes of a text from the offset `begin` to the offset `end`.
 #[derive(Drop)]
 pub struct Edit {
     pub begin: usize,
@@ -14,7 +14,7 @@ pub struct Edit {
     pub text: Bytes,
 }
 
-/// Returns the text with the edits, which are in text order.
+/// Returns the text with the ranges of the edits replaced. The edits are in text order.
 pub fn edited_text(alloc: Global, text: &[u8], edits: &[Edit]) -> Result<Vec<u8>, AllocError>
     ensures { IfOk result (λ edited. edited.items ≡ edited_from 0 text.now edits.now) }
 {
@@ -29,7 +29,7 @@ pub fn edited_text(alloc: Global, text: &[u8], edits: &[Edit]) -> Result<Vec<u8>
     Ok(edited)
 }
 
-// Returns the bytes of a text from one offset to another.
+// Returns the bytes of a text from the offset `from` to the offset `to`.
 fn piece(text: &[u8], from: usize, to: usize) -> &[u8]
     ensures { result.now ≡ piece from to text.now }
 {

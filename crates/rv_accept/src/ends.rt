@@ -9,13 +9,13 @@ use rv_rows::{RowEnd, did_run, has_expected_end, has_expected_exit};
 /// Which ends of a run are accepted.
 #[derive(Clone, Copy, Debug, PartialEq, Eq)]
 pub enum Acceptance {
-    /// Only the expected ones.
+    /// Only the expected end.
     Expected,
-    /// Also another exit code if one is expected, and another kind of fault if one is.
+    /// Also another exit code if one is expected, or another kind of fault if one is.
     InExpectedWay,
 }
 
-/// Whether a run ended so that its job is accepted. Exit 0 is expected if the job specifies no end.
+/// Whether a job that ended this way is accepted. If it specifies no end, exit 0 is expected.
 pub fn is_accepted_end(acceptance: Acceptance, job: &Job, ending: RowEnd) -> bool
     ensures { result ≡ is_accepted_end acceptance job.now ending }
 {
@@ -26,6 +26,7 @@ pub fn is_accepted_end(acceptance: Acceptance, job: &Job, ending: RowEnd) -> boo
     }
 }
 
+// Whether the job ran and ended as expected: with exit 0 if no end is expected.
 fn ended_as_expected(job: &Job, ending: RowEnd) -> bool
     ensures { result ≡ ended_as_expected job.now.expect_exit job.now.expect_end ending }
 {
@@ -37,7 +38,7 @@ fn ended_as_expected(job: &Job, ending: RowEnd) -> bool
             || has_expected_exit(Some(0), ending))
 }
 
-// Whether a run ended with an exit or a fault, as expected, whatever the code or the kind.
+// Whether the job exited and an exit code is expected, or faulted and a fault is, whatever the code or the kind.
 fn ended_in_expected_way(job: &Job, ending: RowEnd) -> bool
     ensures { result ≡ ended_in_expected_way job.now.expect_exit job.now.expect_end ending }
 {

@@ -8,20 +8,20 @@ use crate::claims::GoldenText;
 use rv_jobs::Bytes;
 use std::alloc::{AllocError, Global};
 
-/// The outcome for a golden file.
+/// What happens to a golden file.
 #[derive(Drop)]
 pub enum GoldenFileOutcome {
-    /// No job that was run names it.
+    /// Nothing: no job that was run names it.
     Unclaimed,
-    /// The job at this index names it, and is rejected.
+    /// It is skipped, since the job at this index names it and was skipped.
     LeftBy(usize),
-    /// The jobs at these two indices give it different texts.
+    /// It is skipped, since the jobs at these two indices give it different texts.
     Differ(usize, usize),
-    /// All jobs that name it give it this text.
+    /// It gets this text, which all jobs that name it give it.
     Agreed(Bytes),
 }
 
-/// Returns the outcome for the file at a path: all jobs that name it give it the same text, or it is rejected.
+/// Returns the outcome for the golden file at the path: the text that all jobs that name it give it, or why it is skipped.
 #[tactic(auto, unfolding(crate::specs::Fates::outcome_of_golden_file))]
 pub fn outcome_of_golden_file(
     alloc: Global,
@@ -36,6 +36,7 @@ pub fn outcome_of_golden_file(
     }
 }
 
+// Returns the outcome for the golden file at the path, given its first golden text; `Unclaimed` if there is none.
 fn fate_of_first(
     alloc: Global,
     path: &str,
@@ -50,6 +51,7 @@ fn fate_of_first(
     }
 }
 
+// Returns the outcome for the golden file at the path, given its first golden text.
 fn fate_of_given_text(
     alloc: Global,
     path: &str,
@@ -69,20 +71,21 @@ fn fate_of_given_text(
     }
 }
 
+// Returns the first golden text for the file at the path whose job was skipped.
 fn first_of_left_job<'a>(path: &str, claims: &'a [GoldenText]) -> Option<&'a GoldenText>
     ensures { option_map (λ claim. claim.now) result ≡ find (is_of_left_job path.now) claims.now }
 {
     claims.iter().find(|claim| is_of_left_job(path, claim))
 }
 
-/// Returns the first claim on the file at a path.
+/// Returns the first golden text for the file at the path.
 pub fn first_on_file<'a>(path: &str, claims: &'a [GoldenText]) -> Option<&'a GoldenText>
     ensures { option_map (λ claim. claim.now) result ≡ find (names_file path.now) claims.now }
 {
     claims.iter().find(|claim| names_file(path, claim))
 }
 
-/// Returns the first claim that gives the file at a path a different text, or none.
+/// Returns the first golden text for the file at the path that differs from `text`.
 pub fn first_of_another_text<'a>(
     path: &str,
     text: &[u8],
@@ -96,24 +99,28 @@ pub fn first_of_another_text<'a>(
         .find(|claim| gives_another_text(path, text, claim))
 }
 
+// Whether the golden text is for the file at the path.
 fn names_file(path: &str, claim: &GoldenText) -> bool
     ensures { result ≡ names_file path.now claim.now }
 {
     path == claim.path.as_str()
 }
 
+// Whether the golden text is for the file at the path, and is missing since its job was skipped.
 fn is_of_left_job(path: &str, claim: &GoldenText) -> bool
     ensures { result ≡ is_of_left_job path.now claim.now }
 {
     names_file(path, claim) && claim.text.is_none()
 }
 
+// Whether the golden text is for the file at the path, and is not `text`.
 fn gives_another_text(path: &str, text: &[u8], claim: &GoldenText) -> bool
     ensures { result ≡ gives_another_text path.now text.now claim.now }
 {
     names_file(path, claim) && !is_text(text, &claim.text)
 }
 
+// Whether there is a text and it equals `text`.
 fn is_text(text: &[u8], given: &Option<Bytes>) -> bool
     ensures { result ≡ is_text text.now given.now }
 {

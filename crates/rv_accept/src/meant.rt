@@ -10,7 +10,7 @@ use rv_jobs::{Bytes, ExpectedConsole, ExpectedEnd, Job, Symbols, Text};
 use rv_memory::Region;
 use rv_rows::{Row, RowEnd};
 
-/// Whether `others` are the jobs that those of a list become when some are accepted, each with the values of its row.
+/// Whether `others` are the jobs of the list after accepting runs: each accepted job has the values of its row.
 #[tactic(auto, unfolding(crate::specs::Meant::intended_jobs))]
 pub fn are_intended_jobs(jobs: &[Job], runs: &[Option<JobRun>], others: &[Job]) -> bool
     ensures { IsTrue result → others.now ≡ intended_jobs jobs.now runs.now }
@@ -24,7 +24,7 @@ pub fn are_intended_jobs(jobs: &[Job], runs: &[Option<JobRun>], others: &[Job]) 
     }
 }
 
-// Returns the row whose values replace those of the job, if it is accepted.
+// Returns the row of a run, if there is one and its job is chosen and was not skipped.
 fn accepted_row(run: &Option<JobRun>) -> Option<&Row>
     ensures { option_map (λ row. row.now) result ≡ accepted_row run.now }
 {
@@ -34,6 +34,7 @@ fn accepted_row(run: &Option<JobRun>) -> Option<&Row>
     }
 }
 
+// Returns the row of a run, if its job is chosen and was not skipped.
 fn row_if_accepted(run: &JobRun) -> Option<&Row>
     ensures { option_map (λ row. row.now) result ≡ row_if_accepted run.now }
 {
@@ -44,7 +45,7 @@ fn row_if_accepted(run: &JobRun) -> Option<&Row>
     }
 }
 
-// Whether `other` is the job that `job` becomes.
+// Whether `other` is `job` with the values of its row, if it is accepted, and otherwise unchanged.
 fn is_meant_job(job: &Job, accepted: Option<&Row>, other: &Job) -> bool
     ensures { IsTrue result → other.now ≡ meant_job job.now (option_map (λ row. row.now) accepted.entry) }
 {
@@ -54,6 +55,7 @@ fn is_meant_job(job: &Job, accepted: Option<&Row>, other: &Job) -> bool
         && are_meant_values(job, accepted, other)
 }
 
+// Whether `other` expects the end and the console of the row if there is one, and otherwise those that `job` expects.
 fn are_meant_values(job: &Job, accepted: Option<&Row>, other: &Job) -> bool
     ensures exit { IsTrue result → other.now.expect_exit
         ≡ (meant_job job.now (option_map (λ row. row.now) accepted.entry)).expect_exit }
@@ -80,6 +82,7 @@ fn are_meant_values(job: &Job, accepted: Option<&Row>, other: &Job) -> bool
     }
 }
 
+// Returns the new value of `expect_exit`: the actual exit code, if an exit code is expected and the run exited; otherwise the old value.
 fn actual_exit(expected: Option<u32>, ending: RowEnd) -> Option<u32>
     ensures { result ≡ actual_exit expected ending }
 {
@@ -89,6 +92,7 @@ fn actual_exit(expected: Option<u32>, ending: RowEnd) -> Option<u32>
     }
 }
 
+// Returns the new value of `expect_end`: the actual kind of fault, if a fault is expected and the run faulted; otherwise the old value.
 fn actual_end(expected: Option<ExpectedEnd>, ending: RowEnd) -> Option<ExpectedEnd>
     ensures { result ≡ actual_end expected ending }
 {
@@ -98,6 +102,7 @@ fn actual_end(expected: Option<ExpectedEnd>, ending: RowEnd) -> Option<ExpectedE
     }
 }
 
+// Whether `other` is the new value of `expect_console`: the actual console if the list contains the expected text, otherwise the old value.
 fn is_met_console(
     expected: &Option<ExpectedConsole>,
     console: &[u8],
@@ -128,7 +133,7 @@ fn is_same_console(console: &Option<ExpectedConsole>, other: &Option<ExpectedCon
     }
 }
 
-// Whether two jobs run alike.
+// Whether two jobs run in the same way: they agree in everything except their expectations.
 fn is_same_run(job: &Job, other: &Job) -> bool
     ensures name { IsTrue result → other.now.name ≡ job.now.name }
     ensures image { IsTrue result → other.now.image ≡ job.now.image }

@@ -1,4 +1,4 @@
-//! The jobs of a list that were run, and whether they are rejected.
+//! The jobs of a list that were run, and why some of them are skipped.
 
 ghost use Rattle.std.specs.Prelude.{◌≡◌, ◌++◌, IfOk, OnOk, drop, option_map};
 ghost use Rattle.std.specs.Vec.Iter.{into_iter_items};
@@ -14,14 +14,14 @@ use rv_text::is_utf8;
 use std::alloc::{AllocError, Global};
 use std::vec::IntoIter;
 
-/// Why a job that was run is rejected: none of its results are accepted.
+/// Why `accept` skips a job that was run: it accepts none of its results.
 #[derive(Clone, Copy, Debug, PartialEq, Eq)]
 pub enum RejectReason {
     /// It did not end as expected.
     End,
     /// It differs from the job that it names by `same_as`.
     Differs,
-    /// The list has the text of its console, which is now not UTF-8.
+    /// The list contains the expected console as text, and the actual console is not UTF-8.
     NoText,
     /// The value of this key is at a location where it cannot be replaced.
     NoPlace(ValueKey),
@@ -29,17 +29,19 @@ pub enum RejectReason {
     Made(ValueKey),
 }
 
-/// A job that was run.
+/// The run of a job, and whether it is accepted.
 #[derive(Drop)]
 pub struct JobRun {
     pub row: Row,
-    /// Whether it is chosen; otherwise it was run because it shares a golden file with a chosen job, or because one is compared with it.
+    /// Whether the job is chosen. Otherwise it was run because it shares a golden file with a chosen job, or because a job names it by
+    /// `same_as`.
     pub is_chosen: bool,
+    /// Why the job was skipped; `None` if it was not.
     pub left: Option<RejectReason>,
 }
 
 impl JobRun {
-    /// Whether it is chosen and accepted: its values are replaced, and its golden files are reported.
+    /// Whether the job is chosen and was not skipped: then its values are replaced, and its golden files are reported.
     pub fn is_accepted(&self) -> bool
         ensures { result ≡ is_accepted_run self.now }
     {
@@ -47,7 +49,7 @@ impl JobRun {
     }
 }
 
-/// Returns the rows of the selected jobs, in order, each at the index of its job.
+/// Returns the rows of the selected jobs, each at the index of its job.
 pub fn indexed_rows(
     alloc: Global,
     marks: &[bool],
@@ -61,6 +63,7 @@ pub fn indexed_rows(
     Ok(placed)
 }
 
+// Appends the rows of the selected jobs, each at the index of its job.
 #[tactic(auto, unfolding(crate::specs::Runs::indexed_rows))]
 fn push_placed_rows(
     placed: &mut Vec<Option<Row>>,
@@ -79,7 +82,7 @@ fn push_placed_rows(
     }
 }
 
-// Returns the next row if a job is selected.
+// Returns the next row if the job is selected.
 fn next_if(is_marked: bool, rows: &mut IntoIter<Row>) -> Option<Row>
     ensures row { result ≡ row_if is_marked (into_iter_items rows.old) }
     ensures rest { into_iter_items rows.new ≡ rest_if is_marked (into_iter_items rows.old) }
@@ -87,8 +90,8 @@ fn next_if(is_marked: bool, rows: &mut IntoIter<Row>) -> Option<Row>
     if is_marked { rows.next() } else { None }
 }
 
-/// Returns the runs of the jobs, with the rows of those that were run; the candidates say whether each is chosen, and give its current
-/// verdict.
+/// Returns the runs of the jobs, each accepted or skipped; `None` for a job without a row. The candidates say which jobs are chosen, and
+/// what the current verdicts are.
 pub fn judged_runs(
     alloc: Global,
     acceptance: Acceptance,
@@ -104,6 +107,7 @@ pub fn judged_runs(
     Ok(runs)
 }
 
+// Appends the runs of the jobs, each accepted or skipped; none for a job without a row.
 #[tactic(auto, unfolding(crate::specs::Runs::judged_runs))]
 fn push_judged_runs(
     runs: &mut Vec<Option<JobRun>>,
@@ -137,7 +141,7 @@ fn next_row(rows: &mut IntoIter<Option<Row>>) -> Option<Row>
     }
 }
 
-// Returns the run of a job, if it has a row.
+// Returns the run of a job; `None` if it has no row.
 fn judged_run_if(
     acceptance: Acceptance,
     job: &Job,
@@ -152,8 +156,7 @@ fn judged_run_if(
     }
 }
 
-// Returns the run of a job. A job that is not chosen gives texts for its golden files only if it currently passes or ended exactly as
-// expected.
+// Returns the run of a job with this row: whether the job is chosen, and why it is skipped, if it is.
 fn judged_run(acceptance: Acceptance, job: &Job, candidate: Candidate, row: Row) -> JobRun
     ensures { result ≡ judged_run acceptance job.now candidate row }
 {
@@ -173,7 +176,7 @@ fn judged_run(acceptance: Acceptance, job: &Job, candidate: Candidate, row: Row)
     }
 }
 
-// Returns why a chosen job is rejected: a job that currently passes is not. One that fails is, unless its run gives what it expects.
+// Returns the reason to skip a chosen job; `None` if it currently passes, or if it fails and its run can be accepted.
 fn why_chosen_is_left(
     acceptance: Acceptance,
     standing: CurrentVerdict,
@@ -190,7 +193,7 @@ fn why_chosen_is_left(
     }
 }
 
-// Returns why a job that differs from the one that it is compared with is rejected: an end that is not accepted comes first.
+// Returns the reason to skip a job that differs from its `same_as` job: its end, if it is not accepted, or else the difference.
 fn why_differing_is_left(acceptance: Acceptance, job: &Job, ending: RowEnd) -> RejectReason
     ensures { result ≡ why_differing_is_left acceptance job.now ending }
 {
@@ -201,6 +204,7 @@ fn why_differing_is_left(acceptance: Acceptance, job: &Job, ending: RowEnd) -> R
     }
 }
 
+// Returns the reason to skip a job that is not chosen; `None` if it currently passes or ended exactly as expected.
 fn why_sharing_is_left(standing: CurrentVerdict, job: &Job, ending: RowEnd) -> Option<RejectReason>
     ensures { result ≡ why_sharing_is_left standing job.now ending }
 {
@@ -212,7 +216,7 @@ fn why_sharing_is_left(standing: CurrentVerdict, job: &Job, ending: RowEnd) -> O
     }
 }
 
-// Whether a job has an expectation that can be taken from its run.
+// Whether a job has an expectation whose value is taken from its run.
 fn takes_from_run(job: &Job) -> bool
     ensures { result ≡ takes_from_run job.now }
 {
@@ -222,6 +226,7 @@ fn takes_from_run(job: &Job) -> bool
         || job.expect_signature.is_some()
 }
 
+// Returns the reason to skip a job because of its end or its console; `None` if both are accepted.
 fn why_left(acceptance: Acceptance, job: &Job, row: &Row) -> Option<RejectReason>
     ensures { result ≡ why_left acceptance job.now row.now }
 {
@@ -234,6 +239,7 @@ fn why_left(acceptance: Acceptance, job: &Job, row: &Row) -> Option<RejectReason
     }
 }
 
+// Returns the reason to skip a job because of its end; `None` if the end is accepted.
 fn why_end_is_left(acceptance: Acceptance, job: &Job, ending: RowEnd) -> Option<RejectReason>
     ensures { result ≡ why_end_is_left acceptance job.now ending }
 {

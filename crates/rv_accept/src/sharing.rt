@@ -8,8 +8,8 @@ use crate::claims::console_path;
 use rv_jobs::Job;
 use std::alloc::{AllocError, Global};
 
-/// Returns the selection of the jobs that run for the chosen ones: these, each that names a golden file of a chosen one, and each that one
-/// of all these names by `same_as`.
+/// Returns the selection of the jobs to run: the chosen ones, those that share a golden file with one, and those that these name by
+/// `same_as`.
 pub fn jobs_to_run(alloc: Global, jobs: &[Job], chosen: &[bool]) -> Result<Vec<bool>, AllocError>
     ensures { IfOk result (λ marks. marks.items ≡ jobs_to_run jobs.now chosen.now) }
 {
@@ -20,7 +20,7 @@ pub fn jobs_to_run(alloc: Global, jobs: &[Job], chosen: &[bool]) -> Result<Vec<b
     Ok(marks)
 }
 
-// Appends the selection of the jobs from an index on, together with those that selected jobs name by `same_as`, which come before them.
+// Appends the selection of these jobs, and of those that later selected jobs name by `same_as`; `place` is the index of the first job.
 #[tactic(auto, unfolding(crate::specs::Sharing::marks_with_compared))]
 fn push_marks_with_compared(
     out: &mut Vec<bool>,
@@ -41,7 +41,7 @@ fn push_marks_with_compared(
     }
 }
 
-// Whether a selected job names the one at an index by `same_as`.
+// Whether a selected job names the job at index `place` by `same_as`.
 #[tactic(auto, unfolding(crate::specs::Sharing::is_compared_with))]
 fn is_compared_with(place: usize, jobs: &[Job], marks: &[bool]) -> bool
     ensures { result ≡ is_compared_with place jobs.now marks.now }
@@ -55,6 +55,7 @@ fn is_compared_with(place: usize, jobs: &[Job], marks: &[bool]) -> bool
     }
 }
 
+// Whether an index is named and equals `place`.
 fn is_place(place: usize, named: Option<usize>) -> bool
     ensures { result ≡ is_place place named }
 {
@@ -64,7 +65,8 @@ fn is_place(place: usize, named: Option<usize>) -> bool
     }
 }
 
-// Appends the selection of a list's chosen jobs and of those that share a golden file with one.
+// Appends the selection of the chosen jobs and of those that share a golden file with a chosen one; `all` has the jobs and the selection of
+// the whole list.
 #[tactic(auto, unfolding(crate::specs::Sharing::sharing_marks))]
 fn push_sharing_marks(
     marks: &mut Vec<bool>,
@@ -85,7 +87,7 @@ fn push_sharing_marks(
     }
 }
 
-// Whether a job names a golden file that a selected one names.
+// Whether a job names a golden file that a selected job names.
 fn shares_with_marked(jobs: &[Job], marks: &[bool], job: &Job) -> bool
     ensures { result ≡ shares_with_marked jobs.now marks.now job.now }
 {
@@ -93,6 +95,7 @@ fn shares_with_marked(jobs: &[Job], marks: &[bool], job: &Job) -> bool
         || is_file_of_marked(jobs, marks, signature_path(job))
 }
 
+// Whether a path is given, and a selected job names the golden file there.
 fn is_file_of_marked(jobs: &[Job], marks: &[bool], path: Option<&str>) -> bool
     ensures { result ≡ is_file_of_marked jobs.now marks.now (option_map (λ path. path.now) path.entry) }
 {
@@ -102,7 +105,7 @@ fn is_file_of_marked(jobs: &[Job], marks: &[bool], path: Option<&str>) -> bool
     }
 }
 
-// Whether a selected job names a golden file.
+// Whether a selected job names the golden file at the path.
 #[tactic(auto, unfolding(crate::specs::Sharing::is_named_by_marked))]
 fn is_named_by_marked(path: &str, jobs: &[Job], marks: &[bool]) -> bool
     ensures { result ≡ is_named_by_marked path.now jobs.now marks.now }
@@ -116,12 +119,14 @@ fn is_named_by_marked(path: &str, jobs: &[Job], marks: &[bool]) -> bool
     }
 }
 
+// Whether the job names the golden file at the path, for its console or its signature.
 fn names_golden_file(path: &str, job: &Job) -> bool
     ensures { result ≡ names_golden_file path.now job.now }
 {
     is_path(path, console_path(job)) || is_path(path, signature_path(job))
 }
 
+// Whether a path is named and equals `path`.
 fn is_path(path: &str, named: Option<&str>) -> bool
     ensures { result ≡ is_path path.now (option_map (λ path. path.now) named.entry) }
 {

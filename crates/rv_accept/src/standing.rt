@@ -1,6 +1,6 @@
 //! The verdicts on jobs before anything is accepted.
 
-/// The verdict on a job that was run, given its golden files as they are and the job that it is compared with.
+/// The verdict on a job that was run, with its golden files as they are now and with the job that it is compared with.
 #[derive(Clone, Copy, Debug, PartialEq, Eq)]
 pub enum CurrentVerdict {
     /// It passes.
@@ -11,7 +11,7 @@ pub enum CurrentVerdict {
     Differs,
 }
 
-/// A job of a list, with whether it is chosen and its current verdict.
+/// Whether a job of the list is chosen, and the current verdict on it.
 #[derive(Clone, Copy, Debug, PartialEq, Eq)]
 pub struct Candidate {
     pub is_chosen: bool,

@@ -13,10 +13,11 @@ use std::alloc::{AllocError, Global};
 #[derive(Drop)]
 pub struct Target {
     pub path: Text,
-    /// The index in the list, counted from 0, of the first accepted job that names it.
+    /// The index of the first accepted job that names it, counted from 0.
     pub job: usize,
-    /// Which part of that job's results it contains.
+    /// Which result of that job's run it contains.
     pub part: Part,
+    /// What happens to it.
     pub fate: GoldenFileOutcome,
 }
 
@@ -35,7 +36,7 @@ pub fn targets_of(
     Ok(targets)
 }
 
-// Adds the file of a claim if the claim is that of an accepted job and the file is not a target already.
+// Adds the golden file that a golden text is for, if its job is accepted and the file is new.
 fn add_target(
     alloc: Global,
     runs: &[Option<JobRun>],
@@ -51,6 +52,7 @@ fn add_target(
     Ok(())
 }
 
+// Returns the golden file that a golden text is for, with its outcome.
 fn target_of(alloc: Global, claim: &GoldenText, claims: &[GoldenText]) -> Result<Target, AllocError>
     ensures { IfOk result (λ target. target ≡ target_of claims.now claim.now) }
 {
@@ -62,7 +64,7 @@ fn target_of(alloc: Global, claim: &GoldenText, claims: &[GoldenText]) -> Result
     })
 }
 
-// Whether the job of a run is chosen and accepted.
+// Whether there is a run, and its job is chosen and was not skipped.
 fn is_of_accepted(run: Option<&Option<JobRun>>) -> bool
     ensures { result ≡ is_of_accepted (option_map (λ run. run.now) run.entry) }
 {
@@ -72,6 +74,7 @@ fn is_of_accepted(run: Option<&Option<JobRun>>) -> bool
     }
 }
 
+// Whether the golden file at the path is already in the list.
 fn is_target(path: &str, targets: &[Target]) -> bool
     ensures { result ≡ is_target path.now targets.now }
 {

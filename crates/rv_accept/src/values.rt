@@ -21,7 +21,7 @@ impl ValueKey {
     /// The keys, in the order in which they are reported.
     pub const ALL: [ValueKey; 3] = [ValueKey::Exit, ValueKey::End, ValueKey::Console];
 
-    /// Returns the key as a list has it.
+    /// Returns the name of the key, as the list writes it.
     pub fn name(self) -> &'static str
         ensures { result.now ≡ value_key_name self }
     {
@@ -33,7 +33,7 @@ impl ValueKey {
     }
 }
 
-/// Whether the value of a key changes if a job is accepted.
+/// Whether the value of the key changes if the job is accepted with this row.
 pub fn is_value_changed(key: ValueKey, job: &Job, row: &Row) -> bool
     ensures { result ≡ is_value_changed key job.now row.now }
 {
@@ -44,7 +44,7 @@ pub fn is_value_changed(key: ValueKey, job: &Job, row: &Row) -> bool
     }
 }
 
-// Whether a console is the text that the list expects, if it has one.
+// Whether the console is the text that the list contains, if it contains one.
 fn has_text(expected: &Option<ExpectedConsole>, console: &[u8]) -> bool
     ensures { result ≡ has_text expected.now console.now }
 {
@@ -54,7 +54,7 @@ fn has_text(expected: &Option<ExpectedConsole>, console: &[u8]) -> bool
     }
 }
 
-/// Appends the actual value of a key, in TOML; does nothing if the run has none.
+/// Appends the new value of a key in TOML; nothing if the run has no value for it.
 #[tactic(auto, unfolding(crate::specs::Values::new_value_text))]
 pub fn push_new_value(
     alloc: Global,

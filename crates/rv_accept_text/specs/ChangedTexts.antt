@@ -6,40 +6,43 @@ use Rattle.std.specs.Str.{is_utf8}
 use Rattle.rv_job_text.specs.ConsoleLines.{console_lines}
 use Rattle.rv_text.specs.Printable.{printable_text, printable_value}
 
--- two values, from an index on
+-- the line end with the offset `place`, and what the old and the new text have from there on
 abbrev pub values_from : ℕ → List ℕ → List ℕ → List ℕ
 values_from place old new = codes ": byte " ++ decimal place ++ codes ": \"" ++ printable_value (drop place old)
     ++ codes "\" -> \"" ++ printable_value (drop place new) ++ codes "\"\n"
 
+-- the line end that shows the first byte in which the old and the new text differ
 unfoldable pub byte_change : List ℕ → List ℕ → List ℕ
 byte_change old new = values_from (common_prefix_len nat_eq old new) old new
 
--- two texts that differ: from which byte on, and both from there on
+-- the line end with the offset `place`, and what two different texts have from there on
 abbrev pub values_of_both : ℕ → List ℕ → List ℕ → List ℕ
 values_of_both place one other = codes " at byte " ++ decimal place ++ codes ": \"" ++ printable_value (drop place one)
     ++ codes "\" and \"" ++ printable_value (drop place other) ++ codes "\"\n"
 
+-- the line end that shows the first byte in which two texts differ
 unfoldable pub byte_difference : List ℕ → List ℕ → List ℕ
 byte_difference one other = values_of_both (common_prefix_len nat_eq one other) one other
 
--- the difference by lines if both texts are UTF-8, else by bytes; the old text has a name
+-- the differences between the old and the new text: by lines if both are UTF-8, and otherwise by bytes; `source` names the old text
 unfoldable pub text_change : List ℕ → List ℕ → List ℕ → List ℕ
 text_change source old new =
     if is_utf8 old && is_utf8 new then codes "\n" ++ console_lines source new old else byte_change old new
 
--- the number of bytes of a signature's word as text, with its line feed
+-- the number of bytes of a word in a signature file, including the line feed
 abbrev pub word_len : ℕ
 word_len = 9
 
--- the digits of the word at the beginning of a text, if there is one
+-- the digits of the word at the beginning of a text; `none` if the text is empty
 abbrev pub digits_at : List ℕ → List ℕ
 digits_at rest = if length rest == 0 then codes "none" else take 8 rest
 
+-- the line end that shows the first different word of two signatures whose first `len` bytes are equal
 abbrev pub word_change_at : ℕ → List ℕ → List ℕ → List ℕ
 word_change_at len old new = codes ": word " ++ decimal (len / word_len) ++ codes ": "
     ++ printable_text (digits_at (drop (len - len % word_len) old)) ++ codes " -> "
     ++ printable_text (digits_at (drop (len - len % word_len) new)) ++ codes "\n"
 
--- the first word of a signature that differs
+-- the line end that shows the first different word of the old and the new signature
 unfoldable pub word_change : List ℕ → List ℕ → List ℕ
 word_change old new = word_change_at (common_prefix_len nat_eq old new) old new

@@ -1,4 +1,4 @@
--- The lines of golden files.
+-- The lines about golden files.
 use Rattle.std.specs.Prelude.{◌++◌, ℕ, List, [], Option, Some, None, codes, if◌then◌else◌, length, option_map, slice_get, unwrap_or}
 use Rattle.std.specs.List.{find}
 use Rattle.rv_jobs.specs.declared_job.Job.{Job}
@@ -16,69 +16,78 @@ use Rattle.rv_accept_text.specs.GoldenFiles.{is_left, new_text}
 use Rattle.rv_accept_text.specs.declared.golden_file.GoldenFile.{GoldenFile}
 use Rattle.rv_accept_text.specs.declared.golden_file.ListFile.{ListFile}
 
--- the name of the job at an index
+-- the name of the job at index `place`; empty if there is none
 abbrev pub job_name : List Job → ℕ → List ℕ
 job_name jobs place = unwrap_or (option_map (λ job. job.name) (slice_get jobs place)) []
 
+-- which result of a job a golden file contains, in words
 abbrev pub part_text : Part → List ℕ
 part_text part.Console = codes "console of "
 part_text part.Signature = codes "signature of "
 
--- ---- a file that is written
+-- ---- written files
 
--- which file it is, and which part of which job's results it contains
+-- the beginning of the line about a golden file: the sign, its path, and which result of which job it contains
 abbrev pub file_head : List ℕ → List Job → Target → List ℕ
 file_head sign jobs target = sign ++ printable_text target.path ++ codes ": " ++ part_text target.part
     ++ printable_text (job_name jobs target.job)
 
--- the difference between the current contents and the new text
+-- the differences between the old and the new contents of a golden file: of a console by lines or bytes, of a signature by words
 abbrev pub part_change : Part → List ℕ → List ℕ → List ℕ → List ℕ
 part_change part.Console path old new = text_change (printable_text path) old new
 part_change part.Signature path old new = word_change old new
 
+-- the lines about a golden file that changes
 abbrev pub changed_file_line : List Job → Target → List ℕ → List ℕ → List ℕ
 changed_file_line jobs target old new = file_head (codes "~ ") jobs target ++ part_change target.part target.path old new
 
+-- the line about a golden file that is created
 abbrev pub made_file_line : List Job → Target → List ℕ → List ℕ
 made_file_line jobs target new = file_head (codes "+ ") jobs target ++ (codes ", " ++ count_text (length new) (codes "byte")
     ++ codes "\n")
 
+-- the lines about a golden file that is written: it is created if it has no old contents, and changed otherwise
 abbrev pub written_file_line : List Job → Target → Option (List ℕ) → List ℕ → List ℕ
 written_file_line jobs target None new = made_file_line jobs target new
 written_file_line jobs target (Some old) new = changed_file_line jobs target old new
 
+-- the lines about a golden file that gets this new text; nothing without a new text
 abbrev pub file_line_of : List Job → GoldenFile → Option (List ℕ) → List ℕ
 file_line_of jobs file None = []
 file_line_of jobs file (Some new) = written_file_line jobs file.target file.old new
 
--- what changes in a golden file, if it is written
+-- the lines about a golden file that is written; nothing if it is not
 unfoldable pub file_line : ListFile → GoldenFile → List ℕ
 file_line list file = file_line_of list.jobs.now file (new_text list file)
 
--- ---- a file that is left
+-- ---- skipped files
 
+-- the text, or an empty one if there is none
 abbrev pub text_or_empty : Option (List ℕ) → List ℕ
 text_or_empty text = unwrap_or text []
 
--- two jobs that give a file different texts
+-- the message that two jobs give a golden file different texts, and where the texts differ
 abbrev pub two_claims_text : List Job → GoldenText → GoldenText → List ℕ
 two_claims_text jobs first other = part_text first.part ++ printable_text (job_name jobs first.job) ++ codes " and "
     ++ part_text other.part ++ printable_text (job_name jobs other.job) ++ codes " differ"
     ++ byte_difference (text_or_empty first.text) (text_or_empty other.text)
 
+-- the message that two jobs give a golden file different texts; an empty line if there is no second job
 abbrev pub other_claim_text : List Job → GoldenText → Option GoldenText → List ℕ
 other_claim_text jobs first None = codes "\n"
 other_claim_text jobs first (Some other) = two_claims_text jobs first other
 
+-- the message that two jobs give the golden file at the path different texts, given its first golden text
 abbrev pub first_claim_text : List Job → List GoldenText → List ℕ → Option GoldenText → List ℕ
 first_claim_text jobs claims path None = codes "\n"
 first_claim_text jobs claims path (Some first) =
     other_claim_text jobs first (find (gives_another_text path (text_or_empty first.text)) claims)
 
--- which two jobs disagree on the file at a path: the first that names it, and the first that gives it a different text
+-- the message that two jobs give the golden file at the path different texts: the first one, and the first that differs from it
 abbrev pub disagreement_text : List Job → List GoldenText → List ℕ → List ℕ
 disagreement_text jobs claims path = first_claim_text jobs claims path (find (names_file path) claims)
 
+-- the reason why a golden file is skipped, given its outcome
 abbrev pub why_file_is_left : List Job → List GoldenText → List ℕ → GoldenFileOutcome → List ℕ
 why_file_is_left jobs claims path (fate.LeftBy job) = codes "job \"" ++ printable_text (job_name jobs job)
     ++ codes "\" also names this file and was skipped\n"
@@ -86,10 +95,11 @@ why_file_is_left jobs claims path (fate.Differ job other) = disagreement_text jo
 why_file_is_left jobs claims path (fate.Agreed text) = codes "the list and the images are never overwritten\n"
 why_file_is_left jobs claims path fate.Unclaimed = codes "the list and the images are never overwritten\n"
 
+-- the beginning of the line about a skipped job or golden file
 abbrev pub left_head : List ℕ → List ℕ
 left_head name = codes "skipped " ++ printable_text name ++ codes ": "
 
--- why a golden file is rejected, if it is
+-- the line about a skipped golden file; empty if it is not skipped
 unfoldable pub left_file_line : ListFile → List GoldenText → GoldenFile → List ℕ
 left_file_line list claims file = if is_left list file
     then left_head file.target.path ++ why_file_is_left list.jobs.now claims file.target.path file.target.fate

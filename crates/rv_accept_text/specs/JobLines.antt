@@ -1,4 +1,4 @@
--- The lines for jobs: values that are replaced, and why a job is rejected.
+-- The lines about jobs: values that change, and why a job is skipped.
 use Rattle.std.specs.Prelude.{◌++◌, ℕ, List, [], Option, Some, None, codes, if◌then◌else◌, unwrap_or}
 use Rattle.std.specs.Fmt.{decimal}
 use Rattle.rv_jobs.specs.declared_job.ExpectedConsole.{ExpectedConsole}
@@ -24,88 +24,97 @@ use Rattle.rv_accept_text.specs.FileLines.{job_name, left_head}
 use Rattle.rv_accept_text.specs.declared.new_list.ChangedValue.{ChangedValue}
 use Rattle.rv_text.specs.Words.{exit_code_text}
 
--- ---- a value that is replaced
+-- ---- changed values
 
--- the location of the value, with its job and key
+-- the beginning of the line about a changed value: the list's path and line, and the job and the key
 abbrev pub value_head : List ℕ → ChangedValue → Job → List ℕ
 value_head path value job = codes "~ " ++ printable_text path ++ codes ":" ++ decimal value.line ++ codes ": "
     ++ printable_text job.name ++ codes ": " ++ value_key_name value.key
 
+-- the exit code of a run; 0 for any other end
 abbrev pub exit_code : RowEnd → ℕ
 exit_code (ending.Exit code) = code
 exit_code _ = 0
 
+-- the line end that shows the old and the new exit code
 abbrev pub exit_change : Option ℕ → RowEnd → List ℕ
 exit_change expected end = codes " " ++ decimal (unwrap_or expected 0) ++ codes " -> " ++ decimal (exit_code end) ++ codes "\n"
 
+-- the value of `expect_end`, as the list writes it
 abbrev pub expected_end_word : Option ExpectedEnd → List ℕ
 expected_end_word (Some (expected.Fault kind)) = fault_name kind
 expected_end_word (Some expected.Budget) = codes "budget"
 expected_end_word None = []
 
+-- the kind of fault that ended a run; empty for any other end
 abbrev pub fault_word : RowEnd → List ℕ
 fault_word (ending.Fault kind pc value) = fault_name kind
 fault_word _ = []
 
+-- the line end that shows the old and the new kind of fault
 abbrev pub end_change : Option ExpectedEnd → RowEnd → List ℕ
 end_change how end = codes " " ++ expected_end_word how ++ codes " -> " ++ fault_word end ++ codes "\n"
 
+-- the expected console that the list contains; empty if it does not contain it
 abbrev pub text_of_list : Option ExpectedConsole → List ℕ
 text_of_list (Some (Text text)) = text
 text_of_list _ = []
 
+-- the line end that shows how the value of the key changes
 abbrev pub value_change : ValueKey → Job → Row → List ℕ
 value_change key.Exit job row = exit_change job.expect_exit row.ending
 value_change key.End job row = end_change job.expect_end row.ending
 value_change key.Console job row = text_change (codes "the expected text") (text_of_list job.expect_console) row.console
 
--- which value of a list is replaced, and how it differs
+-- the lines about a changed value of the list
 abbrev pub value_line : List ℕ → ChangedValue → Job → Row → List ℕ
 value_line path value job row = value_head path value job ++ value_change value.key job row
 
--- ---- a job that is left
+-- ---- skipped jobs
 
--- how a run ended, with its code or kind
+-- how a run ended, in words: with its exit code, its kind of fault, or the reason of the refusal
 abbrev pub actual_end_text : RowEnd → List ℕ
 actual_end_text (ending.Exit code) = codes "exit " ++ exit_code_text code
 actual_end_text (ending.Fault kind pc value) = codes "fault " ++ fault_name kind
 actual_end_text ending.Budget = codes "budget"
 actual_end_text (ending.Refused refusal) = codes "refused " ++ refusal_name refusal
 
--- the end that is expected besides an exit code
+-- the expected end in words, if it is not an exit code: exit 0 if none is specified
 abbrev pub wanted_end_text : Option ExpectedEnd → List ℕ
 wanted_end_text (Some expected.Budget) = codes "budget"
 wanted_end_text (Some (expected.Fault kind)) = codes "fault " ++ fault_name kind
 wanted_end_text None = codes "exit 0"
 
--- the first expected end that is unmet: exit 0 if a job specifies no end
+-- the first unmet expectation about the end, in words: exit 0 if the job specifies no end
 abbrev pub expected_text : Option ℕ → Option ExpectedEnd → RowEnd → List ℕ
 expected_text None how end = wanted_end_text how
 expected_text (Some code) how end =
     if has_expected_exit (Some code) end then wanted_end_text how else codes "exit " ++ exit_code_text code
 
+-- the reason to skip a job because of its end: the actual end and, unless the job is refused, the expected one
 abbrev pub other_end_text : Job → RowEnd → List ℕ
 other_end_text job (ending.Refused refusal) = actual_end_text (ending.Refused refusal)
 other_end_text job end = actual_end_text end ++ (codes ", expected " ++ expected_text job.expect_exit job.expect_end end)
 
--- a key with its actual value
+-- a key with its new value, as the list would write it
 abbrev pub new_entry_text : ValueKey → Row → List ℕ
 new_entry_text key row = value_key_name key ++ codes " = " ++ new_value_text key row.ending row.console
 
--- the name of the job that one of a list is compared with
+-- the name of the job at this index; empty without an index
 abbrev pub name_if_named : List Job → Option ℕ → List ℕ
 name_if_named list None = []
 name_if_named list (Some place) = job_name list place
 
+-- the name of the job that `same_as` of this job names
 abbrev pub name_of_compared : List Job → Job → List ℕ
 name_of_compared list job = name_if_named list job.same_as
 
--- which job it differs from
+-- the reason to skip a job because it differs from its `same_as` job
 abbrev pub difference_text : List Job → Job → List ℕ
 difference_text list job = codes "the result differs from that of job \"" ++ printable_text (name_of_compared list job)
     ++ codes "\" (same_as)"
 
--- why a job of a list is rejected
+-- the reason to skip a job, in words
 abbrev pub why_left_text : RejectReason → List Job → Job → Row → List ℕ
 why_left_text why.End list job row = other_end_text job row.ending
 why_left_text why.Differs list job row = difference_text list job
@@ -115,11 +124,12 @@ why_left_text (why.NoPlace key) list job row = codes "cannot edit an inline tabl
 why_left_text (why.Made key) list job row = codes "the list is generated by mklist; set this in the files next to the test: "
     ++ new_entry_text key row
 
+-- the line about a skipped job; empty if it is not skipped
 abbrev pub left_line_of : List Job → Job → Row → Option RejectReason → List ℕ
 left_line_of list job row None = []
 left_line_of list job row (Some left) = left_head job.name ++ why_left_text left list job row ++ codes "\n"
 
--- why a chosen job of a list is rejected, if it is
+-- the line about a chosen job that was skipped; empty for any other job
 abbrev pub left_job_line : List Job → Job → Option JobRun → List ℕ
 left_job_line list job None = []
 left_job_line list job (Some run) = if run.is_chosen then left_line_of list job run.row run.left else []

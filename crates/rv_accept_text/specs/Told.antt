@@ -1,4 +1,4 @@
--- Everything that `accept` reports.
+-- The lines that `accept` prints.
 use Rattle.std.specs.Prelude.{◌+◌, ◌&&◌, ◌++◌, ℕ, Bool, true, false, List, [], ◌∷◌, Option, Some, None, codes, is_some, slice_get}
 use Rattle.std.specs.Fmt.{decimal}
 use Rattle.std.specs.List.{count_by, flat_map}
@@ -17,21 +17,23 @@ use Rattle.rv_accept_text.specs.declared.new_list.ChangedValue.{ChangedValue}
 
 -- ---- the lines
 
+-- the lines about a changed value of the list; nothing if its job or the job's run is missing
 abbrev pub value_line_of : List ℕ → ChangedValue → Option Job → Option (Option JobRun) → List ℕ
 value_line_of path value (Some job) (Some (Some run)) = value_line path value job run.row
 value_line_of path value _ _ = []
 
+-- the lines about a changed value of the list
 abbrev pub value_line_in : AcceptSummary → ChangedValue → List ℕ
 value_line_in told value = value_line_of told.list.path.now value (slice_get told.list.jobs.now value.job)
     (slice_get told.runs.now value.job)
 
--- why jobs of a list are rejected, each with its run
+-- the lines about the skipped jobs; `list` are all jobs of the list
 unfoldable pub left_job_lines : List Job → List Job → List (Option JobRun) → List ℕ
 left_job_lines list [] runs = []
 left_job_lines list (job ∷ jobs) [] = []
 left_job_lines list (job ∷ jobs) (run ∷ runs) = left_job_line list job run ++ left_job_lines list jobs runs
 
--- changes first, of golden files and then of the list; then what is rejected, jobs and then golden files
+-- the lines that `accept` prints: changed golden files, changed values of the list, skipped jobs, and skipped golden files
 abbrev pub told_lines : AcceptSummary → List ℕ
 told_lines told = flat_map (file_line told.list) told.files.now
     ++ flat_map (value_line_in told) told.new.now.values.items
@@ -40,28 +42,33 @@ told_lines told = flat_map (file_line told.list) told.files.now
 
 -- ---- the last line
 
+-- whether the golden file is written
 abbrev pub is_changed : ListFile → GoldenFile → Bool
 is_changed list file = is_some (new_text list file)
 
+-- 1 if the Bool is true, and otherwise 0
 abbrev pub one_if : Bool → ℕ
 one_if true = 1
 one_if false = 0
 
--- the number of files that change, including the list
+-- the number of files that change: the golden files that are written, and the list if it has a new text
 abbrev pub changed_count : AcceptSummary → ℕ
 changed_count told = count_by (is_changed told.list) told.files.now + one_if (is_some told.new.now.text)
 
+-- whether there is a run, and its job is chosen and was skipped
 abbrev pub is_left_job : Option JobRun → Bool
 is_left_job None = false
 is_left_job (Some run) = run.is_chosen && is_some run.left
 
--- the number of rejected chosen jobs and golden files
+-- the number of chosen jobs and of golden files that were skipped
 abbrev pub left_count : AcceptSummary → ℕ
 left_count told = count_by is_left_job told.runs.now + count_by (is_left told.list) told.files.now
 
+-- whether files were written or would be, in words
 abbrev pub writing_word : Writing → List ℕ
 writing_word writing.Done = codes " written, "
 writing_word writing.Asked = codes " would be written, "
 
+-- the last line of `accept`: how many files were written or would be, and how many jobs and files were skipped
 abbrev pub count_line : Writing → ℕ → ℕ → List ℕ
 count_line how changed left = count_text changed (codes "file") ++ writing_word how ++ decimal left ++ codes " skipped\n"

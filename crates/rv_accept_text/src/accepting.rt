@@ -16,27 +16,29 @@ use rv_jobs::Job;
 use rv_text::{Span, push_spans};
 use std::alloc::{AllocError, Global};
 
-/// What is accepted, and what is rejected.
+/// What `accept` accepts and what it skips.
 #[derive(Clone, Copy)]
 pub struct AcceptSummary<'a> {
     pub list: ListFile<'a>,
     pub runs: &'a [Option<JobRun>],
+    /// The texts that jobs give their golden files.
     pub claims: &'a [GoldenText],
     pub files: &'a [GoldenFile],
+    /// The new text of the list, and the values that change in it.
     pub new: &'a NewList,
 }
 
 /// Whether files are written.
 #[derive(Clone, Copy, Debug, PartialEq, Eq)]
 pub enum Writing {
-    /// Each file that changes is written.
+    /// Each file that changes was written.
     Done,
-    /// No file is written.
+    /// No file was written.
     Asked,
 }
 
 impl<'a> AcceptSummary<'a> {
-    /// Appends the lines for all changes, golden files first, and then for what is rejected, jobs first.
+    /// Appends the lines about changed golden files, changed values of the list, skipped jobs, and skipped golden files.
     pub fn push_lines(&self, alloc: Global, out: &mut Vec<u8>) -> Result<(), AllocError>
         ensures { OnOk result (out.new.items ≡ out.old.items ++ told_lines self.now) }
     {
@@ -66,6 +68,7 @@ impl<'a> AcceptSummary<'a> {
         Ok(())
     }
 
+    // Appends the lines about a changed value of the list.
     fn push_value_line(&self, out: &mut Vec<u8>, value: &ChangedValue) -> Result<(), AllocError>
         ensures { OnOk result (out.new.items ≡ out.old.items ++ value_line_in self.now value.now) }
     {
@@ -88,7 +91,7 @@ impl<'a> AcceptSummary<'a> {
         Ok(())
     }
 
-    /// Returns the number of files that change, including the list.
+    /// Returns the number of files that change: the golden files that are written, and the list if it has a new text.
     pub fn changed_count(&self) -> usize
         ensures { result ≡ changed_count self.now }
     {
@@ -101,7 +104,7 @@ impl<'a> AcceptSummary<'a> {
         count + self.new.text.is_some() as usize
     }
 
-    /// Returns the number of rejected chosen jobs and files.
+    /// Returns the number of chosen jobs and of golden files that were skipped.
     pub fn left_count(&self) -> usize
         ensures { result ≡ left_count self.now }
     {
@@ -121,7 +124,7 @@ impl<'a> AcceptSummary<'a> {
         count
     }
 
-    /// Appends how many files are written, or would be, and how much is rejected.
+    /// Appends the last line: how many files were written or would be, and how many jobs and files were skipped.
     pub fn push_count_line(&self, out: &mut Vec<u8>, writing: Writing) -> Result<(), AllocError>
         ensures { OnOk result (out.new.items
             ≡ out.old.items ++ count_line writing (changed_count self.now) (left_count self.now)) }
@@ -139,6 +142,7 @@ impl<'a> AcceptSummary<'a> {
     }
 }
 
+// Whether files were written or would be, in words.
 fn writing_word(writing: Writing) -> &'static str
     ensures { result.now ≡ writing_word writing }
 {
@@ -148,6 +152,7 @@ fn writing_word(writing: Writing) -> &'static str
     }
 }
 
+// Appends the lines about a changed value of the list; nothing if its job or the job's run is missing.
 fn push_value_line_of(
     out: &mut Vec<u8>,
     path: &str,
@@ -164,7 +169,7 @@ fn push_value_line_of(
     }
 }
 
-// Appends why jobs of a list are rejected.
+// Appends the lines about the skipped jobs.
 #[tactic(auto, unfolding(crate::specs::Told::left_job_lines))]
 fn push_left_job_lines(
     alloc: Global,
@@ -198,6 +203,7 @@ fn left_job_count(runs: &[Option<JobRun>]) -> usize
     count
 }
 
+// Whether there is a run, and its job is chosen and was skipped.
 fn is_left_job(run: &Option<JobRun>) -> bool
     ensures { result ≡ is_left_job run.now }
 {

@@ -10,7 +10,8 @@ use rv_rows::LINE;
 use rv_text::{Span, is_utf8, push_spans, push_text, tail_from};
 use std::alloc::AllocError;
 
-/// Appends the first difference, and ends the line: by lines if both texts are UTF-8, else by bytes. The old text has a name.
+/// Appends the differences between the old and the new text: by lines if both are UTF-8, and otherwise by bytes. `source` names the old
+/// text.
 #[tactic(auto, unfolding(crate::specs::ChangedTexts::text_change))]
 pub(crate) fn push_text_change(
     out: &mut Vec<u8>,
@@ -28,7 +29,7 @@ pub(crate) fn push_text_change(
     }
 }
 
-/// Appends the offset from which two texts differ, and ends the line.
+/// Appends the first byte in which the old and the new text differ, and ends the line.
 #[tactic(auto, unfolding(crate::specs::ChangedTexts::byte_change))]
 pub(crate) fn push_byte_change(out: &mut Vec<u8>, old: &[u8], new: &[u8]) -> Result<(), AllocError>
     ensures { OnOk result (out.new.items ≡ out.old.items ++ byte_change old.now new.now) }
@@ -36,6 +37,7 @@ pub(crate) fn push_byte_change(out: &mut Vec<u8>, old: &[u8], new: &[u8]) -> Res
     push_values_from(out, equal_len(old, new), old, new)
 }
 
+// Appends the line end with the offset `place`, and what the old and the new text have from there on.
 fn push_values_from<'x>(
     out: &mut Vec<u8>,
     place: usize,
@@ -58,7 +60,7 @@ fn push_values_from<'x>(
     )
 }
 
-/// Appends the offset from which two texts differ, neither of which replaces the other, and ends the line.
+/// Appends the first byte in which two texts differ, and ends the line.
 #[tactic(auto, unfolding(crate::specs::ChangedTexts::byte_difference))]
 pub(crate) fn push_byte_difference(
     out: &mut Vec<u8>,
@@ -70,6 +72,7 @@ pub(crate) fn push_byte_difference(
     push_values_of_both(out, equal_len(one, other), one, other)
 }
 
+// Appends the line end with the offset `place`, and what two different texts have from there on.
 fn push_values_of_both<'x>(
     out: &mut Vec<u8>,
     place: usize,
@@ -92,7 +95,7 @@ fn push_values_of_both<'x>(
     )
 }
 
-/// Appends the first word of a signature that differs, and ends the line.
+/// Appends the first different word of the old and the new signature, and ends the line.
 #[tactic(auto, unfolding(crate::specs::ChangedTexts::word_change))]
 pub(crate) fn push_word_change(out: &mut Vec<u8>, old: &[u8], new: &[u8]) -> Result<(), AllocError>
     ensures { OnOk result (out.new.items ≡ out.old.items ++ word_change old.now new.now) }
@@ -100,7 +103,7 @@ pub(crate) fn push_word_change(out: &mut Vec<u8>, old: &[u8], new: &[u8]) -> Res
     push_word_change_at(out, equal_len(old, new), old, new)
 }
 
-// Appends the differing words of two signatures whose first `len` bytes are equal.
+// Appends the first different word of two signatures whose first `len` bytes are equal, and ends the line.
 fn push_word_change_at<'x>(
     out: &mut Vec<u8>,
     len: usize,
@@ -135,7 +138,7 @@ fn digits_at(rest: &[u8]) -> &[u8]
     }
 }
 
-// Returns the number of equal leading bytes.
+// Returns the number of equal leading bytes of two texts.
 fn equal_len(text: &[u8], other: &[u8]) -> usize
     ensures { result ≡ common_prefix_len nat_eq text.now other.now }
 {

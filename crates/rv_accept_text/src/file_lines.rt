@@ -1,4 +1,4 @@
-//! The lines of golden files.
+//! The lines about golden files.
 
 ghost use Rattle.std.specs.Prelude.{◌≡◌, ◌++◌, OnOk, option_map};
 ghost use Rattle.rv_accept_text.specs.FileLines.{changed_file_line, disagreement_text, file_head, file_line, left_file_line, left_head};
@@ -15,7 +15,7 @@ use rv_jobs::{Bytes, Job};
 use rv_text::{Span, push_spans, push_text};
 use std::alloc::AllocError;
 
-/// Appends what changes in a golden file, if it is written.
+/// Appends the lines about a golden file that is written; nothing if it is not.
 #[tactic(auto, unfolding(crate::specs::FileLines::file_line))]
 pub(crate) fn push_file_line(
     out: &mut Vec<u8>,
@@ -30,6 +30,7 @@ pub(crate) fn push_file_line(
     }
 }
 
+// Appends the lines about a golden file that is written: it is created if it has no old contents, and changed otherwise.
 fn push_written_file_line(
     out: &mut Vec<u8>,
     jobs: &[Job],
@@ -44,6 +45,7 @@ fn push_written_file_line(
     }
 }
 
+// Appends the lines about a golden file that changes.
 fn push_changed_file_line(
     out: &mut Vec<u8>,
     jobs: &[Job],
@@ -57,6 +59,7 @@ fn push_changed_file_line(
     push_part_change(out, target.part, target.path.as_str(), old, text)
 }
 
+// Appends the differences between the old and the new contents of a golden file: of a console by lines or bytes, of a signature by words.
 fn push_part_change(
     out: &mut Vec<u8>,
     part: Part,
@@ -72,6 +75,7 @@ fn push_part_change(
     }
 }
 
+// Appends the line about a golden file that is created.
 fn push_made_file_line(
     out: &mut Vec<u8>,
     jobs: &[Job],
@@ -91,7 +95,7 @@ fn push_made_file_line(
     )
 }
 
-// Appends which file it is, and which part of which job's results it contains.
+// Appends the beginning of the line about a golden file: the sign, its path, and which result of which job it contains.
 fn push_file_head<'x>(
     out: &mut Vec<u8>,
     sign: &'static str,
@@ -112,6 +116,7 @@ fn push_file_head<'x>(
     )
 }
 
+// Returns which result of a job a golden file contains, in words.
 fn part_text(part: Part) -> &'static str
     ensures { result.now ≡ part_text part }
 {
@@ -121,7 +126,7 @@ fn part_text(part: Part) -> &'static str
     }
 }
 
-/// Appends why a golden file is rejected, if it is.
+/// Appends the line about a skipped golden file; nothing if it is not skipped.
 #[tactic(auto, unfolding(crate::specs::FileLines::left_file_line))]
 pub(crate) fn push_left_file_line(
     out: &mut Vec<u8>,
@@ -138,7 +143,7 @@ pub(crate) fn push_left_file_line(
     push_why_file_is_left(out, list.jobs, claims, &file.target)
 }
 
-/// Appends what is rejected.
+/// Appends the beginning of the line about a skipped job or golden file.
 pub(crate) fn push_left_head(out: &mut Vec<u8>, name: &str) -> Result<(), AllocError>
     ensures { OnOk result (out.new.items ≡ out.old.items ++ left_head name.now) }
 {
@@ -152,6 +157,7 @@ pub(crate) fn push_left_head(out: &mut Vec<u8>, name: &str) -> Result<(), AllocE
     )
 }
 
+// Appends the reason why a golden file is skipped, given its outcome.
 fn push_why_file_is_left(
     out: &mut Vec<u8>,
     jobs: &[Job],
@@ -178,7 +184,7 @@ fn push_why_file_is_left(
     }
 }
 
-// Appends which two jobs disagree on the file at a path.
+// Appends the message that two jobs give the golden file at the path different texts.
 fn push_disagreement(
     out: &mut Vec<u8>,
     jobs: &[Job],
@@ -198,6 +204,7 @@ fn push_disagreement(
     }
 }
 
+// Appends the message that two jobs give a golden file different texts; an empty line if there is no second job.
 fn push_other_claim(
     out: &mut Vec<u8>,
     jobs: &[Job],
@@ -213,6 +220,7 @@ fn push_other_claim(
     }
 }
 
+// Appends the message that two jobs give a golden file different texts, and where the texts differ.
 fn push_two_claims(
     out: &mut Vec<u8>,
     jobs: &[Job],
@@ -235,6 +243,7 @@ fn push_two_claims(
     push_byte_difference(out, text_or_empty(&first.text), text_or_empty(&other.text))
 }
 
+// Returns the text, or an empty one if there is none.
 fn text_or_empty(text: &Option<Bytes>) -> &[u8]
     ensures { result.now ≡ text_or_empty text.now }
 {

@@ -6,7 +6,7 @@ ghost use Rattle.rv_accept_text.specs.GoldenFiles.{agreed_text, another_text, is
 use rv_accept::{GoldenFileOutcome, Target};
 use rv_jobs::{Bytes, Job, Text};
 
-/// The file of a list, and the jobs that it parses as.
+/// The path and the text of a list, and its jobs.
 #[derive(Clone, Copy)]
 pub struct ListFile<'a> {
     pub path: &'a str,
@@ -18,14 +18,14 @@ pub struct ListFile<'a> {
 #[derive(Drop)]
 pub struct GoldenFile {
     pub target: Target,
-    /// The file that its path leads to.
+    /// The path of the file, resolved against the `--root` directory.
     pub place: Text,
-    /// The current contents; `None` if the file is missing.
+    /// The current contents; `None` if the file does not exist.
     pub old: Option<Bytes>,
 }
 
 impl GoldenFile {
-    /// Returns the text that is written, if any: the one that all jobs give that name the file, if the file has another text or is missing.
+    /// Returns the text to write: the one that all jobs that name the file give it. `None` if the file already has it, or is skipped.
     pub fn new_text(&self, list: &ListFile<'_>) -> Option<&[u8]>
         ensures { option_map (λ text. text.now) result ≡ new_text list.now self.now }
     {
@@ -38,7 +38,7 @@ impl GoldenFile {
         }
     }
 
-    /// Returns the text that all jobs give that name the file, unless the file is the list or an image.
+    /// Returns the text that all jobs that name the file give it; `None` if they disagree or the file is the list or an image.
     pub fn agreed_text(&self, list: &ListFile<'_>) -> Option<&[u8]>
         ensures { option_map (λ text. text.now) result ≡ agreed_text list.now self.now }
     {
@@ -48,7 +48,7 @@ impl GoldenFile {
         }
     }
 
-    /// Whether it is rejected: it is the list or an image, or jobs that name it are rejected or disagree.
+    /// Whether the file is skipped: it is the list or an image, or the jobs that name it disagree or were skipped.
     pub fn is_left(&self, list: &ListFile<'_>) -> bool
         ensures { result ≡ is_left list.now self.now }
     {
@@ -59,7 +59,7 @@ impl GoldenFile {
         }
     }
 
-    /// Whether it is the list or an image, by its path or by its bytes.
+    /// Whether the file is the list or an image, by its path or by its contents, and so is never overwritten.
     pub fn is_kept(&self, list: &ListFile<'_>) -> bool
         ensures { result ≡ is_kept list.now self.now }
     {
@@ -69,6 +69,7 @@ impl GoldenFile {
     }
 }
 
+// Returns the text, unless the file already has it.
 fn another_text<'a>(text: &'a [u8], old: &Option<Bytes>) -> Option<&'a [u8]>
     ensures { option_map (λ text. text.now) result ≡ another_text text.now old.now }
 {
@@ -78,13 +79,14 @@ fn another_text<'a>(text: &'a [u8], old: &Option<Bytes>) -> Option<&'a [u8]>
     }
 }
 
+// Whether the path is that of a job's image.
 fn is_image_path(path: &str, jobs: &[Job]) -> bool
     ensures { result ≡ is_image_path path.now jobs.now }
 {
     jobs.iter().any(|job| path == job.image.as_str())
 }
 
-// Whether the bytes are those of the list, or of an ELF file.
+// Whether the old contents are those of the list or of an ELF file.
 fn is_kept_text(list: &[u8], old: &Option<Bytes>) -> bool
     ensures { result ≡ is_kept_text list.now old.now }
 {

@@ -1,4 +1,4 @@
-//! The lines for jobs: values that are replaced, and why a job is rejected.
+//! The lines about jobs: values that change, and why a job is skipped.
 
 ghost use Rattle.std.specs.Prelude.{◌≡◌, ◌++◌, OnOk, option_map, slice_get, unwrap_or};
 ghost use Rattle.rv_accept_text.specs.FileLines.{job_name};
@@ -15,7 +15,7 @@ use rv_rows::{Row, RowEnd, has_expected_exit};
 use rv_text::{Span, push_spans, push_text};
 use std::alloc::{AllocError, Global};
 
-/// Returns the name of the job at an index.
+/// Returns the name of the job at index `place`; empty if there is none.
 pub(crate) fn job_name(jobs: &[Job], place: usize) -> &str
     ensures { result.now ≡ job_name jobs.now place }
 {
@@ -25,7 +25,7 @@ pub(crate) fn job_name(jobs: &[Job], place: usize) -> &str
     }
 }
 
-/// Appends which value of the list at a path is replaced, and how it differs.
+/// Appends the lines about a changed value of the list.
 pub(crate) fn push_value_line(
     out: &mut Vec<u8>,
     path: &str,
@@ -39,6 +39,7 @@ pub(crate) fn push_value_line(
     push_value_change(out, value.key, job, row)
 }
 
+// Appends the beginning of the line about a changed value: the list's path and line, and the job and the key.
 fn push_value_head<'x>(
     out: &mut Vec<u8>,
     path: &'x str,
@@ -62,6 +63,7 @@ fn push_value_head<'x>(
     )
 }
 
+// Appends the line end that shows how the value of the key changes.
 fn push_value_change(
     out: &mut Vec<u8>,
     key: ValueKey,
@@ -82,6 +84,7 @@ fn push_value_change(
     }
 }
 
+// Appends the line end that shows the old and the new exit code.
 fn push_exit_change(
     out: &mut Vec<u8>,
     expected: Option<u32>,
@@ -101,6 +104,7 @@ fn push_exit_change(
     )
 }
 
+// Returns the exit code of a run; 0 for any other end.
 fn exit_code(ending: RowEnd) -> u32
     ensures { result ≡ exit_code ending }
 {
@@ -110,6 +114,7 @@ fn exit_code(ending: RowEnd) -> u32
     }
 }
 
+// Appends the line end that shows the old and the new kind of fault.
 fn push_end_change(
     out: &mut Vec<u8>,
     expected: Option<ExpectedEnd>,
@@ -129,7 +134,7 @@ fn push_end_change(
     )
 }
 
-// Returns the value of `expect_end`.
+// Returns the value of `expect_end`, as the list writes it.
 fn expected_end_word(end: Option<ExpectedEnd>) -> &'static str
     ensures { result.now ≡ expected_end_word end }
 {
@@ -140,6 +145,7 @@ fn expected_end_word(end: Option<ExpectedEnd>) -> &'static str
     }
 }
 
+// Returns the kind of fault that ended a run; empty for any other end.
 fn fault_word(ending: RowEnd) -> &'static str
     ensures { result.now ≡ fault_word ending }
 {
@@ -149,6 +155,7 @@ fn fault_word(ending: RowEnd) -> &'static str
     }
 }
 
+// Returns the expected console that the list contains; empty if it does not contain it.
 fn text_of_list(expected: &Option<ExpectedConsole>) -> &[u8]
     ensures { result.now ≡ text_of_list expected.now }
 {
@@ -158,7 +165,7 @@ fn text_of_list(expected: &Option<ExpectedConsole>) -> &[u8]
     }
 }
 
-/// Appends why a chosen job of a list is rejected, if it is.
+/// Appends the line about a chosen job that was skipped; nothing for any other job.
 pub(crate) fn push_left_job_line(
     alloc: Global,
     out: &mut Vec<u8>,
@@ -174,6 +181,7 @@ pub(crate) fn push_left_job_line(
     }
 }
 
+// Appends the line about a skipped job; nothing if it is not skipped.
 fn push_left_line(
     alloc: Global,
     out: &mut Vec<u8>,
@@ -191,6 +199,7 @@ fn push_left_line(
     push_text(out, "\n")
 }
 
+// Appends the reason to skip a job, in words.
 fn push_why_left(
     alloc: Global,
     out: &mut Vec<u8>,
@@ -223,7 +232,7 @@ fn push_why_left(
     }
 }
 
-// Appends which job a job differs from.
+// Appends that a job differs from its `same_as` job.
 fn push_difference(out: &mut Vec<u8>, list: &[Job], job: &Job) -> Result<(), AllocError>
     ensures { OnOk result (out.new.items ≡ out.old.items ++ difference_text list.now job.now) }
 {
@@ -237,7 +246,7 @@ fn push_difference(out: &mut Vec<u8>, list: &[Job], job: &Job) -> Result<(), All
     )
 }
 
-// Returns the name of the job that a job is compared with.
+// Returns the name of the job that `same_as` of this job names.
 fn name_of_compared<'x>(list: &'x [Job], job: &Job) -> &'x str
     ensures { result.now ≡ name_of_compared list.now job.now }
 {
@@ -247,7 +256,7 @@ fn name_of_compared<'x>(list: &'x [Job], job: &Job) -> &'x str
     }
 }
 
-// Appends a key with its actual value.
+// Appends a key with its new value, as the list would write it.
 fn push_new_entry(
     alloc: Global,
     out: &mut Vec<u8>,
@@ -260,7 +269,7 @@ fn push_new_entry(
     push_new_value(alloc, out, key, row)
 }
 
-// Appends the actual and the expected end of a run.
+// Appends the actual end of a run and, unless the job is refused, the expected end.
 fn push_other_end(out: &mut Vec<u8>, job: &Job, ending: RowEnd) -> Result<(), AllocError>
     ensures { OnOk result (out.new.items ≡ out.old.items ++ other_end_text job.now ending) }
 {
@@ -274,7 +283,7 @@ fn push_other_end(out: &mut Vec<u8>, job: &Job, ending: RowEnd) -> Result<(), Al
     }
 }
 
-// Appends the first expected end that is unmet: exit 0 if a job specifies no end.
+// Appends the first unmet expectation about the end: exit 0 if the job specifies no end.
 fn push_wanted(
     out: &mut Vec<u8>,
     exit: Option<u32>,
@@ -291,6 +300,7 @@ fn push_wanted(
     }
 }
 
+// Appends the expected end in words, if it is not an exit code: exit 0 if none is specified.
 fn push_wanted_end(out: &mut Vec<u8>, end: Option<ExpectedEnd>) -> Result<(), AllocError>
     ensures { OnOk result (out.new.items ≡ out.old.items ++ wanted_end_text end) }
 {
@@ -303,7 +313,7 @@ fn push_wanted_end(out: &mut Vec<u8>, end: Option<ExpectedEnd>) -> Result<(), Al
     }
 }
 
-// Appends how a run ended, with its code or kind.
+// Appends how a run ended: with its exit code, its kind of fault, or the reason of the refusal.
 fn push_met_end(out: &mut Vec<u8>, ending: RowEnd) -> Result<(), AllocError>
     ensures { OnOk result (out.new.items ≡ out.old.items ++ actual_end_text ending) }
 {

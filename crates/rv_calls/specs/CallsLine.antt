@@ -15,10 +15,11 @@ abbrev pub symbol_or_address : Option (List ℕ × ℕ) → ℕ → List ℕ
 symbol_or_address (Some place) address = symbol_text place
 symbol_or_address None address = word_digits address
 
+-- a code address as symbol and offset by the symbols of an image with these bytes, or as a number if it has none
 abbrev pub place_text : Image → List ℕ → ℕ → List ℕ
 place_text image file address = symbol_or_address (symbol_at image file address) address
 
--- where a call was made
+-- an arrow, and the address of the call instruction that made a frame
 abbrev pub call_text : Image → List ℕ → Frame → List ℕ
 call_text image file frame = codes " <- " ++ place_text image file frame.call
 
@@ -26,23 +27,24 @@ call_text image file frame = codes " <- " ++ place_text image file frame.call
 abbrev pub most_told : ℕ
 most_told = 31
 
--- the number of further calls, if there are any
+-- the number of further calls; empty if there are none
 unfoldable pub more_text : ℕ → List ℕ
 more_text count = if count == 0 then [] else codes " <- " ++ decimal count ++ codes " more"
 
--- the number of frames that are not shown, if there are any
+-- the number of frames that are not shown; empty if all are shown
 abbrev pub rest_text : List Frame → List ℕ
 rest_text frames = more_text (length frames - most_told)
 
--- where a run ended, then the address of each call, innermost first
+-- the pc at the end, then the address of each call, innermost first, up to the maximum, then the number of further calls
 unfoldable pub places_text : Image → List ℕ → ℕ → List Frame → List ℕ
 places_text image file pc frames = place_text image file pc
     ++ flat_map (call_text image file) (take most_told (reverse frames)) ++ rest_text frames
 
+-- the line of the calls that have not returned, with the pc at the end of the run
 unfoldable pub calls_line : Image → List ℕ → ℕ → List Frame → List ℕ
 calls_line image file pc frames = line (codes "     calls: " ++ places_text image file pc frames)
 
--- empty if every call has returned, since the final pc alone shows no call
+-- the line of the calls; empty if every call has returned, since the final pc alone shows no call
 abbrev pub calls_text : Image → List ℕ → Calls → List ℕ
 calls_text image file calls =
     if length calls.frames == 0 then [] else calls_line image file calls.pc calls.frames

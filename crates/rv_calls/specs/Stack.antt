@@ -13,7 +13,7 @@ use Rattle.rv_calls.specs.declared.transfer.Transfer.{Transfer}
 
 -- ---- what an instruction does to the stack
 
--- x1 is the link register, and x5 the alternate one
+-- whether a register is a link register: x1, or x5 as the alternate one
 abbrev pub is_link : ℕ → Bool
 is_link number = (number == 1) || (number == 5)
 
@@ -25,17 +25,19 @@ jalr_action true false same = action.Push
 jalr_action true true false = action.PopThenPush
 jalr_action true true true = action.Push
 
--- JAL pushes if rd is a link register; no other instruction except JALR has an effect
+-- the effect of an instruction, by its operation and registers: JAL pushes if rd is a link register, and JALR has that of table 2.1; any
+-- other one has none
 abbrev pub op_action : Op → ℕ → ℕ → StackAction
 op_action op.Jal rd rs1 = if is_link rd then action.Push else action.Keep
 op_action op.Jalr rd rs1 = jalr_action (is_link rd) (is_link rs1) (rd == rs1)
 op_action _ rd rs1 = action.Keep
 
--- the effect of an encoding's instruction; a compressed one has the effect of its expansion
+-- the effect of an instruction, if there is one; a compressed one has the effect of its expansion
 abbrev pub instr_action : Option Instr → StackAction
 instr_action (Some i) = op_action i.op i.rd i.rs1
 instr_action None = action.Keep
 
+-- whether the effect includes a push
 abbrev pub pushes_frame : StackAction → Bool
 pushes_frame action.Push = true
 pushes_frame action.PopThenPush = true
@@ -67,23 +69,25 @@ depth_after_return to sp frames = if depth_up_to_return to frames == 0
     then depth_above sp frames
     else depth_up_to_return to frames - 1
 
--- how many frames remain after the pop, if there is one
+-- how many frames remain after the pop of an instruction with this effect, target and sp; all if it does not pop
 abbrev pub depth_left : StackAction → ℕ → ℕ → List Frame → ℕ
 depth_left action.Pop to sp frames = depth_after_return to sp frames
 depth_left action.PopThenPush to sp frames = depth_after_return to sp frames
 depth_left _ to sp frames = length frames
 
+-- the frames that remain after the pop of a transfer
 abbrev pub popped : List Frame → Transfer → List Frame
 popped frames t = take (depth_left t.action t.to t.sp frames) frames
 
--- whether it pushes a frame onto the remaining ones; a call at the maximum depth counts as a jump
+-- whether a transfer pushes a frame onto the frames left by its pop; a call at the maximum depth counts as a jump
 abbrev pub is_pushed : List Frame → Transfer → Bool
 is_pushed left t = pushes_frame t.action && nat_lt (length left) most_frames
 
--- the frame of a call
+-- the frame that a call pushes
 abbrev pub frame_of : Transfer → Frame
 frame_of t = record { return_address = t.behind; sp = t.sp; call = t.from }
 
+-- the frames left by the pop of a transfer, with its frame if it pushes one
 abbrev pub pushed : List Frame → Transfer → List Frame
 pushed left t = if is_pushed left t then left ++ frame_of t ∷ [] else left
 

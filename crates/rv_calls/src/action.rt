@@ -21,7 +21,7 @@ pub enum StackAction {
 }
 
 impl StackAction {
-    /// Whether it is a call.
+    /// Whether the effect includes a push.
     pub(crate) fn pushes_frame(self) -> bool
         ensures { result ≡ pushes_frame self }
     {
@@ -32,7 +32,7 @@ impl StackAction {
     }
 }
 
-/// Returns the effect of an encoding's instruction; none if it has no instruction.
+/// Returns the effect of the encoding's instruction; `Keep` if there is no encoding or no instruction.
 pub fn action_of_code(code: Option<Code>) -> StackAction
     ensures { result ≡ instr_action (option_and_then instr_of code) }
 {
@@ -52,6 +52,7 @@ pub fn action_of(instr: Instr) -> StackAction
     op_action(instr.op, instr.rd, instr.rs1)
 }
 
+// Returns the effect of an instruction with this operation and these registers.
 fn op_action(op: Op, rd: u8, rs1: u8) -> StackAction
     ensures { result ≡ op_action op rd rs1 }
 {
@@ -62,6 +63,7 @@ fn op_action(op: Op, rd: u8, rs1: u8) -> StackAction
     }
 }
 
+// Returns the effect of JALR with these registers.
 fn jalr_action(rd: u8, rs1: u8) -> StackAction
     ensures { result ≡ jalr_action (is_link rd) (is_link rs1) (rd == rs1) }
 {

@@ -16,9 +16,9 @@ use std::alloc::{AllocError, Global};
 /// The maximum number of calls shown; with the final pc there are 32 addresses.
 const MOST_TOLD: usize = 31;
 
-/// Appends the line of the calls that have not returned when a run ended, if there are any: the final pc and the address of each call,
-/// innermost first, at most 32 addresses, then the number of further calls. Addresses are shown by the symbols of the job's file, or as
-/// numbers if they have none.
+/// Appends the line of the calls that have not returned when a run ended, or nothing if all have: the final pc and the address of each
+/// call, innermost first, at most 32 addresses, then the number of further calls. Addresses are shown by the symbols of the job's file, or
+/// as numbers if they have none.
 pub fn push_calls_text(
     alloc: Global,
     bytes: &mut Vec<u8>,
@@ -34,6 +34,7 @@ pub fn push_calls_text(
     push_calls_line(alloc, bytes, elf, calls.pc, &calls.frames)
 }
 
+// Appends the line of these calls, with the final pc.
 #[tactic(auto, unfolding(crate::specs::CallsLine::calls_line))]
 fn push_calls_line(
     alloc: Global,
@@ -50,7 +51,7 @@ fn push_calls_line(
     push_text(bytes, "\n")
 }
 
-// Appends the pc, followed by the calls.
+// Appends the pc, then the addresses of the calls, then the number of further calls.
 #[tactic(auto, unfolding(crate::specs::CallsLine::places_text))]
 fn push_places(
     alloc: Global,
@@ -67,7 +68,7 @@ fn push_places(
     push_rest(bytes, frames)
 }
 
-// Appends the innermost calls, up to the maximum shown.
+// Appends the addresses of the innermost calls, up to the maximum shown.
 fn push_calls(
     alloc: Global,
     bytes: &mut Vec<u8>,
@@ -83,6 +84,7 @@ fn push_calls(
     Ok(())
 }
 
+// Appends an arrow and the address of a call.
 fn push_call(
     alloc: Global,
     bytes: &mut Vec<u8>,
@@ -96,6 +98,7 @@ fn push_call(
     push_place(alloc, bytes, elf, frame.call)
 }
 
+// Appends a code address as symbol and offset, or as a number if it has no symbol.
 fn push_place(
     alloc: Global,
     bytes: &mut Vec<u8>,
@@ -108,6 +111,7 @@ fn push_place(
     push_symbol_or_address(alloc, bytes, symbol_of(elf, address), address)
 }
 
+// Returns the symbol at a code address, and the offset from it; `None` if there is none.
 fn symbol_of<'a>(elf: &ElfFile<'a>, address: u32) -> Option<SymbolAt<'a>>
     ensures { option_map (λ s. (s.name.now, s.offset)) result
         ≡ symbol_at elf.now.image.now elf.now.bytes.now address }
@@ -115,6 +119,7 @@ fn symbol_of<'a>(elf: &ElfFile<'a>, address: u32) -> Option<SymbolAt<'a>>
     symbol_at(elf.image, elf.bytes, address)
 }
 
+// Appends the symbol and the offset, or the address if there is no symbol.
 fn push_symbol_or_address(
     alloc: Global,
     bytes: &mut Vec<u8>,
@@ -130,14 +135,14 @@ fn push_symbol_or_address(
     }
 }
 
-// Appends the number of calls that are not shown.
+// Appends the number of calls that are not shown; nothing if all are.
 fn push_rest(bytes: &mut Vec<u8>, frames: &[Frame]) -> Result<(), AllocError>
     ensures { OnOk result (bytes.new.items ≡ bytes.old.items ++ rest_text frames.now) }
 {
     push_more(bytes, frames.len().saturating_sub(MOST_TOLD))
 }
 
-// Appends the number of further calls, if there are any.
+// Appends the number of further calls; nothing if there are none.
 #[tactic(auto, unfolding(crate::specs::CallsLine::more_text))]
 fn push_more(bytes: &mut Vec<u8>, count: usize) -> Result<(), AllocError>
     ensures { OnOk result (bytes.new.items ≡ bytes.old.items ++ more_text count) }

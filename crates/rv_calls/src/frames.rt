@@ -38,6 +38,7 @@ pub fn pass_control(frames: &mut Vec<Frame>, transfer: Transfer) -> Result<(), A
     Ok(())
 }
 
+// Returns the frame that a call pushes.
 fn frame_of(transfer: Transfer) -> Frame
     ensures { result ≡ frame_of transfer }
 {
@@ -48,7 +49,7 @@ fn frame_of(transfer: Transfer) -> Frame
     }
 }
 
-/// Returns how many frames remain after the pop of a transfer, if there is one.
+/// Returns how many frames remain after the pop of a transfer; all if it does not pop.
 pub fn frames_left(frames: &[Frame], transfer: Transfer) -> usize
     ensures { result ≡ depth_left transfer.action transfer.to transfer.sp frames.now }
 {
@@ -60,7 +61,7 @@ pub fn frames_left(frames: &[Frame], transfer: Transfer) -> usize
     }
 }
 
-// Returns how many frames remain after a return to an address.
+// Returns how many frames remain after a return to an address, given the stack pointer.
 fn depth_after_return(frames: &[Frame], to: u32, sp: u32) -> usize
     ensures { result ≡ depth_after_return to sp frames.now }
 {

@@ -13,11 +13,12 @@ use rv_rows::machine_at;
 use rv_trace::JobImage;
 use std::alloc::{AllocError, Global};
 
-/// Where a run ended, and the calls that have not returned.
+/// The calls at the end of a run that have not returned.
 #[derive(Drop)]
 pub struct Calls {
     /// The pc at the end.
     pub pc: u32,
+    /// The calls, innermost last.
     pub frames: Frames,
 }
 
@@ -34,7 +35,7 @@ pub fn calls_of_run(alloc: Global, machine: Machine, budget: u32) -> Result<Call
     })
 }
 
-// Runs the machine and returns the frames at the end.
+// Runs a machine within a budget of steps, and returns the frames at the end.
 fn frames_of_run(
     alloc: Global,
     machine: &mut Machine,

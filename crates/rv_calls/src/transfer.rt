@@ -15,6 +15,7 @@ use rv_trace::{Code, code_at, code_length};
 /// How a completed instruction passed control to the next.
 #[derive(Clone, Copy)]
 pub struct Transfer {
+    /// The instruction's effect on the stack of calls.
     pub action: StackAction,
     /// The instruction's address.
     pub from: u32,
@@ -29,7 +30,7 @@ pub struct Transfer {
 /// The register number of the stack pointer.
 const SP: u8 = 2;
 
-/// Executes a machine's next instruction, and returns its transfer of control if it completes.
+/// Executes a machine's next instruction, and returns its transfer of control; `None` if it does not complete.
 pub fn next_transfer(machine: &mut Machine) -> Option<Transfer>
     ensures { MatchOption result
         ((is_ok (step_of (state_of machine.old)) ≡ false)
@@ -74,7 +75,7 @@ fn step_once(machine: &mut Machine) -> bool
     machine.run(1).steps != 0
 }
 
-// Returns the address after an encoding.
+// Returns the address after the encoding at a pc; the pc itself if there is no encoding.
 fn after_code(pc: u32, code: Option<Code>) -> u32
     ensures { result ≡ after_code pc code }
 {

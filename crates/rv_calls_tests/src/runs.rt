@@ -10,7 +10,7 @@ use std::test::Fail;
 const BASE: u32 = 0x8000_0000;
 
 // Each program starts at 80000000, x2 is 0 at first, and `X` is the exit call. Frames were found by hand, the innermost last: the address
-// of the call, the return address, and x2 at the call. label | set | budget | program | frames.
+// of the call, the return address, and x2 at the call. label | instruction set | budget | program | frames.
 const RUNS: &str = "\
 no call | imc | 9 | X |
 call | imc | 9 | 008000ef 00000013 X | 80000000 80000004 00000000
@@ -50,7 +50,7 @@ two tasks, behind the first switch to the higher stack | imc | 13 | \
     80001137 80000337 03c30313 800013b7 40038393 00c000ef 008000ef 00000013 00008413 00030093 00040313 00010413 00038113 00040393 00008067 fe5ff0ef X |
 ";
 
-// Endless recursion: JAL to itself, with x1 as the link register. budget | frames.
+// Endless recursion: JAL to itself, with x1 as the link register. budget | number of frames.
 const DEPTHS: &str = "\
 1 | 1
 4095 | 4095
@@ -59,6 +59,7 @@ const DEPTHS: &str = "\
 9000 | 4096
 ";
 
+// Returns a machine that starts a program at `BASE`, with 4,096 bytes of memory from there on.
 fn machine_of(alloc: Global, isa: Isa, program: &str) -> Result<Machine, Fail> {
     let map = Map::of(&[Region {
         base: BASE,
@@ -74,7 +75,7 @@ fn machine_of(alloc: Global, isa: Isa, program: &str) -> Result<Machine, Fail> {
     Ok(Machine::new(alloc, bus, BASE, isa)?)
 }
 
-// Returns the frames at the end of a run, in the form of a row.
+// Returns the frames at the end of a run within a budget, in the form of a row.
 fn told(alloc: Global, machine: Machine, budget: u32) -> Result<String, AllocError> {
     let mut text = String::new(alloc);
     let calls = calls_of_run(alloc, machine, budget)?;
@@ -86,6 +87,7 @@ fn told(alloc: Global, machine: Machine, budget: u32) -> Result<String, AllocErr
     Ok(text)
 }
 
+// Checks that the program of a row leaves the row's frames.
 fn check(alloc: Global, row: &str) -> Result<(), Fail> {
     let isa = if cell_of(row, 1) == "im" {
         Isa::Im
@@ -97,6 +99,7 @@ fn check(alloc: Global, row: &str) -> Result<(), Fail> {
     agree(row, told(alloc, machine, budget)?.as_str(), cell_of(row, 4))
 }
 
+// Checks how many frames endless recursion leaves within the budget of a row.
 fn check_depth(alloc: Global, row: &str) -> Result<(), Fail> {
     let machine = machine_of(alloc, Isa::Imc, "000000ef")?;
     let calls = calls_of_run(alloc, machine, cell_of(row, 0).parse::<u32>()?)?;
@@ -105,6 +108,7 @@ fn check_depth(alloc: Global, row: &str) -> Result<(), Fail> {
     agree(row, depth.as_str(), cell_of(row, 1))
 }
 
+// Each program leaves exactly the frames of the calls that have not returned.
 #[test]
 fn frames_are_left_by_calls_that_have_not_returned(rt: HostRuntime) -> Result<(), Fail> {
     has_lines(RUNS, 28)?;
@@ -114,6 +118,7 @@ fn frames_are_left_by_calls_that_have_not_returned(rt: HostRuntime) -> Result<()
     Ok(())
 }
 
+// Endless recursion leaves at most 4,096 frames.
 #[test]
 fn frames_are_bounded(rt: HostRuntime) -> Result<(), Fail> {
     has_lines(DEPTHS, 5)?;

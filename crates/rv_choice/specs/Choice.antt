@@ -1,4 +1,4 @@
--- The jobs of a list that a person chooses.
+-- The jobs of a list that options choose.
 use Rattle.std.specs.Prelude.{◌≡◌, ℕ, Bool, true, List, [], ◌∷◌, Option, Some, None, is_some, length, map, not}
 use Rattle.std.specs.Prelude.{◌&&◌, ◌||◌, false, option_map, unwrap_or}
 use Rattle.std.specs.Borrow.{Bor}
@@ -12,56 +12,59 @@ use Rattle.rv_lists.specs.declared.job.Job.{Job}
 use Rattle.rv_report.specs.declared.row.Row.{Row}
 use Rattle.rv_expect.specs.Passing.{has_passed}
 
+-- a list of job names
 abbrev pub ChosenNames : Type 0
 ChosenNames = List (List ℕ)
 
--- whether a name is one of these
+-- whether a name is one of these names
 abbrev pub is_among_names : ChosenNames → List ℕ → Bool
 is_among_names names name = list_any (λ other. bytes_eq other name) names
 
--- whether exact names, if given, choose the job of a name
+-- whether the names contain this name; none without names
 abbrev pub choice_by_names : Option ChosenNames → List ℕ → Option Bool
 choice_by_names names name = option_map (λ names. is_among_names names name) names
 
--- whether a pattern, if given, chooses the job of a name: it matches anywhere in the name
+-- whether the pattern matches anywhere in this name; none without a pattern
 abbrev pub choice_by_pattern : Option Re → List ℕ → Option Bool
 choice_by_pattern pattern name = option_map (λ pattern. is_some (find_str pattern name 0)) pattern
 
--- a job is chosen if exact names, a pattern or the failures of a report choose it, and also if none of them is given
+-- whether a job is chosen: one of the given criteria chooses it, or none is given
 abbrev pub is_chosen : Option Bool → Option Bool → Option Bool → Bool
 is_chosen None None None = true
 is_chosen by_name by_pattern by_report =
     unwrap_or by_name false || (unwrap_or by_pattern false || unwrap_or by_report false)
 
--- whether the job of a name is chosen by exact names, by a pattern and by the names of a report's failed jobs, as far as these are given
+-- whether a job of this name is chosen: by the names `only`, by the pattern, or by the names `failed` from a report
 abbrev pub is_chosen_name : Option ChosenNames → Option Re → Option ChosenNames → List ℕ → Bool
 is_chosen_name only pattern failed name =
     is_chosen (choice_by_names only name) (choice_by_pattern pattern name) (choice_by_names failed name)
 
--- the selection of the chosen jobs
+-- for each job, in list order, whether it is chosen: by the names `only`, by the pattern, or by the names `failed` from a report
 unfoldable pub chosen_marks : Option ChosenNames → Option Re → Option ChosenNames → List Job → List Bool
 chosen_marks only pattern failed jobs = map (λ job. is_chosen_name only pattern failed job.name) jobs
 
--- names as a caller passes them
+-- the names that these references point to
 abbrev pub borrowed_names : List (Bor (List ℕ)) → ChosenNames
 borrowed_names names = map (λ name. name.now) names
 
+-- the names that these references point to, if there are any
 abbrev pub optional_names : Option (Bor (List (Bor (List ℕ)))) → Option ChosenNames
 optional_names names = option_map (λ names. borrowed_names names.now) names
 
+-- the pattern of a compiled regular expression, if there is one
 abbrev pub pattern_of : Option (Bor Regex) → Option Re
 pattern_of pattern = option_map (λ regex. regex_pattern regex.now) pattern
 
--- the pattern is what its text parses as, with the default options
+-- the regular expression was compiled from its text with the default options
 abbrev pub IsReadByDefault : Regex → Type 0
 IsReadByDefault regex = (regex_config regex ≡ default_config) × IsReadFromSource regex
 
--- the names of the failed rows, in order
+-- the names of the rows that failed by this rule, in order
 abbrev pub failed_job_names : Rule → List Row → List (List ℕ)
 failed_job_names rule rows =
     map (λ (row : Row). row.name) (filter (λ (row : Row). not (has_passed rule row)) rows)
 
--- whether a row has the name
+-- whether a row has this name
 abbrev pub has_row_named : List Row → List ℕ → Bool
 has_row_named rows name = list_any (λ (row : Row). bytes_eq row.name name) rows
 
@@ -69,7 +72,7 @@ has_row_named rows name = list_any (λ (row : Row). bytes_eq row.name name) rows
 abbrev pub jobs_without_row : List Job → List Row → ℕ
 jobs_without_row jobs rows = length (filter (λ (job : Job). not (has_row_named rows job.name)) jobs)
 
--- exact names are given if there are any
+-- the names of `--only`; none if the option is not given
 abbrev pub requested_names : List (Bor (List ℕ)) → Option ChosenNames
 requested_names [] = None
 requested_names (name ∷ more) = Some (borrowed_names (name ∷ more))
@@ -78,11 +81,11 @@ requested_names (name ∷ more) = Some (borrowed_names (name ∷ more))
 abbrev pub is_found_in_names : Re → List Job → Bool
 is_found_in_names pattern jobs = list_any (λ job. is_some (find_str pattern job.name 0)) jobs
 
--- whether a selected job remains selected: the pattern does not match its name
+-- whether a selected job stays selected: the pattern of `--exclude` is not found in its name
 abbrev pub is_left : Bool → Bool → Bool
 is_left mark is_found = mark && not is_found
 
--- the selection without the jobs whose names the pattern matches
+-- the selection without the jobs whose names the pattern of `--exclude` matches
 unfoldable pub left_marks : Re → List Job → List Bool → List Bool
 left_marks pattern [] marks = []
 left_marks pattern (job ∷ jobs) [] = []
@@ -93,10 +96,10 @@ left_marks pattern (job ∷ jobs) (mark ∷ marks) =
 abbrev pub has_mark : List Bool → Bool
 has_mark marks = list_any (λ mark. mark) marks
 
--- whether jobs were selected and none remains
+-- whether the selection `marks` is not empty, but the selection `left` is
 abbrev pub are_emptied : List Bool → List Bool → Bool
 are_emptied marks left = has_mark marks && not (has_mark left)
 
--- whether a job has the name
+-- whether a job has this name
 abbrev pub has_job_named : List Job → List ℕ → Bool
 has_job_named jobs name = list_any (λ job. bytes_eq job.name name) jobs

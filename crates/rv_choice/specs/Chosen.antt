@@ -17,8 +17,8 @@ use Rattle.rv_choice.specs.Choice.{jobs_without_row, left_marks, requested_names
 use Rattle.rv_choice.specs.FailedJobNotes.{failed_job_notes}
 use Rattle.rv_choice.specs.UnknownName.{unknown_name}
 
--- the jobs chosen by exact names, by a pattern, and among the jobs of these names, which failed in the report at a path, where `missing`
--- jobs have no row; there is no selection exactly if the arguments only request the jobs that failed in a report, and none failed
+-- the selection by `--only`, by the pattern, and by the names `failed` from the report at `path`, in which `missing` jobs have no row;
+-- there is no selection if only failed jobs are requested, and none failed
 pub record AreChosenFrom (path : List ℕ) (failed : ChosenNames) (missing : ℕ) (pattern : Option Re) (words : RunArgs)
     (jobs : List Job) (marks : Option (List Bool)) (notes : List ℕ) : Type 0 where
   pub told : notes ≡ failed_job_notes path jobs failed missing
@@ -26,7 +26,8 @@ pub record AreChosenFrom (path : List ℕ) (failed : ChosenNames) (missing : ℕ
       ≡ chosen_marks (requested_names words.only.items) pattern (Some failed) jobs)
   pub none : (marks ≡ None) ↔ ((failed ≡ []) × (words.only.items ≡ []) × (pattern ≡ None))
 
--- the jobs chosen with the failures of the report at a path, and a note with its number of rows if it is truncated
+-- the selection by `--only`, by the pattern, and by the failed rows of the report at `path`; the notes begin with the number of rows if the
+-- report is truncated
 pub record AreChosenFromReport (known : Option FileContents) (path : List ℕ) (pattern : Option Re) (words : RunArgs)
     (rule : Rule) (jobs : List Job) (marks : Option (List Bool)) (notes : List ℕ) : Type 0 where
   pub found : PartialReport
@@ -36,7 +37,7 @@ pub record AreChosenFromReport (known : Option FileContents) (path : List ℕ) (
   pub chosen : AreChosenFrom path (failed_job_names rule found.report.rows)
       (jobs_without_row jobs found.report.rows) pattern words jobs marks failed
 
--- the jobs chosen with a pattern: from a report if one is given, else by exact names alone, without notes
+-- the selection by `--only` and the pattern and, if a report is given, by its failed rows; without a report there are no notes
 abbrev pub AreChosenBeside : Option FileContents → Option (Bor (List ℕ)) → Option Re → RunArgs → Rule → List Job
     → Option (List Bool) → List ℕ → Type 0
 AreChosenBeside known None pattern words rule jobs marks notes =
@@ -44,13 +45,14 @@ AreChosenBeside known None pattern words rule jobs marks notes =
 AreChosenBeside known (Some path) pattern words rule jobs marks notes =
     AreChosenFromReport known path.now pattern words rule jobs marks notes
 
+-- the selection by `--only`, by the pattern and by the report of `--failed`
 abbrev pub AreChosenBy : Option FileContents → Option Re → RunArgs → Rule → List Job
     → Option (List Bool) → List ℕ → Type 0
 AreChosenBy known pattern words rule jobs marks notes =
     AreChosenBeside known words.failed pattern words rule jobs marks notes
 
--- the jobs that the arguments request before any are left out: each exact name is that of a job; a pattern, if given, is what its text
--- parses as, and it matches the name of some job
+-- the selection before any jobs are excluded, and the notes about it: each name of `--only` is the name of a job, and the pattern of
+-- `--match` matches the name of some job
 pub record AreWanted (known : Option FileContents) (words : RunArgs) (rule : Rule) (jobs : List Job)
     (marks : Option (List Bool)) (notes : List ℕ) : Type 0 where
   pub named : unknown_name jobs words.only.items ≡ None
@@ -60,15 +62,16 @@ pub record AreWanted (known : Option FileContents) (words : RunArgs) (rule : Rul
   pub found : IfSome pattern (λ regex. is_found_in_names (regex_pattern regex) jobs ≡ true)
   pub by : AreChosenBy known (option_map regex_pattern pattern) words rule jobs marks notes
 
--- the selection that a pattern leaves, if it is given: at least one job, if there was one
+-- `left` is the selection without the excluded jobs; it is not empty unless the selection was empty before
 abbrev pub AreLeft : Option Re → List Job → Option (List Bool) → Option (List Bool) → Type 0
 AreLeft (Some pattern) jobs (Some wanted) left =
     (left ≡ Some (left_marks pattern jobs wanted)) × (are_emptied wanted (left_marks pattern jobs wanted) ≡ false)
 AreLeft _ jobs wanted left = left ≡ wanted
 
--- the jobs that the arguments choose: the requested ones, without those whose names the exclusion pattern matches
+-- `marks` selects the jobs that the arguments choose, without the excluded ones; `notes` are the notes about the choice
 pub record IsChoice (known : Option FileContents) (words : RunArgs) (rule : Rule) (jobs : List Job)
     (marks : Option (List Bool)) (notes : List ℕ) : Type 0 where
+  -- the selection before any jobs are excluded
   pub wanted : Option (List Bool)
   pub are : AreWanted known words rule jobs wanted notes
   pub excluded : Option Regex

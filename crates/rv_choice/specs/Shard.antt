@@ -14,21 +14,23 @@ use Rattle.rv_command.specs.declared.stop.Stop.{Stop}
 use Rattle.rv_command.specs.declared.stop.Stop.TheVariants as why
 use Rattle.rv_report.specs.declared.saved.Shard.{Shard}
 
--- the text before and after the first slash of K/N
+-- the text before the first slash
 abbrev pub before_slash : List ℕ → List ℕ
 before_slash text = before_first (λ byte. byte == 47) text
 
+-- the text after the first slash
 abbrev pub behind_slash : List ℕ → List ℕ
 behind_slash text = after_first (λ byte. byte == 47) text
 
--- the numbers there
+-- the number before the first slash
 abbrev pub number_before_slash : List ℕ → ℕ
 number_before_slash text = digits_value 10 (before_slash text)
 
+-- the number after the first slash
 abbrev pub number_behind_slash : List ℕ → ℕ
 number_behind_slash text = digits_value 10 (behind_slash text)
 
--- the text is K/N: both are only digits, and K is from 1 to N, which is at most 4,096
+-- the text is K/N, where K and N consist of digits, K is from 1 to N, and N is at most `most_jobs`
 pub record IsShardText (text : List ℕ) : Type 0 where
   pub number : IsNumeral 10 (before_slash text)
   pub shards : IsNumeral 10 (behind_slash text)
@@ -36,31 +38,32 @@ pub record IsShardText (text : List ℕ) : Type 0 where
   pub within : number_before_slash text ≤ number_behind_slash text
   pub few : number_behind_slash text ≤ most_jobs
 
--- the shard that the text requests, if there is one
+-- `shard` is the shard that the text K/N requests, if there is a text
 abbrev pub IsShardOf : Option (Bor (List ℕ)) → Option Shard → Type 0
 IsShardOf text shard = (is_some shard ≡ is_some text)
     × IfSome text (λ text. IfSome shard (λ shard. (shard.number ≡ number_before_slash text.now)
     × (shard.shards ≡ number_behind_slash text.now)))
 
--- the stamp of a shard: the text in the arguments, or else the first 16 digits of the SHA-256 of the list's text
+-- the stamp of a shard: the text of `--stamp`, or else the first 16 hexadecimal digits of the SHA-256 of the list's text
 abbrev pub stamp_for : Option (Bor (List ℕ)) → List ℕ → List ℕ
 stamp_for (Some stamp) text = stamp.now
 stamp_for None text = encode_lower (take 8 (sha256 text))
 
--- the text is not K/N, or the stamp is not a name
+-- the message that the text of `--shard` is not K/N
 abbrev pub bad_shard_text : List ℕ → List ℕ
 bad_shard_text text =
     bad_value_text (codes "--shard <K/N>") text (codes "expected K/N with 1 <= K <= N <= 4096")
 
+-- the message that the text of `--stamp` is not a name
 abbrev pub bad_stamp_text : List ℕ → List ℕ
 bad_stamp_text stamp =
     bad_value_text (codes "--stamp <TEXT>") stamp (codes "expected 1 to 64 letters, digits, '.', '_' or '-'")
 
--- why a requested shard is rejected: the text is not K/N, or the given stamp is not a name
+-- the stop reports that the text of `--shard` is not K/N, or that the text of `--stamp` is not a name
 abbrev pub IsPartStop : List ℕ → Option (Bor (List ℕ)) → Stop → Type 0
 IsPartStop text stamp stop = ((IsShardText text → ⊥) × IsUsageStop (bad_shard_text text) stop)
     ⊎ IsSomeAnd stamp (λ stamp. (is_name stamp.now ≡ false) × IsUsageStop (bad_stamp_text stamp.now) stop)
 
--- out of memory, or the shard is rejected
+-- memory ran out, or a shard is requested, and the text of `--shard` or `--stamp` is invalid
 abbrev pub IsShardStop : Option (Bor (List ℕ)) → Option (Bor (List ℕ)) → Stop → Type 0
 IsShardStop shard stamp stop = (stop ≡ why.OutOfMemory) ⊎ IsSomeAnd shard (λ text. IsPartStop text.now stamp stop)

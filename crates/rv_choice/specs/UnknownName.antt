@@ -1,4 +1,4 @@
--- A name that no job of a list has: the nearest name, or the names of the jobs.
+-- The message about a name that no job of a list has.
 use Rattle.std.specs.Prelude.{◌≡◌, ◌==◌, ◌+◌, ◌-◌, ◌⊎◌, ℕ, List, [], ◌∷◌, ◌++◌, Option, codes, if◌then◌else◌}
 use Rattle.std.specs.Prelude.{length, nat_lt, not, option_map, take}
 use Rattle.std.specs.Borrow.{Bor}
@@ -16,44 +16,45 @@ use Rattle.rv_choice.specs.Choice.{has_job_named}
 abbrev pub unknown_name : List Job → List (Bor (List ℕ)) → Option (List ℕ)
 unknown_name jobs names = option_map (λ name. name.now) (find (λ name. not (has_job_named jobs name.now)) names)
 
+-- the beginning of the message that no job of the list at `list` has this name
 abbrev pub no_such_job : List ℕ → List ℕ → List ℕ
 no_such_job list name =
     codes "rvtest: " ++ printable_text list ++ codes ": no job named \"" ++ printable_value name
 
--- the separator before the name of the job at an index, counted from 0, in a list of a number of names
+-- the text before the name at index `place` in a message with `count` names
 abbrev pub text_before_name : ℕ → ℕ → List ℕ
 text_before_name place count =
     if place == 0 then codes "\"; the jobs are \"" else if place + 1 == count then codes "\" and \"" else codes "\", \""
 
--- the names of jobs from an index on, in a list of a number of names
+-- the names of jobs in a message with `count` names, beginning with the one at index `place`
 unfoldable pub names_from : ℕ → ℕ → List Job → List ℕ
 names_from place count [] = []
 names_from place count (job ∷ jobs) = (text_before_name place count ++ job.name) ++ names_from (place + 1) count jobs
 
--- how many more names there are after the first 20
+-- how many more names than 20 there are; empty if there are none
 abbrev pub names_left : ℕ → List ℕ
 names_left count = if nat_lt 20 count then codes " and " ++ decimal (count - 20) ++ codes " more" else []
 
--- the first 20 names, and how many more there are
+-- the names of the first 20 jobs, and how many more there are
 abbrev pub told_names : List Job → List ℕ
 told_names jobs = names_from 0 (length jobs) (take 20 jobs) ++ codes "\"" ++ names_left (length jobs)
 
--- the job at this index is the one that was probably meant
+-- the job at index `place` has the nearest name, and it is near enough to be suggested
 abbrev pub IsMeant : List Job → List ℕ → ℕ → Type 0
 IsMeant jobs name place = IsNearestJob jobs name place × IsNearJob jobs name place
 
--- the name of the job that was probably meant; or, if there is none, the names of the jobs
+-- the hint is the name of the job that was probably meant or, if there is none, the names of the jobs
 abbrev pub IsNameHint : List Job → List ℕ → List ℕ → Type 0
 IsNameHint jobs name hint =
     ((place : ℕ) × IsMeant jobs name place × (hint ≡ codes "\"; a similar name exists: \"" ++ job_name jobs place ++ codes "\""))
     ⊎ (((place : ℕ) → IsMeant jobs name place → ⊥) × (hint ≡ told_names jobs))
 
--- no job of the list has this name, with a hint
+-- the message says that no job of the list has this name, with a hint
 abbrev pub IsUnknownNameMessage : List ℕ → List Job → List ℕ → List ℕ → Type 0
 IsUnknownNameMessage list jobs name message =
     (hint : List ℕ) × IsNameHint jobs name hint × (message ≡ no_such_job list name ++ hint ++ codes "\n")
 
--- out of memory, or the message for the unknown name
+-- memory ran out, or the stop reports that no job of the list has this name
 abbrev pub IsUnknownNameStop : List ℕ → List Job → List ℕ → Stop → Type 0
 IsUnknownNameStop list jobs name stop = (stop ≡ why.OutOfMemory)
     ⊎ ((message : List ℕ) × IsUnknownNameMessage list jobs name message × IsStop 2 message stop)

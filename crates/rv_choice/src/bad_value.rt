@@ -8,7 +8,7 @@ use rv_command::Stop;
 use rvtest_cli::{ChoosingCommand, usage_error};
 use std::alloc::{AllocError, Global};
 
-/// Returns the message that a value of an option is invalid, and why. The option is written as in its help.
+/// Returns the message that the value of an option is invalid, and why. The option is written as in its help.
 pub(crate) fn bad_value_text(
     alloc: Global,
     option: &str,
@@ -26,7 +26,7 @@ pub(crate) fn bad_value_text(
     Ok(text)
 }
 
-/// Returns the error for an invalid value of a command, with this text if there was memory for it.
+/// Returns the error for an invalid value: the message `what` with the usage of the command, or out of memory if there is none.
 pub(crate) fn bad_value_stop(
     alloc: Global,
     command: ChoosingCommand,

@@ -29,29 +29,29 @@ use rv_text::{Span, text_of_spans};
 use rvtest_cli::{ChoosingCommand, RunArgs};
 use std::alloc::{AllocError, Global};
 
-/// What chooses the jobs of a list: the arguments, and the rule by which jobs in a report failed.
+/// Chooses jobs of a list by the arguments.
 #[derive(Drop)]
 pub struct Chooser<'x, D> {
     pub inputs: &'x D,
     pub alloc: Global,
     pub args: &'x RunArgs<'x>,
-    /// The rule by which rows are failures.
+    /// The rule by which the rows of a report are failures.
     pub rule: Rule,
-    /// The command whose arguments they are.
+    /// The command whose usage is shown if the arguments are rejected.
     pub command: ChoosingCommand,
 }
 
-/// The chosen jobs of a list.
+/// The chosen jobs of a list, and the notes about the choice.
 #[derive(Drop)]
 pub struct Choice {
-    /// The selection: which jobs are to run. `None` if only the jobs that failed in a report are requested, and none failed.
+    /// For each job, whether it is chosen. `None` if only the jobs that failed in a report are requested, and none failed.
     pub marks: Option<Vec<bool>>,
-    /// The notes about the jobs that failed in a report: lines, or empty.
+    /// The notes about the jobs that failed in a report, as lines.
     pub notes: Vec<u8>,
 }
 
 impl Choice {
-    // Returns the choice with a note before its others.
+    // Returns the choice with a note before its other notes.
     fn behind_note(self, note: Vec<u8>) -> Result<Choice, AllocError>
         ensures marks { IfOk result (λ choice. choice.marks ≡ self.marks) }
         ensures notes { IfOk result (λ choice. choice.notes.items ≡ note.items ++ self.notes.items) }
@@ -66,7 +66,7 @@ impl Choice {
 }
 
 impl<'x, D: Inputs> Chooser<'x, D> {
-    /// Returns the jobs that the arguments choose.
+    /// Returns the jobs of the list that the arguments choose.
     pub fn choose(&self, jobs: &[Job]) -> Result<Choice, Stop>
         ensures chosen { IfOk result (λ choice. IsChoice (D.contents self.now.inputs.now) self.now.args.now
             self.now.rule jobs.now (option_map (λ marks. marks.items) choice.marks) choice.notes.items) }
@@ -79,7 +79,7 @@ impl<'x, D: Inputs> Chooser<'x, D> {
         Ok(Choice { marks, notes })
     }
 
-    // Returns the jobs that the arguments request, before any are left out.
+    // Returns the jobs that the arguments request, before any are excluded.
     fn wanted_jobs(&self, jobs: &[Job]) -> Result<Choice, Stop>
         ensures wanted { IfOk result (λ choice. AreWanted (D.contents self.now.inputs.now) self.now.args.now
             self.now.rule jobs.now (option_map (λ marks. marks.items) choice.marks) choice.notes.items) }
@@ -91,7 +91,7 @@ impl<'x, D: Inputs> Chooser<'x, D> {
         self.choose_by_pattern(pattern.as_ref(), jobs)
     }
 
-    // Rejects an exact name that no job of the list has.
+    // Returns an error if no job has a name of `--only`.
     fn check_exact_names(&self, jobs: &[Job]) -> Result<(), Stop>
         ensures known { OnOk result (unknown_name jobs.now self.now.args.now.only.items ≡ None) }
         ensures unknown { IfErr result (λ stop. IsSomeAnd (unknown_name jobs.now self.now.args.now.only.items)
@@ -103,7 +103,7 @@ impl<'x, D: Inputs> Chooser<'x, D> {
         }
     }
 
-    // Returns the pattern for job names, if given, which must match the name of some job.
+    // Returns the pattern of `--match`, if the option is given. It must match the name of some job.
     fn requested_pattern(&self, jobs: &[Job]) -> Result<Option<Regex>, Stop>
         ensures source { IfOk result (λ pattern.
             option_map regex_source pattern ≡ borrowed_text self.now.args.now.pattern) }
@@ -124,7 +124,7 @@ impl<'x, D: Inputs> Chooser<'x, D> {
         }
     }
 
-    // Returns the pattern by which jobs are left out.
+    // Returns the pattern of `--exclude`, if the option is given.
     fn requested_exclusion(&self) -> Result<Option<Regex>, Stop>
         ensures source { IfOk result (λ excluded.
             option_map regex_source excluded ≡ borrowed_text self.now.args.now.exclude) }
@@ -162,7 +162,7 @@ impl<'x, D: Inputs> Chooser<'x, D> {
         Ok(Some(left))
     }
 
-    // Returns the selection that a pattern leaves, which must not be empty unless it was.
+    // Returns the selection without the jobs whose names the pattern matches. It must not become empty.
     fn left_marks(&self, marks: &[bool], excluded: &Regex, jobs: &[Job]) -> Result<Vec<bool>, Stop>
         requires counted { length marks.now ≡ length jobs.now }
         ensures left { IfOk result (λ left. left.items ≡ left_marks (regex_pattern excluded.now) jobs.now marks.now) }
@@ -177,7 +177,7 @@ impl<'x, D: Inputs> Chooser<'x, D> {
         Ok(left)
     }
 
-    // Chooses by a pattern, if one is given.
+    // Returns the jobs that the pattern, `--only` and the report of `--failed` choose.
     fn choose_by_pattern(&self, pattern: Option<&Regex>, jobs: &[Job]) -> Result<Choice, Stop>
         requires { is_some pattern ≡ is_some self.now.args.now.pattern }
         ensures chosen { IfOk result (λ choice. AreChosenBy (D.contents self.now.inputs.now)
@@ -205,7 +205,7 @@ impl<'x, D: Inputs> Chooser<'x, D> {
         Ok(choice.behind_note(note)?)
     }
 
-    // Chooses among the jobs that failed in the rows of the report at a path.
+    // Returns the jobs that the pattern, `--only` and the failed rows of the report at `path` choose.
     fn choose_from_failed_rows(
         &self,
         path: &str,
@@ -223,7 +223,8 @@ impl<'x, D: Inputs> Chooser<'x, D> {
         self.choose_from_failed_names(path, failed.as_slice(), missing, pattern, jobs)
     }
 
-    // Chooses among the jobs of these names, which failed in the report at a path, in which `missing` jobs have no row.
+    // Returns the jobs that the pattern, `--only` and the names `failed` from the report at `path` choose; `missing` jobs have no row
+    // there.
     fn choose_from_failed_names(
         &self,
         path: &str,
@@ -245,7 +246,7 @@ impl<'x, D: Inputs> Chooser<'x, D> {
         Ok(Choice { marks, notes })
     }
 
-    // Parses the text of an option as a pattern.
+    // Compiles the text of an option as a regular expression.
     fn compile_pattern(&self, option: &str, text: &str) -> Result<Regex, Stop>
         ensures source { IfOk result (λ pattern. regex_source pattern ≡ text.now) }
         ensures read { IfOk result IsReadByDefault }
@@ -260,6 +261,7 @@ impl<'x, D: Inputs> Chooser<'x, D> {
         }
     }
 
+    // Returns for each job whether the pattern, `--only` or the names `failed` choose it.
     fn combined_marks(
         &self,
         pattern: Option<&Regex>,
@@ -279,7 +281,7 @@ impl<'x, D: Inputs> Chooser<'x, D> {
     }
 }
 
-// Returns the error for a text that is not a pattern.
+// Returns the error that the text of an option is not a regular expression.
 fn bad_pattern_stop(
     alloc: Global,
     command: ChoosingCommand,
@@ -293,7 +295,7 @@ fn bad_pattern_stop(
     bad_value_stop(alloc, command, what)
 }
 
-// Returns the message that a text is not a pattern, and why.
+// Returns the message that the text of an option is not a regular expression, and why.
 fn bad_pattern_text(
     alloc: Global,
     option: &str,
@@ -306,7 +308,7 @@ fn bad_pattern_text(
     bad_value_text(alloc, option, text, reason.as_str())
 }
 
-// Returns the exact names, if there are any.
+// Returns the names of `--only`; `None` if the option is not given.
 fn requested_names<'a>(args: &'a RunArgs<'_>) -> Option<&'a [&'a str]>
     ensures { optional_names result ≡ requested_names args.now.only.items }
 {

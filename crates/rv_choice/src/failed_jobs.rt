@@ -13,7 +13,7 @@ use rv_rows::Row;
 use rv_text::{Span, push_spans};
 use std::alloc::{AllocError, Global};
 
-/// Returns the names of the failed jobs.
+/// Returns the names of the failed rows, in order.
 pub(crate) fn failed_job_names(
     alloc: Global,
     rule: Rule,
@@ -39,14 +39,15 @@ pub(crate) fn jobs_without_row(jobs: &[Job], rows: &[Row]) -> usize
         .count()
 }
 
+// Whether a row has this name.
 fn has_row_named(rows: &[Row], name: &str) -> bool
     ensures { result ≡ has_row_named rows.now name.now }
 {
     rows.iter().any(|row| row.name.as_str() == name)
 }
 
-/// Returns the notes about the jobs that failed in the report at a path: that there are none, or which of them are no longer in the list;
-/// and how many jobs of the list have no row there.
+/// Returns the notes about the failed jobs of the report at `path`: that there are none, or which are no longer in the list; and that
+/// `missing` jobs of the list have no row there.
 pub(crate) fn failed_job_notes(
     alloc: Global,
     path: &str,
@@ -66,7 +67,7 @@ pub(crate) fn failed_job_notes(
     Ok(notes)
 }
 
-// If rows are missing, more jobs may have failed than the report says.
+// Returns the note that no job failed. If jobs have no row, it is restricted to the rows of the report.
 fn none_failed_note(alloc: Global, path: &str, missing: usize) -> Result<Vec<u8>, AllocError>
     ensures { IfOk result (λ note. note.items ≡ none_failed_note path.now missing) }
 {
@@ -77,7 +78,7 @@ fn none_failed_note(alloc: Global, path: &str, missing: usize) -> Result<Vec<u8>
     }
 }
 
-// Returns a note with the number of jobs in the list without a row, if there are any.
+// Returns the note that `missing` jobs of the list have no row; empty if there are none.
 fn missing_rows_note(alloc: Global, path: &str, missing: usize) -> Result<Vec<u8>, AllocError>
     ensures { IfOk result (λ note. note.items ≡ missing_rows_note path.now missing) }
 {
@@ -87,6 +88,7 @@ fn missing_rows_note(alloc: Global, path: &str, missing: usize) -> Result<Vec<u8
     path_number_message(alloc, path, ": note: ", missing, missing_rows_text(missing))
 }
 
+// Returns the end of the note about jobs without a row, by their number.
 fn missing_rows_text(missing: usize) -> &'static str
     ensures { result.now ≡ missing_rows_text missing }
 {
@@ -97,6 +99,7 @@ fn missing_rows_text(missing: usize) -> &'static str
     }
 }
 
+// Returns the notes about the failed jobs that are no longer in the list.
 fn removed_job_notes(
     alloc: Global,
     path: &str,
@@ -112,7 +115,7 @@ fn removed_job_notes(
     Ok(notes)
 }
 
-// Appends a note if no job has the name of a failed one.
+// Appends a note if the failed job with this name is no longer in the list.
 fn push_note_of_failed_job(
     notes: &mut Vec<u8>,
     path: &str,
@@ -128,6 +131,7 @@ fn push_note_of_failed_job(
     push_removed_job_note(notes, path, name)
 }
 
+// Appends the note that a job failed in the report at the path, but is no longer in the list.
 fn push_removed_job_note<'a>(
     notes: &mut Vec<u8>,
     path: &'a str,

@@ -10,18 +10,18 @@ use regex::{Matcher, Regex};
 use rv_jobs::Job;
 use std::alloc::{AllocError, Global};
 
-/// What chooses jobs: a job is chosen if any of these chooses it. If none is given, every job is chosen.
+/// The criteria that choose jobs: a job is chosen if one of them chooses it. Without criteria every job is chosen.
 #[derive(Clone, Copy)]
 pub(crate) struct Wanted<'a> {
-    /// The exact names of jobs.
+    /// The names of the chosen jobs.
     pub(crate) only: Option<&'a [&'a str]>,
-    /// A pattern: it chooses the jobs whose names it matches anywhere.
+    /// A pattern that matches anywhere in the names of the chosen jobs.
     pub(crate) pattern: Option<&'a Regex>,
-    /// The names of the jobs that failed in a report; if there are none, the report chooses no job.
+    /// The names of the jobs that failed in a report.
     pub(crate) failed: Option<&'a [&'a str]>,
 }
 
-/// Returns the selection of the chosen jobs, in list order.
+/// Returns for each job, in list order, whether it is chosen.
 pub(crate) fn chosen_marks(
     alloc: Global,
     jobs: &[Job],
@@ -57,7 +57,7 @@ pub(crate) fn left_marks(
     Ok(left)
 }
 
-// Whether a selected job remains selected, given whether the pattern matches its name.
+// Whether a selected job stays selected, given whether the pattern matches its name.
 fn is_left(mark: bool, is_found: bool) -> bool
     ensures { result ≡ is_left mark is_found }
 {
@@ -74,6 +74,7 @@ fn matcher_of(alloc: Global, pattern: Option<&Regex>) -> Result<Option<Matcher<'
     }
 }
 
+// Whether a job of this name is chosen: by the names of `--only`, by the pattern, or by the names of failed jobs.
 fn is_chosen_name(wanted: Wanted<'_>, matcher: &mut Option<Matcher<'_>>, name: &str) -> bool
     requires { option_map matcher_pattern matcher.old ≡ pattern_of wanted.pattern }
     ensures chosen { result ≡ is_chosen_name (optional_names wanted.entry.only)
@@ -87,8 +88,7 @@ fn is_chosen_name(wanted: Wanted<'_>, matcher: &mut Option<Matcher<'_>>, name: &
     )
 }
 
-// Whether a job is chosen, given the choices of those of the three that are given: exact names, a pattern, and the failures of a report. It
-// is if any of them chooses it, or if none is given.
+// Whether a job is chosen, given what each criterion says: one of them chooses it, or none is given.
 fn is_chosen(by_name: Option<bool>, by_pattern: Option<bool>, by_report: Option<bool>) -> bool
     ensures { result ≡ is_chosen by_name by_pattern by_report }
 {
@@ -100,6 +100,7 @@ fn is_chosen(by_name: Option<bool>, by_pattern: Option<bool>, by_report: Option<
     }
 }
 
+// Whether the names contain this name; `None` without names.
 fn choice_by_names(names: Option<&[&str]>, name: &str) -> Option<bool>
     ensures { result ≡ choice_by_names (optional_names names.entry) name.now }
 {
@@ -109,12 +110,14 @@ fn choice_by_names(names: Option<&[&str]>, name: &str) -> Option<bool>
     }
 }
 
+// Whether a name is one of these names.
 fn is_among_names(names: &[&str], name: &str) -> bool
     ensures { result ≡ is_among_names (borrowed_names names.now) name.now }
 {
     names.contains(&name)
 }
 
+// Whether the pattern matches anywhere in this name; `None` without a pattern.
 fn choice_by_pattern(matcher: &mut Option<Matcher<'_>>, name: &str) -> Option<bool>
     ensures found { result ≡ choice_by_pattern (option_map matcher_pattern matcher.old) name.now }
     ensures same { option_map matcher_pattern matcher.new ≡ option_map matcher_pattern matcher.old }
@@ -135,7 +138,7 @@ pub(crate) fn first_unknown_name<'a>(jobs: &[Job], names: &[&'a str]) -> Option<
     }
 }
 
-/// Whether a job has the name.
+/// Whether a job has this name.
 pub(crate) fn has_job_named(jobs: &[Job], name: &str) -> bool
     ensures { result ≡ has_job_named jobs.now name.now }
 {

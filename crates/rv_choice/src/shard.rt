@@ -20,8 +20,8 @@ use rvtest_cli::{ChoosingCommand, RunArgs};
 use sha2::{Digest, Sha256};
 use std::alloc::{AllocError, Global};
 
-/// Returns the requested shard of a list of `jobs` jobs, if there is one. The default stamp is the first 16 digits of the SHA-256 of the
-/// list's text.
+/// Returns the requested shard of a list with `jobs` jobs; `None` without `--shard`. The default stamp is the first 16 hexadecimal digits
+/// of the SHA-256 of the list's text.
 pub fn requested_shard(
     alloc: Global,
     args: &RunArgs<'_>,
@@ -58,7 +58,7 @@ pub fn requested_shard(
     }))
 }
 
-// Parses K and N of `K/N`, where 1 <= K <= N <= 4096.
+// Parses `K/N`, where 1 <= K <= N <= 4096, and returns K and N.
 fn shard_numbers(words: &str) -> Option<(u32, u32)>
     ensures numbers { IfSome result (λ n. (n.0 ≡ number_before_slash words.now)
         × (n.1 ≡ number_behind_slash words.now)) }

@@ -10,7 +10,7 @@ use rv_list_errors::near_job;
 use rv_text::{Span, push_spans, push_text, text_of_spans};
 use std::alloc::{AllocError, Global};
 
-/// Returns the error that no job of a list has a name, with the nearest name or, if none is near, the names of the jobs.
+/// Returns the error that no job of the list has this name. It suggests the nearest name or, if none is near, shows the names of the jobs.
 pub fn unknown_name_stop(alloc: Global, list: &str, jobs: &[Job], name: &str) -> Stop
     ensures { IsUnknownNameStop list.now jobs.now name.now result }
 {
@@ -49,7 +49,7 @@ fn no_such_job_message<'a>(
     )
 }
 
-// Appends the name of the job that was probably meant, or else the names of the jobs.
+// Appends the name of the job that was probably meant or, if there is none, the names of the jobs.
 fn push_name_hint(
     message: &mut Vec<u8>,
     alloc: Global,
@@ -79,10 +79,10 @@ fn push_near_name<'a>(message: &mut Vec<u8>, near: &'a str) -> Result<(), AllocE
     )
 }
 
-// The greatest number of names that are shown.
+// The maximum number of names that are shown.
 const MOST_TOLD: usize = 20;
 
-// Appends the names of jobs, only the first ones if there are many, and how many more there are.
+// Appends the names of the first 20 jobs, and how many more there are.
 fn push_names(message: &mut Vec<u8>, jobs: &[Job]) -> Result<(), AllocError>
     ensures { OnOk result (message.new.items ≡ message.old.items ++ told_names jobs.now) }
 {
@@ -92,7 +92,7 @@ fn push_names(message: &mut Vec<u8>, jobs: &[Job]) -> Result<(), AllocError>
     push_names_left(message, jobs.len())
 }
 
-// Appends the names of jobs, which are the first of `count`.
+// Appends the names of these jobs in a message with `count` names.
 fn push_first_names(message: &mut Vec<u8>, jobs: &[Job], count: usize) -> Result<(), AllocError>
     requires { length jobs.now ≤ count }
     ensures { OnOk result (message.new.items ≡ message.old.items ++ names_from 0 count jobs.now) }
@@ -117,6 +117,7 @@ fn push_name<'a>(
     push_text(message, name)
 }
 
+// Returns the text before the name at index `place` in a message with `count` names.
 fn text_before_name(place: usize, count: usize) -> &'static str
     requires { place < count }
     ensures { result.now ≡ text_before_name place count }

@@ -12,27 +12,29 @@ use Rattle.clap.specs.declared.builder.command.Command.TheViews.{out-Command}
 abbrev pub HasApp : App → Result Command AllocError → Type 0
 HasApp app built = IfOk built (λ command. app_of command ≡ app)
 
--- the command has these rules, and none of its arguments applies to its subcommands too
+-- the command has these rules, and none of its arguments applies to its subcommands too, unless memory ran out
 abbrev pub IsBuilt : App → Result Command AllocError → Type 0
 IsBuilt app built =
     IfOk built (λ command. (app_of command ≡ app) × ((out-Command command).has_globals ≡ false))
 
--- the version that the command shows, the beginning of its usage, and the end of its help
+-- the command shows this text as its version, unless memory ran out
 abbrev pub HasVersion : List ℕ → Result Command AllocError → Type 0
 HasVersion text built = IfOk built (λ command. IsSomeAnd (out-Command command).version (λ version. version.now ≡ text))
 
+-- the usage of the command begins with this text, unless memory ran out
 abbrev pub HasUsageOf : List ℕ → Result Command AllocError → Type 0
 HasUsageOf text built =
     IfOk built (λ command. IsSomeAnd (out-Command command).bin_name (λ usage. string_bytes usage ≡ text))
 
+-- the help of the command ends with this text, unless memory ran out
 abbrev pub HasHelpEnd : List ℕ → Result Command AllocError → Type 0
 HasHelpEnd text built = IfOk built (λ command. IsSomeAnd (out-Command command).after_help (λ after. after.now ≡ text))
 
--- a required positional argument, such as `<LIST>`
+-- the rule of a required positional argument, such as `<LIST>`
 abbrev pub word_rule : Text → Rule
 word_rule name = record (new_rule name) { required = true; value_names = 1 }
 
--- an option with one value
+-- the rule of an option with one value
 abbrev pub option_rule : Text → Rule
 option_rule name = record (new_rule name) { long = Some name; value_names = 1 }
 

@@ -66,6 +66,7 @@ pub fn read_words<'a, T: AsStr>(alloc: Global, words: &'a [T]) -> Result<Option<
     }
 }
 
+// Returns the command `rvfleet` with its subcommands.
 fn fleet_command<'a>(alloc: Global) -> Result<Command<'a>, AllocError>
     ensures { IfOk result (λ command. app_of command ≡ fleet_app) }
 {
@@ -74,6 +75,7 @@ fn fleet_command<'a>(alloc: Global) -> Result<Command<'a>, AllocError>
     with_subcommand(command, run_command(alloc))
 }
 
+// Returns the command `rvfleet` without its subcommands.
 fn top_command<'a>(alloc: Global) -> Built<'a>
     ensures { IsBuilt top_app result }
 {
@@ -84,6 +86,7 @@ fn top_command<'a>(alloc: Global) -> Built<'a>
         .bin_name("rvfleet")
 }
 
+// Returns the subcommand `raw`.
 fn raw_command<'a>(alloc: Global) -> Built<'a>
     ensures { IsBuilt raw_app result }
 {
@@ -94,6 +97,7 @@ fn raw_command<'a>(alloc: Global) -> Built<'a>
     )
 }
 
+// Returns the subcommand `one`.
 fn one_image_command<'a>(alloc: Global) -> Built<'a>
     ensures { IsBuilt one_app result }
 {
@@ -109,6 +113,7 @@ fn one_image_command<'a>(alloc: Global) -> Built<'a>
     with_argument(command, option_argument(alloc, "input-hex", "H", input))
 }
 
+// Returns the subcommand `run`.
 fn run_command<'a>(alloc: Global) -> Built<'a>
     ensures { IsBuilt run_app result }
 {
@@ -123,6 +128,7 @@ fn run_command<'a>(alloc: Global) -> Built<'a>
     with_argument(command, group_argument(alloc))
 }
 
+// Returns the option `--budget`, which is required.
 fn budget_argument<'a>(alloc: Global) -> Arg<'a>
     ensures { (rule_of result ≡ budget_rule) × (result.global ≡ false) }
 {
@@ -132,6 +138,7 @@ fn budget_argument<'a>(alloc: Global) -> Arg<'a>
         .value_parser(value_parser!(u32).range(1..=1_000_000_000))
 }
 
+// Returns the option `--workers` for the number of threads.
 fn workers_argument<'a>(alloc: Global) -> Arg<'a>
     ensures { (rule_of result ≡ workers_rule) × (result.global ≡ false) }
 {
@@ -140,6 +147,7 @@ fn workers_argument<'a>(alloc: Global) -> Arg<'a>
         .default_value("1")
 }
 
+// Returns the request of the subcommand with this name and these values; `None` if there is none.
 fn subcommand_request<'a>(name: &str, values: &ArgMatches<'a>) -> Option<Request<'a>>
     ensures value { option_map request result
         ≡ subcommand_request name.now (rows_of (found_of values.now)) }
@@ -156,6 +164,7 @@ fn subcommand_request<'a>(name: &str, values: &ArgMatches<'a>) -> Option<Request
     }
 }
 
+// Returns the request of the subcommand `raw` with these values.
 fn raw_request<'a>(values: &ArgMatches<'a>) -> Option<Request<'a>>
     ensures value { option_map request result ≡ raw_request (rows_of (found_of values.now)) }
     ensures within { IfSome result IsRequestInRange }
@@ -164,6 +173,7 @@ fn raw_request<'a>(values: &ArgMatches<'a>) -> Option<Request<'a>>
     Some(Request::Raw { budget })
 }
 
+// Returns the request of the subcommand `one` with these values.
 fn one_request<'a>(values: &ArgMatches<'a>) -> Option<Request<'a>>
     ensures value { option_map request result ≡ one_request (rows_of (found_of values.now)) }
     ensures within { IfSome result IsRequestInRange }
@@ -178,6 +188,7 @@ fn one_request<'a>(values: &ArgMatches<'a>) -> Option<Request<'a>>
     })
 }
 
+// Returns the request of the subcommand `run` with these values.
 fn run_request<'a>(values: &ArgMatches<'a>) -> Option<Request<'a>>
     ensures value { option_map request result ≡ run_request (rows_of (found_of values.now)) }
     ensures within { IfSome result IsRequestInRange }
@@ -192,6 +203,7 @@ fn run_request<'a>(values: &ArgMatches<'a>) -> Option<Request<'a>>
     })
 }
 
+// Returns the budget that is given, if it is from 1 to 1,000,000,000.
 fn requested_budget(values: &ArgMatches<'_>) -> Option<u32>
     ensures value { result ≡ requested_budget (rows_of (found_of values.now)) }
     ensures within { IfSome result (λ number. (1 ≤ number) × (number ≤ MOST_BUDGET)) }

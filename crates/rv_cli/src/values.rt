@@ -21,13 +21,14 @@ pub fn number_value(values: &ArgMatches<'_>, id: &str, low: u32, high: u32) -> O
     }
 }
 
+// Returns the number given for an argument; `None` if it is not given.
 fn parsed_number_value(values: &ArgMatches<'_>, id: &str) -> Option<u32>
     ensures { result ≡ parsed_number_value id.now (rows_of (found_of values.now)) }
 {
     values.get_one::<u32>(id)
 }
 
-/// Returns the first value given for an argument, as it was written.
+/// Returns the first value given for an argument, as it was written; `None` if there is none.
 pub fn text_value<'a>(values: &ArgMatches<'a>, id: &str) -> Option<&'a str>
     ensures { option_map (λ text. text.now) result
         ≡ first_of id.now (rows_of (found_of values.now)) }
@@ -52,7 +53,7 @@ pub fn is_option_given(values: &ArgMatches<'_>, id: &str) -> bool
     text_value(values, id).is_some()
 }
 
-/// Returns all values of an argument, in order.
+/// Returns all values of an argument, in order; none if it is not given.
 pub fn argument_values<'a>(
     alloc: Global,
     values: &ArgMatches<'a>,

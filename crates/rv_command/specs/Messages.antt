@@ -15,33 +15,34 @@ IsMessageWritten before after failures_before failures_after text =
     (Appends before after text × (failures_after ≡ failures_before))
     ⊎ (AppendsBeginning before after text × (failures_after ≡ one_more failures_before))
 
--- what is wrong with the file at a path
+-- the message that says `what` is wrong with the file at the path
 abbrev pub path_message : List ℕ → List ℕ → List ℕ
 path_message path what = codes "rvtest: " ++ printable_text path ++ codes ": " ++ what ++ codes "\n"
 
--- what is wrong with a line or a job in the file at a path
+-- the message that says `what` is wrong with a line or a job in the file at the path; `place` is the text before its number
 abbrev pub path_number_message : List ℕ → List ℕ → ℕ → List ℕ → List ℕ
 path_number_message path place number what =
     codes "rvtest: " ++ printable_text path ++ place ++ decimal number ++ what
 
+-- " complete row" or " complete rows", by their number, and a line feed
 abbrev pub complete_rows_text : ℕ → List ℕ
 complete_rows_text rows = if rows == 1 then codes " complete row\n" else codes " complete rows\n"
 
--- the number of complete rows in a truncated report; empty for a complete one
+-- the note about a truncated report: how many complete rows it has; empty for a complete report
 abbrev pub cut_off_note : List ℕ → PartialReport → List ℕ
 cut_off_note path read = if read.is_cut_off
     then path_number_message path (codes ": note: the report is truncated; using its ") (length read.report.rows)
     (complete_rows_text (length read.report.rows))
     else []
 
--- why a command stopped before its work was done
+-- the message about a stop
 abbrev pub stop_message : Stop → List ℕ
 stop_message (stop.Told lines text) = text.items
 stop_message stop.OutOfMemory = codes "rvtest: out of memory\n"
 stop_message stop.NoWorker = codes "rvtest: no thread could be started\n"
 stop_message stop.WriteFailed = codes "rvtest: standard output: write failed\n"
 
--- the message, given whether the reader of the results closed them: if it did, nothing is reported
+-- the message about a stop, given whether the reader of the results closed them: then a failed write is not reported
 abbrev pub end_message : Bool → Stop → List ℕ
 end_message true stop.WriteFailed = []
 end_message _ why = stop_message why

@@ -13,57 +13,60 @@ use Rattle.rv_text.specs.Printable.{printable_text, printable_value}
 
 -- ---- the lines of a text
 
--- the text before an offset, or the whole text
+-- the text before an offset, or the whole text without an offset
 abbrev pub text_up_to : Option ℕ → List ℕ → List ℕ
 text_up_to (Some place) text = take place text
 text_up_to None text = text
 
--- the text after the byte at an offset; empty if there is no such byte
+-- the text after the byte at an offset; empty without an offset
 abbrev pub text_behind : Option ℕ → List ℕ → List ℕ
 text_behind (Some place) text = drop (place + 1) text
 text_behind None text = []
 
+-- the first line of a text, without its line feed
 abbrev pub first_line : List ℕ → List ℕ
 first_line text = text_up_to (position is_feed text) text
 
+-- the text after its first line
 abbrev pub after_line : List ℕ → List ℕ
 after_line text = text_behind (position is_feed text) text
 
--- the text after a number of lines
+-- the text after its first `count` lines
 unfoldable pub after_lines : ℕ → List ℕ → List ℕ
 after_lines zero text = text
 after_lines (suc count) text = after_line (after_lines count text)
 
--- the line with a number, counted from 1, without its line feed; empty if there is no such line
+-- the line with this number, counted from 1, without its line feed; empty if there is no such line
 abbrev pub numbered_line : List ℕ → ℕ → List ℕ
 numbered_line text number = first_line (after_lines (number - 1) text)
 
--- the line before it; empty for the first
+-- the line before the one with this number; empty for the first line
 abbrev pub line_before : List ℕ → ℕ → List ℕ
 line_before text number = if nat_lt number 2 then [] else numbered_line text (number - 1)
 
 -- ---- lists
 
--- whether the error is one of a document that has jobs
+-- whether an error can only be found in a TOML document with jobs
 abbrev pub tells_of_jobs : What → Bool
 tells_of_jobs what.NotToml = false
 tells_of_jobs what.NoJobs = false
 tells_of_jobs _ = true
 
--- whether its errors show that a text is a document with jobs, valid or not
+-- whether the errors of a text show that it is a TOML document with jobs, valid or not
 abbrev pub are_faults_of_list : List JobError → Bool
 are_faults_of_list [] = true
 are_faults_of_list (fault ∷ faults) = tells_of_jobs fault.what
 
+-- whether a text is a TOML document with jobs, valid or not
 abbrev pub is_job_list : List ℕ → Bool
 is_job_list text = are_faults_of_list (list_faults text)
 
--- ---- what is told
+-- ---- the messages
 
 abbrev begins : List ℕ → List ℕ → Bool
 begins line words = starts_with nat_eq line words
 
--- what a report has after a line, and at its beginning
+-- what a report must have after this line, or at its beginning if the line is empty
 unfoldable pub expected_after : List ℕ → List ℕ
 expected_after line =
     if begins line (codes "job ") then codes "\"end\" and how the run ended"
@@ -75,15 +78,17 @@ expected_after line =
     else if begins line (codes "done ") || begins line (codes "part ") then codes "the end of the file"
     else codes "eight hexadecimal digits or \"verdict\""
 
+-- the message about an invalid line in the file at the path: the line, and what was expected instead
 abbrev pub line_message : List ℕ → List ℕ → List ℕ → ℕ → List ℕ
 line_message noun path text number =
     codes "rvtest: " ++ printable_text path ++ codes ":" ++ decimal number ++ codes ": invalid " ++ noun ++ codes " line \""
     ++ printable_value (numbered_line text number) ++ codes "\": expected " ++ expected_after (line_before text number) ++ codes "\n"
 
+-- the message that the file at the path is a job list, and not a report or a part
 abbrev pub list_message : List ℕ → List ℕ → List ℕ
 list_message noun path = codes "rvtest: " ++ printable_text path ++ codes ": this is a job list, not a " ++ noun ++ codes "\n"
 
--- the message for the line with a number in the text at a path, which should be a report or a document named by `noun`
+-- the message about an invalid line of a report or a part, as `noun` says; it is different if the text is a job list
 abbrev pub refused_line_message : List ℕ → List ℕ → List ℕ → ℕ → List ℕ
 refused_line_message noun path text number =
     if is_job_list text then list_message noun path else line_message noun path text number

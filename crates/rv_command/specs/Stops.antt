@@ -1,4 +1,4 @@
--- The statuses of commands that stop before their work is done, and what these commands report.
+-- Why commands stop early: the exit statuses and the messages.
 use Rattle.std.specs.Prelude.{◌≡◌, ◌⊎◌, ◌<◌, ◌+◌, ℕ, Bool, true, false, List, [], ◌∷◌, IfSome, IsSomeAnd, Option, None, Result, Ok, Err, Vec, codes, length, string_bytes}
 use Rattle.std.specs.declared.alloc.AllocError.{AllocError}
 use Rattle.std.specs.declared.alloc.Global.{Global}
@@ -26,84 +26,84 @@ use Rattle.rv_command.specs.Messages.{path_message, stop_message}
 use Rattle.rv_command.specs.RefusedLines.{refused_line_message}
 use Rattle.rv_command.specs.Texts.{IsReportText, IsTextAt}
 
--- the status for lines that end a command: 2 if the request is rejected, 3 if the system failed
+-- the exit status for these lines: 2 if the request is rejected, 3 if the system failed
 abbrev pub lines_status : Lines → ℕ
 lines_status lines.Refusal = 2
 lines_status lines.Failure = 3
 
--- the status of a command that stops before its work is done
+-- the exit status for a stop: 2 if the request is rejected, 3 if the system failed
 abbrev pub stop_status : Stop → ℕ
 stop_status (why.Told lines text) = lines_status lines
 stop_status why.OutOfMemory = 3
 stop_status why.NoWorker = 3
 stop_status why.WriteFailed = 3
 
--- the status of a program that is ended by the signal SIGPIPE, whose number is 13
+-- the exit status of a program that the signal SIGPIPE, number 13, ended
 abbrev pub broken_pipe_status : ℕ
 broken_pipe_status = 128 + 13
 
--- the status of such a command, given whether the reader of its results closed them: a failed write of results is then not a system failure
+-- the exit status for a stop, given whether the reader of the results closed them: then a failed write is not a system failure
 abbrev pub end_status : Bool → Stop → ℕ
 end_status true why.WriteFailed = broken_pipe_status
 end_status _ why = stop_status why
 
--- the stop with these lines, if there was memory for them
+-- the stop with these lines, or out of memory if they could not be made
 abbrev pub stop_of_lines : Lines → Result (Vec ℕ Global) AllocError → Stop
 stop_of_lines kind (Ok text) = why.Told kind text
 stop_of_lines kind (Err error) = why.OutOfMemory
 
--- out of memory, or the stop has this status and this text
+-- the stop is out of memory, or it has this exit status and this message
 abbrev pub IsStop : ℕ → List ℕ → Stop → Type 0
 IsStop status text stop =
     (stop ≡ why.OutOfMemory) ⊎ ((stop_status stop ≡ status) × (stop_message stop ≡ text))
 
--- out of memory, or the request is rejected with some text
+-- the stop is out of memory, or it rejects the request with some message
 abbrev pub IsRefusal : Stop → Type 0
 IsRefusal stop = (stop ≡ why.OutOfMemory) ⊎ (stop_status stop ≡ 2)
 
--- the request is rejected with this text
+-- the stop rejects the request with this message
 abbrev pub IsRefusedAs : List ℕ → Stop → Type 0
 IsRefusedAs text stop = (stop_status stop ≡ 2) × (stop_message stop ≡ text)
 
--- the arguments are rejected with the text of their error
+-- the stop rejects the arguments with the text of their error, or both are out of memory
 abbrev pub IsWordsRefusal : WordsError → Stop → Type 0
 IsWordsRefusal error.OutOfMemory stop = stop ≡ why.OutOfMemory
 IsWordsRefusal (error.Told fault text) stop = IsRefusedAs (string_bytes text) stop
 
--- out of memory, or the message says what is wrong with the arguments, with the usage of a command
+-- the stop is out of memory, or it rejects the arguments with the message `what` and the usage of a command
 abbrev pub IsUsageStop : List ℕ → Stop → Type 0
 IsUsageStop what stop = (stop ≡ why.OutOfMemory) ⊎ ((stop_status stop ≡ 2) × IsUsageText what (stop_message stop))
 
--- ---- what stands at a path
+-- ---- files
 
--- there is no file at the path, as far as that is known
+-- there is no file at the path, as far as contents are known
 abbrev pub IsNothingAt : Option FileContents → List ℕ → Type 0
 IsNothingAt known path = IfSome known (λ files. files path ≡ None)
 
--- the file at the path has more than this number of bytes, as far as that is known
+-- the file at the path has more than `most` bytes, as far as contents are known
 abbrev pub IsLongAt : Option FileContents → List ℕ → ℕ → Type 0
 IsLongAt known path most = IfSome known (λ files. IsSomeAnd (files path) (λ bytes. most < length bytes))
 
--- the system gave a reason why the path was not read or written
+-- the stop reports the reason of the system why the file at the path could not be read or written, or that memory ran out
 abbrev pub IsSystemStop : List ℕ → ErrorKind → Stop → Type 0
 IsSystemStop path reason stop = IsStop 3 (path_message path (io_error_text reason)) stop
 
--- out of memory; or the path was not read, and no file is known to be there
+-- memory ran out, or the file at the path could not be read; then none is known to be there
 abbrev pub IsUnreadStop : Option FileContents → List ℕ → Stop → Type 0
 IsUnreadStop known path stop = (stop ≡ why.OutOfMemory)
     ⊎ (IsNothingAt known path × ((reason : ErrorKind) × IsSystemStop path reason stop))
 
--- the greatest number of bytes in a report or a table of counts
+-- the maximum number of bytes in a report or a table of counts
 abbrev pub most_result_bytes : ℕ
 most_result_bytes = 1073741824
 
--- the path was not read, or the file has more bytes than a report or a table of counts may have
+-- memory ran out, or the file at the path could not be read or is longer than a report or a table of counts may be
 abbrev pub IsResultUnreadStop : Option FileContents → List ℕ → Stop → Type 0
 IsResultUnreadStop known path stop = IsUnreadStop known path stop
     ⊎ (IsLongAt known path most_result_bytes
     × IsStop 3 (path_message path (codes "the file is larger than 1073741824 bytes")) stop)
 
--- the file was not written
+-- the stop for an error in opening or writing the file at the path
 abbrev pub IsFileErrorStop : List ℕ → FileError → Stop → Type 0
 IsFileErrorStop path file.OutOfMemory stop = stop ≡ why.OutOfMemory
 IsFileErrorStop path file.SamePlace stop =
@@ -112,13 +112,13 @@ IsFileErrorStop path (file.Failed reason) stop = IsSystemStop path reason stop
 
 -- ---- lists
 
--- the path was not read, or the file has more bytes than a list may have
+-- memory ran out, or the file at the path could not be read or is longer than a list may be
 abbrev pub IsListUnreadStop : Option FileContents → List ℕ → Stop → Type 0
 IsListUnreadStop known path stop = IsUnreadStop known path stop
     ⊎ (IsLongAt known path most_bytes
     × IsStop 3 (path_message path (codes "the file is larger than 16777216 bytes")) stop)
 
--- out of memory; or the text at the path is not a list, and the line of its first error is reported
+-- memory ran out, or the text at the path is not a list, and the stop reports its first error
 abbrev pub IsListFaultStop : List ℕ → List ℕ → Stop → Type 0
 IsListFaultStop path text stop = (stop ≡ why.OutOfMemory)
     ⊎ ((fault : JobError) × (job_list_of text ≡ Err fault)
@@ -126,46 +126,48 @@ IsListFaultStop path text stop = (stop ≡ why.OutOfMemory)
 
 -- ---- reports
 
--- the report is truncated
+-- the stop reports that the report at the path is truncated, or that memory ran out
 abbrev pub IsCutOffStop : List ℕ → Stop → Type 0
 IsCutOffStop path stop = IsStop 2 (path_message path (codes "the report is truncated")) stop
 
--- no report has the line with this number at that position: the line is reported or, for a job list, that it is one
+-- the stop reports the invalid line with this number in a report, or that the file is a job list, or that memory ran out
 abbrev pub IsLineStop : List ℕ → List ℕ → ℕ → Stop → Type 0
 IsLineStop path bytes line stop = IsStop 2 (refused_line_message (codes "report") path bytes line) stop
 
--- a text is not a report: the message names the first line with which no report begins; or it says that the report is truncated, and then
--- its complete lines are a prefix of some report
+-- the stop reports the first error of a text that is not a report: a line with which no report begins, or that the report is truncated, and
+-- then its complete lines are a prefix of some report
 abbrev pub IsReportFaultTold : List ℕ → List ℕ → Stop → Type 0
 IsReportFaultTold path bytes stop =
     ((line : ℕ) × IsLeastRefusedLine line bytes × IsLineStop path bytes line stop)
     ⊎ (BeginsReport (first_lines (count_of_line_feeds bytes) bytes) × IsCutOffStop path stop)
 
--- out of memory, or an error of the report is reported; a prefix of a report is reported as truncated, and a complete one has no error
+-- memory ran out, or the stop reports the first error of a text as a report
 pub record IsReportFaultStop (path bytes : List ℕ) (stop : Stop) : Type 0 where
   pub told : (stop ≡ why.OutOfMemory) ⊎ IsReportFaultTold path bytes stop
+  -- a prefix of a report is reported as truncated
   pub cut : BeginsReport bytes → IsCutOffStop path stop
+  -- a complete report has no error
   pub whole : (report : SavedReport) → IsReportText bytes report → stop ≡ why.OutOfMemory
 
--- the path was not read, or its file is not a report
+-- the report at the path could not be read, or it has an error
 abbrev pub IsReportReadError : Option FileContents → List ℕ → Stop → Type 0
 IsReportReadError known path stop = IsResultUnreadStop known path stop
     ⊎ ((bytes : List ℕ) × IsTextAt known path bytes × IsReportFaultStop path bytes stop)
 
--- ---- reports that may be cut off
+-- ---- reports that may be truncated
 
--- out of memory, or the message names the first line with which no report begins; each prefix of a report is accepted
+-- memory ran out, or the stop reports the first line with which no report begins; a prefix of a report has no error
 pub record IsPartialFaultStop (path bytes : List ℕ) (stop : Stop) : Type 0 where
   pub told : (stop ≡ why.OutOfMemory)
       ⊎ ((line : ℕ) × IsLeastRefusedLine line bytes × IsLineStop path bytes line stop)
   pub beginning : BeginsReport bytes → stop ≡ why.OutOfMemory
 
--- the text is not a report or, if truncated reports are allowed, not a truncated one either
+-- the text is not a report and, if the Bool allows truncated reports, not a truncated one
 abbrev pub IsRequestedFaultStop : Bool → List ℕ → List ℕ → Stop → Type 0
 IsRequestedFaultStop false path bytes stop = IsReportFaultStop path bytes stop
 IsRequestedFaultStop true path bytes stop = IsPartialFaultStop path bytes stop
 
--- the path was not read, or its file is not an allowed report
+-- the report at the path could not be read, or it has an error; `partial` says whether it may be truncated
 abbrev pub IsRequestedUnreadStop : Option FileContents → Bool → List ℕ → Stop → Type 0
 IsRequestedUnreadStop known partial path stop = IsResultUnreadStop known path stop
     ⊎ ((bytes : List ℕ) × IsTextAt known path bytes × IsRequestedFaultStop partial path bytes stop)

@@ -7,31 +7,31 @@ use Rattle.rv_report.specs.Saved.{IsSaved, saved_text}
 use Rattle.rv_report.specs.declared.partial.PartialReport.{PartialReport}
 use Rattle.rv_report.specs.declared.saved.SavedReport.{SavedReport}
 
--- the text is that of the file at the path, as far as that is known
+-- the text is the contents of the file at the path, as far as contents are known
 abbrev pub IsTextAt : Option FileContents → List ℕ → List ℕ → Type 0
 IsTextAt known path text = IfSome known (λ files. files path ≡ Some text)
 
--- the bytes of a text, if there is one
+-- the bytes of an optional text
 abbrev pub optional_text : Option (Bor (List ℕ)) → Option (List ℕ)
 optional_text text = option_map (λ text. text.now) text
 
--- the report that a text represents, of which there is at most one
+-- the bytes are the text of this report
 pub record IsReportText (bytes : List ℕ) (report : SavedReport) : Type 0 where
   pub saved : IsSaved report
   pub text : saved_text report ≡ bytes
 
--- the report at a path
+-- the file at the path is the text of this report
 pub record IsReportAt (known : Option FileContents) (path : List ℕ) (report : SavedReport) : Type 0 where
   pub bytes : List ℕ
   pub read : IsTextAt known path bytes
   pub of : IsReportText bytes report
 
--- the text is parsed as a report, which may be truncated if that is allowed
+-- the bytes are parsed as this report, which may be truncated only if `partial` is true
 pub record IsReportRead (partial : Bool) (bytes : List ℕ) (read : PartialReport) : Type 0 where
   pub is : IsReadAs bytes read.is_cut_off read.report
   pub taken : read.is_cut_off ≡ true → partial ≡ true
 
--- the file at the path is parsed as a report in this way
+-- the file at the path is parsed as this report, which may be truncated only if `partial` is true
 pub record IsReportReadAt (known : Option FileContents) (partial : Bool) (path : List ℕ) (read : PartialReport)
     : Type 0 where
   pub bytes : List ℕ

@@ -10,7 +10,7 @@ use rv_files::{FileError, InputError, Inputs, io_error_text, read_whole_up_to};
 use std::alloc::Global;
 use std::io::ErrorKind;
 
-/// Reads the file at a path, if it has at most `most` bytes.
+/// Reads the file at the path. Returns `None` if it has more than `most` bytes.
 pub(crate) fn read_file_up_to<D: Inputs>(
     inputs: &D,
     alloc: Global,
@@ -31,10 +31,10 @@ pub(crate) fn read_file_up_to<D: Inputs>(
     }
 }
 
-/// The greatest number of bytes in a report or a table of counts.
+/// The maximum number of bytes in a report or a table of counts.
 const MOST_RESULT_BYTES: usize = 0x4000_0000;
 
-/// Reads the report or the table of counts at a path.
+/// Reads the file of a report or a table of counts. Returns an error if it is too long.
 pub fn read_result_file<D: Inputs>(inputs: &D, alloc: Global, path: &str) -> Result<Vec<u8>, Stop>
     ensures read { IfOk result (λ bytes. IsTextAt (D.contents inputs.now) path.now bytes.items) }
     ensures within { IfOk result (λ bytes. length bytes.items ≤ most_result_bytes) }
@@ -52,7 +52,7 @@ pub fn read_result_file<D: Inputs>(inputs: &D, alloc: Global, path: &str) -> Res
 // More bytes than memory can hold.
 const MOST_OF_MEMORY: usize = usize::MAX - 1;
 
-/// Reads the file at a path, whatever its size: a file that this command has written.
+/// Reads a file that this command has written, whatever its size.
 pub fn read_file<D: Inputs>(inputs: &D, alloc: Global, path: &str) -> Result<Vec<u8>, Stop>
     ensures read { IfOk result (λ bytes. IsTextAt (D.contents inputs.now) path.now bytes.items) }
     ensures unread { IfErr result (IsUnreadStop (D.contents inputs.now) path.now) }
@@ -64,7 +64,7 @@ pub fn read_file<D: Inputs>(inputs: &D, alloc: Global, path: &str) -> Result<Vec
     }
 }
 
-/// Returns the error that the file at a path cannot be written.
+/// Returns the error that the file at the path cannot be opened or written.
 pub fn file_error_stop(alloc: Global, path: &str, error: FileError) -> Stop
     ensures { IsFileErrorStop path.now error result }
 {
@@ -78,7 +78,7 @@ pub fn file_error_stop(alloc: Global, path: &str, error: FileError) -> Stop
     }
 }
 
-// Returns the error that a path cannot be read or written, with the system's reason.
+// Returns the error that the file at the path cannot be read or written, with the reason of the system.
 fn io_error_stop(alloc: Global, path: &str, reason: ErrorKind) -> Stop
     ensures { IsSystemStop path.now reason result }
 {

@@ -18,7 +18,7 @@ use rv_jobs::{JobError, JobList, What, read_jobs};
 use rv_list_errors::{push_all_faults, push_faults};
 use std::alloc::{AllocError, Global};
 
-/// Reads the text of the list, or of the file of known failures, at a path.
+/// Reads the text of a job list or of a file of known failures. Returns an error if it is too long.
 pub fn read_list_text<D: Inputs>(inputs: &D, alloc: Global, path: &str) -> Result<Vec<u8>, Stop>
     ensures read { IfOk result (λ text. IsTextAt (D.contents inputs.now) path.now text.items) }
     ensures within { IfOk result (λ text. length text.items ≤ most_bytes) }
@@ -33,7 +33,7 @@ pub fn read_list_text<D: Inputs>(inputs: &D, alloc: Global, path: &str) -> Resul
     }
 }
 
-/// Parses the jobs of a list's text; the error says what is wrong with the list.
+/// Parses the text of a list. The error reports the first mistake in the list.
 pub fn parse_list(alloc: Global, path: &str, text: &[u8]) -> Result<JobList, Stop>
     ensures jobs { IfOk result (λ jobs. job_list_of text.now ≡ Ok jobs) }
     ensures fault { IfErr result (IsListFaultStop path.now text.now) }
@@ -54,7 +54,7 @@ fn list_fault_stop(alloc: Global, path: &str, text: &[u8], fault: JobError) -> S
     }
 }
 
-/// Returns a line for each error of a list.
+/// Returns a line for each of these errors of a list.
 pub fn list_faults_text(
     alloc: Global,
     path: &str,
@@ -70,7 +70,7 @@ pub fn list_faults_text(
     Ok(told)
 }
 
-/// Returns the lines for all errors of a list, given the first error of each invalid job.
+/// Returns the lines about all errors of a list, given the first error of each invalid job.
 pub fn all_faults_text(
     alloc: Global,
     path: &str,

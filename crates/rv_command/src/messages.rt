@@ -13,7 +13,7 @@ use rv_rows::{Sink, put_all};
 use rv_text::{Span, text_of_spans};
 use std::alloc::{AllocError, Global};
 
-/// Returns a line that says what is wrong with the file at a path.
+/// Returns a line that says `what` is wrong with the file at the path.
 pub fn path_message<'a>(alloc: Global, path: &'a str, what: &'a str) -> Result<Vec<u8>, AllocError>
     ensures { IfOk result (λ text. text.items ≡ path_message path.now what.now) }
 {
@@ -29,7 +29,7 @@ pub fn path_message<'a>(alloc: Global, path: &'a str, what: &'a str) -> Result<V
     )
 }
 
-/// Returns a line that says what is wrong with the numbered line or job in the file at a path.
+/// Returns a line that says `what` is wrong with a line or a job in the file at the path. `place` is the text before its number.
 pub fn path_number_message<'a>(
     alloc: Global,
     path: &'a str,
@@ -51,7 +51,7 @@ pub fn path_number_message<'a>(
     )
 }
 
-/// Writes a message. A failure to write it changes nothing else.
+/// Writes a message to standard error. A failed write has no other effect.
 pub fn put_message<E: Sink>(errors: &mut E, text: &[u8])
     ensures { IsMessageWritten (E.taken errors.old) (E.taken errors.new)
         (E.failed errors.old) (E.failed errors.new) text.now }
@@ -59,7 +59,7 @@ pub fn put_message<E: Sink>(errors: &mut E, text: &[u8])
     let _ = put_all(errors, text);
 }
 
-/// Writes results.
+/// Writes results to standard output.
 pub fn put_results<O: Sink>(out: &mut O, text: &[u8]) -> Result<(), Stop>
     ensures put { OnOk result (Appends (O.taken out.old) (O.taken out.new) text.now) }
     ensures counted { OnOk result (O.failed out.new ≡ O.failed out.old) }
@@ -73,8 +73,8 @@ pub fn put_results<O: Sink>(out: &mut O, text: &[u8]) -> Result<(), Stop>
     }
 }
 
-/// Reports why a command stopped before its work was done, and returns the status. If the reader of its results closed them, nothing is
-/// reported, and the status is 141, like that of a program ended by the signal `SIGPIPE`.
+/// Reports why a command stopped early, and returns the exit status. If the reader of the results closed them, a failed write is not
+/// reported, and the status is 141, as if the signal `SIGPIPE` had ended the program.
 pub fn put_end_message<E: Sink>(errors: &mut E, stop: Stop, is_out_closed: bool) -> u8
     ensures status { result ≡ end_status is_out_closed stop }
     ensures told { IsMessageWritten (E.taken errors.old) (E.taken errors.new)
@@ -87,7 +87,7 @@ pub fn put_end_message<E: Sink>(errors: &mut E, stop: Stop, is_out_closed: bool)
     }
 }
 
-/// Reports why a command stopped before its work was done, and returns the status: 2 or 3.
+/// Reports why a command stopped early, and returns the exit status: 2 or 3.
 pub fn put_stop_message<E: Sink>(errors: &mut E, stop: Stop) -> u8
     ensures status { result ≡ stop_status stop }
     ensures told { IsMessageWritten (E.taken errors.old) (E.taken errors.new)
@@ -105,6 +105,7 @@ pub fn put_stop_message<E: Sink>(errors: &mut E, stop: Stop) -> u8
     }
 }
 
+// Returns the exit status for these lines: 2 if the request is rejected, 3 if the system failed.
 fn lines_status(lines: Lines) -> u8
     ensures { result ≡ lines_status lines }
 {
@@ -114,7 +115,7 @@ fn lines_status(lines: Lines) -> u8
     }
 }
 
-/// Reports how the system failed, and returns the status.
+/// Reports how the system failed, and returns the exit status.
 pub fn put_failure_message<E: Sink>(errors: &mut E, text: &str) -> u8
     ensures status { result ≡ FAILED }
     ensures told { IsMessageWritten (E.taken errors.old) (E.taken errors.new)

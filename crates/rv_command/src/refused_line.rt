@@ -10,8 +10,8 @@ use rv_lists::{JobError, What, read_faults};
 use rv_text::{Span, text_of_spans};
 use std::alloc::{AllocError, Global};
 
-/// Returns the message that the text at a path is not a report, or what `noun` names, because of the numbered line, which is invalid there:
-/// it shows the line and what was expected instead. If the text is a job list, the message says so.
+/// Returns the message about the invalid line with this number in a report or a part, as `noun` says: the line, and what was expected
+/// instead. If the text is a job list, the message says so.
 pub fn refused_line_message<'a>(
     alloc: Global,
     noun: &'a str,
@@ -28,6 +28,7 @@ pub fn refused_line_message<'a>(
     }
 }
 
+// Returns the message that the file at the path is a job list, and not a report or a part.
 fn list_message<'a>(alloc: Global, noun: &'a str, path: &'a str) -> Result<Vec<u8>, AllocError>
     ensures { IfOk result (λ told. told.items ≡ list_message noun.now path.now) }
 {
@@ -43,6 +44,7 @@ fn list_message<'a>(alloc: Global, noun: &'a str, path: &'a str) -> Result<Vec<u
     )
 }
 
+// Returns the message about an invalid line in the file at the path: the line, and what was expected instead.
 fn line_message<'a>(
     alloc: Global,
     noun: &'a str,
@@ -70,7 +72,7 @@ fn line_message<'a>(
     )
 }
 
-// Whether a text is a document with jobs, valid or not.
+// Whether a text is a TOML document with jobs, valid or not.
 fn is_job_list(alloc: Global, text: &[u8]) -> Result<bool, AllocError>
     ensures { IfOk result (λ is_list. is_list ≡ is_job_list text.now) }
 {
@@ -78,6 +80,7 @@ fn is_job_list(alloc: Global, text: &[u8]) -> Result<bool, AllocError>
     Ok(are_faults_of_list(faults.as_slice()))
 }
 
+// Whether the errors of a text show that it is a TOML document with jobs, valid or not.
 fn are_faults_of_list(faults: &[JobError]) -> bool
     ensures { result ≡ are_faults_of_list faults.now }
 {
@@ -87,13 +90,14 @@ fn are_faults_of_list(faults: &[JobError]) -> bool
     }
 }
 
-// Returns the line with a number, counted from 1, without its line feed; empty if there is no such line.
+// Returns the line with this number, counted from 1, without its line feed; empty if there is no such line.
 fn numbered_line(text: &[u8], number: usize) -> &[u8]
     ensures { result.now ≡ numbered_line text.now number }
 {
     first_line(after_lines(text, number.saturating_sub(1)))
 }
 
+// Returns the line before the one with this number; empty for the first line.
 fn line_before(text: &[u8], number: usize) -> &[u8]
     ensures { result.now ≡ line_before text.now number }
 {
@@ -104,6 +108,7 @@ fn line_before(text: &[u8], number: usize) -> &[u8]
     }
 }
 
+// Returns the text after its first `count` lines.
 #[tactic(auto, unfolding(crate::specs::RefusedLines::after_lines))]
 fn after_lines(text: &[u8], count: usize) -> &[u8]
     ensures { result.now ≡ after_lines count text.now }
@@ -115,6 +120,7 @@ fn after_lines(text: &[u8], count: usize) -> &[u8]
     rest
 }
 
+// Returns the first line of a text, without its line feed.
 fn first_line(text: &[u8]) -> &[u8]
     ensures { result.now ≡ first_line text.now }
 {
@@ -124,6 +130,7 @@ fn first_line(text: &[u8]) -> &[u8]
     }
 }
 
+// Returns the text after its first line.
 fn after_line(text: &[u8]) -> &[u8]
     ensures { result.now ≡ after_line text.now }
 {
@@ -140,7 +147,7 @@ fn line_feed_place(text: &[u8]) -> Option<usize>
     text.iter().position(|byte| *byte == b'\n')
 }
 
-// Returns what a report has after a line, and at its beginning.
+// Returns what a report must have after this line, or at its beginning if the line is empty.
 #[tactic(auto, unfolding(crate::specs::RefusedLines::expected_after))]
 fn expected_after(line: &[u8]) -> &'static str
     ensures { result.now ≡ expected_after line.now }

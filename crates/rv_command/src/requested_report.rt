@@ -22,7 +22,7 @@ pub struct RequestedReport<'a> {
     pub partial: bool,
 }
 
-/// Reads the report at the path in the arguments; of a truncated one, its complete rows, if that is allowed.
+/// Reads a report. If it is truncated and may be, returns its complete rows.
 pub fn read_requested_report<D: Inputs>(
     inputs: &D,
     alloc: Global,
@@ -37,7 +37,7 @@ pub fn read_requested_report<D: Inputs>(
     parse_requested_report(alloc, requested, text.as_slice())
 }
 
-/// Parses the text of that report.
+/// Parses the text of a report. If it is truncated and may be, returns its complete rows.
 pub fn parse_requested_report(
     alloc: Global,
     requested: RequestedReport<'_>,
@@ -70,7 +70,7 @@ fn parse_partial_report(alloc: Global, path: &str, text: &[u8]) -> Result<Partia
     }
 }
 
-/// Returns a line with the number of complete rows in a truncated report; empty for a complete one.
+/// Returns the note about a truncated report: how many complete rows it has. It is empty for a complete report.
 pub fn cut_off_note(alloc: Global, path: &str, read: &PartialReport) -> Result<Vec<u8>, AllocError>
     ensures { IfOk result (λ note. note.items ≡ cut_off_note path.now read.now) }
 {
@@ -82,6 +82,7 @@ pub fn cut_off_note(alloc: Global, path: &str, read: &PartialReport) -> Result<V
     path_number_message(alloc, path, what, rows, complete_rows_text(rows))
 }
 
+// Returns " complete row" or " complete rows", by their number, and a line feed.
 fn complete_rows_text(rows: usize) -> &'static str
     ensures { result.now ≡ complete_rows_text rows }
 {

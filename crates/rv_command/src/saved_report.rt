@@ -13,7 +13,7 @@ use rv_files::Inputs;
 use rv_report::{ReadError, SavedReport, read_report};
 use std::alloc::Global;
 
-/// Reads the report at a path: a whole one, or that of a part of a list.
+/// Reads a report: of a whole list, of a shard, or of chosen jobs.
 pub fn read_report_file<D: Inputs>(
     inputs: &D,
     alloc: Global,
@@ -27,7 +27,7 @@ pub fn read_report_file<D: Inputs>(
     parse_report(alloc, path, text.as_slice())
 }
 
-/// Parses the text of the report that was read from a path.
+/// Parses the text of a report that was read from the path.
 pub fn parse_report(alloc: Global, path: &str, text: &[u8]) -> Result<SavedReport, Stop>
     ensures report { IfOk result (IsReportText text.now) }
     ensures few { IfOk result (λ report. length report.rows ≤ most_jobs) }
@@ -44,7 +44,7 @@ pub fn parse_report(alloc: Global, path: &str, text: &[u8]) -> Result<SavedRepor
     }
 }
 
-/// Returns the error that the numbered line of the text at a path is in no report.
+/// Returns the error that the line with this number is invalid in a report.
 pub(crate) fn report_line_stop(alloc: Global, path: &str, text: &[u8], line: usize) -> Stop
     ensures { IsLineStop path.now text.now line result }
 {

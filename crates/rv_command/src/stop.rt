@@ -6,7 +6,7 @@ ghost use Rattle.rv_command.specs.Stops.{IsWordsRefusal, stop_of_lines};
 use rvtest_cli::WordsError;
 use std::alloc::AllocError;
 
-/// Why a command stops before its work is done.
+/// Why a command stops early.
 #[derive(Drop)]
 pub enum Stop {
     /// For the reason in these lines.
@@ -19,7 +19,7 @@ pub enum Stop {
     WriteFailed,
 }
 
-/// What the lines that end a command say.
+/// What the lines of a stop say.
 #[derive(Clone, Copy)]
 pub enum Lines {
     /// Why the request is rejected.
@@ -29,7 +29,7 @@ pub enum Lines {
 }
 
 impl Stop {
-    /// Rejects the arguments with the text of their error. Requests for help and the version do not stop a command.
+    /// Returns the stop that rejects the arguments with the text of their error.
     pub fn of_words_error(error: WordsError) -> Stop
         ensures { IsWordsRefusal error result }
     {
@@ -39,20 +39,21 @@ impl Stop {
         }
     }
 
-    /// Rejects the request with these lines, if there was memory for them.
+    /// Returns the stop that rejects the request with these lines, or out of memory if they could not be made.
     pub fn of_refusal(told: Result<Vec<u8>, AllocError>) -> Stop
         ensures { result ≡ stop_of_lines Lines.Refusal told }
     {
         Stop::of_lines(Lines::Refusal, told)
     }
 
-    /// Reports a system failure with these lines, if there was memory for them.
+    /// Returns the stop that reports a system failure with these lines, or out of memory if they could not be made.
     pub fn of_failure(told: Result<Vec<u8>, AllocError>) -> Stop
         ensures { result ≡ stop_of_lines Lines.Failure told }
     {
         Stop::of_lines(Lines::Failure, told)
     }
 
+    // Returns the stop with these lines, or out of memory if they could not be made.
     fn of_lines(lines: Lines, told: Result<Vec<u8>, AllocError>) -> Stop
         ensures { result ≡ stop_of_lines lines told }
     {

@@ -10,7 +10,7 @@ use std::test::Fail;
 const BASE: u32 = 0x8000_0000;
 
 // Each program starts at 80000000, and `X` is the exit call. Counts were found by hand: address, how often executed, how often taken. An
-// instruction that ends the run counts as executed, except for fetch faults. label | set | budget | program | counts.
+// instruction that ends the run counts as executed, except for fetch faults. label | instruction set | budget | program | counts.
 const RUNS: &str = "\
 straight line, and the exit call | imc | 9 | 00500513 X | 80000000 1 0, 80000004 1 0, 80000008 1 0
 loop of three rounds | imc | 99 | 00300293 fff28293 fe029ee3 X | \
@@ -52,6 +52,7 @@ two such loops, the one above first | imc | 9999 | 0240006f 12c00293 00c0006f ff
     80000028 1 0, 8000002c 200 0, 80000030 200 0, 80000034 201 0, 80000038 201 200, 8000003c 1 0
 ";
 
+// Returns a machine that starts a program at `BASE`, with 4,096 bytes of memory from there on.
 fn machine_of(alloc: Global, isa: Isa, program: &str) -> Result<Machine, Fail> {
     let map = Map::of(&[Region {
         base: BASE,
@@ -67,7 +68,7 @@ fn machine_of(alloc: Global, isa: Isa, program: &str) -> Result<Machine, Fail> {
     Ok(Machine::new(alloc, bus, BASE, isa)?)
 }
 
-// Returns the counts of a run, in the form of a row.
+// Returns the counts of a run within a budget, in the form of a row.
 fn told(alloc: Global, machine: Machine, budget: u32) -> Result<String, AllocError> {
     let mut text = String::new(alloc);
     let addresses = count_run(alloc, machine, budget)?;
@@ -79,6 +80,7 @@ fn told(alloc: Global, machine: Machine, budget: u32) -> Result<String, AllocErr
     Ok(text)
 }
 
+// Checks that the run of a row has the row's counts.
 fn check(alloc: Global, row: &str) -> Result<(), Fail> {
     let isa = if cell_of(row, 1) == "im" {
         Isa::Im
@@ -90,6 +92,7 @@ fn check(alloc: Global, row: &str) -> Result<(), Fail> {
     agree(row, told(alloc, machine, budget)?.as_str(), cell_of(row, 4))
 }
 
+// Runs have the counts that were found by hand.
 #[test]
 fn runs_are_counted(rt: HostRuntime) -> Result<(), Fail> {
     has_lines(RUNS, 26)?;

@@ -14,7 +14,8 @@ use std::sync::Wait;
 use std::test::Fail;
 use std::thread::Threads;
 
-/// Files by path: two of one image, which ends with the exit call, one with a loop of three rounds, and one that is not an image.
+/// Files by path: three of one image, which ends with the exit call, one image with a loop of three rounds, and one file that is not an
+/// image.
 #[derive(Drop)]
 struct Files {
     faults: u64,
@@ -55,7 +56,7 @@ const LIST: &str = "job = [
 { name = 'n5', image = 'loop', budget = 3, same_as = 'n0', region = [{ base = 0x80000000, size = 4096 }] },
 { name = 'n6', image = \"line\\nfeed\", budget = 2, region = [{ base = 0x80000000, size = 4096 }] }]";
 
-// A choice of the jobs | the text of their table, with a slash for each line feed. The digests are those of `sha256sum`.
+// A selection of the jobs | the text of their table, with a slash for each line feed. The digests are those of `sha256sum`.
 const TABLES: &str = "\
 ....... | rvcounts 1/done 0 0/
 ...xx.. | rvcounts 1/done 0 0/
@@ -67,6 +68,7 @@ xxxxxxx | rvcounts 1/image 3d532673a6769bd4f209aaf85d6b5ee537f98383bacb4bda774fc
     80000004 4 0/80000008 4 3/8000000c 1 0/80000010 1 0/done 2 5/
 ";
 
+// Returns the marks of a selection, one for each letter of `choice`: true for `x`.
 fn marks_of(alloc: Global, choice: &str) -> Result<Vec<bool>, AllocError> {
     let mut marks = Vec::new(alloc);
     for mark in choice.bytes() {
@@ -75,7 +77,7 @@ fn marks_of(alloc: Global, choice: &str) -> Result<Vec<bool>, AllocError> {
     Ok(marks)
 }
 
-// Returns the indices of the chosen jobs of a plan.
+// Returns the indices of the selected jobs of a plan.
 fn chosen(alloc: Global, plan: &Plan, choice: &str) -> Result<Vec<usize>, Fail>
     ensures within { IfOk result (λ places. AreJobIndices plan.now places.items) }
     ensures rising { IfOk result (λ places. IsStrictlyIncreasing places.items) }
@@ -87,7 +89,7 @@ fn chosen(alloc: Global, plan: &Plan, choice: &str) -> Result<Vec<usize>, Fail>
     Ok(selected_indices(alloc, marks.as_slice())?)
 }
 
-// Returns the text of the table for a choice, made by `workers` threads.
+// Returns the text of the table of the selected jobs, made by `workers` threads, with a slash for each line feed.
 fn told<R: Threads + Wait + Sync>(
     rt: &R,
     alloc: Global,
@@ -108,6 +110,7 @@ fn told<R: Threads + Wait + Sync>(
     Ok(told)
 }
 
+// Checks the table of a row, made by one thread and by three.
 fn check<R: Threads + Wait + Sync>(
     rt: &R,
     alloc: Global,
@@ -121,6 +124,7 @@ fn check<R: Threads + Wait + Sync>(
     Ok(())
 }
 
+// The table of each selection of jobs is the expected one, made by one thread and by three.
 #[test]
 fn jobs_are_counted(rt: HostRuntime) -> Result<(), Fail> {
     let alloc = rt.alloc();

@@ -4,7 +4,7 @@ use samples::agree;
 use std::alloc::{AllocError, Global};
 use std::test::Fail;
 
-// Texts, and the lines on which their jobs begin, separated by a bar.
+// Texts, separated by lines with a bar; each is followed by ` = ` and the numbers of the lines on which its jobs begin.
 const TEXTS: &str = "\
 [[job]]
 = 3
@@ -26,11 +26,13 @@ job = [{}, {} = [1, 1]
 |
 job = [{}, , {}] = [1]";
 
+// Returns the numbers of the lines on which the jobs of a text begin, in brackets.
 fn begins_of(alloc: Global, text: &str) -> Result<String, AllocError> {
     let lines = job_line_numbers(alloc, text)?;
     format!(in alloc; "{:?}", lines.as_slice())
 }
 
+// In a text that is not TOML, the jobs before the error are found.
 #[test]
 fn texts_that_are_no_toml(rt: HostRuntime) -> Result<(), Fail> {
     for case in TEXTS.split("\n|\n") {

@@ -19,7 +19,7 @@ struct Files {
     faults: u64,
 }
 
-// Returns the number of bytes in a file.
+// Returns the number of bytes in the file at a path; 0 if it cannot be read.
 fn length_of(path: &str) -> usize
     ensures { result ≤ 0x100_0000 }
 {
@@ -58,6 +58,7 @@ impl Store for Files {
     }
 }
 
+// Returns the marks of a selection, one for each letter of `choice`: true for `x`.
 fn marks_of(alloc: Global, choice: &str) -> Result<Vec<bool>, AllocError> {
     let mut marks = Vec::new(alloc);
     for mark in choice.bytes() {
@@ -66,6 +67,7 @@ fn marks_of(alloc: Global, choice: &str) -> Result<Vec<bool>, AllocError> {
     Ok(marks)
 }
 
+// Returns the plan for the marked jobs of a list.
 fn chosen(alloc: Global, jobs: JobList, marks: &[bool], store: &mut Files) -> Result<Plan, Fail> {
     if marks.len() != jobs.as_slice().len() {
         return Err("a mark for each job".into());
@@ -74,6 +76,7 @@ fn chosen(alloc: Global, jobs: JobList, marks: &[bool], store: &mut Files) -> Re
     Ok(gather_jobs(alloc, jobs, places, store)?)
 }
 
+// Returns the plan for all jobs of a list (`all`), or for those that `choice` marks with `x`.
 fn plan_of(alloc: Global, list: &str, choice: &str, store: &mut Files) -> Result<Plan, Fail> {
     let jobs = read_jobs(alloc, list.as_bytes())?;
     if choice == "all" {
@@ -82,7 +85,7 @@ fn plan_of(alloc: Global, list: &str, choice: &str, store: &mut Files) -> Result
     chosen(alloc, jobs, &marks_of(alloc, choice)?, store)
 }
 
-// Appends what is kept for a path: nothing, why it has no bytes, its one byte, or the number of bytes and the last one.
+// Appends what a plan keeps for a path: `none`, why there are no bytes, the only byte, or the number of bytes and the last one.
 fn tell_kept(text: &mut String, kept: Option<&Kept>) -> Result<(), AllocError> {
     match kept {
         Some(Kept::Content(bytes)) => tell_bytes(text, bytes.as_slice()),
@@ -92,6 +95,7 @@ fn tell_kept(text: &mut String, kept: Option<&Kept>) -> Result<(), AllocError> {
     }
 }
 
+// Appends the only byte of a file, or the number of its bytes and the last one.
 fn tell_bytes(text: &mut String, bytes: &[u8]) -> Result<(), AllocError> {
     let (length, last) = (bytes.len(), bytes.last().copied().unwrap_or(0) as char);
     if length == 1 {
@@ -113,7 +117,7 @@ fn tell_job(text: &mut String, plan: &Plan, place: usize) -> Result<(), AllocErr
     tell_kept(text, plan.console_reference(place))
 }
 
-// Returns the paths that were read, the number of faults of the store, and what is kept for each job.
+// Returns the paths that were read, the number of the store's faults, and what is kept for each job.
 fn told(alloc: Global, plan: &Plan, store: &Files) -> Result<String, AllocError> {
     let (log, faults) = (store.log.as_str(), store.faults());
     let mut text = format!(in alloc; "'{log}' {faults} faults")?;
@@ -123,7 +127,7 @@ fn told(alloc: Global, plan: &Plan, store: &Files) -> Result<String, AllocError>
     Ok(text)
 }
 
-// Returns the plan for `all` jobs of a list, or for those selected with `x`.
+// Returns the text of the plan for all jobs of a list (`all`), or for those that `choice` marks with `x`.
 fn told_of(alloc: Global, list: &str, choice: &str) -> Result<String, Fail> {
     let mut store = Files {
         log: String::new(alloc),
@@ -133,7 +137,7 @@ fn told_of(alloc: Global, list: &str, choice: &str) -> Result<String, Fail> {
     Ok(told(alloc, &plan, &store)?)
 }
 
-// Checks that the plan of a list for each choice is the one in the line.
+// Checks that the plan of a list for the choice in each line is the one in the line.
 fn check(alloc: Global, list: &str, table: &str, lines: usize) -> Result<(), Fail> {
     has_lines(table, lines)?;
     for row in table.lines() {
@@ -143,6 +147,7 @@ fn check(alloc: Global, list: &str, table: &str, lines: usize) -> Result<(), Fai
     Ok(())
 }
 
+/// A list whose files are needed as images, references and consoles, some of them several times.
 const PATHS: &str = "job = [
 { name = 'n0', image = 'b', budget = 1, signature = ['s', 's'], expect_signature = 'r' },
 { name = 'n1', image = 'a', budget = 1, signature = ['s', 's'], expect_signature = 'b' },
@@ -152,10 +157,12 @@ const PATHS: &str = "job = [
 { name = 'n5', image = 'x', budget = 1, expect_console_file = 'a' },
 { name = 'n6', image = 'y', budget = 1, signature = ['s', 's'], expect_signature = 'z', expect_console_file = 'l' }]";
 
+/// The selected jobs | the paths that are read, the number of faults, and what is kept for each job of `PATHS`.
 const ALL_PATHS: &str = "\
 all | 'bralxyz' 8 faults: n0 b r none, n1 a b none, n2 b none none, n3 long unreadable none, \
     n4 r long none, n5 unreadable none a, n6 unreadable unreadable long";
 
+/// A list of jobs with long files, each of which is used several times.
 const LONG_PATHS: &str = "job = [
 { name = 'n0', image = 'A', budget = 1, signature = ['s', 's'], expect_signature = 'C' },
 { name = 'n1', image = 'C', budget = 1, signature = ['s', 's'], expect_signature = 'A' },
@@ -163,10 +170,12 @@ const LONG_PATHS: &str = "job = [
 { name = 'n3', image = 'B', budget = 1, signature = ['s', 's'], expect_signature = 'B' },
 { name = 'n4', image = 'C', budget = 1 }]";
 
+/// The selected jobs | the paths that are read, the number of faults, and what is kept for each job of `LONG_PATHS`.
 const LONG_KEPT: &str = "\
 all | 'ACB' 5 faults: n0 65537A 16777216C none, n1 16777216C 65537A none, n2 65537A 1000000B none, \
     n3 1000000B 1000000B none, n4 16777216C none none";
 
+/// A list of five jobs, two of which name another job.
 const LIST: &str = "job = [
 { name = 'n0', image = 'b', budget = 1, signature = ['s', 's'], expect_signature = 'r' },
 { name = 'n1', image = 'a', budget = 1, expect_console_file = 'x' },
@@ -174,8 +183,8 @@ const LIST: &str = "job = [
 { name = 'n3', image = 'y', budget = 1, same_as = 'n2' },
 { name = 'n4', image = 'b', budget = 1, signature = ['s', 's'], expect_signature = 'a' }]";
 
-// The jobs of a choice, each path that was read, and what is kept of each job's image, reference and console. `x.x.x` and `.x.x.` are the
-// two shards of the list.
+// The selected jobs | the paths that are read, the number of faults, and what is kept of each job's image, reference and console. `x.x.x`
+// and `.x.x.` are the two shards of the list.
 const CHOICES: &str = "\
 ..... | '' 5 faults: n0 unreadable unreadable none, n1 unreadable none unreadable, n2 unreadable none none, \
     n3 unreadable none none, n4 unreadable unreadable none
@@ -194,6 +203,7 @@ x.x.x | 'brla' 5 faults: n0 b r none, n1 a none unreadable, n2 long none none, \
 xxxxx | 'braxly' 7 faults: n0 b r none, n1 a none unreadable, n2 long none none, \
     n3 unreadable none none, n4 b a none";
 
+// A plan reads each path that the selected jobs need exactly once, and keeps its bytes for every job that uses it.
 #[test]
 fn paths_are_read_once_where_they_are_needed(rt: HostRuntime) -> Result<(), Fail> {
     check(rt.alloc(), PATHS, ALL_PATHS, 1)?;

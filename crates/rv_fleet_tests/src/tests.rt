@@ -1,4 +1,4 @@
-//! Draws, kept outcomes, fleets and streams, by the lines of tables: the setup, the requests, and, in the last cell, the expected results.
+//! Draws, cached outcomes, fleets and streams, by the lines of tables: the setup, the requests and, in the last cell, the expected results.
 ghost use Rattle.std.specs.Prelude.{◌<◌, ◌≤◌, IfOk, None};
 ghost use Rattle.std.specs.List.Sorted.{IsStrictlyIncreasing};
 ghost use Rattle.rv_fleet.specs.Choices.{AreJobIndices};
@@ -18,7 +18,8 @@ mod recent;
 mod streams;
 mod workers;
 
-// Returns the sample for a path: an exit with code 5 after two steps, and the image with a signature, of 16,000 words or one more.
+// Returns the sample image for a path: one with a signature of 16,000 words (`most-words`) or of one more (`more-words`), or else one that
+// exits with code 5 after two steps.
 fn sample_of(path: &str) -> &'static str {
     match path {
         "most-words" => "sign 168=8000fa28",
@@ -27,7 +28,7 @@ fn sample_of(path: &str) -> &'static str {
     }
 }
 
-/// The samples by path.
+/// A store with a sample image at each path.
 #[derive(Drop)]
 struct Samples;
 
@@ -48,6 +49,7 @@ impl Store for Samples {
     }
 }
 
+// Returns the plan for all jobs of a list, with sample images.
 fn plan_in(alloc: Global, list: &str) -> Result<Plan, Fail> {
     let jobs = read_jobs(alloc, list.as_bytes())?;
     Ok(gather(alloc, jobs, &mut Samples)?)
@@ -65,7 +67,7 @@ fn plan_of(alloc: Global, budgets: &str) -> Result<Plan, Fail> {
     plan_in(alloc, list.as_str())
 }
 
-// Appends each row's name, how it ended and its steps.
+// Appends the name, the end and the steps of each row.
 fn push_rows(text: &mut String, rows: &[Row]) -> Result<(), AllocError> {
     for row in rows {
         let (name, ending, steps) = (row.name.as_str(), row.ending, row.steps);
@@ -79,7 +81,7 @@ fn last_cell(line: &str) -> &str {
     line.rsplit_once('|').unwrap_or(("", line)).1.trim()
 }
 
-// Returns a selection with a job for each letter, selected by `x`.
+// Returns the marks of a selection, one for each letter of `choice`: true for `x`.
 fn marks_of(alloc: Global, choice: &str) -> Result<Vec<bool>, AllocError> {
     let mut marks = Vec::new(alloc);
     for mark in choice.bytes() {
@@ -88,12 +90,12 @@ fn marks_of(alloc: Global, choice: &str) -> Result<Vec<bool>, AllocError> {
     Ok(marks)
 }
 
-// Returns the number in a cell, or 0 if there is none.
+// Returns the number in the cell of a line with this index, or 0 if there is none.
 fn number_in(line: &str, place: usize) -> u64 {
     cell_of(line, place).parse::<u64>().unwrap_or(0)
 }
 
-// Returns the workers and the chunk size of a line.
+// Returns the number of workers and the number of jobs in a chunk that a line gives.
 fn crew_of(line: &str) -> (u32, u32)
     ensures workers { (0 < result.0) × (result.0 ≤ 64) }
     ensures group { (0 < result.1) × (result.1 ≤ 4096) }
@@ -103,7 +105,7 @@ fn crew_of(line: &str) -> (u32, u32)
     (workers as u32, group as u32)
 }
 
-// Returns the plan of a line, and the indices of its chosen jobs.
+// Returns the plan of a line, and the indices of its selected jobs.
 fn chosen(alloc: Global, line: &str) -> Result<(Plan, Vec<usize>), Fail>
     ensures within { IfOk result (λ chosen. AreJobIndices chosen.0 chosen.1.items) }
     ensures rising { IfOk result (λ chosen. IsStrictlyIncreasing chosen.1.items) }
@@ -129,6 +131,7 @@ enum Table {
     Workers,
 }
 
+// Returns the result for a line of this table, as text.
 fn told<R: Threads + Wait + Sync>(
     rt: &R,
     alloc: Global,
@@ -146,7 +149,7 @@ fn told<R: Threads + Wait + Sync>(
     }
 }
 
-// Checks that each line of a table has the result in its last cell.
+// Checks that a table has `count` lines, and that the result for each is the one in its last cell.
 fn hold<R: Threads + Wait + Sync>(
     rt: &R,
     alloc: Global,
@@ -162,6 +165,7 @@ fn hold<R: Threads + Wait + Sync>(
     Ok(())
 }
 
+// The lines of all tables have the results in their last cells.
 #[test]
 fn lines_hold(rt: HostRuntime) -> Result<(), Fail> {
     let alloc = rt.alloc();

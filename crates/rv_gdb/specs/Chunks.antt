@@ -5,28 +5,32 @@ use Rattle.rv_gdb.specs.Conversing.{IsChunkRead}
 use Rattle.rv_session.specs.Incoming.{IsByteFed, IsFed, IsWorked, is_interrupted}
 use Rattle.rv_session.specs.declared.session.Session.{Session}
 
--- the session's reply to a byte was written
+-- the session received this byte and became `next`, and its reply was written: the output `old` became `new`
 pub record IsByteReplyWritten (session : Session) (byte : ℕ) (old new : Option (List ℕ)) (next : Session) : Type 0 where
+  -- the reply
   pub told : List ℕ
   pub heard : IsByteFed session byte told next
   pub put : Appends old new told
 
--- the session's reply to the requested move was written
+-- the session made the requested move and became `next`, and its reply was written: the output `old` became `new`
 pub record IsMoveReplyWritten (end_text : List ℕ) (may_break : Bool) (session : Session) (old new : Option (List ℕ)) (next : Session) : Type 0 where
+  -- the reply
   pub told : List ℕ
   pub made : IsWorked end_text may_break session told next
   pub put : Appends old new told
 
--- the move that a byte of a chunk requested was made, since another byte follows
+-- the byte at this index of a chunk requested a move, which was made before the next byte of the chunk was received
 pub record IsMoveMade (end_text : List ℕ) (session : Session) (chunk : List ℕ) (index : ℕ) (old new : Option (List ℕ)) (next : Session)
     : Type 0 where
+  -- the session after the byte, before the move is made
   pub standing : Session
+  -- the output before the reply to the move
   pub middle : Option (List ℕ)
   pub within : index + 1 < length chunk
   pub heard : IsByteReplyWritten session (slice_index_or chunk index 0) old middle standing
   pub moved : IsMoveReplyWritten end_text (slice_index_or chunk (index + 1) 0 == 3) standing middle new next
 
--- a byte of a chunk was handled: it was the last one and requested a move, which is pending; or it requested none; or its move was made
+-- the byte at this index of a chunk was handled; the Bool says that it was the last one and requested a move, which is pending
 abbrev pub IsByteAnswered : List ℕ → Session → List ℕ → ℕ → Bool → Option (List ℕ) → Option (List ℕ) → Session → Type 0
 IsByteAnswered end_text session chunk index true old new next =
     (index + 1 ≡ length chunk) × (IsByteReplyWritten session (slice_index_or chunk index 0) old new next × (is_some next.asked ≡ true))
@@ -34,26 +38,30 @@ IsByteAnswered end_text session chunk index false old new next =
     (IsByteReplyWritten session (slice_index_or chunk index 0) old new next × (next.asked ≡ None))
     ⊎ IsMoveMade end_text session chunk index old new next
 
--- a move requested at the end of a chunk can be interrupted by the next chunk, if there is one
+-- whether the next chunk interrupts a move that is requested at the end of a chunk; false if there is no next chunk
 abbrev pub comes_next : Option (List ℕ) → Bool
 comes_next None = false
 comes_next (Some bytes) = is_interrupted bytes true
 
--- the session was not over after a chunk, when the next one was read
+-- the session was not over after a chunk, when the next bytes were read
 pub record IsOpenBehind (end_text : List ℕ) (session : Session) (chunk bytes : List ℕ) : Type 0 where
+  -- the replies to the chunk
   pub told : List ℕ
+  -- the session after the chunk
   pub standing : Session
   pub fed : IsFed end_text (is_interrupted bytes true) session chunk told standing
   pub is_open : standing.is_over ≡ false
 
--- the next chunk was read while the session was open; or the session is over, and nothing was read
+-- the next chunk was read while the session was open, or nothing was read since it is over
 abbrev pub IsNextRead : List ℕ → Session → List ℕ → Option (List ℕ) → Option (List ℕ) → Option (List ℕ) → Session → Type 0
 IsNextRead end_text session chunk before after None next = (after ≡ before) × (next.is_over ≡ true)
 IsNextRead end_text session chunk before after (Some bytes) next =
     IsChunkRead before after bytes × IsOpenBehind end_text session chunk bytes
 
+-- the bytes of a chunk were handled, and the chunk `coming` was read if the session was not over
 pub record IsChunkAnswered (end_text : List ℕ) (session : Session) (chunk : List ℕ) (before after old new coming : Option (List ℕ))
     (next : Session) : Type 0 where
+  -- the replies to the chunk
   pub told : List ℕ
   pub fed : IsFed end_text (comes_next coming) session chunk told next
   pub made : next.asked ≡ None

@@ -9,7 +9,8 @@ use Rattle.rv_session.specs.Sessions.{at_first}
 use Rattle.rv_session.specs.declared.session.Session.{Session}
 use Rattle.rv_trace.specs.Trace.{image_bytes}
 
--- a session at the start of the run of a job that is not refused, before gdb has sent anything; gdb is given this path of the job's image
+-- the session is at the start of the run of a job that is not refused, before gdb has sent anything; `path` is the path by which gdb knows
+-- the job's image
 pub record IsSessionOf (answers : List Answer) (job : Job) (path : List ℕ) (session : Session) : Type 0 where
   pub start : Start
   pub starts : start_in answers job ≡ Ok (start_of start)

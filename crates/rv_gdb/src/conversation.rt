@@ -18,7 +18,7 @@ use std::io::{ErrorKind, Read};
 use std::sync::atomic::AtomicBool;
 use std::thread::{Threads, join_mut};
 
-/// Why a session was aborted.
+/// Why a session ended with an error.
 #[derive(Clone, Copy, Debug, PartialEq, Eq)]
 pub enum SessionError {
     /// An allocation failed.
@@ -42,18 +42,18 @@ impl From<AllocError> for SessionError {
 // The reply to a move for which there is not enough memory.
 const NO_MEMORY: &str = "$E.out of memory#79";
 
-/// What a conversation needs besides its session.
+/// What a session needs to respond to gdb.
 #[derive(Drop)]
 pub struct SessionContext<'a, R, E> {
     pub rt: &'a R,
     pub alloc: Global,
-    /// The text about the end of the session's run.
+    /// Provides the text about the end of the session's run.
     pub end: &'a E,
 }
 
 /// Receives the bytes of a reader, and writes the session's replies to them, until gdb ends the session or the reader is at its end. No
-/// read begins once the session is over. If every received byte has been used when a move starts, another thread reads ahead during the move,
-/// and only 0x03 or the end of the bytes interrupts the move.
+/// read begins once the session is over. If every received byte has been used when a move starts, another thread reads ahead during the
+/// move, and only 0x03 or the end of the bytes interrupts the move.
 pub fn serve<R: Threads, E: EndText, I: Read + Send, O: Sink>(
     context: &SessionContext<'_, R, E>,
     session: &mut Session,
@@ -86,7 +86,7 @@ pub fn serve<R: Threads, E: EndText, I: Read + Send, O: Sink>(
     Err(SessionError::UnreadPath(ErrorKind::TimedOut))
 }
 
-// Answers the bytes of a read, and reads once more unless the session is over then.
+// Writes the replies to the bytes of a chunk. Returns the next chunk, or `None` if the session is over.
 fn answer_chunk<R: Threads, E: EndText, I: Read + Send, O: Sink>(
     context: &SessionContext<'_, R, E>,
     session: &mut Session,
@@ -115,7 +115,8 @@ fn answer_chunk<R: Threads, E: EndText, I: Read + Send, O: Sink>(
     Ok(Some(read_chunk(context.alloc, input)?))
 }
 
-// Answers a byte of a chunk, and makes the move that it requests if another byte follows. Returns whether a move is pending.
+// Writes the reply to a byte of a chunk, and makes the move that it requests if another byte follows in the chunk. Returns whether a move
+// is pending.
 fn answer_byte<R, E: EndText, O: Sink>(
     context: &SessionContext<'_, R, E>,
     session: &mut Session,
@@ -145,7 +146,7 @@ fn answer_byte<R, E: EndText, O: Sink>(
     Ok(false)
 }
 
-// Makes the move after which a byte is pending. If that is 0x03, it interrupts the move.
+// Makes the requested move, and writes the reply to it. The next byte, `behind`, interrupts the move if it is 0x03.
 fn write_move_reply_before<R, E: EndText, O: Sink>(
     context: &SessionContext<'_, R, E>,
     session: &mut Session,
@@ -225,7 +226,7 @@ fn write_reply_bytes<O: Sink>(out: &mut O, told: &[u8]) -> Result<(), SessionErr
     }
 }
 
-// Makes the move while another thread reads once.
+// Makes the requested move while another thread reads once. Returns what was read.
 fn move_while_reading<R: Threads, E: EndText, I: Read + Send, O: Sink>(
     context: &SessionContext<'_, R, E>,
     session: &mut Session,
@@ -246,7 +247,8 @@ fn move_while_reading<R: Threads, E: EndText, I: Read + Send, O: Sink>(
     move_beside_reader(context, session, input, out, &raised)
 }
 
-// Makes the move while another thread reads once, and raises an interrupt if the move is to be interrupted.
+// Makes the requested move while another thread reads once. The move is interrupted if the bytes read begin with 0x03, if there are none,
+// or if the read fails.
 fn move_beside_reader<R: Threads, E: EndText, I: Read + Send, O: Sink>(
     context: &SessionContext<'_, R, E>,
     session: &mut Session,

@@ -35,11 +35,11 @@ impl Interrupt for Unraised {
     }
 }
 
-/// An interrupt that another thread raises.
+/// An interrupt that another thread can raise.
 #[derive(Drop)]
 pub(crate) struct SharedInterrupt<'a> {
     pub raised: &'a AtomicBool,
-    /// Whether a move has seen it raised.
+    /// Whether a move has seen the interrupt raised.
     pub was_seen: bool,
 }
 

@@ -15,8 +15,8 @@ use rv_session::{Program, Session};
 use rv_trace::{image_bytes, image_of_bytes};
 use std::alloc::{AllocError, Global};
 
-/// Returns the session over the run of the job at an index, before gdb has sent anything; `None` if the job is refused. `path` is the one
-/// by which gdb knows the job's image.
+/// Returns the session over the run of the job at index `place`, before gdb has sent anything; `None` if the job is refused. `path` is the
+/// path by which gdb knows the job's image.
 pub fn session_at(
     alloc: Global,
     plan: &Plan,
@@ -40,7 +40,7 @@ pub fn session_at(
     session_over_image(alloc, plan, place, &image, program)
 }
 
-// Returns the session over the image parsed from the job's file.
+// Returns the session over the run of a job with this image; `None` if the job is refused.
 fn session_over_image(
     alloc: Global,
     plan: &Plan,

@@ -2,47 +2,53 @@
 use Rattle.std.specs.Prelude.{ℕ, List, [], ◌∷◌, ◌++◌, ◌==◌, ◌||◌, Bool, true, false, bit_xor, fold, if◌then◌else◌, not}
 use Rattle.std.specs.List.{flat_map}
 
--- `$`, `#`, `}` and `*`
+-- `$`, which begins a packet
 abbrev pub begin_mark : ℕ
 begin_mark = 36
 
+-- `#`, which ends the body of a packet
 abbrev pub end_mark : ℕ
 end_mark = 35
 
+-- `}`, which escapes the next byte
 abbrev pub escape : ℕ
 escape = 125
 
+-- `*`, which repeats the previous byte
 abbrev pub repeat_mark : ℕ
 repeat_mark = 42
 
+-- whether a byte has a special meaning in a packet, so that it must be escaped
 abbrev pub has_meaning : ℕ → Bool
 has_meaning byte = byte == begin_mark || byte == end_mark || byte == escape || byte == repeat_mark
 
--- an escaped byte follows `}` and has its bit 5 inverted
+-- a byte with bit 5 inverted, as it is written after `}`
 abbrev pub changed : ℕ → ℕ
 changed byte = bit_xor byte 32
 
+-- the bytes that represent a byte in a packet: `}` and the byte with bit 5 inverted if it has a special meaning
 abbrev pub escaped_byte : ℕ → List ℕ
 escaped_byte byte = if has_meaning byte then escape ∷ changed byte ∷ [] else byte ∷ []
 
+-- a body as it is written in a packet, with escapes
 abbrev pub escaped : List ℕ → List ℕ
 escaped body = flat_map escaped_byte body
 
--- a byte of a text is an escape: `}`, unless it is escaped itself
+-- whether a byte is an escape: it is `}`, and the Bool, which says that the previous byte is an escape, is false
 abbrev pub is_escape : Bool → ℕ → Bool
 is_escape true byte = false
 is_escape false byte = byte == escape
 
--- what a byte of a text contributes to the data
+-- the data that a byte represents, given whether the previous byte is an escape; none for an escape
 abbrev pub data_byte : Bool → ℕ → List ℕ
 data_byte true byte = changed byte ∷ []
 data_byte false byte = if byte == escape then [] else byte ∷ []
 
--- the data of a text, which can begin after an escape
+-- the data that a text with escapes represents, given whether the byte before it is an escape
 unfoldable pub data_of : Bool → List ℕ → List ℕ
 data_of behind [] = []
 data_of behind (byte ∷ rest) = data_byte behind byte ++ data_of (is_escape behind byte) rest
 
--- each escape of a text is followed by a byte
+-- whether each escape of a text is followed by a byte
 abbrev pub is_whole : List ℕ → Bool
 is_whole text = not (fold is_escape false text)

@@ -12,12 +12,12 @@ use Rattle.rv_gdb_protocol.specs.declared.frame.Place.TheVariants as place
 abbrev pub most_body : ℕ
 most_body = 16384
 
--- the parser's state, and the body so far
+-- the state of the parser: where it is in a packet, and the body so far
 pub record Frame : Type 0 where
   pub place : Place
   pub body : List ℕ
 
--- the maximum number of body bytes kept in a state
+-- the maximum length of the body that is kept in a state
 abbrev pub room : Place → ℕ
 room place.Body = most_body
 room place.FirstDigit = most_body
@@ -27,22 +27,24 @@ room place.LongBody = 0
 room place.LongFirstDigit = 0
 room place.LongSecondDigit = 0
 
+-- the parser between packets
 abbrev pub between : Frame
 between = record { place = place.Between; body = [] }
 
--- a body begins: at `$` between packets, and at `$` within a body, whose bytes so far are dropped
+-- the parser at the beginning of a body: after `$`, even within a body, whose bytes are then dropped
 abbrev pub opened : Frame
 opened = record { place = place.Body; body = [] }
 
+-- the parser in a body that is too long to be kept
 abbrev pub passed_over : Frame
 passed_over = record { place = place.LongBody; body = [] }
 
--- a body with one more byte, if it still fits
+-- the parser after one more byte of a body, which becomes too long if the byte does not fit
 abbrev pub longer_body : List ℕ → ℕ → Frame
 longer_body body byte =
     if nat_lt (length body) most_body then record { place = place.Body; body = body ++ byte ∷ [] } else passed_over
 
--- the frame after a byte that is received in a state; noise between packets leaves it unchanged
+-- the parser after a byte, which it receives in the state `Place`; other bytes than `$` between packets are ignored
 abbrev pub behind_byte : Place → Frame → ℕ → Frame
 behind_byte place.Between frame byte = if byte == begin_mark then opened else frame
 behind_byte place.Body frame byte =
@@ -58,16 +60,17 @@ behind_byte place.LongBody frame byte =
 behind_byte place.LongFirstDigit frame byte = record { place = place.LongSecondDigit; body = frame.body }
 behind_byte place.LongSecondDigit frame byte = record { place = place.Between; body = frame.body }
 
+-- the parser after a byte
 abbrev pub frame_after : Frame → ℕ → Frame
 frame_after frame byte = behind_byte frame.place frame byte
 
--- the meaning of a byte between packets: 0x03 is Ctrl-C, `+` and `-` acknowledge
+-- what a byte between packets means: 0x03 is Ctrl-C, `+` and `-` acknowledge a packet; none for any other byte
 abbrev pub signal : ℕ → Option Incoming
 signal byte = if byte == 3 then Some heard.Interrupt
     else if byte == 43 then Some heard.Arrived
     else if byte == 45 then Some heard.Again else None
 
--- a packet is complete at the second digit of its checksum
+-- what a byte completes in a state with this body: a packet is complete at the second digit of its checksum
 abbrev pub received_in_state : Place → List ℕ → ℕ → Option Incoming
 received_in_state place.Between body byte = signal byte
 received_in_state place.Body body byte = None
@@ -78,14 +81,16 @@ received_in_state place.LongBody body byte = None
 received_in_state place.LongFirstDigit body byte = None
 received_in_state place.LongSecondDigit body byte = Some heard.TooLong
 
+-- what a byte completes, if anything
 abbrev pub incoming_at : Frame → ℕ → Option Incoming
 incoming_at frame byte = received_in_state frame.place frame.body byte
 
+-- the received item as a list, empty if there is none
 abbrev pub option_list : Option Incoming → List Incoming
 option_list None = []
 option_list (Some heard) = heard ∷ []
 
--- what is received in bytes, in order
+-- the items that the parser receives in these bytes, in order
 unfoldable pub incoming_in : Frame → List ℕ → List Incoming
 incoming_in frame [] = []
 incoming_in frame (byte ∷ rest) = option_list (incoming_at frame byte) ++ incoming_in (frame_after frame byte) rest

@@ -17,18 +17,20 @@ use Rattle.rv_gdb_protocol.specs.declared.request.Watched.TheVariants as watch
 abbrev pub parted : ℕ → List ℕ → List ℕ → List ℕ
 parted mark first second = first ++ mark ∷ second
 
--- a text without a delimiter
+-- the text does not contain the delimiter
 abbrev pub Lacks : ℕ → List ℕ → Type 0
 Lacks mark text = list_all (λ byte. not (byte == mark)) text ≡ true
 
--- two numbers in their digits, separated by a comma
+-- the text is the digits of two numbers, separated by a comma
 pub record TellsTwo (text : List ℕ) (first second : ℕ) : Type 0 where
   pub front : List ℕ
+  -- the digits of the second number
   pub behind : List ℕ
   pub text_is : text ≡ parted comma front behind
   pub front_tells : number_of front ≡ Some first
   pub behind_tells : number_of behind ≡ Some second
 
+-- the arguments of `Z` and `z` for this stoppoint: 0 and 1 are breakpoints, 2 to 4 watchpoints for writes, reads and both
 pub data IsTrap : List ℕ → Stoppoint → Type 0 where
   software : (fields : List ℕ) (address kind : ℕ) → TellsTwo fields address kind → IsTrap (codes "0," ++ fields) (trap.Break address)
   hardware : (fields : List ℕ) (address kind : ℕ) → TellsTwo fields address kind → IsTrap (codes "1," ++ fields) (trap.Break address)
@@ -47,7 +49,7 @@ pub data IsMove : List ℕ → Move → Type 0 where
   goes_on : IsMove (codes "c") move.Continue
   steps : IsMove (codes "s") move.Step
 
--- an action of `vCont;`: a signal is ignored, and `r` steps while the pc is within two addresses
+-- an action of `vCont;`: a signal is ignored, and `r` steps while the pc is in a range of addresses
 pub data IsAction : List ℕ → Move → Type 0 where
   moves : (text : List ℕ) (step : Move) → IsMove text step → IsAction text step
   goes_on_signalled : (signal : List ℕ) (number : ℕ) → number_of signal ≡ Some number
@@ -56,6 +58,7 @@ pub data IsAction : List ℕ → Move → Type 0 where
   steps_within : (range : List ℕ) (low high : ℕ) → TellsTwo range low high
       → IsAction (codes "r" ++ range) (move.StepWithin low high)
 
+-- the body of a packet makes this request, by the grammar of the protocol
 pub data IsRequest : List ℕ → Request → Type 0 where
   features : (args : List ℕ) → IsRequest (codes "qSupported" ++ args) ask.Features
   no_acknowledgements : IsRequest (codes "QStartNoAckMode") ask.NoAcknowledgements

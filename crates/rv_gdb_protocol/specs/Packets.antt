@@ -16,12 +16,13 @@ infixl 5 ◌<|>◌
 abbrev pub ◌<|>◌ : {A : Type 0} → Option A → Option A → Option A
 one <|> other = option_or one other
 
--- a packet by its name: the request that its arguments make
+-- the request of a packet that begins with `name`: `asked` of its arguments; none for any other body
 abbrev pub named : List ℕ → (List ℕ → Request) → List ℕ → Option Request
 named name asked body = option_map asked (behind name body)
 
--- ---- packets that are a name alone
+-- ---- packets without arguments
 
+-- the request of a packet without arguments that reads something
 unfoldable pub bare_query : List ℕ → Option Request
 bare_query body =
     if bytes_eq body (codes "?") then Some ask.LastStop
@@ -33,6 +34,7 @@ bare_query body =
     else if bytes_eq body (codes "vCont?") then Some ask.Actions
     else None
 
+-- the request of a packet without arguments that has an effect
 unfoldable pub bare_order : List ℕ → Option Request
 bare_order body =
     if bytes_eq body (codes "bs") then Some (ask.Move move.StepBack)
@@ -46,46 +48,55 @@ bare_order body =
 
 -- ---- packets with arguments
 
+-- the request of a `qSupported` or `qAttached` packet, whose arguments are ignored
 unfoldable pub query : List ℕ → Option Request
 query body =
     if starts_with nat_eq body (codes "qSupported") then Some ask.Features
     else if starts_with nat_eq body (codes "qAttached") then Some ask.Attached else None
 
+-- the request of a packet that reads a part of the target description
 abbrev pub description_request : List ℕ → Option Request
 description_request body = named (codes "qXfer:features:read:") description body
 
+-- the request of a packet that reads a part of the image's path
 abbrev pub image_path_request : List ℕ → Option Request
 image_path_request body = named (codes "qXfer:exec-file:read:") image_path body
 
+-- the request of a packet that reads or writes a register, or reads memory
 unfoldable pub reading : List ℕ → Option Request
 reading body =
     named (codes "p") read_register body
     <|> named (codes "P") write_register body
     <|> named (codes "m") read_memory body
 
+-- the request of a packet that sets or clears a stoppoint
 unfoldable pub stoppoint_request : List ℕ → Option Request
 stoppoint_request body = named (codes "Z") (trap_of ask.Set) body <|> named (codes "z") (trap_of ask.Clear) body
 
--- an action of `vCont;`, without its thread
+-- the action `c` or `s` of `vCont;`
 unfoldable pub bare_action : List ℕ → Option Move
 bare_action text =
     if bytes_eq text (codes "c") then Some move.Continue
     else if bytes_eq text (codes "s") then Some move.Step else None
 
+-- the action `name` of `vCont;`, followed by a signal, which is ignored
 abbrev pub signal_action : List ℕ → Move → List ℕ → Option Move
 signal_action name step text = behind name text >>= move_with_signal step
 
+-- the action `r` of `vCont;`, which steps while the pc is in a range of addresses
 abbrev pub range_action : List ℕ → Option Move
 range_action text = behind (codes "r") text >>= move_within
 
+-- the move that an action of `vCont;` requests, after its thread was removed; none for an unknown action
 unfoldable pub action_of : List ℕ → Option Move
 action_of text = bare_action text <|> signal_action (codes "C") move.Continue text <|> signal_action (codes "S") move.Step text
     <|> range_action text
 
--- only the first action counts, since there is one thread
+-- the request of `vCont;` with these arguments, of which only the first action counts, since there is one thread
 unfoldable pub first_action : List ℕ → Request
 first_action args = or_refused refusal.Malformed (option_map ask.Move (action_of (until colon (until semicolon args))))
 
+-- the request of a packet that moves forwards in the run
 unfoldable pub moving : List ℕ → Option Request
 moving body =
     named (codes "vCont;") first_action body
@@ -94,11 +105,11 @@ moving body =
     <|> named (codes "C") (signal_move move.Continue) body
     <|> named (codes "S") (signal_move move.Step) body
 
--- nothing, or `;` and a process
+-- a request to detach if nothing follows `D`, or `;` and any text (gdb sends a process number); otherwise an unknown packet
 unfoldable pub detach : List ℕ → Request
 detach args = if length args == 0 || starts_with nat_eq args (codes ";") then ask.Detach else ask.Refused refusal.Unknown
 
--- accepted whatever follows the name
+-- the request of a packet that is accepted whatever follows its name
 unfoldable pub granted : List ℕ → Option Request
 granted body =
     if starts_with nat_eq body (codes "H") then Some ask.Accepted
@@ -106,26 +117,29 @@ granted body =
     else if starts_with nat_eq body (codes "vKill") then Some ask.Accepted
     else if starts_with nat_eq body (codes "vRun") then Some ask.Restart else None
 
+-- the request of a packet that begins with `D`
 abbrev pub detach_request : List ℕ → Option Request
 detach_request body = named (codes "D") detach body
 
--- a call on a file whose descriptor is the first argument
+-- whether a packet is a call whose first argument is a file descriptor
 unfoldable pub is_file_call : List ℕ → Bool
 is_file_call body =
     starts_with nat_eq body (codes "vFile:pread:") || starts_with nat_eq body (codes "vFile:fstat:")
     || starts_with nat_eq body (codes "vFile:close:") || starts_with nat_eq body (codes "vFile:setfs:")
 
--- 5 is the only file descriptor
+-- the request of a packet that reads from file descriptor 5, the only one
 abbrev pub file_reading : List ℕ → Option Request
 file_reading body = named (codes "vFile:pread:5,") read_file body
 
+-- the refusal of a call on a file descriptor other than 5; none for any other packet
 abbrev pub other_file : List ℕ → Option Request
 other_file body = if is_file_call body then Some (ask.Refused refusal.OtherFile) else None
 
--- a `monitor` command in hexadecimal digits
+-- the request of a `monitor` command, which is given in hexadecimal digits
 unfoldable pub command : List ℕ → Request
 command args = or_refused refusal.Failed (option_map ask.Command (bytes_of args))
 
+-- the request of a packet whose arguments contain data bytes
 unfoldable pub request_with_bytes : List ℕ → Option Request
 request_with_bytes body =
     named (codes "G") write_registers body
@@ -134,12 +148,12 @@ request_with_bytes body =
     <|> named (codes "vFile:open:") open_file body
     <|> named (codes "qRcmd,") command body
 
--- packets that carry no bytes
+-- the request of a packet whose arguments contain no data bytes
 unfoldable pub request_without_bytes : List ℕ → Option Request
 request_without_bytes body =
     bare_query body <|> bare_order body <|> query body <|> description_request body <|> image_path_request body <|> reading body <|> stoppoint_request body
     <|> moving body <|> granted body <|> detach_request body <|> file_reading body <|> other_file body
 
--- the request that a body makes; all other packets are unknown
+-- the request that the body of a packet makes; other packets are refused as unknown
 unfoldable pub request_of : List ℕ → Request
 request_of body = unwrap_or (request_without_bytes body <|> request_with_bytes body) (ask.Refused refusal.Unknown)

@@ -6,6 +6,7 @@ use Rattle.rv_gdb_protocol.specs.declared.request.Refusal.TheVariants as refusal
 use Rattle.rv_gdb_protocol.specs.declared.request.Request.{Request}
 use Rattle.rv_gdb_protocol.specs.declared.request.Request.TheVariants as ask
 
+-- the body of the reply that refuses a request
 abbrev pub refusal_text : Refusal → List ℕ
 refusal_text refusal.Unknown = codes ""
 refusal_text refusal.Failed = codes "E01"
@@ -17,11 +18,12 @@ refusal_text refusal.NotReached = codes "E.the run does not reach that point"
 refusal_text refusal.TooManyTraps = codes "E.too many breakpoints"
 refusal_text refusal.TooLong = codes "E.packet too long"
 
--- a packet holds 0x4000 bytes
+-- the features of the stub; a packet can have 0x4000 bytes
 abbrev pub features : List ℕ
 features =
     codes "PacketSize=4000;QStartNoAckMode+;ReverseStep+;ReverseContinue+;qXfer:features:read+;qXfer:exec-file:read+"
 
+-- the body of the reply to a request if it is equal in every session; none otherwise
 abbrev pub fixed_reply : Request → Option (List ℕ)
 fixed_reply ask.Features = Some features
 fixed_reply ask.NoAcknowledgements = Some (codes "OK")
@@ -37,13 +39,14 @@ fixed_reply ask.Attached = Some (codes "0")
 fixed_reply (ask.Refused refusal) = Some (refusal_text refusal)
 fixed_reply request = None
 
--- the maximum number of bytes in a part
+-- the maximum number of bytes in a part of a text
 abbrev pub most_part : ℕ
 most_part = 8184
 
--- `l` and the rest, or `m` and the bytes if more follow
+-- `l` and the rest of a text if it has at most `count` bytes, or `m` and its first `count` bytes if more follow
 abbrev pub part_of_rest : List ℕ → ℕ → List ℕ
 part_of_rest rest count = if nat_le (length rest) count then 108 ∷ rest else 109 ∷ take count rest
 
+-- the body of the reply with a part of a text
 unfoldable pub part_text : List ℕ → Part → List ℕ
 part_text text part = part_of_rest (drop part.offset text) (min part.count most_part)

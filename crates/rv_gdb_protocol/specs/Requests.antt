@@ -18,55 +18,61 @@ use Rattle.rv_gdb_protocol.specs.declared.request.Stoppoint.TheVariants as trap
 use Rattle.rv_gdb_protocol.specs.declared.request.Watched.{Watched}
 use Rattle.rv_gdb_protocol.specs.declared.request.Watched.TheVariants as watch
 
--- the delimiters in arguments: `,`, `:`, `;` and `=`
+-- the delimiter `,`
 abbrev pub comma : ℕ
 comma = 44
 
+-- the delimiter `:`
 abbrev pub colon : ℕ
 colon = 58
 
+-- the delimiter `;`
 abbrev pub semicolon : ℕ
 semicolon = 59
 
+-- the delimiter `=`
 abbrev pub equals : ℕ
 equals = 61
 
+-- the request, or the refusal if there is none
 abbrev pub or_refused : Refusal → Option Request → Request
 or_refused refusal asked = unwrap_or asked (ask.Refused refusal)
 
 -- ---- parts of texts, and files
 
+-- a part of a text, by its offset and its length
 abbrev pub part_of : ℕ × ℕ → Part
 part_of pair = record { offset = pair.0; count = pair.1 }
 
--- `OFFSET,COUNT`
+-- the part that the arguments `OFFSET,COUNT` request
 abbrev pub part_at : List ℕ → Option Part
 part_at text = option_map part_of (numbers_at comma text)
 
--- `target.xml:OFFSET,COUNT`
+-- the request of the arguments `target.xml:OFFSET,COUNT`; a refusal for other arguments
 unfoldable pub description : List ℕ → Request
 description args = unwrap_or
     (option_map (λ part. or_refused refusal.Failed (option_map ask.Description (part_at part))) (behind (codes "target.xml:") args))
     (ask.Refused refusal.OtherAnnex)
 
--- `PROCESS:OFFSET,COUNT`; the process is ignored
+-- the request of the arguments `PROCESS:OFFSET,COUNT`, of which the process is ignored; a refusal for other arguments
 unfoldable pub image_path : List ℕ → Request
 image_path args = or_refused refusal.Failed do
   place ← place_of colon args
   part ← part_at (drop (place + 1) args)
   Some (ask.ImagePath part)
 
--- `PATH,FLAGS,MODE` with the path in hexadecimal digits; flags of 0 mean reading
+-- the path in the arguments `PATH,FLAGS,MODE`, in hexadecimal digits, if the flags are 0, which means reading
 unfoldable pub opened_file : List ℕ → Option (List ℕ)
 opened_file args = do
   place ← place_of comma args
   flags ← numbers_at comma (drop (place + 1) args)
   if flags.0 == 0 then bytes_of (take place args) else None
 
+-- the request to open the file that the arguments `PATH,FLAGS,MODE` name; a refusal for other arguments
 abbrev pub open_file : List ℕ → Request
 open_file args = or_refused refusal.OtherFile (option_map ask.OpenFile (opened_file args))
 
--- `COUNT,OFFSET`
+-- the request of the arguments `COUNT,OFFSET`; a refusal for other arguments
 unfoldable pub read_file : List ℕ → Request
 read_file args = or_refused refusal.OtherFile do
   pair ← numbers_at comma args
@@ -74,6 +80,7 @@ read_file args = or_refused refusal.OtherFile do
 
 -- ---- registers
 
+-- the register with this number in the target description, if there is one
 unfoldable pub register_of : ℕ → Option Register
 register_of number =
     if nat_le number 32 then Some (register.Hart number)
@@ -81,15 +88,17 @@ register_of number =
     else if number == 34 then Some register.Printed
     else if number == 35 then Some register.Taken else None
 
+-- the register whose number the text is
 abbrev pub register_at : List ℕ → Option Register
 register_at text = do
   number ← number_of text
   register_of number
 
+-- the request to read the register whose number the arguments are; a refusal for other arguments
 abbrev pub read_register : List ℕ → Request
 read_register args = or_refused refusal.Failed (option_map ask.Register (register_at args))
 
--- `NUMBER=VALUE`
+-- the request of the arguments `NUMBER=VALUE`, if they have this form
 abbrev pub register_write : List ℕ → Option Request
 register_write args = do
   place ← place_of equals args
@@ -97,13 +106,15 @@ register_write args = do
   value ← value_of (drop (place + 1) args)
   Some (ask.WriteRegister register value)
 
+-- the request of the arguments `NUMBER=VALUE`; a refusal for other arguments
 unfoldable pub write_register : List ℕ → Request
 write_register args = or_refused refusal.Malformed (register_write args)
 
--- 33 values of four bytes
+-- the request to write all registers, if there are 33 values of four bytes
 abbrev pub all_registers : List ℕ → Option Request
 all_registers bytes = if length bytes == 132 then Some (ask.WriteRegisters bytes) else None
 
+-- the request to write all registers, whose values the arguments are; a refusal for other arguments
 unfoldable pub write_registers : List ℕ → Request
 write_registers args = or_refused refusal.Malformed do
   bytes ← bytes_of args
@@ -111,98 +122,107 @@ write_registers args = or_refused refusal.Malformed do
 
 -- ---- memory
 
+-- a range of memory, by its address and its length
 abbrev pub range_of : ℕ × ℕ → Range
 range_of pair = record { address = pair.0; count = pair.1 }
 
--- `ADDRESS,COUNT`
+-- the range in the arguments `ADDRESS,COUNT`
 abbrev pub range_at : List ℕ → Option Range
 range_at text = option_map range_of (numbers_at comma text)
 
+-- the request to read the range in the arguments `ADDRESS,COUNT`; a refusal for other arguments
 abbrev pub read_memory : List ℕ → Request
 read_memory args = or_refused refusal.Failed (option_map ask.ReadMemory (range_at args))
 
--- as many bytes as the range has
+-- the request to write these bytes, if there are as many as the range has
 abbrev pub written : Range → List ℕ → Option Request
 written range bytes = if length bytes == range.count then Some (ask.WriteMemory range.address bytes) else None
 
+-- the data of a text with escapes, unless it ends with an escape
 abbrev pub whole_data : List ℕ → Option (List ℕ)
 whole_data text = if is_whole text then Some (data_of false text) else None
 
+-- the request to write these bytes; a refusal if there are none or not as many as the range has
 abbrev pub write_of : Range → Option (List ℕ) → Request
 write_of range bytes = or_refused refusal.Malformed (bytes >>= written range)
 
--- `ADDRESS,COUNT:BYTES`, where the given function parses the bytes
+-- the request of the arguments `ADDRESS,COUNT:BYTES`, where `read` parses the bytes
 abbrev pub write_memory : (List ℕ → Option (List ℕ)) → List ℕ → Option Request
 write_memory read args = do
   place ← place_of colon args
   range ← range_at (take place args)
   Some (write_of range (read (drop (place + 1) args)))
 
--- the bytes in hexadecimal digits
+-- the request of the arguments `ADDRESS,COUNT:BYTES` with the bytes in hexadecimal digits; a refusal for other arguments
 unfoldable pub write_digits : List ℕ → Request
 write_digits args = or_refused refusal.Malformed (write_memory bytes_of args)
 
--- the bytes as data with escapes
+-- the request of the arguments `ADDRESS,COUNT:BYTES` with the bytes as data with escapes; a refusal for other arguments
 unfoldable pub write_data : List ℕ → Request
 write_data args = or_refused refusal.Malformed (write_memory whole_data args)
 
--- ---- where to stop
+-- ---- breakpoints and watchpoints
 
--- `,ADDRESS,COUNT`
+-- the range in the arguments `,ADDRESS,COUNT`
 abbrev pub trap_range : List ℕ → Option Range
 trap_range text = do
   fields ← behind (codes ",") text
   range_at fields
 
--- 1 to 65,536 bytes, all of them within the address space
+-- the watchpoint for a range of 1 to 65,536 bytes within the address space; none for any other range
 abbrev pub watched : Watched → Range → Option Stoppoint
 watched kind range = if (nat_le 1 range.count && nat_le range.count 65536) && nat_le (range.address + range.count) 4294967296
     then Some (trap.Watch kind range) else None
 
+-- the breakpoint at the address in the arguments `,ADDRESS,KIND`
 abbrev pub break_at : List ℕ → Option Stoppoint
 break_at text = option_map (λ (range : Range). trap.Break range.address) (trap_range text)
 
+-- the watchpoint of this kind for the range in the arguments `,ADDRESS,COUNT`
 unfoldable pub watch_at : Watched → List ℕ → Option Stoppoint
 watch_at kind text = do
   range ← trap_range text
   watched kind range
 
--- the stoppoint of a kind and its fields, if the kind is a watchpoint for writes (2), reads (3) or both (4)
+-- the watchpoint in the arguments, if their kind is 2 (writes), 3 (reads) or 4 (both); the inner option is none if they are malformed
 abbrev pub kind_at : List ℕ → Option (Option Stoppoint)
 kind_at args = option_or (option_map (watch_at watch.Writes) (behind (codes "2") args))
     (option_or (option_map (watch_at watch.Reads) (behind (codes "3") args))
     (option_map (watch_at watch.Accesses) (behind (codes "4") args)))
 
--- as `kind_at`, or a breakpoint (0 or 1)
+-- the stoppoint in the arguments, if their kind is 0 to 4, where 0 and 1 are breakpoints; the inner option is none if they are malformed
 abbrev pub trap_at : List ℕ → Option (Option Stoppoint)
 trap_at args = option_or (option_map break_at (behind (codes "0") args))
     (option_or (option_map break_at (behind (codes "1") args)) (kind_at args))
 
--- other kinds are unknown, and a text without a kind is malformed
+-- the refusal of arguments with another kind: malformed if they are empty, and otherwise unknown
 abbrev pub other_kind : List ℕ → Request
 other_kind args = if length args == 0 then ask.Refused refusal.Malformed else ask.Refused refusal.Unknown
 
+-- the request `change` for the stoppoint in the arguments; a refusal for other arguments
 unfoldable pub trap_of : (Stoppoint → Request) → List ℕ → Request
 trap_of change args = unwrap_or (option_map (λ found. or_refused refusal.Malformed (option_map change found)) (trap_at args))
     (other_kind args)
 
 -- ---- moves
 
--- with an address, a move would begin somewhere else
+-- the refusal of a move with arguments: with an address it would start elsewhere, and otherwise it is malformed
 abbrev pub elsewhere : Bool → Refusal
 elsewhere is_address = if is_address then refusal.WouldChange else refusal.Malformed
 
--- `c` or `s`, followed by nothing or by an address
+-- the request of `c` or `s` with these arguments; refused unless they are empty
 unfoldable pub plain_move : Move → List ℕ → Request
 plain_move move args = if length args == 0 then ask.Move move else ask.Refused (elsewhere (is_some (number_of args)))
 
--- `C` or `S`, followed by a signal, which is ignored, and optionally `;` and an address
+-- the request of `C` or `S` with a signal, which is ignored; refused if an address follows
 unfoldable pub signal_move : Move → List ℕ → Request
 signal_move move args = if is_some (number_of args) then ask.Move move
     else ask.Refused (elsewhere (is_some (numbers_at semicolon args)))
 
+-- the move in the arguments `LOW,HIGH`, which steps while the pc is in this range of addresses
 abbrev pub move_within : List ℕ → Option Move
 move_within text = option_map (λ pair. move.StepWithin pair.0 pair.1) (numbers_at comma text)
 
+-- the move, if the text is the number of a signal, which is ignored
 abbrev pub move_with_signal : Move → List ℕ → Option Move
 move_with_signal move text = if is_some (number_of text) then Some move else None

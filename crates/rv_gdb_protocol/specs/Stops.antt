@@ -9,7 +9,7 @@ use Rattle.rv_gdb_protocol.specs.declared.request.Watched.TheVariants as watch
 use Rattle.rv_gdb_protocol.specs.declared.stop.Stop.{Stop}
 use Rattle.rv_gdb_protocol.specs.declared.stop.Stop.TheVariants as stop
 
--- SIGSEGV, SIGBUS, SIGILL, SIGABRT, SIGSYS and SIGXFSZ, by gdb's numbers
+-- the stop reply for a fault: SIGSEGV, SIGBUS, SIGILL, SIGABRT, SIGSYS or SIGXFSZ, by gdb's numbers
 abbrev pub fault_text : FaultKind → List ℕ
 fault_text fault.FetchAccess = codes "T0b"
 fault_text fault.StaleCode = codes "T04"
@@ -23,13 +23,13 @@ fault_text fault.ConsoleFull = codes "T19"
 fault_text fault.UnknownCall = codes "T0c"
 fault_text fault.FetchMisaligned = codes "T0a"
 
--- the kind of watchpoint
+-- the beginning of the stop reply for a watchpoint of this kind
 abbrev pub watch_text : Watched → List ℕ
 watch_text watch.Writes = codes "T05watch:"
 watch_text watch.Reads = codes "T05rwatch:"
 watch_text watch.Accesses = codes "T05awatch:"
 
--- SIGTRAP, SIGINT and SIGXCPU; no reply is `W` or `X`, since a run can go backwards from its end
+-- the stop reply: SIGTRAP, SIGINT, SIGXCPU or the signal of a fault; never `W` or `X`, since a run can go backwards from its end
 unfoldable pub stop_text : Stop → List ℕ
 stop_text stop.Here = codes "T05"
 stop_text (stop.Watch kind address) = watch_text kind ++ (encode_lower (to_be_bytes w32 address) ++ codes ";")
@@ -39,7 +39,7 @@ stop_text stop.Exit = codes "T05replaylog:end;"
 stop_text stop.Budget = codes "T18"
 stop_text (stop.Fault kind) = fault_text kind
 
--- what a stop reports about the run's end, in gdb's terms
+-- the kind of end that a stop reply reports to gdb; `NoEnding` for a stop before the end
 pub data Told : Type 0 where
   NoEnding : Told
   Exited : Told
@@ -51,6 +51,7 @@ pub data Told : Type 0 where
   BadCall : Told
   FileTooLarge : Told
 
+-- the kind of end that the stop reply for a fault reports
 abbrev pub told_by_fault : FaultKind → Told
 told_by_fault fault.FetchAccess = SegmentFault
 told_by_fault fault.LoadAccess = SegmentFault
@@ -64,6 +65,7 @@ told_by_fault fault.Breakpoint = Aborted
 told_by_fault fault.UnknownCall = BadCall
 told_by_fault fault.ConsoleFull = FileTooLarge
 
+-- the kind of end that the stop reply for a stop reports
 abbrev pub told_by : Stop → Told
 told_by stop.Exit = Exited
 told_by stop.Budget = UsedUp

@@ -5,29 +5,29 @@ use Rattle.rv_gdb_protocol.specs.Escapes.{begin_mark, end_mark, escaped}
 use Rattle.rv_gdb_protocol.specs.declared.frame.Sum.{Sum}
 use Rattle.rv_gdb_protocol.specs.declared.frame.Sum.TheVariants as verdict
 
--- the sum of a text's bytes modulo 256
+-- the checksum of a text: the sum of its bytes modulo 256
 unfoldable pub sum_of : List ℕ → ℕ
 sum_of text = sum text % 256
 
--- the checksum as two digits
+-- the checksum of a text as two hexadecimal digits
 unfoldable pub sum_digits : List ℕ → List ℕ
 sum_digits text = encode_lower (sum_of text ∷ [])
 
--- `$`, a text, `#` and the text's checksum
+-- the packet with a text: `$`, the text, `#` and its checksum
 abbrev pub in_frame : List ℕ → List ℕ
 in_frame text = begin_mark ∷ (text ++ end_mark ∷ sum_digits text)
 
--- a body in its frame: the text is the body with its escapes
+-- the packet with a body, which is escaped
 unfoldable pub framed : List ℕ → List ℕ
 framed body = in_frame (escaped body)
 
--- the checksum that two digits encode
+-- the checksum that two hexadecimal digits represent; none if one is not a digit
 abbrev pub sum_of_digits : Option ℕ → Option ℕ → Option ℕ
 sum_of_digits (Some high) (Some low) = Some (high * 16 + low)
 sum_of_digits (Some high) None = None
 sum_of_digits None low = None
 
--- whether the received checksum is correct
+-- whether the received checksum is the correct one
 abbrev pub judged_sum : ℕ → Option ℕ → Sum
 judged_sum right (Some told) = if told == right then verdict.Right else verdict.Wrong
 judged_sum right None = verdict.Wrong

@@ -7,7 +7,7 @@ use crate::number::{behind, number_of, numbers_at, place_of, value_of};
 use crate::request::{Move, Part, Range, Refusal, Register, Request, Stoppoint, Watched};
 use rv_base::Bytes;
 
-/// Parses `target.xml:OFFSET,COUNT`.
+/// Parses `target.xml:OFFSET,COUNT`. Returns a refusal for other arguments.
 #[tactic(auto, unfolding(crate::specs::Requests::description))]
 pub(crate) fn description(args: &[u8]) -> Request
     ensures { result ≡ description args.now }
@@ -29,7 +29,7 @@ fn part_at(text: &[u8]) -> Option<Part>
     Some(Part { offset, count })
 }
 
-/// Parses `PROCESS:OFFSET,COUNT` and ignores the process.
+/// Parses `PROCESS:OFFSET,COUNT`, and ignores the process. Returns a refusal for other arguments.
 #[tactic(auto, unfolding(crate::specs::Requests::image_path))]
 pub(crate) fn image_path(args: &[u8]) -> Request
     ensures { result ≡ image_path args.now }
@@ -43,7 +43,7 @@ pub(crate) fn image_path(args: &[u8]) -> Request
     }
 }
 
-/// Parses `COUNT,OFFSET`.
+/// Parses `COUNT,OFFSET`. Returns a refusal for other arguments.
 #[tactic(auto, unfolding(crate::specs::Requests::read_file))]
 pub(crate) fn read_file(args: &[u8]) -> Request
     ensures { result ≡ read_file args.now }
@@ -54,7 +54,7 @@ pub(crate) fn read_file(args: &[u8]) -> Request
     }
 }
 
-/// Parses a register's number.
+/// Parses the number of a register to read. Returns a refusal for other arguments.
 pub(crate) fn read_register(args: &[u8]) -> Request
     ensures { result ≡ read_register args.now }
 {
@@ -64,12 +64,14 @@ pub(crate) fn read_register(args: &[u8]) -> Request
     }
 }
 
+// Parses the number of a register in the target description.
 fn register_at(text: &[u8]) -> Option<Register>
     ensures { result ≡ register_at text.now }
 {
     register_of(number_of(text)?)
 }
 
+// Returns the register with this number in the target description, if there is one.
 #[tactic(auto, unfolding(crate::specs::Requests::register_of))]
 fn register_of(number: u32) -> Option<Register>
     ensures { result ≡ register_of number }
@@ -83,7 +85,7 @@ fn register_of(number: u32) -> Option<Register>
     }
 }
 
-/// Parses `NUMBER=VALUE`.
+/// Parses `NUMBER=VALUE`. Returns a refusal for other arguments.
 #[tactic(auto, unfolding(crate::specs::Requests::write_register))]
 pub(crate) fn write_register(args: &[u8]) -> Request
     ensures { result ≡ write_register args.now }
@@ -91,6 +93,7 @@ pub(crate) fn write_register(args: &[u8]) -> Request
     register_write(args).unwrap_or(Request::Refused(Refusal::Malformed))
 }
 
+// Parses `NUMBER=VALUE`.
 fn register_write(args: &[u8]) -> Option<Request>
     ensures { result ≡ register_write args.now }
 {
@@ -100,7 +103,7 @@ fn register_write(args: &[u8]) -> Option<Request>
     Some(Request::WriteRegister(register, value))
 }
 
-/// Parses 33 values of four bytes.
+/// Returns the request to write all registers, if there are 33 values of four bytes.
 pub(crate) fn all_registers(bytes: Vec<u8>) -> Option<Request>
     ensures { result ≡ all_registers bytes.items }
 {
@@ -111,7 +114,7 @@ pub(crate) fn all_registers(bytes: Vec<u8>) -> Option<Request>
     }
 }
 
-/// Parses `ADDRESS,COUNT`.
+/// Parses `ADDRESS,COUNT` as a range to read. Returns a refusal for other arguments.
 pub(crate) fn read_memory(args: &[u8]) -> Request
     ensures { result ≡ read_memory args.now }
 {
@@ -121,6 +124,7 @@ pub(crate) fn read_memory(args: &[u8]) -> Request
     }
 }
 
+/// Parses `ADDRESS,COUNT`.
 pub(crate) fn range_at(text: &[u8]) -> Option<Range>
     ensures { result ≡ range_at text.now }
 {
@@ -128,7 +132,7 @@ pub(crate) fn range_at(text: &[u8]) -> Option<Range>
     Some(Range { address, count })
 }
 
-/// Returns a write of these bytes, if there are as many as the range has.
+/// Returns the request to write these bytes, if there are as many as the range has.
 pub(crate) fn written(range: Range, bytes: Vec<u8>) -> Option<Request>
     ensures { result ≡ written range bytes.items }
 {
@@ -139,7 +143,8 @@ pub(crate) fn written(range: Range, bytes: Vec<u8>) -> Option<Request>
     }
 }
 
-/// Parses a kind and `,ADDRESS,COUNT`: a breakpoint (0 or 1), or a watchpoint for writes (2), reads (3) or both (4).
+/// Parses a kind and `,ADDRESS,COUNT`: a breakpoint (0 or 1), or a watchpoint for writes (2), reads (3) or both (4). Returns `None` for
+/// another kind, and `Some(None)` for malformed arguments.
 pub(crate) fn trap_at(args: &[u8]) -> Option<Option<Stoppoint>>
     ensures { result ≡ trap_at args.now }
 {
@@ -152,6 +157,7 @@ pub(crate) fn trap_at(args: &[u8]) -> Option<Option<Stoppoint>>
     kind_at(args)
 }
 
+// Parses a watchpoint, like [`trap_at`].
 fn kind_at(args: &[u8]) -> Option<Option<Stoppoint>>
     ensures { result ≡ kind_at args.now }
 {
@@ -165,6 +171,7 @@ fn kind_at(args: &[u8]) -> Option<Option<Stoppoint>>
     Some(watch_at(Watched::Accesses, fields))
 }
 
+// Parses `,ADDRESS,KIND` as a breakpoint.
 fn break_at(text: &[u8]) -> Option<Stoppoint>
     ensures { result ≡ break_at text.now }
 {
@@ -172,6 +179,7 @@ fn break_at(text: &[u8]) -> Option<Stoppoint>
     Some(Stoppoint::Break(range.address))
 }
 
+// Parses `,ADDRESS,COUNT` as a watchpoint of this kind.
 #[tactic(auto, unfolding(crate::specs::Requests::watch_at))]
 fn watch_at(kind: Watched, text: &[u8]) -> Option<Stoppoint>
     ensures { result ≡ watch_at kind text.now }
@@ -179,12 +187,14 @@ fn watch_at(kind: Watched, text: &[u8]) -> Option<Stoppoint>
     watched(kind, trap_range(text)?)
 }
 
+// Parses `,ADDRESS,COUNT`.
 fn trap_range(text: &[u8]) -> Option<Range>
     ensures { result ≡ trap_range text.now }
 {
     range_at(behind(b",", text)?)
 }
 
+// Returns the watchpoint for a range of 1 to 65,536 bytes within the address space; `None` for any other range.
 fn watched(kind: Watched, range: Range) -> Option<Stoppoint>
     ensures { result ≡ watched kind range }
 {
@@ -196,7 +206,7 @@ fn watched(kind: Watched, range: Range) -> Option<Stoppoint>
     }
 }
 
-/// Returns the refusal of any other kind: it is unknown, or malformed if there is no kind.
+/// Returns the refusal of arguments with another kind: malformed if they are empty, and otherwise unknown.
 pub(crate) fn other_kind(args: &[u8]) -> Request
     ensures { result ≡ other_kind args.now }
 {
@@ -207,7 +217,7 @@ pub(crate) fn other_kind(args: &[u8]) -> Request
     }
 }
 
-/// Parses the rest of `c` or `s`: nothing, or an address, with which the move would begin somewhere else.
+/// Parses the arguments of `c` or `s`. Returns a refusal unless they are empty: with an address the move would start elsewhere.
 #[tactic(auto, unfolding(crate::specs::Requests::plain_move))]
 pub(crate) fn plain_move(step: Move, args: &[u8]) -> Request
     ensures { result ≡ plain_move step args.now }
@@ -218,7 +228,7 @@ pub(crate) fn plain_move(step: Move, args: &[u8]) -> Request
     Request::Refused(elsewhere(number_of(args).is_some()))
 }
 
-/// Parses the rest of `C` or `S`: a signal, which is ignored, and optionally `;` and an address.
+/// Parses the arguments of `C` or `S`: a signal, which is ignored. Returns a refusal if an address follows.
 #[tactic(auto, unfolding(crate::specs::Requests::signal_move))]
 pub(crate) fn signal_move(step: Move, args: &[u8]) -> Request
     ensures { result ≡ signal_move step args.now }
@@ -229,6 +239,7 @@ pub(crate) fn signal_move(step: Move, args: &[u8]) -> Request
     Request::Refused(elsewhere(numbers_at(b';', args).is_some()))
 }
 
+// Returns the refusal of a move with arguments: with an address it would start elsewhere, and otherwise it is malformed.
 fn elsewhere(is_address: bool) -> Refusal
     ensures { result ≡ elsewhere is_address }
 {
@@ -239,7 +250,7 @@ fn elsewhere(is_address: bool) -> Refusal
     }
 }
 
-/// Parses two addresses within which to step.
+/// Parses `LOW,HIGH`: the range of addresses in which to step.
 pub(crate) fn move_within(text: &[u8]) -> Option<Move>
     ensures { result ≡ move_within text.now }
 {
@@ -247,7 +258,7 @@ pub(crate) fn move_within(text: &[u8]) -> Option<Move>
     Some(Move::StepWithin(low, high))
 }
 
-/// Parses a signal, which is ignored, for a move.
+/// Returns the move if the text is the number of a signal, which is ignored.
 pub(crate) fn move_with_signal(step: Move, text: &[u8]) -> Option<Move>
     ensures { result ≡ move_with_signal step text.now }
 {

@@ -11,7 +11,7 @@ const ESCAPE: u8 = b'}';
 /// The bit that is inverted in an escaped byte.
 const CHANGE: u8 = 0x20;
 
-/// Appends a body, escaped so that none of its bytes has a special meaning in a frame.
+/// Appends a body with escapes, so that none of its bytes has a special meaning in a packet.
 pub fn push_escaped(out: &mut Vec<u8>, body: &[u8]) -> Result<(), AllocError>
     ensures { OnOk result (out.new.items ≡ out.old.items ++ escaped body.now) }
 {
@@ -21,6 +21,7 @@ pub fn push_escaped(out: &mut Vec<u8>, body: &[u8]) -> Result<(), AllocError>
     Ok(())
 }
 
+// Appends a byte, with an escape if it has a special meaning in a packet.
 fn push_escaped_byte(out: &mut Vec<u8>, byte: u8) -> Result<(), AllocError>
     ensures { OnOk result (out.new.items ≡ out.old.items ++ escaped_byte byte) }
 {
@@ -33,13 +34,14 @@ fn push_escaped_byte(out: &mut Vec<u8>, byte: u8) -> Result<(), AllocError>
     Ok(())
 }
 
+// Whether a byte has a special meaning in a packet.
 fn has_meaning(byte: u8) -> bool
     ensures { result ≡ has_meaning byte }
 {
     byte == b'$' || byte == b'#' || byte == ESCAPE || byte == b'*'
 }
 
-/// Appends the data of a text with escapes, and returns whether the text is complete: not if its last escape is at the end.
+/// Appends the data that a text with escapes represents. Returns whether the text is complete: it does not end with an escape.
 pub fn push_data(out: &mut Vec<u8>, text: &[u8]) -> Result<bool, AllocError>
     ensures bytes { OnOk result (out.new.items ≡ out.old.items ++ data_of false text.now) }
     ensures whole { IfOk result (λ whole. whole ≡ is_whole text.now) }
@@ -51,7 +53,7 @@ pub fn push_data(out: &mut Vec<u8>, text: &[u8]) -> Result<bool, AllocError>
     Ok(!behind_escape)
 }
 
-// Appends what a byte contributes to the data, and returns whether it is an escape.
+// Appends the data that a byte represents. Returns whether the byte is an escape.
 fn push_data_byte(out: &mut Vec<u8>, behind_escape: bool, byte: u8) -> Result<bool, AllocError>
     ensures bytes { OnOk result (out.new.items ≡ out.old.items ++ data_byte behind_escape byte) }
     ensures escape { IfOk result (λ is. is ≡ is_escape behind_escape byte) }

@@ -9,23 +9,23 @@ use crate::sum::sum_of;
 use rv_base::Bytes;
 use std::alloc::{AllocError, Global};
 
-/// Whether the digits after a body are its checksum.
+/// Whether the checksum of a packet is correct.
 #[derive(Clone, Copy, Debug, PartialEq, Eq)]
 pub enum Sum {
     Right,
     Wrong,
 }
 
-/// What is received from gdb.
+/// An item received from gdb.
 #[derive(Debug, Drop)]
 pub enum Incoming {
     /// Ctrl-C: the byte 0x03 between packets.
     Interrupt,
-    /// `+`: gdb received the last reply.
+    /// `+`: gdb received the last packet.
     Arrived,
-    /// `-`: gdb requests the last reply again.
+    /// `-`: gdb requests the last packet again.
     Again,
-    /// A body as it is in its frame, and whether its checksum is correct.
+    /// The body of a packet, still with its escapes, and whether its checksum is correct.
     Packet(Bytes, Sum),
     /// A body of more than 16,384 bytes, which is not kept. Its checksum is not checked.
     TooLong,
@@ -50,7 +50,7 @@ pub(crate) enum Place {
     LongSecondDigit,
 }
 
-/// Appends a body in its frame: `$`, the body with its escapes, `#` and the checksum.
+/// Appends the packet with a body: `$`, the body with its escapes, `#` and the checksum.
 #[tactic(auto, unfolding(crate::specs::Sums::framed))]
 pub fn push_frame(alloc: Global, out: &mut Vec<u8>, body: &[u8]) -> Result<(), AllocError>
     ensures { OnOk result (out.new.items ≡ out.old.items ++ framed body.now) }
@@ -63,6 +63,7 @@ pub fn push_frame(alloc: Global, out: &mut Vec<u8>, body: &[u8]) -> Result<(), A
     push_sum(out, text.as_slice())
 }
 
+// Appends the checksum of a text as two digits.
 #[tactic(auto, unfolding(crate::specs::Sums::sum_digits))]
 fn push_sum(out: &mut Vec<u8>, text: &[u8]) -> Result<(), AllocError>
     ensures { OnOk result (out.new.items ≡ out.old.items ++ sum_digits text.now) }

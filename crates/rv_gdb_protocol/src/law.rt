@@ -14,42 +14,42 @@ ghost use Rattle.rv_gdb_protocol.specs.declared.request.Request.{Request};
 ghost use Rattle.rv_gdb_protocol.specs.declared.stop.Stop.{Stop};
 ghost use Rattle.rv_gdb_protocol.specs.declared.frame.Incoming.TheVariants.{Packet};
 
-/// What is received does not depend on how the bytes are split.
+/// What the parser receives does not depend on how the bytes are split.
 pub fn bytes_can_be_split()
     ensures { (frame : Frame) (front rest : List ℕ) → incoming_in frame (front ++ rest)
         ≡ incoming_in frame front ++ incoming_in (fold frame_after frame front) rest }
 {}
 
-/// A framed body is received by itself with a correct checksum, and its data is the body.
+/// A framed body is received as one packet with a correct checksum, and its data is the body.
 pub fn framed_bodies_are_read_back()
     ensures { (body : List ℕ) → length (escaped body) ≤ most_body → IsReadBack body }
 {}
 
-/// A text without `$` and `#`, in a frame with any two digits, is received by itself.
+/// A text without `$` and `#`, followed by any two digits as its checksum, is received as one packet.
 pub fn sent_texts_are_heard()
     ensures { (text : List ℕ) (high low : ℕ) → CanBeSent text
         → IsHeardAlone (sent text high low) text (verdict_of text high low) }
 {}
 
-/// A received packet was sent: the bytes so far end with its text in a frame.
+/// If the parser receives a packet, the bytes so far end with that packet.
 pub fn heard_texts_were_sent()
     ensures { (bytes text : List ℕ) (byte : ℕ) (sum : Sum)
         → incoming_at (fold frame_after between bytes) byte ≡ Some (Packet text sum)
         → EndsWithSent (bytes ++ byte ∷ []) text sum }
 {}
 
-/// The reply to a stop reports how the run ended, if it did: stops with equal replies report equal ends, and a stop before the end never
-/// has the reply of one at the end.
+/// The stop reply tells how the run ended: stops with equal replies report equal ends, and a stop before the end never has the reply of one
+/// at the end.
 pub fn stops_tell_the_ending()
     ensures { (one other : Stop) → stop_text one ≡ stop_text other → told_by one ≡ told_by other }
 {}
 
-/// The reply with a part of a text fits a packet, whatever must be escaped.
+/// The reply with a part of a text fits in a packet, however many of its bytes must be escaped.
 pub fn parts_fit()
     ensures { (text : List ℕ) (part : Part) → length (escaped (part_text text part)) ≤ most_body }
 {}
 
-/// A packet of the protocol is parsed as the request that it makes.
+/// Each packet of the protocol's grammar is parsed as the request that it makes.
 pub fn packets_are_read()
     ensures { (body : List ℕ) (request : Request) → IsRequest body request → request_of body ≡ request }
 {}

@@ -26,7 +26,7 @@ pub(crate) fn number_of(text: &[u8]) -> Option<u32>
     value
 }
 
-// Returns a number with one more digit, or `None` if the byte is not a digit.
+// Returns the number with one more digit; `None` if the byte is not a digit.
 fn digit_on(value: Option<u32>, byte: u8) -> Option<u32>
     requires { IfSome value (λ value. value < 2 ^ 28) }
     ensures { result ≡ digit_on value byte }
@@ -48,7 +48,7 @@ pub(crate) fn numbers_at(mark: u8, text: &[u8]) -> Option<(u32, u32)>
     Some((first, second))
 }
 
-/// Returns the index of a delimiter's first occurrence.
+/// Returns the index of the first occurrence of a delimiter.
 pub(crate) fn place_of(mark: u8, text: &[u8]) -> Option<usize>
     ensures place { result ≡ place_of mark text.now }
     ensures within { IfSome result (λ place. place < length text.now) }
@@ -56,7 +56,7 @@ pub(crate) fn place_of(mark: u8, text: &[u8]) -> Option<usize>
     text.iter().position(|byte| *byte == mark)
 }
 
-/// Returns the text before a delimiter's first occurrence, or all of it if there is none.
+/// Returns the text before the first occurrence of a delimiter, or all of it if there is none.
 #[tactic(auto, unfolding(crate::specs::Numbers::until))]
 pub(crate) fn until(mark: u8, text: &[u8]) -> &[u8]
     ensures { result.now ≡ until mark text.now }
@@ -67,7 +67,7 @@ pub(crate) fn until(mark: u8, text: &[u8]) -> &[u8]
     }
 }
 
-/// Returns the text after a name, if it begins with the name.
+/// Returns the text after `name`, if it begins with `name`.
 #[tactic(auto, unfolding(crate::specs::Numbers::behind))]
 pub(crate) fn behind<'a>(name: &[u8], text: &'a [u8]) -> Option<&'a [u8]>
     ensures { option_copied result ≡ behind name.now text.now }
@@ -79,7 +79,7 @@ pub(crate) fn behind<'a>(name: &[u8], text: &'a [u8]) -> Option<&'a [u8]>
     }
 }
 
-/// Decodes hexadecimal digits, two for each byte.
+/// Decodes hexadecimal digits, two for each byte. Returns `None` for any other text.
 #[tactic(auto, unfolding(crate::specs::Numbers::bytes_of))]
 pub(crate) fn bytes_of(alloc: Global, text: &[u8]) -> Result<Option<Vec<u8>>, AllocError>
     ensures { IfOk result (λ bytes. option_map (λ bytes. bytes.items) bytes ≡ bytes_of text.now) }
@@ -91,7 +91,7 @@ pub(crate) fn bytes_of(alloc: Global, text: &[u8]) -> Result<Option<Vec<u8>>, Al
     }
 }
 
-/// Parses the value of a register: eight digits, low byte first.
+/// Parses the value of a register: eight hexadecimal digits, low byte first.
 #[tactic(auto, unfolding(crate::specs::Numbers::value_of))]
 pub(crate) fn value_of(text: &[u8]) -> Option<u32>
     ensures { result ≡ value_of text.now }

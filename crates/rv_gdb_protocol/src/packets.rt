@@ -13,7 +13,7 @@ use crate::arguments::{
 use crate::number::{behind, until};
 use crate::request::{Move, Refusal, Request};
 
-/// Returns the request of a body, unless it is a packet that carries bytes.
+/// Parses a packet whose arguments contain no data bytes. Returns `None` for any other packet.
 #[tactic(auto, unfolding(crate::specs::Packets::request_without_bytes))]
 pub(crate) fn request_without_bytes(body: &[u8]) -> Option<Request>
     ensures { result ≡ request_without_bytes body.now }
@@ -32,12 +32,14 @@ pub(crate) fn request_without_bytes(body: &[u8]) -> Option<Request>
         .or(other_file(body))
 }
 
+// Whether the body of a packet is this name, without arguments.
 fn is(body: &[u8], name: &[u8]) -> bool
     ensures { result ≡ bytes_eq body.now name.now }
 {
     body == name
 }
 
+// Parses a packet without arguments that reads something.
 #[tactic(auto, unfolding(crate::specs::Packets::bare_query))]
 fn bare_query(body: &[u8]) -> Option<Request>
     ensures { result ≡ bare_query body.now }
@@ -61,6 +63,7 @@ fn bare_query(body: &[u8]) -> Option<Request>
     }
 }
 
+// Parses a packet without arguments that has an effect.
 #[tactic(auto, unfolding(crate::specs::Packets::bare_order))]
 fn bare_order(body: &[u8]) -> Option<Request>
     ensures { result ≡ bare_order body.now }
@@ -84,6 +87,7 @@ fn bare_order(body: &[u8]) -> Option<Request>
     }
 }
 
+// Parses a `qSupported` or `qAttached` packet, whose arguments are ignored.
 #[tactic(auto, unfolding(crate::specs::Packets::query))]
 fn query(body: &[u8]) -> Option<Request>
     ensures { result ≡ query body.now }
@@ -97,6 +101,7 @@ fn query(body: &[u8]) -> Option<Request>
     }
 }
 
+// Parses a packet that reads a part of the target description.
 fn description_request(body: &[u8]) -> Option<Request>
     ensures { result ≡ description_request body.now }
 {
@@ -104,6 +109,7 @@ fn description_request(body: &[u8]) -> Option<Request>
     Some(description(args))
 }
 
+// Parses a packet that reads a part of the image's path.
 fn image_path_request(body: &[u8]) -> Option<Request>
     ensures { result ≡ image_path_request body.now }
 {
@@ -111,6 +117,7 @@ fn image_path_request(body: &[u8]) -> Option<Request>
     Some(image_path(args))
 }
 
+// Parses a packet that reads or writes a register, or reads memory.
 #[tactic(auto, unfolding(crate::specs::Packets::reading))]
 fn reading(body: &[u8]) -> Option<Request>
     ensures { result ≡ reading body.now }
@@ -125,6 +132,7 @@ fn reading(body: &[u8]) -> Option<Request>
     Some(read_memory(args))
 }
 
+// Parses a packet that sets or clears a breakpoint or watchpoint.
 #[tactic(auto, unfolding(crate::specs::Packets::stoppoint_request))]
 fn stoppoint_request(body: &[u8]) -> Option<Request>
     ensures { result ≡ stoppoint_request body.now }
@@ -136,6 +144,7 @@ fn stoppoint_request(body: &[u8]) -> Option<Request>
     Some(clear_trap(args))
 }
 
+// Parses the arguments of `Z`, which sets a breakpoint or watchpoint.
 #[tactic(auto, unfolding(crate::specs::Requests::trap_of))]
 fn set_trap(args: &[u8]) -> Request
     ensures { result ≡ trap_of ask.Set args.now }
@@ -147,6 +156,7 @@ fn set_trap(args: &[u8]) -> Request
     }
 }
 
+// Parses the arguments of `z`, which clears a breakpoint or watchpoint.
 #[tactic(auto, unfolding(crate::specs::Requests::trap_of))]
 fn clear_trap(args: &[u8]) -> Request
     ensures { result ≡ trap_of ask.Clear args.now }
@@ -158,6 +168,7 @@ fn clear_trap(args: &[u8]) -> Request
     }
 }
 
+// Parses a packet that moves forwards in the run.
 #[tactic(auto, unfolding(crate::specs::Packets::moving))]
 fn moving(body: &[u8]) -> Option<Request>
     ensures { result ≡ moving body.now }
@@ -178,7 +189,7 @@ fn moving(body: &[u8]) -> Option<Request>
     Some(signal_move(Move::Step, args))
 }
 
-// Only the first action counts, since there is one thread.
+// Parses the arguments of `vCont;`, of which only the first action counts, since there is one thread.
 #[tactic(auto, unfolding(crate::specs::Packets::first_action))]
 fn first_action(args: &[u8]) -> Request
     ensures { result ≡ first_action args.now }
@@ -189,7 +200,7 @@ fn first_action(args: &[u8]) -> Request
     }
 }
 
-// Parses an action without its thread.
+// Parses an action of `vCont;` without its thread.
 #[tactic(auto, unfolding(crate::specs::Packets::action_of))]
 fn action_of(text: &[u8]) -> Option<Move>
     ensures { result ≡ action_of text.now }
@@ -200,6 +211,7 @@ fn action_of(text: &[u8]) -> Option<Move>
         .or(range_action(text))
 }
 
+// Parses the action `c` or `s` of `vCont;`.
 #[tactic(auto, unfolding(crate::specs::Packets::bare_action))]
 fn bare_action(text: &[u8]) -> Option<Move>
     ensures { result ≡ bare_action text.now }
@@ -213,19 +225,21 @@ fn bare_action(text: &[u8]) -> Option<Move>
     }
 }
 
+// Parses the action `name` of `vCont;`, followed by a signal, which is ignored.
 fn signal_action(name: &[u8], step: Move, text: &[u8]) -> Option<Move>
     ensures { result ≡ signal_action name.now step text.now }
 {
     move_with_signal(step, behind(name, text)?)
 }
 
+// Parses the action `r` of `vCont;`, which steps while the pc is in a range of addresses.
 fn range_action(text: &[u8]) -> Option<Move>
     ensures { result ≡ range_action text.now }
 {
     move_within(behind(b"r", text)?)
 }
 
-// Parses the packets that are accepted whatever follows their name.
+// Parses a packet that is accepted whatever follows its name.
 #[tactic(auto, unfolding(crate::specs::Packets::granted))]
 fn granted(body: &[u8]) -> Option<Request>
     ensures { result ≡ granted body.now }
@@ -239,6 +253,7 @@ fn granted(body: &[u8]) -> Option<Request>
     }
 }
 
+// Parses a packet that begins with `D`.
 fn detach_request(body: &[u8]) -> Option<Request>
     ensures { result ≡ detach_request body.now }
 {
@@ -246,7 +261,7 @@ fn detach_request(body: &[u8]) -> Option<Request>
     Some(detach(args))
 }
 
-// Parses nothing, or `;` and a process.
+// Returns a request to detach if nothing follows `D`, or `;` and any text; otherwise the refusal of an unknown packet.
 #[tactic(auto, unfolding(crate::specs::Packets::detach))]
 fn detach(args: &[u8]) -> Request
     ensures { result ≡ detach args.now }
@@ -258,7 +273,7 @@ fn detach(args: &[u8]) -> Request
     }
 }
 
-// 5 is the only file descriptor.
+// Parses a packet that reads from file descriptor 5, the only one.
 fn file_reading(body: &[u8]) -> Option<Request>
     ensures { result ≡ file_reading body.now }
 {
@@ -266,6 +281,7 @@ fn file_reading(body: &[u8]) -> Option<Request>
     Some(read_file(args))
 }
 
+// Returns the refusal of a call on a file descriptor other than 5; `None` for any other packet.
 fn other_file(body: &[u8]) -> Option<Request>
     ensures { result ≡ other_file body.now }
 {
@@ -276,7 +292,7 @@ fn other_file(body: &[u8]) -> Option<Request>
     }
 }
 
-// Whether a packet is a call on a file whose descriptor is the first argument.
+// Whether a packet is a call whose first argument is a file descriptor.
 #[tactic(auto, unfolding(crate::specs::Packets::is_file_call))]
 fn is_file_call(body: &[u8]) -> bool
     ensures { result ≡ is_file_call body.now }

@@ -12,7 +12,7 @@ use std::mem;
 /// The maximum length of a body that is kept.
 const MOST_BODY: usize = 16384;
 
-/// Takes bytes, however they are split, and holds the body that is not complete yet: at most 16,384 bytes.
+/// A parser for packets from gdb, which arrive in pieces. It keeps the body that is not complete yet: at most 16,384 bytes.
 #[derive(Drop)]
 pub struct Reader {
     place: Place,
@@ -44,8 +44,8 @@ impl Reader {
         }
     }
 
-    /// Consumes bytes up to and including the first that completes something. Returns how many it consumed, and what it received. The rest
-    /// is for the next call.
+    /// Consumes bytes up to and including the first one that completes an item. Returns how many it consumed, and the item if there is one.
+    /// The remaining bytes are for the next call.
     pub fn receive(
         &mut self,
         alloc: Global,
@@ -63,7 +63,7 @@ impl Reader {
         Ok((bytes.len(), None))
     }
 
-    /// Consumes a byte and returns what it completes.
+    /// Consumes a byte. Returns the item that it completes, if any.
     pub fn take(&mut self, alloc: Global, byte: u8) -> Result<Option<Incoming>, AllocError>
         ensures heard { IfOk result (λ heard. heard ≡ incoming_at self.old byte) }
         ensures frame { OnOk result (self.new ≡ frame_after self.old byte) }
@@ -95,7 +95,7 @@ impl Reader {
         }
     }
 
-    // Consumes a byte between packets. Noise is dropped.
+    // Consumes a byte between packets. Ignores bytes without a meaning.
     fn take_between(&mut self, byte: u8) -> Option<Incoming>
         requires { self.old.place ≡ place.Between }
         ensures heard { result ≡ incoming_at self.old byte }
@@ -113,6 +113,7 @@ impl Reader {
         }
     }
 
+    // Consumes a byte of a body.
     fn take_of_body(&mut self, byte: u8) -> Result<(), AllocError>
         requires { self.old.place ≡ place.Body }
         ensures frame { OnOk result (self.new ≡ frame_after self.old byte) }
@@ -142,6 +143,7 @@ impl Reader {
         }
     }
 
+    // Begins a body.
     fn open(&mut self)
         ensures { self.new ≡ opened }
     {

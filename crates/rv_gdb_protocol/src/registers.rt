@@ -7,7 +7,7 @@ ghost use Rattle.rv_gdb_protocol.specs.Shown.{register_text, registers_text};
 
 use std::alloc::{AllocError, Global};
 
-/// Appends a register's bytes, low byte first.
+/// Appends the value of a register as eight hexadecimal digits, low byte first.
 #[tactic(auto, unfolding(crate::specs::Shown::register_text))]
 pub fn push_register(out: &mut Vec<u8>, value: u32) -> Result<(), AllocError>
     ensures { OnOk result (out.new.items ≡ out.old.items ++ register_text value) }
@@ -27,7 +27,7 @@ pub fn push_registers(out: &mut Vec<u8>, registers: &[u32; 32], pc: u32) -> Resu
     push_register(out, pc)
 }
 
-/// Appends bytes of memory.
+/// Appends bytes of memory as hexadecimal digits.
 pub fn push_memory(alloc: Global, out: &mut Vec<u8>, bytes: &[u8]) -> Result<(), AllocError>
     ensures { OnOk result (out.new.items ≡ out.old.items ++ encode_lower bytes.now) }
 {
@@ -35,7 +35,7 @@ pub fn push_memory(alloc: Global, out: &mut Vec<u8>, bytes: &[u8]) -> Result<(),
     out.extend_from_slice(digits.as_bytes())
 }
 
-/// Appends a packet's body with console output, which gdb shows.
+/// Appends the body of a packet with console output, which gdb shows.
 pub fn push_printed(alloc: Global, out: &mut Vec<u8>, bytes: &[u8]) -> Result<(), AllocError>
     ensures { OnOk result (out.new.items ≡ out.old.items ++ 79 ∷ encode_lower bytes.now) }
 {

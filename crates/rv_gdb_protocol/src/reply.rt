@@ -6,10 +6,10 @@ ghost use Rattle.rv_gdb_protocol.specs.Replies.{fixed_reply, part_text, refusal_
 use crate::request::{Part, Refusal, Request};
 use std::alloc::AllocError;
 
-/// The maximum number of bytes in a part. Its reply fits a packet even if each byte must be escaped.
+/// The maximum number of bytes in a part of a text. The reply fits in a packet even if each byte must be escaped.
 const MOST_PART: usize = 8184;
 
-/// Returns the reply to a request if it is equal in every session; `None` if it depends on the session.
+/// Returns the body of the reply to a request if it is equal in every session; `None` if it depends on the session.
 pub fn fixed_reply(request: &Request) -> Option<&'static str>
     ensures { option_copied result ≡ fixed_reply request.now }
 {
@@ -29,7 +29,7 @@ pub fn fixed_reply(request: &Request) -> Option<&'static str>
     }
 }
 
-/// Returns the reply to a refused request.
+/// Returns the body of the reply that refuses a request.
 pub fn refusal_text(refusal: Refusal) -> &'static str
     ensures { result.now ≡ refusal_text refusal }
 {

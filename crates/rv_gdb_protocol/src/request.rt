@@ -67,14 +67,14 @@ pub enum Request {
     Refused(Refusal),
 }
 
-/// A part of a text that is read in parts.
+/// A part of a text, by its offset and its length.
 #[derive(Clone, Copy, Debug)]
 pub struct Part {
     pub offset: u32,
     pub count: u32,
 }
 
-/// A range of memory. It can extend past the end of the address space.
+/// A range of memory, which can extend past the end of the address space.
 #[derive(Clone, Copy, Debug)]
 pub struct Range {
     pub address: u32,
@@ -88,13 +88,13 @@ pub enum Register {
     Hart(u32),
     /// 33: the number of completed steps.
     Steps,
-    /// 34: the number of bytes printed.
+    /// 34: the number of console bytes that the program has printed.
     Printed,
     /// 35: the number of bytes consumed from the input script.
     Taken,
 }
 
-/// The accesses that a watchpoint watches.
+/// Which accesses trigger a watchpoint.
 #[derive(Clone, Copy, Debug)]
 pub enum Watched {
     /// Changes to the bytes.
@@ -114,7 +114,7 @@ pub enum Stoppoint {
     Watch(Watched, Range),
 }
 
-/// How the session moves in its run.
+/// A move of the session in its run.
 #[derive(Clone, Copy, Debug)]
 pub enum Move {
     /// To the next stop.
@@ -134,11 +134,11 @@ pub enum Refusal {
     Unknown,
     /// Arguments that are not valid for the packet: `E01`.
     Failed,
-    /// Another annex: `E00`.
+    /// An unknown annex: `E00`.
     OtherAnnex,
-    /// Another file: `F-1,2`.
+    /// A file other than the image: `F-1,2`.
     OtherFile,
-    /// Arguments of another form: `E.malformed`.
+    /// Malformed arguments: `E.malformed`.
     Malformed,
     /// A request that would change the run: `E.the run is read-only: the debugger cannot change it`.
     WouldChange,

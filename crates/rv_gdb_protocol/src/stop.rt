@@ -43,6 +43,7 @@ pub fn push_stop(out: &mut Vec<u8>, stop: Stop) -> Result<(), AllocError>
     }
 }
 
+// Appends the stop reply for a hit of a watchpoint of this kind, at this address.
 #[tactic(auto, unfolding(crate::specs::Stops::stop_text))]
 fn push_watch(out: &mut Vec<u8>, kind: Watched, address: u32) -> Result<(), AllocError>
     ensures { OnOk result (out.new.items ≡ out.old.items ++ stop_text (stop.Watch kind address)) }
@@ -55,6 +56,7 @@ fn push_watch(out: &mut Vec<u8>, kind: Watched, address: u32) -> Result<(), Allo
     Ok(())
 }
 
+// Returns the beginning of the stop reply for a watchpoint of this kind.
 fn watch_text(kind: Watched) -> &'static str
     ensures { result.now ≡ watch_text kind }
 {
@@ -65,7 +67,7 @@ fn watch_text(kind: Watched) -> &'static str
     }
 }
 
-// Returns the signal of a fault.
+// Returns the stop reply for a fault.
 fn fault_text(kind: FaultKind) -> &'static str
     ensures { result.now ≡ fault_text kind }
 {

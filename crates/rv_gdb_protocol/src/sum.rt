@@ -6,7 +6,7 @@ ghost use Rattle.rv_gdb_protocol.specs.Sums.{judged_sum, sum_of, sum_of_digits};
 
 use crate::frame::Sum;
 
-/// Returns the checksum of a text in its frame.
+/// Returns the checksum of a text: the sum of its bytes modulo 256.
 #[tactic(auto, unfolding(crate::specs::Sums::sum_of))]
 pub(crate) fn sum_of(text: &[u8]) -> u8
     ensures { result ≡ sum_of text.now }
@@ -18,7 +18,7 @@ pub(crate) fn sum_of(text: &[u8]) -> u8
     sum
 }
 
-/// Whether two digits are the checksum of a text.
+/// Returns whether two digits are the checksum of a text.
 pub(crate) fn judged_sum(text: &[u8], high: u8, low: u8) -> Sum
     ensures { result ≡ judged_sum (sum_of text.now) (sum_of_digits (hex_digit_value high) (hex_digit_value low)) }
 {
@@ -28,6 +28,7 @@ pub(crate) fn judged_sum(text: &[u8], high: u8, low: u8) -> Sum
     }
 }
 
+// Returns the checksum that two hexadecimal digits represent; `None` if one is not a digit.
 fn received_sum(high: u8, low: u8) -> Option<u8>
     ensures { result ≡ sum_of_digits (hex_digit_value high) (hex_digit_value low) }
 {
@@ -37,7 +38,7 @@ fn received_sum(high: u8, low: u8) -> Option<u8>
     }
 }
 
-/// Returns the value of a hexadecimal digit, in either case.
+/// Returns the value of a hexadecimal digit, in either case; `None` for any other byte.
 pub(crate) fn digit_value(digit: u8) -> Option<u8>
     ensures value { result ≡ hex_digit_value digit }
     ensures least { IfSome result (λ value. value < 16) }

@@ -1,7 +1,7 @@
 //! The target's description.
 
-/// target.xml: x0 to x31 and the pc by their packet numbers, 0 to 32, followed by three counts of the run. The system is `none` so that gdb
-/// does not treat the image as a Linux program, in which it would step by breakpoints of its own.
+/// The file target.xml: x0 to x31 and the pc with their packet numbers, 0 to 32, followed by three counts of the run. The `osabi` is
+/// `none`, so that gdb does not treat the image as a Linux program and step with breakpoints of its own.
 pub const TARGET: &str = r#"<?xml version="1.0"?>
 <!DOCTYPE target SYSTEM "gdb-target.dtd">
 <target version="1.0">

@@ -4,7 +4,7 @@ use samples::{agree, cell_of, has_lines};
 use std::alloc::Global;
 use std::test::Fail;
 
-// body | request
+// body | the request that it makes
 const ASKED: &str = "\
 qSupported:xmlRegisters=i386,arm,mips,arc;multiprocess+ | Features
 QStartNoAckMode | NoAcknowledgements
@@ -63,7 +63,7 @@ D;1 | Detach
 k | Kill
 ";
 
-// body | response
+// body | the response that rejects it; empty if the request is not supported
 const REFUSED: &str = "\
  | 
 vMustReplyEmpty | 
@@ -126,7 +126,7 @@ vFile:setfs:1 | F-1,2
 vFile:unlink:2f61 | 
 ";
 
-// body | response, if it is the same in every session
+// body | the response, which is the same in every session
 const FIXED: &str = "\
 QStartNoAckMode | OK
 Hg0 | OK
@@ -140,12 +140,14 @@ vFile:setfs:0 | F0
 qSupported | PacketSize=4000;QStartNoAckMode+;ReverseStep+;ReverseContinue+;qXfer:features:read+;qXfer:exec-file:read+
 ";
 
+// Checks that the body of a line makes the request of the line.
 fn check_asked(alloc: Global, line: &str) -> Result<(), Fail> {
     let request = parse_request(alloc, cell_of(line, 0).as_bytes())?;
     let told = format!(in alloc; "{request:?}")?;
     agree(line, told.as_str(), cell_of(line, 1))
 }
 
+// Checks that the body of a line has the fixed response of the line.
 fn check_reply(alloc: Global, line: &str) -> Result<(), Fail> {
     let request = parse_request(alloc, cell_of(line, 0).as_bytes())?;
     agree(
@@ -155,6 +157,7 @@ fn check_reply(alloc: Global, line: &str) -> Result<(), Fail> {
     )
 }
 
+// Packets of gdb and LLDB make the expected requests.
 #[test]
 fn packets_ask(rt: HostRuntime) -> Result<(), Fail> {
     has_lines(ASKED, 55)?;
@@ -164,6 +167,7 @@ fn packets_ask(rt: HostRuntime) -> Result<(), Fail> {
     Ok(())
 }
 
+// Malformed packets and requests that are not supported have the expected responses.
 #[test]
 fn malformed_packets_are_refused(rt: HostRuntime) -> Result<(), Fail> {
     has_lines(REFUSED, 59)?;
@@ -173,6 +177,7 @@ fn malformed_packets_are_refused(rt: HostRuntime) -> Result<(), Fail> {
     Ok(())
 }
 
+// Requests whose response is the same in every session have that response.
 #[test]
 fn replies_are_fixed(rt: HostRuntime) -> Result<(), Fail> {
     has_lines(FIXED, 10)?;
@@ -182,7 +187,7 @@ fn replies_are_fixed(rt: HostRuntime) -> Result<(), Fail> {
     Ok(())
 }
 
-// The parts of the target description, each requested from the end of the last, make up the whole.
+// The parts of the target description, each requested from the end of the last, make up the whole description.
 #[test]
 fn parts_are_the_whole(rt: HostRuntime) -> Result<(), Fail> {
     let mut whole = Vec::new(rt.alloc());

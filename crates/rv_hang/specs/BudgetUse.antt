@@ -9,12 +9,12 @@ use Rattle.rv_hang.specs.Repetition.{IsLastAgain, IsRepetition, IsWaitTold}
 use Rattle.rv_hang.specs.declared.budget_use.BudgetUse.{BudgetUse}
 use Rattle.rv_hang.specs.declared.budget_use.BudgetUse.TheVariants.{Changes, Repeats}
 
--- how many of a run's last steps are searched
+-- how many of the last steps of a run of `steps` steps are searched
 abbrev pub searched_steps : ℕ → ℕ
 searched_steps steps = min steps 100_000
 
--- For a run of `steps` steps from a state on: either a state repeats; or no step among those searched has the pc and the registers of the
--- end and is followed only by steps that cannot change the bus.
+-- The analysis of a run of `steps` steps from a state on: either a state repeats; or no step among those searched has the pc and the
+-- registers of the end and is followed only by steps that cannot change the bus.
 abbrev pub IsBudgetUse : ℕ → State → BudgetUse → Type 0
 IsBudgetUse steps s (Repeats r) = IsRepetition steps s r × IsWaitTold steps s r
 IsBudgetUse steps s (Changes within) = (within ≡ searched_steps steps)

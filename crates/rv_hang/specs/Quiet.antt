@@ -12,39 +12,39 @@ use Rattle.rv_machine.specs.Effect.{address, rs2_value}
 use Rattle.rv_machine.specs.State.{State}
 use Rattle.rv_trace.specs.Steps.{instr_at}
 
--- ---- stores of what stands there
+-- ---- stores that change nothing
 
--- n bytes from an address on are in the address space, and none is among the console's 16
+-- whether the n bytes from an address on are in the address space, and none of them is among the console's 16
 abbrev pub are_bytes_apart : ℕ → ℕ → Bool
 are_bytes_apart a n = nat_le (a + n) 0x1000_0000 || (nat_le 0x1000_0010 a && nat_le (a + n) 0x1_0000_0000)
 
--- the value is present and equal to the given one
+-- whether the value is present and equal to the given one
 abbrev pub is_there : Option ℕ → ℕ → Bool
 is_there None value = false
 is_there (Some there) value = there == value
 
--- a byte already has this value at an address, and counts as stored
+-- whether the byte at an address already has this value, and counts as stored
 abbrev pub is_byte_again : Contents → ℕ → ℕ → Bool
 is_byte_again c a byte = is_there (fin.get c.memory a) byte && set.contains c.stored a
 
--- the low bytes of a value already have these values, lowest first, and count as stored
+-- whether the bytes at an address already have the values of the low bytes of `v`, lowest first, and count as stored
 abbrev pub is_value_again : Contents → ℕ → Width → ℕ → Bool
 is_value_again c a Byte v = is_byte_again c a (v % 0x100)
 is_value_again c a Half v = is_byte_again c a (v % 0x100) && is_byte_again c (a + 1) (v / 0x100 % 0x100)
 is_value_again c a Word v = is_byte_again c a (v % 0x100) && (is_byte_again c (a + 1) (v / 0x100 % 0x100)
     && (is_byte_again c (a + 2) (v / 0x1_0000 % 0x100) && is_byte_again c (a + 3) (v / 0x100_0000 % 0x100)))
 
--- a store outside the console changes nothing
+-- whether a store of this width and value is outside the console and changes nothing
 abbrev pub is_store_again : Contents → ℕ → Width → ℕ → Bool
 is_store_again c a w v = are_bytes_apart a (size_of w) && is_value_again c a w v
 
 -- ---- steps
 
--- a word load at the console's first address consumes a byte of the input script, while there is one
+-- whether a word load at this address consumes a byte of the input script: at the console's first address, while there is one
 abbrev pub takes_script : Contents → ℕ → Bool
 takes_script c a = a == 0x1000_0000 && not (length c.script == 0)
 
--- an instruction leaves the bus unchanged if it completes: none but loads and stores access it; FENCE.I is not examined
+-- whether an instruction leaves the bus unchanged if it completes: only loads and stores access it; FENCE.I is not examined
 abbrev pub is_instr_quiet : Op → Instr → State → Bool
 is_instr_quiet op.Lw i s = not (takes_script s.bus (address s i))
 is_instr_quiet op.Sb i s = is_store_again s.bus (address s i) Byte (rs2_value s i)
@@ -53,10 +53,11 @@ is_instr_quiet op.Sw i s = is_store_again s.bus (address s i) Word (rs2_value s 
 is_instr_quiet op.FenceI i s = false
 is_instr_quiet _ i s = true
 
+-- whether the instruction, if there is one, leaves the bus unchanged if it completes
 abbrev pub is_found_quiet : Option Instr → State → Bool
 is_found_quiet None s = false
 is_found_quiet (Some i) s = is_instr_quiet i.op i s
 
--- the step in a state leaves the bus unchanged
+-- whether the next step in a state leaves the bus unchanged if it completes
 abbrev pub is_step_quiet : State → Bool
 is_step_quiet s = is_found_quiet (instr_at s) s

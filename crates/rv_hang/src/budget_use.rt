@@ -15,7 +15,7 @@ use rv_rows::machine_at;
 use rv_trace::JobImage;
 use std::alloc::{AllocError, Global};
 
-// How many of a run's last steps are searched.
+// The maximum number of a run's last steps that are searched.
 const MOST_SEARCHED: u32 = 100_000;
 
 /// The result of the analysis of a used-up budget.
@@ -23,7 +23,7 @@ const MOST_SEARCHED: u32 = 100_000;
 pub enum BudgetUse {
     /// A state repeats, so the run never ends.
     Repeats(Repetition),
-    /// None of this many last steps begins a loop that changes nothing.
+    /// None of this many last steps begins a loop that changes nothing on the bus.
     Changes(u32),
 }
 
@@ -50,7 +50,7 @@ pub fn budget_use_of(
     }
 }
 
-// Returns the pc and the registers after `steps` steps of a machine, if it completes them.
+// Returns the pc and the registers after `steps` steps of a machine; `None` if it does not complete them.
 fn values_behind(machine: Machine, steps: u32) -> Option<HartValues>
     ensures { MatchOption result ((run_of steps (state_of machine)).steps ≡ steps → ⊥)
         (λ end. ((run_of steps (state_of machine)).steps ≡ steps)

@@ -1,4 +1,4 @@
-//! What a repetition implies.
+//! A law about repetitions; it is not executed.
 
 ghost use Rattle.std.specs.Prelude.{◌≡◌, ℕ};
 ghost use Rattle.rv_hang.specs.Repetition.{IsRepetition};

@@ -26,6 +26,7 @@ pub(crate) fn is_step_quiet(machine: &Machine) -> bool
     }
 }
 
+// Whether an instruction of a machine leaves the bus unchanged if it completes.
 fn is_instr_quiet(machine: &Machine, instr: Instr) -> bool
     requires { IsWellFormed instr }
     ensures { result ≡ is_instr_quiet instr.op instr (state_of machine.now) }
@@ -40,13 +41,14 @@ fn is_instr_quiet(machine: &Machine, instr: Instr) -> bool
     }
 }
 
-// Whether an access is a word load at the console's first address, and consumes a byte of the input script.
+// Whether a word load at this address consumes a byte of the input script.
 fn takes_script(bus: &Bus, addr: u32) -> bool
     ensures { result ≡ takes_script bus.now addr }
 {
     addr == 0x1000_0000 && bus.script_remaining() != 0
 }
 
+// Whether a store instruction of this width leaves the bus unchanged if it completes.
 fn is_store_quiet(machine: &Machine, instr: Instr, width: Width) -> bool
     requires { IsWellFormed instr }
     ensures { result ≡ is_store_again (state_of machine.now).bus (address (state_of machine.now) instr) width
@@ -75,6 +77,7 @@ fn are_bytes_apart(addr: u32, width: Width) -> bool
     end <= 0x1000_0000 || (addr >= 0x1000_0010 && end <= 0x1_0000_0000)
 }
 
+// Whether the bytes at the address already have the values of the low bytes of `value`, and count as stored.
 fn is_value_again(bus: &Bus, addr: u32, width: Width, value: u32) -> bool
     requires { addr + size_of width ≤ 0x1_0000_0000 }
     ensures { result ≡ is_value_again bus.now addr width value }
@@ -94,7 +97,7 @@ fn is_value_again(bus: &Bus, addr: u32, width: Width, value: u32) -> bool
     }
 }
 
-// Whether the byte already has this value at the address, and counts as stored.
+// Whether the byte at the address already has this value, and counts as stored.
 fn is_byte_again(bus: &Bus, addr: u32, byte: u32) -> bool
     ensures { result ≡ is_byte_again bus.now addr byte }
 {

@@ -18,7 +18,7 @@ pub struct Repetition {
     pub begin: u32,
     /// The number of steps until it repeats, at least 1.
     pub period: u32,
-    /// Whether some step from there on loads from the console's exhausted input script.
+    /// Whether some step from its begin on loads from the console's exhausted input script.
     pub waits: bool,
 }
 
@@ -55,14 +55,14 @@ pub fn find_repetition(
     })
 }
 
-// Steps with the pc and the registers of the end, after which no step can change the bus.
+// The first and the last step with the pc and the registers of the end, after which no step can change the bus.
 #[derive(Clone, Copy)]
 struct Again {
     first: u32,
     last: u32,
 }
 
-// Returns the updated steps, given the machine before a step.
+// Returns the first and the last step updated for step `place`, given the machine before it.
 fn again_at(again: Option<Again>, machine: &Machine, place: u32, end: &HartValues) -> Option<Again>
     ensures { result ≡ again_behind again place end.now (state_of machine.now) }
 {
@@ -76,8 +76,8 @@ fn again_at(again: Option<Again>, machine: &Machine, place: u32, end: &HartValue
     Some(Again { first, last: place })
 }
 
-// Returns the number of steps up to and including the last one that loads from the exhausted input script, given the machine before a step;
-// 0 if none does.
+// Returns the number of steps up to and including the last one that loads from the exhausted input script, updated for step `place`, given
+// the machine before it.
 fn waited_at(waited: u32, machine: &Machine, place: u32) -> u32
     requires { place < 0xFFFF_FFFF }
     ensures { result ≡ waits_up_to waited place (state_of machine.now) }

@@ -22,6 +22,7 @@ pub(crate) fn reads_script_end(machine: &Machine) -> bool
     }
 }
 
+// Whether an instruction of a machine is a word load at the console's first address while no byte of the script is left.
 fn loads_script_end(machine: &Machine, instr: Instr) -> bool
     requires { IsWellFormed instr }
     ensures { result ≡ loads_script_end instr.op instr (state_of machine.now) }

@@ -10,13 +10,15 @@ use Rattle.rv_history.specs.declared.access.Access.{Access}
 use Rattle.rv_history.specs.declared.access.Reach.{Reach}
 use Rattle.rv_history.specs.declared.stops.Watch.{Watch}
 
+-- an access that reads this many bytes
 abbrev pub read_of : ℕ → Option Reach
 read_of count = Some (record { is_read = true; count = count })
 
+-- an access that writes this many bytes
 abbrev pub write_of : ℕ → Option Reach
 write_of count = Some (record { is_read = false; count = count })
 
--- how many bytes a load reads or a store writes; no other instruction accesses memory
+-- how many bytes an instruction reads or writes; none if it does not access memory
 abbrev pub reach_of : Op → Option Reach
 reach_of op.Lb = read_of 1
 reach_of op.Lbu = read_of 1
@@ -28,15 +30,15 @@ reach_of op.Sh = write_of 2
 reach_of op.Sw = write_of 4
 reach_of _ = None
 
--- the bytes that an instruction reads or writes
+-- the bytes that the instruction `i` reads or writes in state `s`; none if it does not access memory
 abbrev pub access_by : State → Instr → Option Access
 access_by s i = option_map (λ reach. record { is_read = reach.is_read; address = address s i; count = reach.count }) (reach_of i.op)
 
--- the bytes that the instruction at the pc reads or writes
+-- the bytes that the instruction at the pc reads or writes; none if it does not access memory
 abbrev pub access_at : State → Option Access
 access_at s = option_and_then (access_by s) (instr_at s)
 
--- one of the accessed bytes is watched
+-- whether an access overlaps the range of a watchpoint
 abbrev pub is_hit : Access → Watch → Bool
 is_hit access watch =
     nat_lt access.address (watch.address + watch.count) && nat_lt watch.address (access.address + access.count)

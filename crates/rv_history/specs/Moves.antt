@@ -10,23 +10,23 @@ use Rattle.rv_history.specs.declared.found.Found.{Found}
 use Rattle.rv_history.specs.declared.found.Found.TheVariants as found
 use Rattle.rv_history.specs.declared.stops.Stops.{Stops}
 
--- the run ends at this step, with this end
+-- the run ends at the step `place` with this end
 abbrev pub IsEndAt : ℕ → State → ℕ → Ending → Type 0
 IsEndAt budget start place ending = (place ≡ last_place budget start) × (ending ≡ (run_of budget start).ending)
 
--- an interrupt ended a move
+-- a move ended because of an interrupt
 abbrev pub IsInterrupted : Found → Type 0
 IsInterrupted what = what ≡ found.Interrupted
 
--- no interrupt ended the move
+-- a move did not end because of an interrupt
 abbrev pub IsUninterrupted : Found → Type 0
 IsUninterrupted what = IsInterrupted what → ⊥
 
 -- ---- forwards
 
--- What a forward move finds at a step: first a breakpoint or an address outside the bounds, except where the move began; then the end of
--- the run; then a watchpoint that the next step triggers. An interrupt can end the move anywhere else than at a breakpoint or outside the
--- bounds, because a move from there would skip that stop.
+-- A forward move that began at the step `from` can end with this result at the step `place`. After its first step, a breakpoint or an
+-- address outside of the bounds comes first, then the end of the run, then a watchpoint that the next step triggers. An interrupt cannot
+-- end the move at a breakpoint or outside of the bounds, because the next move would then skip this stop.
 abbrev pub MeetsAhead : Stops → Bounds → ℕ → State → ℕ → ℕ → Found → Type 0
 MeetsAhead stops bounds budget start from place found.Break = (from < place) × IsHaltAt stops bounds start place
 MeetsAhead stops bounds budget start from place (found.End ending) =
@@ -37,24 +37,25 @@ MeetsAhead stops bounds budget start from place found.Done = ⊥
 MeetsAhead stops bounds budget start from place found.Begin = ⊥
 MeetsAhead stops bounds budget start from place found.Interrupted = from < place → IsHaltAt stops bounds start place → ⊥
 
--- what a forward move finds at the budget if it found no stop before
+-- the result of a forward move that has used up the budget, given whether it is at a breakpoint or outside of the bounds
 abbrev pub found_at_budget : Bool → Found
 found_at_budget halts = if halts then found.Break else found.End Budget
 
--- a forward move finds no stop here
+-- a forward move that began at the step `from` does not stop at the step `place`
 pub record GoesOnAhead (stops : Stops) (bounds : Bounds) (budget : ℕ) (start : State) (from place : ℕ) : Type 0 where
   pub no_halt : from < place → IsHaltAt stops bounds start place → ⊥
   pub no_end : place < last_place budget start
   pub no_change : IsChangeAt stops budget start place → ⊥
 
--- the next stop from a step on: the first step at which anything is found
+-- a forward move from the step `from` ends at the step `place` with this result, and does not stop before
 pub record IsNextStop (stops : Stops) (bounds : Bounds) (budget : ℕ) (start : State) (from place : ℕ) (found : Found) : Type 0 where
   pub order : from ≤ place
   pub within : place ≤ last_place budget start
   pub meets : MeetsAhead stops bounds budget start from place found
   pub between : (j : ℕ) → from ≤ j → j < place → GoesOnAhead stops bounds budget start from j
 
--- a forward step: it does not move at the end, or before a step that triggers a watchpoint
+-- a single step from the step `from` ends at the step `place` with this result; at the end of the run, or if the step would trigger a
+-- watchpoint, it does not move
 abbrev pub IsNextStep : Stops → ℕ → State → ℕ → ℕ → Found → Type 0
 IsNextStep stops budget start from place found.Done =
     (place ≡ from + 1) × (from < last_place budget start) × (IsChangeAt stops budget start from → ⊥)
@@ -66,14 +67,14 @@ IsNextStep stops budget start from place found.Interrupted = ⊥
 
 -- ---- backwards
 
--- the step just completed triggers a watchpoint
+-- the step that ended at the step `place` triggers a watchpoint
 pub record IsChangeBefore (stops : Stops) (budget : ℕ) (start : State) (place : ℕ) : Type 0 where
   pub before : ℕ
   pub place_is : place ≡ before + 1
   pub change : IsChangeAt stops budget start before
 
--- What a backward move finds at a step: first a breakpoint, except where the move began; then a watchpoint that the preceding step
--- triggers; at step 0 the beginning of the run. If an interrupt ends the move, it is back where it began.
+-- A backward move that began at the step `from` can end with this result at the step `place`: at a breakpoint, except where it began; after
+-- a step that triggers a watchpoint; or at step 0. An interrupted move is back where it began.
 abbrev pub MeetsBack : Stops → ℕ → State → ℕ → ℕ → Found → Type 0
 MeetsBack stops budget start from place found.Break = (place < from) × IsBreakAt stops start place
 MeetsBack stops budget start from place found.Change =
@@ -83,18 +84,19 @@ MeetsBack stops budget start from place (found.End ending) = ⊥
 MeetsBack stops budget start from place found.Done = ⊥
 MeetsBack stops budget start from place found.Interrupted = place ≡ from
 
--- a backward move finds no stop here
+-- a backward move that began at the step `from` does not stop at the step `place`
 pub record GoesOnBack (stops : Stops) (budget : ℕ) (start : State) (from place : ℕ) : Type 0 where
   pub no_break : place < from → IsBreakAt stops start place → ⊥
   pub no_change : IsChangeBefore stops budget start place → ⊥
 
--- the previous stop: the last step, up to this one, at which anything is found
+-- a backward move from the step `from` ends at the step `place` with this result, and does not stop in between
 pub record IsStopBefore (stops : Stops) (budget : ℕ) (start : State) (from place : ℕ) (found : Found) : Type 0 where
   pub order : place ≤ from
   pub meets : MeetsBack stops budget start from place found
   pub between : (j : ℕ) → place < j → j ≤ from → GoesOnBack stops budget start from j
 
--- a backward step: it does not move at the beginning, or after a step that triggers a watchpoint
+-- a single step back from the step `from` ends at the step `place` with this result; at step 0, or after a step that triggers a watchpoint,
+-- it does not move
 abbrev pub IsStepBefore : Stops → ℕ → State → ℕ → ℕ → Found → Type 0
 IsStepBefore stops budget start from place found.Done =
     (from ≡ place + 1) × (IsChangeAt stops budget start place → ⊥)

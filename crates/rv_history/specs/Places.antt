@@ -1,4 +1,4 @@
--- The steps of a run, from 0 at its start to the number of steps that it completes, and what is found there.
+-- The steps of a run, from 0 at its start to the number of steps that it completes, and the stops there.
 use Rattle.std.specs.Prelude.{ℕ, ◌≡◌, ◌+◌, ◌<◌, true}
 use Rattle.rv_machine.specs.Run.{run_of}
 use Rattle.rv_machine.specs.State.{State}
@@ -7,24 +7,24 @@ use Rattle.rv_history.specs.Stops.{TriggersWatch, is_break, is_halt}
 use Rattle.rv_history.specs.declared.bounds.Bounds.{Bounds}
 use Rattle.rv_history.specs.declared.stops.Stops.{Stops}
 
+-- the last step of the run from `start` within the budget: how many steps it completes
 abbrev pub last_place : ℕ → State → ℕ
 last_place budget start = (run_of budget start).steps
 
--- the state after this number of steps
+-- the run from `start` completes `place` steps, and `s` is its state then
 pub record IsReached (start : State) (place : ℕ) (s : State) : Type 0 where
   pub completed : (run_of place start).steps ≡ place
   pub same : s ≡ state_after place start
 
--- the pc at a step is a breakpoint
+-- the pc after `place` steps is a breakpoint
 abbrev pub IsBreakAt : Stops → State → ℕ → Type 0
 IsBreakAt stops start place = is_break stops (state_after place start).pc ≡ true
 
--- the pc at a step is a breakpoint, or outside the bounds
+-- the pc after `place` steps is a breakpoint or outside of the bounds
 abbrev pub IsHaltAt : Stops → Bounds → State → ℕ → Type 0
 IsHaltAt stops bounds start place = is_halt stops bounds (state_after place start).pc ≡ true
 
--- the next step completes and triggers a watchpoint: it changes a byte watched for changes, reads one watched for reads, or accesses one
--- watched for accesses
+-- the step after the first `place` steps completes within the budget and triggers a watchpoint
 pub record IsChangeAt (stops : Stops) (budget : ℕ) (start : State) (place : ℕ) : Type 0 where
   pub completes : place < last_place budget start
   pub changes : TriggersWatch stops (state_after place start) (state_after (place + 1) start)

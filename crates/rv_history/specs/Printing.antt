@@ -1,7 +1,7 @@
 -- What a run prints.
 use Rattle.std.specs.Prelude.{ℕ, List, ◌++◌, ◌≡◌}
 
--- a text begins with another one
+-- the text `whole` begins with the text `front`
 pub record Begins (whole front : List ℕ) : Type 0 where
   pub rest : List ℕ
   pub whole_is : whole ≡ front ++ rest

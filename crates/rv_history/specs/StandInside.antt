@@ -6,6 +6,7 @@ use Rattle.rv_machine.specs.State.{State}
 pub use Rattle.rv_machine.proofs.Public.{state_code}
 use Rattle.rv_history.specs.Stands.{Stand}
 
+-- the encoding of a `Stand` as nested pairs for the prover
 abbrev pub stand_code : Coded Stand
 stand_code = code_by (State × (ℕ × ℕ)) (coded× state_code (coded× coded_ℕ coded_ℕ))
     (λ stand. (stand.start, (stand.budget, stand.place)))

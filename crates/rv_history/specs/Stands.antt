@@ -2,7 +2,7 @@
 use Rattle.std.specs.Prelude.{ℕ}
 use Rattle.rv_machine.specs.State.{State}
 
--- the step of a history: that of the run from a start within a budget
+-- what callers see of a history: the start and the budget of its run, and the step `place` that it is at
 pub record Stand : Type 0 where
   pub start : State
   pub budget : ℕ

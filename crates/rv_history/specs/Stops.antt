@@ -14,10 +14,11 @@ use Rattle.rv_history.specs.declared.stops.WatchHit.TheVariants as set_off
 use Rattle.rv_history.specs.declared.stops.Stops.{Stops}
 use Rattle.rv_history.specs.declared.stops.Watch.{Watch}
 
+-- whether there is a breakpoint at the address
 abbrev pub is_break : Stops → ℕ → Bool
 is_break stops pc = list_any (λ address. address == pc) stops.breaks
 
--- no byte is watched
+-- there are no watchpoints
 abbrev pub AreUnwatched : Stops → Type 0
 AreUnwatched stops = (stops.watches ≡ []) × ((stops.reads ≡ []) × (stops.accesses ≡ []))
 
@@ -25,59 +26,62 @@ AreUnwatched stops = (stops.watches ≡ []) × ((stops.reads ≡ []) × (stops.a
 abbrev pub AreNone : Stops → Type 0
 AreNone stops = (stops.breaks ≡ []) × AreUnwatched stops
 
--- an address is outside the bounds of a move: below the first, or at or above the second
+-- whether an address is outside of the bounds of a move: below the first one, or at or above the second one
 abbrev pub is_outside : Bounds → ℕ → Bool
 is_outside bounds.All pc = false
 is_outside (bounds.Within low high) pc = nat_lt pc low || nat_le high pc
 
--- a forward move stops before an instruction at this address
+-- whether a forward move stops before an instruction at this address: at a breakpoint, or outside of the bounds
 abbrev pub is_halt : Stops → Bounds → ℕ → Bool
 is_halt stops bounds pc = is_break stops pc || is_outside bounds pc
 
--- the bytes of a watchpoint that are in regions
+-- the bytes of a watchpoint's range that are in regions
 abbrev pub watch_bytes : Contents → Watch → List ℕ
 watch_bytes bus watch = filter_map (fin.get bus.memory) (range_with_len watch.address watch.count)
 
+-- the bytes of all watchpoints for changes that are in regions, in order
 unfoldable pub watched_bytes : Stops → Contents → List ℕ
 watched_bytes stops bus = flat_map (watch_bytes bus) stops.watches
 
--- the address of the first watchpoint whose bytes differ between two buses
+-- the address of the first watchpoint whose bytes differ between the two buses; none if none differ
 unfoldable pub first_differing : List Watch → Contents → Contents → Option ℕ
 first_differing [] one other = None
 first_differing (watch ∷ rest) one other =
     if bytes_eq (watch_bytes one watch) (watch_bytes other watch) then first_differing rest one other else Some watch.address
 
--- ---- what sets off a watch
+-- ---- watchpoint hits
 
 -- the address of the first watchpoint that an access hits
 abbrev pub first_hit : Access → List Watch → Option ℕ
 first_hit access watches = option_map (λ (watch : Watch). watch.address) (find (is_hit access) watches)
 
+-- the address of the first watchpoint that an access hits, if the access is a read
 abbrev pub first_read : Access → List Watch → Option ℕ
 first_read access watches = if access.is_read then first_hit access watches else None
 
--- the reported watchpoint, or the alternative if there is none
+-- the hit of the watchpoint with this address, or `other` if there is none
 abbrev pub reported_or : (ℕ → WatchHit) → Option ℕ → Option WatchHit → Option WatchHit
 reported_or told None other = other
 reported_or told (Some address) other = Some (told address)
 
--- the first read watchpoint, else the first access watchpoint, that an instruction triggers by what it reads or writes
+-- the hit of the first read watchpoint, or else of the first access watchpoint, that an access hits
 abbrev pub touched_by : Stops → Option Access → Option WatchHit
 touched_by stops None = None
 touched_by stops (Some access) = reported_or set_off.Read (first_read access stops.reads)
     (reported_or set_off.Access (first_hit access stops.accesses) None)
 
+-- the hit of the first read watchpoint, or else of the first access watchpoint, by the instruction at the pc
 abbrev pub access_hit : Stops → State → Option WatchHit
 access_hit stops s = touched_by stops (access_at s)
 
--- the first watchpoint that a step triggers: for changes first, then for reads, then for accesses
+-- the first watchpoint hit of a step from state `s` to state `t`: for changes, then for reads, then for accesses
 abbrev pub first_triggered : Stops → State → State → Option WatchHit
 first_triggered stops s t = reported_or set_off.Change (first_differing stops.watches s.bus t.bus) (access_hit stops s)
 
--- a step triggers a watchpoint
+-- a step from state `s` to state `t` triggers a watchpoint
 abbrev pub TriggersWatch : Stops → State → State → Type 0
 TriggersWatch stops s t = (watched_bytes stops s.bus ≢ watched_bytes stops t.bus) ⊎ (is_some (access_hit stops s) ≡ true)
 
--- a step triggers no watchpoint
+-- a step from state `s` to state `t` triggers no watchpoint
 abbrev pub TriggersNoWatch : Stops → State → State → Type 0
 TriggersNoWatch stops s t = (watched_bytes stops s.bus ≡ watched_bytes stops t.bus) × (is_some (access_hit stops s) ≡ false)

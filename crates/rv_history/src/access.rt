@@ -27,7 +27,7 @@ pub(crate) struct Access {
     pub count: u32,
 }
 
-/// Returns the bytes that the instruction at a machine's pc reads or writes, if it does either.
+/// Returns the bytes that the instruction at a machine's pc reads or writes; `None` if it does not access memory.
 pub(crate) fn access_at(machine: &Machine) -> Option<Access>
     ensures { result ≡ access_at (state_of machine.now) }
 {
@@ -36,6 +36,7 @@ pub(crate) fn access_at(machine: &Machine) -> Option<Access>
     access_by(machine, instr)
 }
 
+// Returns the bytes that an instruction of a machine reads or writes; `None` if it does not access memory.
 fn access_by(machine: &Machine, instr: Instr) -> Option<Access>
     requires { IsWellFormed instr }
     ensures { result ≡ access_by (state_of machine.now) instr }
@@ -48,6 +49,7 @@ fn access_by(machine: &Machine, instr: Instr) -> Option<Access>
     })
 }
 
+// Returns how many bytes an instruction reads or writes; `None` if it does not access memory.
 fn reach_of(op: Op) -> Option<Reach>
     ensures { result ≡ reach_of op }
 {
@@ -64,7 +66,7 @@ fn reach_of(op: Op) -> Option<Reach>
 }
 
 impl Access {
-    /// Whether one of the bytes is watched.
+    /// Whether the access overlaps the range of a watchpoint.
     pub(crate) fn is_hit(self, watch: &Watch) -> bool
         ensures { result ≡ is_hit self watch.now }
     {
@@ -74,7 +76,7 @@ impl Access {
     }
 }
 
-// Returns the first address of a range, and the one after its last.
+// Returns the first address of a range, and the address after its last.
 fn bounds(address: u32, count: u32) -> (u64, u64)
     ensures { (result.0 ≡ address) × (result.1 ≡ address + count) }
 {

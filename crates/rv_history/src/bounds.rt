@@ -14,7 +14,7 @@ pub enum Bounds {
 }
 
 impl Bounds {
-    /// Whether these are all addresses.
+    /// Whether the bounds contain all addresses.
     pub(crate) fn are_all(self) -> bool
         ensures { IsTrue result ↔ (self ≡ All) }
     {
@@ -24,7 +24,7 @@ impl Bounds {
         }
     }
 
-    /// Whether an address is outside.
+    /// Whether an address is outside of the bounds.
     pub(crate) fn is_outside(self, pc: u32) -> bool
         ensures { result ≡ is_outside self pc }
     {

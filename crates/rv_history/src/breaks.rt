@@ -21,7 +21,7 @@ use crate::track::Checkpoints;
 use rv_machine::Machine;
 use std::alloc::{AllocError, Global};
 
-/// Returns the next stop of a move without bounds, if no byte is watched.
+/// Returns where a forward move without bounds ends, if there are no watchpoints. Runs at full speed between breakpoints.
 pub(crate) fn next_break<I: Interrupt>(
     alloc: Global,
     track: &mut Checkpoints,
@@ -55,7 +55,7 @@ pub(crate) fn next_break<I: Interrupt>(
     Ok(leg.arrived(found))
 }
 
-/// Searches for the last breakpoint up to a step, after the last stored state before it, if no byte is watched. Returns `None` if an
+/// Searches for the last breakpoint before the step `end`, back to the last stored state, if there are no watchpoints. Returns `None` if an
 /// interrupt ends the search.
 pub(crate) fn search_breaks<I: Interrupt>(
     alloc: Global,
@@ -87,7 +87,7 @@ pub(crate) fn search_breaks<I: Interrupt>(
     Ok(Some(Part { begin, last }))
 }
 
-// Executes at most `most` steps of a machine, none of them from a breakpoint, and returns how many. Takes the time of a run.
+// Executes at most `most` steps, none of them at a breakpoint, and returns how many. Takes the time of a run.
 fn run_between(machine: &mut Machine, stops: &Stops, most: u32) -> u32
     ensures ran { run_of result (state_of machine.old)
         ≡ record { ending = Budget; steps = result; state = state_of machine.new } }

@@ -12,13 +12,13 @@ use std::alloc::{AllocError, Global};
 /// What is counted in a run.
 #[derive(Clone, Copy)]
 pub enum Count {
-    /// The bytes printed.
+    /// The bytes that the program has printed.
     Printed,
-    /// The bytes consumed from the input script.
+    /// The bytes that the program has consumed from the input script.
     Taken,
 }
 
-/// Returns the first step with this value of a count, if the run reaches it. Takes the time of the run up to there.
+/// Returns the first step at which a count has this value, if the run reaches one. Takes the time of the run up to there.
 pub(crate) fn first_with(
     alloc: Global,
     start: &Start,
@@ -44,7 +44,7 @@ pub(crate) fn first_with(
     Ok(None)
 }
 
-// Returns a count in a bus whose input script had `script` bytes at the start.
+// Returns the value of a count; `script` is the length of the input script at the start.
 fn count_in(count: Count, script: usize, bus: &Bus) -> usize
     ensures { result ≡ count_in count script bus.now }
 {

@@ -2,14 +2,14 @@
 
 use rv_machine::Ending;
 
-/// Why a move stopped.
+/// The result of a move: why it ended.
 #[derive(Clone, Copy)]
 pub enum Found {
     /// The step was completed.
     Done,
     /// The pc is at a breakpoint, or outside the bounds of a forward move.
     Break,
-    /// A watchpoint is triggered: by the next step of a forward move, by the preceding step of a backward move.
+    /// A watchpoint is triggered: by the next step after a forward move, by the preceding step after a backward move.
     Change,
     /// The run ends here.
     End(Ending),
@@ -19,7 +19,7 @@ pub enum Found {
     Interrupted,
 }
 
-/// A step of a run, and what is found there.
+/// Where a search ended, and its result.
 #[derive(Clone, Copy)]
 pub(crate) struct StopInfo {
     pub place: u32,

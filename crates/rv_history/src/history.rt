@@ -66,15 +66,15 @@ impl History {
         })
     }
 
-    /// Limits its memory to `megabytes`, from 64 to 4,096. The default is 256. With more memory fewer steps are repeated on a backward
-    /// move. Drops all stored states.
+    /// Limits the memory to `megabytes`, from 64 to 4,096. The default is 256. With more memory, backward moves repeat fewer steps. Drops
+    /// all stored states.
     pub fn set_memory(&mut self, alloc: Global, megabytes: u32)
         ensures { self.new ≡ self.old }
     {
         self.track.set_memory(alloc, megabytes);
     }
 
-    /// Returns the number of completed steps.
+    /// Returns the current step: how many steps are completed.
     pub fn place(&self) -> u32
         ensures value { result ≡ self.now.place }
         ensures within { result ≤ last_place self.now.budget self.now.start }
@@ -82,15 +82,15 @@ impl History {
         self.place
     }
 
-    /// Returns the machine at the current step.
+    /// Returns the machine in the state of the current step.
     pub fn machine(&self) -> &Machine
         ensures { state_of result.now ≡ state_after self.now.place self.now.start }
     {
         &self.machine
     }
 
-    /// Moves to the next stop, which can be an end of the run. It does not stop at a breakpoint at its current step, and can begin outside
-    /// the bounds. After an interrupt it is at a step up to which it found no stop.
+    /// Moves forwards to the next stop or to the end of the run. The move does not stop at a breakpoint at its current step, and can begin
+    /// outside of the bounds. After an interrupt it is at a later step, up to which there is no stop.
     pub fn go_on<I: Interrupt>(
         &mut self,
         alloc: Global,
@@ -119,7 +119,7 @@ impl History {
         Ok(arrived.found)
     }
 
-    /// Moves one step forward, unless the run ends here or the step would trigger a watchpoint.
+    /// Moves one step forwards. Does not move at the end of the run, or if the step would trigger a watchpoint.
     pub fn step(&mut self, alloc: Global, stops: &Stops) -> Result<Found, AllocError>
         ensures step { IfOk result (IsNextStep stops.now self.old.budget self.old.start self.old.place self.new.place) }
         ensures run { self.new ≡ record self.old { place = self.new.place } }
@@ -140,7 +140,7 @@ impl History {
         }
     }
 
-    /// Moves back to the previous stop, or to the start. After an interrupt it is where it began.
+    /// Moves back to the previous stop, or to the start of the run. After an interrupt it is where it began.
     pub fn go_back<I: Interrupt>(
         &mut self,
         alloc: Global,
@@ -168,7 +168,7 @@ impl History {
         self.arrive(alloc, arrival)
     }
 
-    /// Moves one step back, unless it is at the start or after a step that triggers a watchpoint.
+    /// Moves one step back. Does not move at the start of the run, or after a step that triggers a watchpoint.
     pub fn step_back(&mut self, alloc: Global, stops: &Stops) -> Result<Found, AllocError>
         ensures step { IfOk result (IsStepBefore stops.now self.old.budget self.old.start self.old.place self.new.place) }
         ensures run { self.new ≡ record self.old { place = self.new.place } }
@@ -178,7 +178,7 @@ impl History {
         self.arrive(alloc, arrival)
     }
 
-    /// Moves to a step if the run reaches it, and returns whether it does.
+    /// Moves to the step `place` if the run reaches it. Returns whether it does.
     pub fn seek(&mut self, alloc: Global, place: u32) -> Result<bool, AllocError>
         ensures granted { IfOk result
             (λ granted. IsTrue granted ↔ (place ≤ last_place self.old.budget self.old.start)) }
@@ -198,7 +198,7 @@ impl History {
         Ok(true)
     }
 
-    /// Moves to the first step with this value of a count if the run reaches it, and returns whether it does.
+    /// Moves to the first step at which a count has this value, if the run reaches one. Returns whether it does.
     pub fn seek_count(
         &mut self,
         alloc: Global,
@@ -221,7 +221,7 @@ impl History {
         }
     }
 
-    /// Returns the first watchpoint that the next step triggers, if it completes within the budget and triggers any.
+    /// Returns the first watchpoint hit of the next step, if there is one. The next step must complete within the budget.
     pub fn watch_ahead(&self, alloc: Global, stops: &Stops) -> Result<Option<WatchHit>, AllocError>
         ensures { self.now.place < last_place self.now.budget self.now.start → IfOk result
             (λ found. found ≡ first_triggered stops.now (state_after self.now.place self.now.start)
@@ -232,7 +232,7 @@ impl History {
         stops.first_triggered(alloc, &self.machine, &ahead)
     }
 
-    /// Returns the first watchpoint that the preceding step triggers, if there is such a step and it triggers any.
+    /// Returns the first watchpoint hit of the preceding step, if there is one.
     pub fn watch_hit_by_last_step(
         &self,
         alloc: Global,
@@ -248,7 +248,7 @@ impl History {
         stops.first_triggered(alloc, &behind, &self.machine)
     }
 
-    // Moves to the result of a search.
+    // Moves to the step where a search ended, and returns the result of the search.
     fn arrive(&mut self, alloc: Global, arrival: StopInfo) -> Result<Found, AllocError>
         requires { arrival.place ≤ last_place self.old.budget self.old.start }
         ensures found { IfOk result (λ found. found ≡ arrival.found) }

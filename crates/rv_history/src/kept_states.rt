@@ -32,7 +32,7 @@ impl Model for CheckpointList {
 }
 
 impl CheckpointList {
-    /// Creates an empty list. There is always room for one state.
+    /// Creates an empty list with room for `most` states, but for at least one.
     pub(crate) fn new(alloc: Global, most: usize) -> CheckpointList
         ensures { result ≡ [] }
     {
@@ -42,12 +42,12 @@ impl CheckpointList {
         }
     }
 
-    /// Whether one more state would be too many.
+    /// Whether the list has no room for another state.
     pub(crate) fn is_full(&self) -> bool {
         self.most <= self.items.len()
     }
 
-    /// Returns the last state at or before a step.
+    /// Returns the last stored state at or before the step `place`.
     pub(crate) fn last_up_to(&self, place: u32) -> Option<&MachineAt>
         ensures state { (start : State) → AreStates start self.now → IfSome result (λ at. IsAt start at.now) }
         ensures before { IfSome result (λ at. at.now.place ≤ place) }
@@ -62,7 +62,7 @@ impl CheckpointList {
         None
     }
 
-    /// Whether the state at a step is stored.
+    /// Whether the state at the step `place` is stored.
     pub(crate) fn has(&self, place: u32) -> bool {
         match self.last_up_to(place) {
             Some(at) => at.place == place,
@@ -70,7 +70,7 @@ impl CheckpointList {
         }
     }
 
-    /// Stores a state. It replaces those that are not before it, and the earliest one if there would be too many.
+    /// Stores a state. Drops the states at or after its step, and the earliest one if there is no room.
     pub(crate) fn keep(&mut self, at: MachineAt) -> Result<(), AllocError>
         ensures { (start : State) → AreStates start self.old → IsAt start at → AreStates start self.new }
     {
@@ -81,7 +81,7 @@ impl CheckpointList {
         Ok(())
     }
 
-    /// Keeps only the states whose steps are multiples of a number.
+    /// Drops the states whose steps are not multiples of `number`.
     pub(crate) fn keep_multiples(&mut self, number: u32)
         requires { 0 < number }
         ensures { (start : State) → AreStates start self.old → AreStates start self.new }

@@ -11,7 +11,8 @@ ghost use Rattle.rv_history.specs.declared.stops.Stops.{Stops};
 ghost use Rattle.rv_machine.specs.State.{State};
 ghost use Rattle.rv_trace.specs.Trace.{state_after};
 
-/// The result of a move that is not interrupted, and where it ends, are determined by the run, by where it begins and by the stops.
+/// The result of a move that is not interrupted, and the step where it ends, are determined by the run, by the step where it begins and by
+/// the breakpoints and watchpoints.
 pub fn moves_are_determined()
     ensures ahead { (stops : Stops) (bounds : Bounds) (budget from p q : ℕ) (start : State) (one other : Found)
         → IsNextStop stops bounds budget start from p one → IsNextStop stops bounds budget start from q other

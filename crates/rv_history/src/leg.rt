@@ -19,15 +19,15 @@ use std::alloc::{AllocError, Global};
 /// A forward move in progress.
 #[derive(Drop)]
 pub(crate) struct ForwardMove {
-    /// The step where it began.
+    /// The step where the move began.
     pub from: u32,
     pub budget: u32,
     pub bounds: Bounds,
-    /// Where it is.
+    /// The machine at the current step of the move.
     pub at: MachineAt,
 }
 
-/// Where a forward move ended, and what it found there.
+/// The machine at the step where a forward move ended, and the result of the move.
 #[derive(Drop)]
 pub(crate) struct Arrived {
     pub at: MachineAt,
@@ -35,14 +35,14 @@ pub(crate) struct Arrived {
 }
 
 impl ForwardMove {
-    /// Ends the move where it is.
+    /// Ends the move at its current step with this result.
     pub(crate) fn arrived(self, found: Found) -> Arrived
         ensures { result ≡ record { at = self.at; found = found } }
     {
         Arrived { at: self.at, found }
     }
 
-    /// Whether the move is at a breakpoint or outside the bounds, and after the step where it began.
+    /// Whether the move is after its first step, and at a breakpoint or outside of the bounds.
     pub(crate) fn is_halted(&self, stops: &Stops) -> bool
         ensures { result ≡ (nat_lt self.now.from self.now.at.place
             && is_halt stops.now self.now.bounds (state_of self.now.at.machine).pc) }
@@ -50,7 +50,7 @@ impl ForwardMove {
         self.from < self.at.place && is_halt(stops, self.bounds, self.at.machine.pc())
     }
 
-    /// Returns what is found at the budget if the move reached it without a stop.
+    /// Returns the result of the move if it has used up the budget without a stop.
     pub(crate) fn found_at_budget(&self, stops: &Stops) -> Found
         ensures { result ≡ found_at_budget (nat_lt self.now.from self.now.at.place
             && is_halt stops.now self.now.bounds (state_of self.now.at.machine).pc) }
@@ -62,8 +62,8 @@ impl ForwardMove {
         }
     }
 
-    /// Returns whether the move is interrupted where it is. At the end of a slice its state can be stored, and it polls for an interrupt
-    /// there once its steps fill a slice.
+    /// Returns whether an interrupt ends the move at its current step. At the end of a slice, its state may be stored, and the interrupt is
+    /// polled if the move has lasted for at least a slice.
     pub(crate) fn store_and_poll<I: Interrupt>(
         &self,
         alloc: Global,
@@ -83,6 +83,7 @@ impl ForwardMove {
     }
 }
 
+// Whether a forward move stops before an instruction at this address: at a breakpoint, or outside of the bounds.
 fn is_halt(stops: &Stops, bounds: Bounds, pc: u32) -> bool
     ensures { result ≡ is_halt stops.now bounds pc }
 {

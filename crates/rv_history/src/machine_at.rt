@@ -9,7 +9,7 @@ ghost use Rattle.rv_history.specs.Kept.{IsAt};
 use rv_machine::{Ending, Machine};
 use std::alloc::{AllocError, Global};
 
-/// A machine, and the number of completed steps of its run.
+/// A machine, and how many steps of its run are completed.
 #[derive(Drop)]
 pub(crate) struct MachineAt {
     pub place: u32,
@@ -17,7 +17,7 @@ pub(crate) struct MachineAt {
 }
 
 impl MachineAt {
-    /// Returns a copy with its own memory, so that it is unaffected when the original moves on.
+    /// Returns a copy with its own memory, which does not change when the original runs.
     pub(crate) fn copied(&self, alloc: Global) -> Result<MachineAt, AllocError>
         ensures place { IfOk result (λ at. at.place ≡ self.now.place) }
         ensures state { IfOk result (λ at. state_of at.machine ≡ state_of self.now.machine) }
@@ -29,7 +29,7 @@ impl MachineAt {
         })
     }
 
-    /// Runs to a step, or to an earlier end of the run.
+    /// Runs to the step `place`, or to the end of the run if that comes first. Returns how the run ended.
     pub(crate) fn go_to(&mut self, place: u32) -> Ending
         requires { self.old.place ≤ place }
         ensures ran { (start : State) → IsAt start self.old → run_of place start

@@ -19,7 +19,7 @@ use crate::track::Checkpoints;
 use rv_machine::Ending;
 use std::alloc::{AllocError, Global};
 
-/// Returns the next stop of a move, with the machine there. Stores states as it goes.
+/// Returns where a forward move ends, with the machine there. Stores states on the way.
 pub(crate) fn next_stop<I: Interrupt>(
     alloc: Global,
     track: &mut Checkpoints,
@@ -45,7 +45,7 @@ pub(crate) fn next_stop<I: Interrupt>(
     next_watched(alloc, track, leg, stops, interrupt)
 }
 
-// Like [`next_stop`], one step at a time.
+// Like [`next_stop`], but executes one step at a time.
 fn next_watched<I: Interrupt>(
     alloc: Global,
     track: &mut Checkpoints,

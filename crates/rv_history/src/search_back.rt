@@ -15,17 +15,17 @@ use crate::stops::Stops;
 use crate::track::Checkpoints;
 use std::alloc::{AllocError, Global};
 
-/// The result of a search in the last part of a run.
+/// The result of searching one part of a run.
 #[derive(Clone, Copy)]
 pub(crate) struct Part {
     /// The step where the part begins.
     pub begin: u32,
-    /// The last stop in it.
+    /// The last stop in the part; `None` if there is none.
     pub last: Option<StopInfo>,
 }
 
-/// Returns the stop before a step, for any budget within which the run reaches it. Polls for an interrupt after each part, once the parts
-/// fill a slice.
+/// Returns where a backward move from the step `from` ends, for any budget within which the run reaches this step. Polls for an interrupt
+/// after each part of the search, once it has searched at least a slice.
 pub(crate) fn stop_before<I: Interrupt>(
     alloc: Global,
     track: &Checkpoints,
@@ -61,7 +61,7 @@ pub(crate) fn stop_before<I: Interrupt>(
     })
 }
 
-// Searches for the last stop up to a step, after the last stored state before it. Returns `None` if an interrupt ends the search.
+// Searches for the last stop before the step `end`, back to the last stored state. Returns `None` if an interrupt ends the search.
 fn search_part<I: Interrupt>(
     alloc: Global,
     track: &Checkpoints,
@@ -92,7 +92,7 @@ fn search_part<I: Interrupt>(
     Ok(Some(Part { begin, last }))
 }
 
-/// Returns the last stop after one more step, given the last one before it.
+/// Returns the last stop once the search has passed the step `place`, given the last stop before.
 pub(crate) fn last_stop_after(
     last: Option<StopInfo>,
     place: u32,
@@ -120,7 +120,7 @@ pub(crate) fn last_stop_after(
     }
 }
 
-/// Returns the result of a backward step from the step `from`, for any budget within which the run reaches it.
+/// Returns where a single step back from the step `from` ends, for any budget within which the run reaches this step.
 pub(crate) fn step_before(
     alloc: Global,
     track: &Checkpoints,

@@ -5,17 +5,17 @@ ghost use Rattle.std.specs.Prelude.{◌≤◌, ◌<◌};
 // The number of steps in a slice. A slice ends at a multiple of it, so that states can be stored there.
 const SLICE: u32 = 1 << 16;
 
-/// Whether a slice ends at a step.
+/// Whether a slice ends at the step `place`.
 pub(crate) fn is_slice_end(place: u32) -> bool {
     place % SLICE == 0
 }
 
-/// Whether this many steps fill a slice.
+/// Whether there are at least as many steps as in a slice.
 pub(crate) fn fill_a_slice(steps: u32) -> bool {
     SLICE <= steps
 }
 
-/// Returns the end of the slice that contains a step, or the goal if that comes first.
+/// Returns the step where the slice of the step `place` ends, or `goal` if that comes first.
 pub(crate) fn slice_end(place: u32, goal: u32) -> u32
     requires { place < goal }
     ensures ahead { place < result }

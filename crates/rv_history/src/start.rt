@@ -9,7 +9,7 @@ use rv_machine::Machine;
 use rv_memory::Bus;
 use std::alloc::{AllocError, Global};
 
-/// A hart at reset, and a bus that never changes here, since each run has a copy.
+/// The start of a run: a hart at reset, and a bus, of which each run gets a copy.
 #[derive(Drop)]
 pub struct Start {
     pub bus: Bus,

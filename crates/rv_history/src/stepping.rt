@@ -13,15 +13,15 @@ use std::alloc::{AllocError, Global};
 /// The result of a step.
 #[derive(Clone, Copy)]
 pub(crate) enum Stepped {
-    /// It did not complete.
+    /// The step did not complete: the run ended.
     Ended(Ending),
-    /// It triggered a watchpoint.
+    /// The step triggered a watchpoint.
     Changed,
-    /// It triggered no watchpoint.
+    /// The step triggered no watchpoint.
     Quiet,
 }
 
-/// Executes a step of a machine. After an error the step may have been executed.
+/// Executes a step of a machine, and returns whether it triggered a watchpoint. After an error the step may have been executed.
 pub(crate) fn step_watched(
     alloc: Global,
     machine: &mut Machine,
@@ -33,7 +33,7 @@ pub(crate) fn step_watched(
     step_beside(alloc, machine, stops, &mut watched)
 }
 
-/// Like [`step_watched`], if the watched bytes are known; they are updated after the step.
+/// Like [`step_watched`], given the watched bytes, which are updated after the step.
 pub(crate) fn step_beside(
     alloc: Global,
     machine: &mut Machine,
@@ -58,8 +58,8 @@ pub(crate) fn step_beside(
     Ok(Stepped::Quiet)
 }
 
-/// Executes one step of a machine. Returns `None` if it completes, else the end, with the machine unchanged. This is a run of one step,
-/// since a second caller of the machine's loop would slow down every run of the program.
+/// Executes one step of a machine. Returns `None` if it completes, and otherwise the end of the run, with the machine unchanged. This is a
+/// run of one step, since a second caller of the machine's loop would slow down every run of the program.
 pub(crate) fn step(machine: &mut Machine) -> Option<Ending>
     ensures { MatchOption result (step_of (state_of machine.old) ≡ Ok (state_of machine.new))
         (λ e. (step_of (state_of machine.old) ≡ Err e) × (state_of machine.new ≡ state_of machine.old)) }

@@ -16,7 +16,7 @@ pub struct Watch {
 }
 
 /// The breakpoints and watchpoints of a run: it stops before the instructions at some addresses, and where a step changes, reads or
-/// accesses a byte that is watched for that. Bytes in no region never change.
+/// accesses a watched byte. Bytes in no region never change.
 #[derive(Drop)]
 pub struct Stops {
     pub breaks: Sequence<u32>,
@@ -52,21 +52,21 @@ impl Stops {
         self.breaks.as_slice().is_empty() && self.have_no_watch()
     }
 
-    /// Whether no byte is watched.
+    /// Whether there are no watchpoints.
     pub(crate) fn have_no_watch(&self) -> bool
         ensures { IsTrue result ↔ ((self.now.watches ≡ []) × ((self.now.reads ≡ []) × (self.now.accesses ≡ []))) }
     {
         self.watches.as_slice().is_empty() && self.have_no_access()
     }
 
-    /// Whether no byte is watched for reads or for accesses.
+    /// Whether there are no watchpoints for reads or accesses.
     pub(crate) fn have_no_access(&self) -> bool
         ensures { IsTrue result ↔ ((self.now.reads ≡ []) × (self.now.accesses ≡ [])) }
     {
         self.reads.as_slice().is_empty() && self.accesses.as_slice().is_empty()
     }
 
-    /// Invalidates the cached instructions at breakpoints.
+    /// Invalidates the cached instructions at breakpoints, so that a run from the decode cache stops there.
     pub(crate) fn invalidate_breakpoints(&self, machine: &mut Machine)
         ensures state { state_of machine.new ≡ state_of machine.old }
         ensures asleep { (pc : ℕ) → is_break self.now pc ≡ true → IsCached machine.new.kept pc → ⊥ }
@@ -76,14 +76,14 @@ impl Stops {
         }
     }
 
-    /// Whether there is a breakpoint at an address.
+    /// Whether there is a breakpoint at the address.
     pub(crate) fn has_break(&self, pc: u32) -> bool
         ensures { result ≡ is_break self.now pc }
     {
         self.breaks.as_slice().contains(&pc)
     }
 
-    /// Returns the watched bytes that are in regions, in order.
+    /// Returns the bytes of all watchpoints for changes that are in regions, in order.
     #[tactic(auto, unfolding(crate::specs::Stops::watched_bytes))]
     pub(crate) fn watched_bytes(&self, alloc: Global, bus: &Bus) -> Result<Vec<u8>, AllocError>
         ensures { IfOk result (λ bytes. bytes.items ≡ watched_bytes self.now bus.now) }
@@ -95,7 +95,7 @@ impl Stops {
         Ok(bytes)
     }
 
-    /// Whether the watched bytes that are in regions equal these. Does not allocate.
+    /// Whether the bytes of all watchpoints for changes that are in regions equal these. Does not allocate.
     #[tactic(auto, unfolding(crate::specs::Stops::watched_bytes))]
     pub(crate) fn have_bytes(&self, bus: &Bus, bytes: &[u8]) -> bool
         ensures { IsTrue result ↔ (watched_bytes self.now bus.now ≡ bytes.now) }
@@ -110,7 +110,7 @@ impl Stops {
         seen == bytes.len()
     }
 
-    /// Returns the address of the first watchpoint whose bytes differ between two buses.
+    /// Returns the address of the first watchpoint whose bytes differ between the two buses; `None` if none differ.
     #[tactic(auto, using(crate::proofs::Differing::differing_at), unfolding(crate::specs::Stops::first_differing))]
     pub(crate) fn differing_watch(
         &self,
@@ -136,7 +136,8 @@ impl Stops {
 impl Watch {
     ghost use Rattle.rv_history.specs.Stops.{watch_bytes};
 
-    // Compares the bytes that are in regions with others from an index on. Returns the index after them if they are equal, else `None`.
+    // Compares the bytes of the range that are in regions with `bytes`, from the index `from` on. Returns the index after them if they are
+    // equal, and `None` otherwise.
     fn seen_in(&self, bus: &Bus, bytes: &[u8], from: usize) -> Option<usize>
         requires { from ≤ length bytes.now }
         ensures within { IfSome result (λ end. end ≤ length bytes.now) }
@@ -156,7 +157,7 @@ impl Watch {
         Some(seen)
     }
 
-    // Appends the bytes that are in regions.
+    // Appends the bytes of the range that are in regions.
     fn push_bytes(&self, bytes: &mut Vec<u8>, bus: &Bus) -> Result<(), AllocError>
         ensures { OnOk result (bytes.new.items ≡ bytes.old.items ++ watch_bytes bus.now self.now) }
     {

@@ -24,7 +24,7 @@ const MEGABYTES: u32 = 256;
 
 const MEGABYTE: usize = 1 << 20;
 
-// The number of these megabytes reserved for everything except machines.
+// How many megabytes of the memory limit are reserved for everything except machines.
 const MEGABYTES_BESIDE: usize = 32;
 
 // The number of machines that exist during a move without being stored.
@@ -33,13 +33,14 @@ const MACHINES_BESIDE: usize = 4;
 // One in this many of the states is stored before the end of the last backward move, seek or move to a watchpoint.
 const NEAR_SHARE: usize = 8;
 
-// The memory that a machine takes for each byte of its regions, and the maximum that it takes in addition.
+// How many bytes of memory a machine takes for each byte of its regions.
 const BYTES_OF_BYTE: usize = 3;
 
+/// The maximum number of bytes that a machine takes in addition to those for its regions.
 const BYTES_BESIDE: usize = 1 << 18;
 
-/// A run from its start, with some of its states stored so that a move need not begin at the start. Each is the state after the number of
-/// steps stored with it. Which states are stored affects only where an interrupt ends a move.
+/// A run from its start, with some of its states stored so that a move need not begin at the start. Which states are stored affects only
+/// where an interrupt ends a move.
 #[derive(Drop)]
 pub(crate) struct Checkpoints {
     start: Start,
@@ -100,7 +101,7 @@ impl Checkpoints {
         &self.start
     }
 
-    /// Returns a machine with the last stored state at or before a step.
+    /// Returns a machine with the last stored state at or before the step `place`.
     pub(crate) fn before(&self, alloc: Global, place: u32) -> Result<MachineAt, AllocError>
         ensures { IfOk result (λ at. IsAt self.now at × (at.place ≤ place)) }
     {
@@ -111,7 +112,7 @@ impl Checkpoints {
         Ok(MachineAt { place: 0, machine })
     }
 
-    /// Returns a machine at or before a step: the given one or one with a stored state, whichever is later.
+    /// Returns the machine `at` or one with a stored state, whichever is later; neither is after the step `place`.
     pub(crate) fn last_of(
         &self,
         alloc: Global,
@@ -129,7 +130,7 @@ impl Checkpoints {
         }
     }
 
-    // Returns the last stored state at or before a step.
+    // Returns the last stored state at or before the step `place`.
     fn nearest(&self, place: u32) -> Option<&MachineAt>
         ensures state { IfSome result (λ at. IsAt self.now at.now) }
         ensures before { IfSome result (λ at. at.now.place ≤ place) }
@@ -143,7 +144,7 @@ impl Checkpoints {
         }
     }
 
-    /// Returns the machine after a number of steps, or at an earlier end of the run.
+    /// Returns the machine after this number of steps, or at the end of the run if that comes first.
     pub(crate) fn machine_after(&self, alloc: Global, steps: u32) -> Result<Machine, AllocError>
         ensures { IfOk result (λ machine. state_of machine ≡ state_after steps self.now) }
     {
@@ -152,7 +153,8 @@ impl Checkpoints {
         Ok(at.machine)
     }
 
-    /// Returns the machine at a step, or at an earlier end of the run, and how a run up to the step ends. Stores states as it goes.
+    /// Returns the machine at the step `place`, or at the end of the run if that comes first, and how a run up to there ends. Stores states
+    /// on the way.
     pub(crate) fn reach(
         &mut self,
         alloc: Global,
@@ -174,7 +176,7 @@ impl Checkpoints {
         Ok((at, ending))
     }
 
-    /// Returns the machine at a step that the run reaches. Stores states as it goes.
+    /// Returns the machine at a step that the run reaches. Stores states on the way.
     pub(crate) fn come_to(&mut self, alloc: Global, place: u32) -> Result<MachineAt, AllocError>
         requires { (run_of place self.old).steps ≡ place }
         ensures place { IfOk result (λ at. at.place ≡ place) }
@@ -185,7 +187,7 @@ impl Checkpoints {
         Ok(at)
     }
 
-    /// Stores the state of a machine at a multiple of the interval, unless one is stored there.
+    /// Stores the state of a machine if it is at a multiple of the interval and not stored yet.
     pub(crate) fn keep_multiple(&mut self, alloc: Global, at: &MachineAt) -> Result<(), AllocError>
         requires { IsAt self.old at.now }
         ensures { self.new ≡ self.old }
@@ -196,7 +198,7 @@ impl Checkpoints {
         self.keep(alloc, at)
     }
 
-    // Returns the next step, between two steps, at which to store a state.
+    // Returns the next step after `at`, up to `place`, at which a state must be stored.
     fn next_kept(&self, at: u32, place: u32) -> Option<u32>
         requires { at ≤ place }
         ensures { IfSome result (λ next. (at < next) × (next ≤ place)) }
@@ -212,7 +214,7 @@ impl Checkpoints {
         None
     }
 
-    // Stores the state of a machine. If there are too many at multiples of the interval, doubles the interval.
+    // Stores the state of a machine. Doubles the interval if there is no room for another state at its multiples.
     fn keep(&mut self, alloc: Global, at: &MachineAt) -> Result<(), AllocError>
         requires { IsAt self.old at.now }
         ensures { self.new ≡ self.old }
@@ -230,7 +232,7 @@ impl Checkpoints {
     }
 }
 
-// Creates the empty lists of states for a machine with this bus, with as many entries as the memory limit allows: one for multiples of the
+// Returns the empty lists of states for a machine with this bus, with as much room as the memory limit allows: one for multiples of the
 // interval, one for states before the ends of backward moves, seeks and moves to watchpoints.
 fn kept_states(alloc: Global, bus: &Bus, megabytes: u32) -> (CheckpointList, CheckpointList)
     ensures { (result.0 ≡ []) × (result.1 ≡ []) }
@@ -244,7 +246,7 @@ fn kept_states(alloc: Global, bus: &Bus, megabytes: u32) -> (CheckpointList, Che
     (coarse, CheckpointList::new(alloc, near))
 }
 
-// Returns an upper bound on the size in bytes of a machine with this bus.
+// Returns an upper bound of the size in bytes of a machine with this bus.
 fn machine_size(bus: &Bus) -> usize
     ensures { 0 < result }
 {

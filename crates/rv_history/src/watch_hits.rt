@@ -12,8 +12,7 @@ use rv_machine::Machine;
 use std::alloc::{AllocError, Global};
 
 impl Stops {
-    /// Returns the watchpoint that the instruction at a machine's pc triggers by what it reads or writes, if any: the first for reads, else
-    /// the first for accesses.
+    /// Returns the hit of the first read watchpoint, or else of the first access watchpoint, by the instruction at a machine's pc.
     pub(crate) fn access_hit(&self, machine: &Machine) -> Option<WatchHit>
         ensures { result ≡ access_hit self.now (state_of machine.now) }
     {
@@ -29,8 +28,8 @@ impl Stops {
         Some(WatchHit::Access(address))
     }
 
-    /// Returns the first watchpoint for changes whose bytes differ between two machines, the second of which is one step after the first;
-    /// else the one that the step triggers by an access.
+    /// Returns the first watchpoint hit of the step from the machine `one` to the machine `other`: for changes, then for reads, then for
+    /// accesses.
     pub(crate) fn first_triggered(
         &self,
         alloc: Global,
@@ -46,7 +45,7 @@ impl Stops {
     }
 }
 
-// Returns the first of the watchpoints that an access hits, if it is a read.
+// Returns the address of the first watchpoint that an access hits, if the access is a read.
 fn first_read(access: Access, watches: &[Watch]) -> Option<u32>
     ensures { result ≡ first_read access watches.now }
 {
@@ -57,7 +56,7 @@ fn first_read(access: Access, watches: &[Watch]) -> Option<u32>
     }
 }
 
-// Returns the first of the watchpoints that an access hits.
+// Returns the address of the first watchpoint that an access hits.
 fn first_hit(access: Access, watches: &[Watch]) -> Option<u32>
     ensures { result ≡ first_hit access watches.now }
 {

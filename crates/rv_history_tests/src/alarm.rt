@@ -10,6 +10,7 @@ pub struct Alarm {
 }
 
 impl Alarm {
+    /// Creates an interrupt that is raised at the poll with this number.
     pub fn at(rises_at: u32) -> Alarm {
         Alarm {
             asked: 0,
@@ -18,6 +19,7 @@ impl Alarm {
         }
     }
 
+    /// Creates an interrupt that is never raised.
     pub fn never() -> Alarm {
         Alarm::at(0)
     }

@@ -6,11 +6,11 @@ use samples::{agree, cell_of, has_lines};
 use std::alloc::Global;
 use std::test::Fail;
 
-// Adds 1 to x5 forever, and stores nothing.
+// A program that adds 1 to x5 forever, and stores nothing.
 const CODE: &str = "00128293 ffdff06f X";
 
 // No instruction is at 80000040, and each move is longer than 2^16 steps, after which it polls the interrupt. label | budget | stops | the
-// poll at which the interrupt is raised | where it stops the move | where the move then ends
+// poll at which the interrupt is raised | where it stops the move | where the move ends when it is continued
 const AHEAD: &str = "\
 a run, at once | 66000 | none | 1 | 65536 interrupted | 66000 budget
 a run, later | 132000 | none | 2 | 131072 interrupted | 132000 budget
@@ -19,19 +19,20 @@ past a breakpoint, later | 132000 | b80000040 | 2 | 131072 interrupted | 132000 
 past a watch | 66000 | w80000100,4 | 1 | 65536 interrupted | 66000 budget
 ";
 
-// As above, but starting at the budget: an interrupted move back has not moved.
+// As `AHEAD`, but starting at the budget: an interrupted move back ends where it began.
 const BACK: &str = "\
 back to the start | 132000 | b80000040 | 2 | 132000 interrupted | 0 begin
 back past a watch | 132000 | w80000100,4 | 1 | 132000 interrupted | 0 begin
 ";
 
+// The direction of a move.
 #[derive(Clone, Copy)]
 enum Way {
     Ahead,
     Back,
 }
 
-// Returns a history at the step from which such a move is requested: the start of the run, or its budget.
+// Returns a history at the step where a move in this direction begins: the start of the run, or its budget.
 fn history_at(alloc: Global, way: Way, budget: u32) -> Result<History, Fail> {
     let mut history = history_of(alloc, CODE, budget)?;
     if let Way::Back = way {
@@ -40,7 +41,7 @@ fn history_at(alloc: Global, way: Way, budget: u32) -> Result<History, Fail> {
     Ok(history)
 }
 
-// Returns where a move ends, and what it found there.
+// Moves a history in a direction, and returns as text the step at which the move ended, and why.
 fn moved_to(
     alloc: Global,
     history: &mut History,
@@ -71,6 +72,7 @@ fn check_moves_from(
     agree(line, met.as_str(), cell_of(line, 5))
 }
 
+// Checks the interrupted move of a line in this direction.
 fn check_broken_off(alloc: Global, way: Way, line: &str) -> Result<(), Fail> {
     let stops = stops_of(alloc, cell_of(line, 2))?;
     let budget = cell_of(line, 1).parse()?;
@@ -78,6 +80,7 @@ fn check_broken_off(alloc: Global, way: Way, line: &str) -> Result<(), Fail> {
     check_moves_from(alloc, &mut history, way, &stops, line)
 }
 
+// An interrupt stops a move forward, which can be continued.
 #[test]
 fn moves_ahead_are_broken_off(rt: HostRuntime) -> Result<(), Fail> {
     has_lines(AHEAD, 5)?;
@@ -87,6 +90,7 @@ fn moves_ahead_are_broken_off(rt: HostRuntime) -> Result<(), Fail> {
     Ok(())
 }
 
+// An interrupt stops a move back where it began; the move can be made again.
 #[test]
 fn moves_back_are_broken_off(rt: HostRuntime) -> Result<(), Fail> {
     has_lines(BACK, 2)?;
@@ -104,6 +108,7 @@ fn check_short_moves(alloc: Global, history: &mut History, stops: &Stops) -> Res
     agree("back", met.as_str(), "0 begin")
 }
 
+// Moves of less than 2^16 steps do not poll the interrupt.
 #[test]
 fn short_moves_do_not_ask(rt: HostRuntime) -> Result<(), Fail> {
     let alloc = rt.alloc();

@@ -9,8 +9,8 @@ use samples::{agree, cell_of, has_lines, hex_of, numbers};
 use std::alloc::{AllocError, Global};
 use std::test::Fail;
 
-// x5 is 80000100, and x6 counts down from 3: the store at 8000000c is in steps 3, 6 and 9, with the values 3, 2 and 1. The exit call is
-// step 13, which does not complete.
+// In this program x5 is 80000100, and x6 counts down from 3: the store at 8000000c is in steps 3, 6 and 9, with the values 3, 2 and 1. The
+// exit call is step 13, which does not complete.
 const CODE: &str = "00000297 10028293 00300313 0062a023 fff30313 fe031ce3 X";
 
 // The low byte of the pc at each step: 00 04 08, then three times 0c 10 14, then 18 and 1c. label | budget | breakpoints and watchpoints |
@@ -32,6 +32,7 @@ the budget | 5 | b80000014 | go_on = 5 break; go_on = 5 budget; step = 5 budget;
 no budget | 0 | b80000000 | go_on = 0 budget; go_back = 0 begin; seek 1 = no 0
 ";
 
+// Parses a watchpoint, written as address and number of bytes.
 fn watch_of(text: &str) -> Result<Watch, Fail> {
     let (address, count) = text.split_once(',').ok_or("an address and a count")?;
     let (address, count) = (hex_of(address)?, hex_of(count)?);
@@ -41,6 +42,8 @@ fn watch_of(text: &str) -> Result<Watch, Fail> {
     Ok(Watch { address, count })
 }
 
+/// Parses stops, separated by spaces, or `none`: a breakpoint is `b` and its address; a watchpoint is `w` for changes, `r` for reads or `a`
+/// for accesses, its address and its number of bytes.
 pub fn stops_of(alloc: Global, text: &str) -> Result<Stops, Fail> {
     let mut breaks = Vec::new(alloc);
     let mut watches = Vec::new(alloc);
@@ -69,6 +72,7 @@ pub fn stops_of(alloc: Global, text: &str) -> Result<Stops, Fail> {
     })
 }
 
+/// Returns the history of a program's run within a budget, at its start.
 pub fn history_of(alloc: Global, code: &str, budget: u32) -> Result<History, Fail> {
     // It is small because each move copies it.
     let map = Map::of(&[Region {
@@ -90,6 +94,7 @@ pub fn history_of(alloc: Global, code: &str, budget: u32) -> Result<History, Fai
     Ok(History::new(alloc, start, budget)?)
 }
 
+/// Returns as text why a move ended.
 pub fn found_text(alloc: Global, found: Found) -> Result<String, AllocError> {
     match found {
         Found::Done => String::from_str(alloc, "done"),
@@ -103,6 +108,8 @@ pub fn found_text(alloc: Global, found: Found) -> Result<String, AllocError> {
     }
 }
 
+// Makes a move or a seek. Returns as text the step at which the move ended, and why; or whether the run has the step that was sought, and
+// the step after the seek.
 fn moved(alloc: Global, history: &mut History, stops: &Stops, asked: &str) -> Result<String, Fail> {
     if let Some(place) = asked.strip_prefix("seek ") {
         let granted = history.seek(alloc, place.parse()?)?;
@@ -120,7 +127,7 @@ fn moved(alloc: Global, history: &mut History, stops: &Stops, asked: &str) -> Re
     Ok(format!(in alloc; "{} {told}", history.place())?)
 }
 
-// Checks that a move has its expected result.
+// Makes a move of a dialogue, and checks its result.
 fn check_move(
     alloc: Global,
     history: &mut History,
@@ -133,6 +140,7 @@ fn check_move(
     agree(line, met.as_str(), wanted)
 }
 
+// Makes the moves of a line's dialogue in order, and checks their results.
 fn check_moves(alloc: Global, line: &str) -> Result<(), Fail> {
     let stops = stops_of(alloc, cell_of(line, 2))?;
     let mut history = history_of(alloc, CODE, cell_of(line, 1).parse()?)?;
@@ -142,6 +150,7 @@ fn check_moves(alloc: Global, line: &str) -> Result<(), Fail> {
     Ok(())
 }
 
+// Moves stop at the expected steps, for the expected reasons.
 #[test]
 fn moves_stop(rt: HostRuntime) -> Result<(), Fail> {
     has_lines(MOVES, 14)?;
@@ -151,7 +160,7 @@ fn moves_stop(rt: HostRuntime) -> Result<(), Fail> {
     Ok(())
 }
 
-// The machine is the one at the step.
+// After a seek, the history's machine is in the state at that step.
 #[test]
 fn registers_are_of_the_place(rt: HostRuntime) -> Result<(), Fail> {
     let alloc = rt.alloc();

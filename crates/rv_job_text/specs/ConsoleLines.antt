@@ -25,104 +25,106 @@ whole_lines [] = []
 whole_lines (byte ∷ rest) =
     if is_feed byte then (byte ∷ []) ∷ whole_lines rest else onto_first byte (whole_lines rest)
 
--- the first line, if there is one
+-- the first line; empty if there is none
 abbrev pub front_line : List (List ℕ) → List ℕ
 front_line [] = []
 front_line (line ∷ lines) = line
 
--- the number of leading lines that are equal on both sides
+-- the number of leading lines that are equal in the actual text `met` and the expected text `wanted`
 abbrev pub equal_line_count : List ℕ → List ℕ → ℕ
 equal_line_count met wanted = common_prefix_len bytes_eq (whole_lines met) (whole_lines wanted)
 
--- the number of leading lines that differ pairwise, up to a maximum
+-- the number of leading lines that differ pairwise, at most the given number
 unfoldable pub differing_line_count : ℕ → List (List ℕ) → List (List ℕ) → ℕ
 differing_line_count zero met wanted = 0
 differing_line_count (suc most) met wanted =
     if bytes_eq (front_line met) (front_line wanted) then 0
     else 1 + differing_line_count most (drop 1 met) (drop 1 wanted)
 
--- before an index lines are equal on both sides; at the index they differ, or one side has no line
+-- the lines before index `place` are equal in both texts; at this index they differ, or one text has no line
 pub record DifferFirstAt (place : ℕ) (met wanted : List (List ℕ)) : Type 0 where
   pub before : take place met ≡ take place wanted
   pub there : front_line (drop place met) ≢ front_line (drop place wanted)
 
--- ---- a line that is shown
+-- ---- a shown line
 
--- a byte with which a UTF-8 character begins
+-- whether a UTF-8 character begins with this byte
 abbrev pub begins_character : ℕ → Bool
 begins_character byte = nat_lt byte 0x80 || nat_le 0xC0 byte
 
--- the number of bytes in the first characters of a text, up to a maximum number of characters
+-- the number of bytes in the first `most` characters of a text
 unfoldable pub characters_len : ℕ → List ℕ → ℕ
 characters_len most [] = 0
 characters_len zero (byte ∷ rest) = if begins_character byte then 0 else 1 + characters_len zero rest
 characters_len (suc most) (byte ∷ rest) =
     1 + characters_len (if begins_character byte then most else suc most) rest
 
--- the maximum number of characters shown of a line
+-- the maximum number of characters that are shown of a line
 abbrev pub most_line_characters : ℕ
 most_line_characters = 160
 
--- the maximum number of bytes before the first difference at which a longer line is shown
+-- how many bytes before the first difference a longer line is shown, at most
 abbrev pub bytes_before_difference : ℕ
 bytes_before_difference = 32
 
--- the byte from which a line that differs at an offset is shown; a longer line is shown from a character shortly before the offset
+-- the offset from which a line with a difference at offset `place` is shown: 0, or for a longer line shortly before the difference
 abbrev pub shown_begin : ℕ → List ℕ → ℕ
 shown_begin place text =
     if characters_len most_line_characters text == length text then 0
     else (place - bytes_before_difference
     + position_or_len begins_character (drop (place - bytes_before_difference) text))
 
--- a line from a byte on, after two dots unless it is shown from its beginning
+-- a line from the offset `begin` on, after two dots unless the offset is 0
 abbrev pub text_shown_from : ℕ → List ℕ → List ℕ
 text_shown_from begin text = (if begin == 0 then [] else codes "..")
     ++ printable_text (take (characters_len most_line_characters (drop begin text)) (drop begin text))
 
+-- a line with a difference at offset `place`, of which only the part around the difference is shown if it is long
 unfoldable pub shown_line : ℕ → List ℕ → List ℕ
 shown_line place text = text_shown_from (shown_begin place text) text
 
--- a note that a line has no line feed
+-- the note that a line has no line feed; empty if it has one
 abbrev pub feed_note : List ℕ → List ℕ
 feed_note whole =
     if position_or_len is_feed whole == length whole then codes "     \\ no newline at end\n" else []
 
--- the line of one side, after a margin; it is shown relative to the line of the other side
+-- the line `own` of one text after a margin, shown around its first difference from the line `other` of the other text
 unfoldable pub side_line : List ℕ → List ℕ → List ℕ → List ℕ
 side_line margin own other =
     line (margin ++ shown_line (common_prefix_len nat_eq own other) (before_first is_feed own)) ++ feed_note own
 
--- the first lines of one side, up to a maximum
+-- the first lines `own` of one text, at most the given number, each shown around its difference from the other text's line
 unfoldable pub side_lines : List ℕ → ℕ → List (List ℕ) → List (List ℕ) → List ℕ
 side_lines margin zero own other = []
 side_lines margin (suc count) [] other = []
 side_lines margin (suc count) (own ∷ more) other =
     side_line margin own (front_line other) ++ side_lines margin count more (drop 1 other)
 
--- ---- the whole
+-- ---- the difference
 
--- the maximum number of equal lines shown before the first difference
+-- the maximum number of equal lines that are shown before the first difference
 abbrev pub most_equal_lines : ℕ
 most_equal_lines = 2
 
--- the maximum number of differing lines shown of each side
+-- the maximum number of differing lines that are shown of each text
 abbrev pub most_differing_lines : ℕ
 most_differing_lines = 3
 
+-- the larger of two numbers
 abbrev pub larger : ℕ → ℕ → ℕ
 larger n m = if nat_lt n m then m else n
 
--- the line number of the first difference, and the number of lines of the longer side
+-- the line that says at which line the console differs from the expected text `source`, and how many lines there are
 abbrev pub lines_heading : List ℕ → ℕ → ℕ → List ℕ
 lines_heading source number count = codes "     console differs from " ++ source ++ codes " at line "
     ++ decimal number ++ codes " of " ++ decimal count ++ codes ":\n"
 
--- the last of the equal leading lines
+-- the equal lines that are shown before the first difference: the last of the `equal` leading lines
 abbrev pub equal_lines : ℕ → List (List ℕ) → List ℕ
 equal_lines equal lines = let earlier = equal - most_equal_lines in
     side_lines (codes "       ") (equal - earlier) (drop earlier lines) []
 
--- given lines from the first difference on: those that differ, first the expected ones, then the actual ones
+-- the lines that differ at the beginning of two texts: first the expected ones, then the actual ones
 abbrev pub differing_lines : List (List ℕ) → List (List ℕ) → List ℕ
 differing_lines met wanted = let count = differing_line_count most_differing_lines met wanted in
     side_lines (codes "     - ") count wanted met ++ side_lines (codes "     + ") count met wanted
@@ -131,38 +133,38 @@ differing_lines met wanted = let count = differing_line_count most_differing_lin
 abbrev pub lines_around : ℕ → List (List ℕ) → List (List ℕ) → List ℕ
 lines_around equal met wanted = equal_lines equal met ++ differing_lines (drop equal met) (drop equal wanted)
 
--- the first difference between a console and the expected text, which has this name
+-- the difference between the console `met` and the expected text `wanted`, line by line; `source` names the expected text
 unfoldable pub console_lines : List ℕ → List ℕ → List ℕ → List ℕ
 console_lines source met wanted = let equal = equal_line_count met wanted in
     lines_heading source (equal + 1) (larger (length (whole_lines met)) (length (whole_lines wanted)))
     ++ lines_around equal (whole_lines met) (whole_lines wanted)
 
--- a difference is shown by lines if both sides are present and are UTF-8
+-- whether a difference is shown line by line: both texts are present and are UTF-8
 abbrev pub is_shown_by_lines : Difference → List ℕ → List ℕ → Bool
 is_shown_by_lines difference.Absent met wanted = false
 is_shown_by_lines (difference.At place) met wanted = is_utf8 met && is_utf8 wanted
 is_shown_by_lines difference.Lengths met wanted = is_utf8 met && is_utf8 wanted
 
--- ---- the text that is expected
+-- ---- the expected text
 
 -- an expected text and its name
 pub record Wanted : Type 0 where
   pub source : List ℕ
   pub text : List ℕ
 
--- the expected console text: from the list, or from a file as it was read
+-- the expected console text with its name: from the list, or from a file whose contents are `file`
 abbrev pub wanted_console : Option ExpectedConsole → Option (List ℕ) → Option Wanted
 wanted_console None file = None
 wanted_console (Some (console.Text text)) file = Some record { source = codes "the expected text"; text = text }
 wanted_console (Some (console.File path)) file = Some record { source = printable_text path; text = unwrap_or file [] }
 
--- the expected text, if the difference from it is shown by lines
+-- the expected text, if the difference from it is shown line by line
 abbrev pub shown_by_lines : Difference → List ℕ → Option Wanted → Option Wanted
 shown_by_lines difference met None = None
 shown_by_lines difference met (Some wanted) =
     if is_shown_by_lines difference met wanted.text then Some wanted else None
 
--- the expected text of an unmet expectation, if the difference is shown by lines
+-- the expected text of an unmet expectation, if the difference from it is shown line by line
 abbrev pub expected_by_lines : Sides → Unmet → Option Wanted
 expected_by_lines sides unmet.Exit = None
 expected_by_lines sides unmet.End = None
@@ -172,6 +174,6 @@ expected_by_lines sides (unmet.Signature difference) = None
 expected_by_lines sides (unmet.Same difference) = None
 expected_by_lines sides unmet.Nothing = None
 
--- the definition's form of the code's `ExpectedText`
+-- the Rust value `ExpectedText` as the record that contracts use
 abbrev pub wanted_of : ExpectedText → Wanted
 wanted_of wanted = record { source = span_text wanted.source; text = wanted.text.now }

@@ -5,14 +5,15 @@ use Rattle.std.specs.List.{flat_map, onto_first}
 use Rattle.rv_rows.specs.Report.{line}
 use Rattle.rv_text.specs.Printable.{printable_text}
 
--- the last elements of a list, up to a maximum
+-- the last `count` elements of a list, or all if there are fewer
 abbrev pub last_elements : {X : Type 0} → ℕ → List X → List X
 last_elements count xs = drop (length xs - count) xs
 
+-- whether a byte is a line feed
 abbrev pub is_feed : ℕ → Bool
 is_feed byte = byte == 10
 
--- the lines of a text: the part before each line feed, and the part after the last one unless it is empty
+-- the lines of a text without their line feeds; the part after the last line feed is a line unless it is empty
 unfoldable pub text_lines : List ℕ → List (List ℕ)
 text_lines [] = []
 text_lines (byte ∷ rest) =
@@ -22,14 +23,15 @@ text_lines (byte ∷ rest) =
 abbrev pub console_tail_line : List ℕ → List ℕ
 console_tail_line text = line (codes "     | " ++ printable_text text)
 
--- the maximum number of lines shown of a console's end, and of bytes from which they are taken
+-- the maximum number of lines that are shown of a console's end
 abbrev pub most_tail_lines : ℕ
 most_tail_lines = 10
 
+-- the number of bytes at a console's end from which the lines are taken
 abbrev pub most_tail_bytes : ℕ
 most_tail_bytes = 1024
 
--- the last lines among the last bytes of a console
+-- the last lines of a console, out of its last bytes
 unfoldable pub console_tail : List ℕ → List ℕ
 console_tail console =
     flat_map console_tail_line (last_elements most_tail_lines (text_lines (last_elements most_tail_bytes console)))

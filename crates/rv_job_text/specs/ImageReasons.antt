@@ -21,30 +21,35 @@ use Rattle.rv_text.specs.Words.{word_digits}
 
 -- ---- addresses
 
--- the last of a nonempty range of addresses
+-- the last of `count` addresses from `from` on; `past ffffffff` if it does not fit in 32 bits
 unfoldable pub last_address_text : ℕ → ℕ → List ℕ
 last_address_text from count =
     if nat_lt (from + (count - 1)) (2 ^ 32) then word_digits (from + (count - 1))
     else codes "past ffffffff"
 
+-- the first and the last of `count` addresses from `from` on, in words
 abbrev pub address_range_text : ℕ → ℕ → List ℕ
 address_range_text from count = word_digits from ++ codes " to " ++ last_address_text from count
 
+-- the addresses of a region, in brackets
 abbrev pub region_text : Region → List ℕ
 region_text region = codes " [" ++ address_range_text region.base region.size ++ codes "]"
 
+-- the addresses of the regions, each in brackets
 unfoldable pub regions_text : List Region → List ℕ
 regions_text regions = flat_map region_text regions
 
 -- ---- segments
 
--- the part of a segment that is outside: its memory if its file bytes are inside, otherwise its file bytes at their load addresses
+-- the addresses of the part of a segment that does not fit: of its memory if the Bool says that its file bytes fit, and otherwise of its
+-- file bytes
 unfoldable pub outside_segment_text : Bool → LoadAt → Segment → List ℕ
 outside_segment_text true at segment =
     codes "a segment's bytes in memory, " ++ address_range_text segment.vaddr segment.memsz
 outside_segment_text false at segment =
     codes "a segment's bytes from the file, " ++ address_range_text (load_address at segment) segment.filesz
 
+-- the message that a segment does not fit in one region, with the regions
 unfoldable pub unfit_segment_text : Job → Option Segment → List ℕ
 unfit_segment_text job None = codes "a segment does not fit in one region"
 unfit_segment_text job (Some segment) =
@@ -52,19 +57,20 @@ unfit_segment_text job (Some segment) =
     job.load segment
     ++ codes ", do not fit in one region:" ++ regions_text job.regions
 
--- the first segment that overlaps a later one, and the first such later one
+-- the first segment that overlaps a later one, and the first later one that it overlaps; none if there is no overlap
 abbrev pub overlapping_segments : LoadAt → List Segment → Option (Segment × Segment)
 overlapping_segments at [] = None
 overlapping_segments at (one ∷ others) =
     option_or (option_map (λ other. (one, other)) (find (segments_overlap at one) others))
     (overlapping_segments at others)
 
--- where the file bytes of two segments are loaded
+-- the addresses to which the file bytes of two segments are loaded
 unfoldable pub segment_pair_text : LoadAt → Segment → Segment → List ℕ
 segment_pair_text at one other =
     address_range_text (load_address at one) one.filesz ++ codes " and "
     ++ address_range_text (load_address at other) other.filesz
 
+-- the message that the file bytes of two segments overlap
 unfoldable pub segment_overlap_text : LoadAt → Option (Segment × Segment) → List ℕ
 segment_overlap_text at None = codes "the file contents of two segments overlap"
 segment_overlap_text at (Some pair) =
@@ -72,23 +78,26 @@ segment_overlap_text at (Some pair) =
 
 -- ---- symbols
 
+-- the message that the symbol of a signature is not defined
 unfoldable pub missing_symbol_text : Option (List ℕ) → List ℕ
 missing_symbol_text None = codes "a symbol of the signature is undefined"
 missing_symbol_text (Some name) = codes "symbol " ++ printable_text name ++ codes " is not defined"
 
--- the address of a symbol, if there is one
+-- the address of a symbol; empty if it is not defined
 abbrev pub symbol_address_text : Result ℕ ImageError → List ℕ
 symbol_address_text (Ok address) = codes " at " ++ word_digits address
 symbol_address_text (Err why) = []
 
+-- the name of a symbol, and its address if it is defined
 unfoldable pub named_symbol_text : List ℕ → List ℕ → List ℕ
 named_symbol_text file name = printable_text name ++ symbol_address_text (symbol_of file name)
 
--- the range from one symbol to another
+-- the names and addresses of the two symbols of a signature
 unfoldable pub signature_ends_text : List ℕ → Symbols → List ℕ
 signature_ends_text file names =
     named_symbol_text file names.begin ++ codes " to " ++ named_symbol_text file names.end
 
+-- the message that a signature is not a sequence of words in one region, with its symbols and the regions
 unfoldable pub signature_range_text : List Region → List ℕ → Option Symbols → List ℕ
 signature_range_text regions file None = codes "the signature is not a sequence of words in one region"
 signature_range_text regions file (Some names) =
@@ -97,7 +106,7 @@ signature_range_text regions file (Some names) =
 
 -- ---- the reason
 
--- the sentence for a refusal without details
+-- the message about a refused image without details
 unfoldable pub image_error_sentence : ImageError → List ℕ
 image_error_sentence image.ShortHeader = codes "the file is shorter than an ELF header"
 image_error_sentence image.BadMagic = codes "not an ELF file"
@@ -124,7 +133,7 @@ image_error_sentence image.NoEnd = codes "a symbol of the signature is undefined
 image_error_sentence image.SignatureRange = codes "the signature is not a sequence of words in one region"
 image_error_sentence image.OutOfMemory = codes "out of memory"
 
--- the details of a refusal by the map or of a signature, for an image that was parsed
+-- the message about a refused image that can be parsed, with details about its segments or symbols
 unfoldable pub image_details_text : Job → List ℕ → Image → ImageError → List ℕ
 image_details_text job file there image.SegmentMap =
     unfit_segment_text job (unfit_segment job.regions job.load there.segments)
@@ -138,11 +147,11 @@ image_details_text job file there image.NoEnd =
     missing_symbol_text (option_map (λ names. names.end) job.signature)
 image_details_text job file there why = image_error_sentence why
 
--- details are shown only for an image that can be parsed
+-- the message about a refused image: with details only if it can be parsed
 abbrev pub image_reason_text : Job → List ℕ → Result Image ImageError → ImageError → List ℕ
 image_reason_text job file (Ok there) why = image_details_text job file there why
 image_reason_text job file (Err other) why = image_error_sentence why
 
--- why a file's image was refused for a job
+-- the reason why the image of the job, with the contents `file`, is refused
 unfoldable pub image_reason : Job → List ℕ → ImageError → List ℕ
 image_reason job file why = image_reason_text job file (image_of job.isa file) why

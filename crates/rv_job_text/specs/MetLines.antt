@@ -1,4 +1,4 @@
--- The line that a person sees for an expectation that a run meets.
+-- The lines about the expectations that a run meets.
 use Rattle.std.specs.Prelude.{ℕ, List, [], ◌++◌, Option, Some, None, codes}
 use Rattle.std.specs.Prelude.{if◌then◌else◌}
 use Rattle.rv_expect.specs.declared.unmet.Unmet.{Unmet}
@@ -12,14 +12,17 @@ use Rattle.rv_job_text.specs.UnmetLines.{expected_end_text, expected_exit_text}
 use Rattle.rv_rows.specs.declared_row.Row.{Row}
 use Rattle.rv_rows.specs.Report.{line}
 
+-- " of " and the path; empty without a path
 abbrev pub optional_path_text : Option (List ℕ) → List ℕ
 optional_path_text None = []
 optional_path_text (Some path) = codes " of " ++ printable_text path
 
+-- the expectation that a job has the same result as another job, in words
 unfoldable pub same_as_job_text : Option Row → List ℕ
 same_as_job_text None = codes "the same result as another job"
 same_as_job_text (Some other) = codes "the same result as " ++ printable_text other.name
 
+-- a met expectation, in words
 unfoldable pub met_expectation_text : Sides → Expectation → List ℕ
 met_expectation_text sides expectation.Exit = expected_exit_text sides.job.expect_exit
 met_expectation_text sides expectation.End = expected_end_text sides.job.expect_end
@@ -30,12 +33,12 @@ met_expectation_text sides expectation.Signature =
 met_expectation_text sides expectation.Same = same_as_job_text sides.other
 met_expectation_text sides expectation.Nothing = codes "exit 0, since no expectation is set"
 
--- the line after five spaces, if the expectation is met
+-- the line about an expectation, if it is met; empty otherwise
 unfoldable pub met_line : Sides → List Unmet → Expectation → List ℕ
 met_line sides unmet one =
     if is_expectation_met sides.job unmet one then line (codes "     met: " ++ met_expectation_text sides one) else []
 
--- the lines in the order of the expectations
+-- the lines about all met expectations
 unfoldable pub met_lines : Sides → List Unmet → List ℕ
 met_lines sides unmet =
     met_line sides unmet expectation.Exit ++ met_line sides unmet expectation.End

@@ -16,24 +16,24 @@ use Rattle.rv_rows.specs.declared_row.RowEnd.TheVariants as ending
 use Rattle.rv_rows.specs.Rows.{content_if_read, expected_console_bytes, signature_reference_bytes}
 use Rattle.rv_job_text.specs.UnreadFiles.{too_long_file_text, unread_file_text}
 
--- a path, if its file was not read
+-- the path of a file, if its contents were not read
 abbrev pub path_if_unread : Option (List ℕ) → Option (List ℕ) → Option (List ℕ)
 path_if_unread None path = path
 path_if_unread (Some bytes) path = None
 
--- the path of the reference or of the console file, whichever is the first that was not read
+-- the path of the first expectation file that was not read: of the signature, or else of the console
 unfoldable pub unread_reference_path : List Answer → Job → Option (List ℕ)
 unread_reference_path answers job =
     option_or (path_if_unread (signature_reference_bytes answers job) job.expect_signature)
     (path_if_unread (expected_console_bytes answers job) (console_path job.expect_console))
 
--- the reason for the refusal of an image that was read
+-- the reason why an image that was read is refused; none if it was not read
 abbrev pub image_refusal_text : List Answer → Job → ImageError → Option (List ℕ)
 image_refusal_text answers job why =
     option_map (λ file. image_reason job file why)
     (content_if_read (Some (kept_for answers job.image)))
 
--- why a job was refused, given the contents kept of the paths and the notes on those that could not be read
+-- the reason why a job is refused; `unread` says why files could not be read
 unfoldable pub refusal_reason : List Answer → List UnreadPath → Job → Refusal → Option (List ℕ)
 refusal_reason answers unread job refusal.ImageUnreadable = Some (unread_file_text unread job.image)
 refusal_reason answers unread job refusal.ImageTooLong = Some (too_long_file_text job.image)
@@ -43,6 +43,7 @@ refusal_reason answers unread job refusal.ReferenceTooLong =
     option_map too_long_file_text (unread_reference_path answers job)
 refusal_reason answers unread job (refusal.Image why) = image_refusal_text answers job why
 
+-- the reason why a job is refused; none if it is not
 unfoldable pub ending_reason : List Answer → List UnreadPath → Job → RowEnd → Option (List ℕ)
 ending_reason answers unread job (ending.Refused why) = refusal_reason answers unread job why
 ending_reason answers unread job _ = None

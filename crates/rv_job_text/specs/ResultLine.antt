@@ -1,4 +1,4 @@
--- The line with a job's result.
+-- The line about a row.
 use Rattle.std.specs.Prelude.{◌==◌, length, ℕ, List, [], ◌++◌, Option, Some, None, codes, if◌then◌else◌}
 use Rattle.rv_machine.specs.Faults.{fault_name}
 use Rattle.rv_rows.specs.declared_row.Row.{Row}
@@ -10,15 +10,16 @@ use Rattle.rv_expect.specs.Judgement.{Judged, failed, known, now_passes, passed}
 use Rattle.rv_text.specs.Printable.{printable_text}
 use Rattle.rv_text.specs.Symbol.{symbol_in_brackets}
 
--- why there is no run, in more than one word, if that is known
+-- a colon and the reason; empty without a reason
 abbrev pub optional_reason_text : Option (List ℕ) → List ℕ
 optional_reason_text None = []
 optional_reason_text (Some reason) = codes ": " ++ printable_text reason
 
+-- " after " and the number of steps
 abbrev pub after_steps_text : ℕ → List ℕ
 after_steps_text steps = codes " after " ++ count_text steps (codes "step")
 
--- how a run ended, with the number of steps and the address, or why there is none
+-- how a run ended, with its steps; for a fault also the pc, with its symbol `place`, and the value; for a refusal the reason
 unfoldable pub result_ending_text : RowEnd → ℕ → Option (List ℕ × ℕ) → Option (List ℕ) → List ℕ
 result_ending_text (ending.Exit code) steps place reason =
     codes "exit " ++ exit_code_text code ++ after_steps_text steps
@@ -29,20 +30,22 @@ result_ending_text ending.Budget steps place reason = codes "budget used up" ++ 
 result_ending_text (ending.Refused why) steps place reason =
     codes "refused " ++ refusal_name why ++ optional_reason_text reason
 
+-- the first word of the line about a row: PASS, FAIL or KNOWN
 abbrev pub judged_word : Judged → List ℕ
 judged_word passed = codes "PASS "
 judged_word failed = codes "FAIL "
 judged_word (known why) = codes "KNOWN "
 judged_word (now_passes path) = codes "FAIL "
 
--- why a job is known to fail, if a reason is given
+-- the reason of a known failure, in brackets; empty without a reason
 abbrev pub known_reason_text : List ℕ → List ℕ
 known_reason_text why = if length why == 0 then [] else codes " (" ++ printable_text why ++ codes ")"
 
+-- the message that a job passes although the file at the path lists it as known to fail
 abbrev pub now_passes_text : List ℕ → List ℕ
 now_passes_text path = codes "passes, but is listed as known to fail: remove it from " ++ printable_text path
 
--- how a run ended, with the reason for a known failure, or a note that the job passed although it is a known failure
+-- how a run ended, with the reason of a known failure, or the message that a job known to fail passes
 abbrev pub judged_ending_text : Judged → Row → Option (List ℕ × ℕ) → Option (List ℕ) → List ℕ
 judged_ending_text passed row place reason = result_ending_text row.ending row.steps place reason
 judged_ending_text failed row place reason = result_ending_text row.ending row.steps place reason
@@ -50,7 +53,7 @@ judged_ending_text (known why) row place reason =
     result_ending_text row.ending row.steps place reason ++ known_reason_text why
 judged_ending_text (now_passes path) row place reason = now_passes_text path
 
--- the line of a row
+-- the line about a row: whether it passed, the job's name, and how the run ended
 unfoldable pub result_line : Judged → Row → Option (List ℕ × ℕ) → Option (List ℕ) → List ℕ
 result_line judged row place reason =
     line (judged_word judged ++ row.name ++ codes ": " ++ judged_ending_text judged row place reason)

@@ -1,4 +1,4 @@
--- What a person sees of a job's row.
+-- The lines about a job's row.
 use Rattle.std.specs.Prelude.{ℕ, List, [], ◌++◌, Option, Some, None, Bool, true, false}
 use Rattle.std.specs.Prelude.{if◌then◌else◌, slice_get}
 use Rattle.rv_calls.specs.Calls.{calls_in}
@@ -27,15 +27,19 @@ use Rattle.rv_job_text.specs.TraceOptions.{optional_calls_text, optional_trace_t
 use Rattle.rv_job_text.specs.declared.end_trace.TraceOptions.{TraceOptions}
 use Rattle.rv_trace.specs.Trace.{image_bytes, trace_in}
 
--- the plan whose rows are reported, the notes on its paths, how rows are counted, how much is shown, and how many of the last instructions
--- of a failed job are shown, if any
+-- how the rows of a plan are shown
 pub record RowReporter : Type 0 where
   pub plan : Planned
+  -- the files that could not be read, with the reasons
   pub unread : List UnreadPath
+  -- which rows are failures
   pub judging : Judging
+  -- which rows are shown
   pub verbosity : Verbosity
+  -- how many last instructions of a failed job are shown, if any
   pub last : Option ℕ
 
+-- the Rust value `TextReporter` as the record that contracts use
 abbrev pub reporter_of : TextReporter → RowReporter
 reporter_of reporter = record {
   plan = reporter.plan.now;
@@ -49,48 +53,51 @@ reporter_of reporter = record {
 abbrev pub signature_address : Planned → Job → Option ℕ
 signature_address plan job = signature_begin job.isa (image_bytes plan.answers job) job.signature
 
--- the line of a row: a fault's address also as a symbol, a refusal with its reason
+-- the line about a row, with the symbol at the pc of a fault and with the reason of a refusal
 unfoldable pub row_line : Planned → List UnreadPath → Judging → Job → Row → List ℕ
 row_line plan unread judging job row =
     result_line (judgement judging row) row (fault_symbol job.isa (image_bytes plan.answers job) row.ending)
     (ending_reason plan.answers unread job row.ending)
 
--- how a run reached its end, with its last instructions, up to a maximum
+-- the lines about how a run reached its end, with its last instructions, at most `last`
 unfoldable pub way_to_end_lines : Planned → Job → Row → ℕ → List ℕ
 way_to_end_lines plan job row last = optional_trace_text job.isa (image_bytes plan.answers job) row.ending
     (trace_in plan job row.steps last)
 
+-- the lines about how a run reached its end; empty if they are not requested
 abbrev pub way_to_end_if_asked : Planned → Job → Row → Option ℕ → List ℕ
 way_to_end_if_asked plan job row None = []
 way_to_end_if_asked plan job row (Some last) = way_to_end_lines plan job row last
 
--- the unmet expectations, followed by the met ones if all are shown
+-- the lines about the unmet expectations and, if `Detail` says so, about the met ones
 abbrev pub compared_lines : Detail → Option ℕ → Sides → List Unmet → List ℕ
 compared_lines detail.Unmet address sides unmet = unmet_lines address sides unmet
 compared_lines detail.All address sides unmet =
     unmet_lines address sides unmet ++ met_lines sides unmet
 
+-- the lines about the unmet expectations of a row and, if `Detail` says so, about the met ones
 abbrev pub expectation_lines : Detail → Planned → Job → Row → List ℕ
 expectation_lines which plan job row =
     compared_lines which (signature_address plan job) (sides_in plan job row)
     (unmet_in plan job row)
 
--- the unmet expectations, the end of the console, and, if requested, how the run reached its end
+-- the lines about a failed run: its unmet expectations, the end of its console and, if requested, how it reached its end
 unfoldable pub run_lines : Planned → Job → Row → Option ℕ → List ℕ
 run_lines plan job row last =
     expectation_lines detail.Unmet plan job row ++ (console_tail row.console
     ++ way_to_end_if_asked plan job row last)
 
--- the lines after that of a failed row that is not a known failure; none if the job did not run
+-- the lines below that of a failed row; empty if the job did not run
 abbrev pub lines_below_failure : Planned → Job → Row → Option ℕ → List ℕ
 lines_below_failure plan job row last = if did_run row.ending then run_lines plan job row last else []
 
--- whether a row is shown, by whether it counts as a failure
+-- whether a row is shown, given whether it is a failure
 abbrev pub shows_row : Verbosity → Bool → Bool
 shows_row Quiet is_failing = false
 shows_row Failures is_failing = is_failing
 shows_row All is_failing = true
 
+-- all lines about a row of the job; empty if the row is not shown
 unfoldable pub row_lines : RowReporter → Job → Row → List ℕ
 row_lines reporter job row =
     if shows_row reporter.verbosity (fails reporter.judging row)
@@ -99,42 +106,45 @@ row_lines reporter job row =
     then lines_below_failure reporter.plan job row reporter.last else [])
     else []
 
--- the lines of the row of the job at an index; none if there is no job
+-- the lines about a row of this job, or none if there is no job
 abbrev pub row_lines_of_job : RowReporter → Row → Option Job → List ℕ
 row_lines_of_job reporter row None = []
 row_lines_of_job reporter row (Some job) = row_lines reporter job row
 
+-- the lines about a row of the job at index `place`
 unfoldable pub row_lines_at : RowReporter → ℕ → Row → List ℕ
 row_lines_at reporter place row = row_lines_of_job reporter row (slice_get reporter.plan.jobs place)
 
--- ---- what a job came to
+-- ---- the outcome of a job
 
--- the unmet expectations of a row's run
+-- the lines about the unmet expectations of a row; empty if the job did not run
 abbrev pub unmet_if_run : Planned → Job → Row → List ℕ
 unmet_if_run plan job row = if did_run row.ending then expectation_lines detail.Unmet plan job row else []
 
--- the line of a row, followed by the unmet expectations of its run
+-- the line about a row, followed by its unmet expectations
 unfoldable pub outcome_text : Planned → List UnreadPath → Judging → Job → Row → List ℕ
 outcome_text plan unread judging job row = row_line plan unread judging job row ++ unmet_if_run plan job row
 
--- ---- a job that is explained
+-- ---- the explanation of a job
 
--- the line of the calls that have not returned when a job's run ended, if there are any
+-- the line with the calls that have not returned when the job's run ended; empty if there are none
 unfoldable pub calls_lines : Planned → Job → List ℕ
 calls_lines plan job = optional_calls_text job.isa (image_bytes plan.answers job) (calls_in plan job)
 
--- every expectation, the end of the console, the analysis of a used-up budget, how the run reached its end, and the calls that have not
--- returned
+-- the lines that explain a run: its expectations, the end of its console, the use of its budget, how it reached its end, and the calls that
+-- have not returned
 unfoldable pub run_explanation : Planned → Job → Row → TraceOptions → List ℕ
 run_explanation plan job row way =
     expectation_lines detail.All plan job row ++ (console_tail row.console
     ++ (budget_use_line row.steps way.budget_use
     ++ (way_to_end_lines plan job row way.last ++ calls_lines plan job)))
 
+-- the lines that explain a run; empty if the job did not run
 abbrev pub explanation_if_run : Planned → Job → Row → TraceOptions → List ℕ
 explanation_if_run plan job row way =
     if did_run row.ending then run_explanation plan job row way else []
 
+-- the line about a row, followed by the lines that explain its run
 unfoldable pub explanation_text : Planned → List UnreadPath → Judging → Job → Row → TraceOptions → List ℕ
 explanation_text plan unread judging job row way =
     row_line plan unread judging job row ++ explanation_if_run plan job row way

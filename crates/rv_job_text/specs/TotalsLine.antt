@@ -15,7 +15,7 @@ use Rattle.rv_expect.specs.FailureKinds.{failure_kind_at, failure_kind_count, fa
 
 -- ---- kinds of failures
 
--- the word for a kind of failure
+-- the name of a kind of failure
 abbrev pub failure_kind_name : FailureKind → List ℕ
 failure_kind_name failure.Exit = codes "exit"
 failure_kind_name failure.Budget = codes "budget"
@@ -27,42 +27,48 @@ failure_kind_name failure.SameAs = codes "same_as"
 
 -- ---- counts
 
+-- the number of rows that passed
 abbrev pub passed_count : Judging → List Row → ℕ
 passed_count judging rows = count_by (λ row. is_passed (judgement judging row)) rows
 
+-- the number of rows that are failures
 abbrev pub failed_count : Judging → List Row → ℕ
 failed_count judging rows = count_by (fails judging) rows
 
+-- the number of rows that are known failures
 abbrev pub known_count : Judging → List Row → ℕ
 known_count judging rows = count_by (λ row. is_known_failure (judgement judging row)) rows
 
+-- the number of failures of this kind
 abbrev pub failure_count : List FailureKind → FailureKind → ℕ
 failure_count failures kind = count_by (is_same_failure_kind kind) failures
 
+-- the number of steps of all rows
 abbrev pub total_steps : List Row → ℕ
 total_steps rows = sum_by (λ row. row.steps) rows
 
 -- ---- the line
 
--- how many failures there are of a kind, shown if there are any
+-- the number of failures of a kind and its name, as a list; empty if there are none
 abbrev pub failure_text : (FailureKind → ℕ) → FailureKind → List (List ℕ)
 failure_text count kind =
     if count kind == 0 then [] else (decimal (count kind) ++ codes " " ++ failure_kind_name kind) ∷ []
 
--- the failures by kind, in order, for the kinds below an index
+-- the numbers of failures by kind, for the kinds with an index below the given number
 unfoldable pub failure_texts_below : (FailureKind → ℕ) → ℕ → List (List ℕ)
 failure_texts_below count zero = []
 failure_texts_below count (suc index) = failure_texts_below count index ++ failure_text count (failure_kind_at index)
 
--- the texts in brackets, separated by commas; nothing if there are none
+-- an opening bracket and the texts, separated by commas; empty if there are no texts
 abbrev pub open_bracket_text : List (List ℕ) → List ℕ
 open_bracket_text [] = []
 open_bracket_text (first ∷ more) = codes " (" ++ first ++ flat_map (λ text. codes ", " ++ text) more
 
+-- the texts in brackets, separated by commas; empty if there are no texts
 abbrev pub bracket_text : List (List ℕ) → List ℕ
 bracket_text texts = if length texts == 0 then [] else open_bracket_text texts ++ codes ")"
 
--- the noun after a count of jobs
+-- " job" or " jobs", by their number
 abbrev pub job_word : ℕ → List ℕ
 job_word count = if count == 1 then codes " job" else codes " jobs"
 
@@ -71,25 +77,25 @@ abbrev pub passed_counts_text : ℕ → ℕ → ℕ → List ℕ
 passed_counts_text jobs passed failed = decimal jobs ++ job_word jobs ++ codes ": " ++ decimal passed
     ++ codes " passed, " ++ decimal failed ++ codes " failed"
 
--- the number of known failures, shown if there are any
+-- the number of known failures; empty if there are none
 abbrev pub known_count_text : ℕ → List ℕ
 known_count_text count = if count == 0 then [] else codes ", " ++ count_text count (codes "known failure")
 
--- the text of the last line for rows with these failures
+-- the last line for rows with these failures, without its line feed
 unfoldable pub totals_text : Judging → List FailureKind → List Row → List ℕ
 totals_text judging failures rows = passed_counts_text (length rows) (passed_count judging rows) (failed_count judging rows)
     ++ bracket_text (failure_texts_below (failure_count failures) failure_kind_count)
     ++ known_count_text (known_count judging rows) ++ codes ", " ++ count_text (total_steps rows) (codes "step")
 
--- the last line for the rows of a report, whose failures are counted by their ends
+-- the last line for the rows of a report, whose failures are counted by how they ended
 abbrev pub totals_line : Judging → List Row → List ℕ
 totals_line judging rows = line (totals_text judging (failures_by_end judging rows) rows)
 
--- how many jobs have no row because a failure ended the run, shown if there are any
+-- how many jobs have no row since a failure stopped the run; empty if there are none
 abbrev pub hidden_text : ℕ → List ℕ
 hidden_text count = if count == 0 then [] else codes "; " ++ decimal count ++ job_word count ++ codes " not shown"
 
--- the last line of a run that shows these rows of a plan's jobs at some indices, with the number of its other jobs
+-- the last line of a run of the jobs at these indices: it has these rows, and `hidden` jobs have none
 abbrev pub run_totals_line : Judging → Planned → List ℕ → List Row → ℕ → List ℕ
 run_totals_line judging plan places rows hidden =
     line (totals_text judging (failures_in_plan judging plan places rows) rows ++ hidden_text hidden)

@@ -1,4 +1,4 @@
--- The line that a person sees for an unmet expectation: expected, actual, and the first difference. Bytes and words are counted from 0,
+-- The lines about an unmet expectation: expected, actual, and the first difference. Bytes and words are counted from 0,
 -- lines from 1.
 use Rattle.std.specs.Prelude.{◌+◌, ◌*◌, ◌/◌, ◌%◌, ◌^◌, ℕ, List, [], ◌++◌, length, drop}
 use Rattle.std.specs.Prelude.{slice_index, slice_range, Option, Some, None, unwrap_or}
@@ -30,10 +30,12 @@ use Rattle.rv_job_text.specs.ConsoleLines.{Wanted, console_lines, expected_by_li
 
 -- ---- the exit code and the end
 
+-- the expected exit code, in words
 unfoldable pub expected_exit_text : Option ℕ → List ℕ
 expected_exit_text None = codes "an exit"
 expected_exit_text (Some code) = codes "exit " ++ exit_code_text code
 
+-- the expected end, in words
 unfoldable pub expected_end_text : Option ExpectedEnd → List ℕ
 expected_end_text None = codes "another end"
 expected_end_text (Some expected.Budget) = codes "budget used up"
@@ -41,26 +43,28 @@ expected_end_text (Some (expected.Fault kind)) = codes "fault " ++ fault_name ki
 
 -- ---- bytes
 
+-- the value in double quotes, with special characters escaped
 abbrev pub quoted_value : List ℕ → List ℕ
 quoted_value value = codes "\"" ++ printable_value value ++ codes "\""
 
+-- the first byte in which the actual text `met` and the expected text `wanted` differ, at offset `place`
 unfoldable pub byte_difference_text : ℕ → List ℕ → List ℕ → List ℕ
 byte_difference_text place met wanted =
     codes " at byte " ++ decimal place ++ codes ": expected " ++ quoted_value (drop place wanted)
     ++ codes ", found " ++ quoted_value (drop place met)
 
--- the expected number of bytes or words, and the actual one
+-- the expected number `wanted` and the actual number `met`; `what` is the noun
 unfoldable pub count_difference_text : ℕ → List ℕ → ℕ → List ℕ
 count_difference_text met what wanted =
     codes " in length: expected " ++ count_text wanted what ++ codes ", found " ++ decimal met
 
--- the first difference between the actual and the expected bytes
+-- the first difference between the actual text `met` and the expected text `wanted`
 unfoldable pub bytes_difference_text : Difference → List ℕ → List ℕ → List ℕ
 bytes_difference_text (difference.At place) met wanted = byte_difference_text place met wanted
 bytes_difference_text difference.Lengths met wanted = count_difference_text (length met) (codes "byte") (length wanted)
 bytes_difference_text difference.Absent met wanted = codes ", which was not read"
 
--- the expected console: the bytes in a job, or those of a file
+-- the message that the console differs from the expected one, which is a text of the list or the contents of a file
 unfoldable pub expected_console_text :
     ExpectedConsole → Option (List ℕ) → List ℕ → Difference → List ℕ
 expected_console_text (console.Text text) file met difference =
@@ -69,6 +73,7 @@ expected_console_text (console.File path) file met difference =
     codes "console differs from " ++ printable_text path
     ++ bytes_difference_text difference met (unwrap_or file [])
 
+-- the message that the console differs from the expected one
 unfoldable pub console_difference_text :
     Option ExpectedConsole → Option (List ℕ) → List ℕ → Difference → List ℕ
 console_difference_text None file met difference = codes "no console"
@@ -76,33 +81,36 @@ console_difference_text (Some expected) file met difference = expected_console_t
 
 -- ---- words
 
--- the digits of the word at an index, if there is one
+-- the digits of the word of a signature at index `place`; empty if there is none
 unfoldable pub signature_word_digits : List ℕ → ℕ → List ℕ
 signature_word_digits words place =
     if nat_lt place (length words) then word_digits (slice_index words place) else []
 
--- the digits of a reference's line at an index, if there is one; lines have nine bytes
+-- the digits of the word of a signature file at index `place`; empty if there is none
 unfoldable pub reference_digits_at : List ℕ → ℕ → List ℕ
 reference_digits_at text place =
     if nat_lt place (length text / 9) then slice_range text (place * 9) (place * 9 + 8) else []
 
--- the address of the word at an index, if that of the first word is known
+-- the address of the word at index `place`, in brackets; empty if the address of the first word is not known
 abbrev pub word_address_text : Option ℕ → ℕ → List ℕ
 word_address_text None place = []
 word_address_text (Some first) place =
     codes " (" ++ word_digits ((first + 4 * place) % 2 ^ 32) ++ codes ")"
 
+-- the index of a word, and its address if that of the first word is known
 unfoldable pub word_place_text : Option ℕ → ℕ → List ℕ
 word_place_text first place = codes " at word " ++ decimal place ++ word_address_text first place ++ codes ": expected "
 
+-- the expected digits `wanted` and the actual digits `met` of the word at index `place`
 abbrev pub word_difference_text : Option ℕ → ℕ → List ℕ → List ℕ → List ℕ
 word_difference_text first place met wanted = word_place_text first place ++ wanted ++ codes ", found " ++ met
 
+-- the message that a line of a signature file is invalid
 unfoldable pub bad_reference_line_text : ℕ → List ℕ
 bad_reference_line_text number =
     codes ", which is invalid at line " ++ decimal number ++ codes ": expected eight lower-case hexadecimal digits and a newline"
 
--- the first difference between a signature and a reference
+-- the first difference between the words of a signature and the text of a signature file
 unfoldable pub reference_difference_text : Option ℕ → List ℕ → List ℕ → SignatureDifference → List ℕ
 reference_difference_text first words text (signature.Line number) = bad_reference_line_text number
 reference_difference_text first words text (signature.Word place) =
@@ -111,6 +119,7 @@ reference_difference_text first words text signature.Count =
     count_difference_text (length words) (codes "word") (length text / 9)
 reference_difference_text first words text signature.Absent = codes ", which was not read"
 
+-- the message that a signature differs from the expected one; `bytes` is the text of the signature file
 unfoldable pub signature_difference_text : Option ℕ → Option (List ℕ) → Option (List ℕ) → Option (List ℕ)
     → SignatureDifference → List ℕ
 signature_difference_text first None words bytes difference = codes "no signature"
@@ -118,21 +127,21 @@ signature_difference_text first (Some path) words bytes difference =
     codes "signature differs from " ++ printable_text path
     ++ reference_difference_text first (signature_words_or_empty words) (unwrap_or bytes []) difference
 
--- ---- the named job
+-- ---- the job that `same_as` names
 
--- how a run ended, as what the job did
+-- how a run ended, as a clause about the job
 unfoldable pub row_end_text : RowEnd → List ℕ
 row_end_text (ending.Exit code) = codes "ended with exit " ++ exit_code_text code
 row_end_text (ending.Fault kind pc value) = codes "ended with fault " ++ fault_name kind
 row_end_text ending.Budget = codes "used up its budget"
 row_end_text (ending.Refused why) = codes "was refused (" ++ refusal_name why ++ codes ")"
 
--- which of two signatures is missing
+-- which of two signatures is missing: the actual one if it is none, and otherwise the expected one
 abbrev pub absent_signature_text : Option (List ℕ) → List ℕ
 absent_signature_text None = codes ": expected one, found none"
 absent_signature_text (Some words) = codes ": expected none, found one"
 
--- the first difference between two signatures, either of which may be missing
+-- the first difference between the actual signature `words` and the expected one `others`; either may be missing
 unfoldable pub signatures_difference_text : Option ℕ → Option (List ℕ) → Option (List ℕ) → Difference → List ℕ
 signatures_difference_text first words others (difference.At place) =
     word_difference_text first place (signature_word_digits (signature_words_or_empty words) place)
@@ -141,7 +150,7 @@ signatures_difference_text first words others difference.Lengths =
     count_difference_text (length (signature_words_or_empty words)) (codes "word") (length (signature_words_or_empty others))
 signatures_difference_text first words others difference.Absent = absent_signature_text words
 
--- the first difference between a row and that of the named job
+-- the first difference between the row of a job and the row `other` of the job that it names by `same_as`
 unfoldable pub rows_difference_text : Option ℕ → Row → Row → SameDifference → List ℕ
 rows_difference_text first row other same.Ending =
     codes ", which " ++ row_end_text other.ending ++ codes "; this job "
@@ -152,6 +161,7 @@ rows_difference_text first row other (same.Signature difference) =
     codes ": signature differs" ++ signatures_difference_text first row.signature other.signature difference
 rows_difference_text first row other same.Absent = codes ", which was not run"
 
+-- the message that the result of a job differs from that of the job that it names by `same_as`
 unfoldable pub same_difference_text : Option ℕ → Row → Option Row → SameDifference → List ℕ
 same_difference_text first row None difference = codes "the same result as another job, which was not run"
 same_difference_text first row (Some other) difference =
@@ -159,7 +169,7 @@ same_difference_text first row (Some other) difference =
 
 -- ---- the line
 
--- the address is that of the first word of the signature, if it is known
+-- an unmet expectation, in words; `address` is that of the first word of the signature, if it is known
 unfoldable pub unmet_expectation_text : Option ℕ → Sides → Unmet → List ℕ
 unmet_expectation_text address sides unmet.Exit = expected_exit_text sides.job.expect_exit
 unmet_expectation_text address sides unmet.End = expected_end_text sides.job.expect_end
@@ -171,21 +181,22 @@ unmet_expectation_text address sides (unmet.Same difference) =
     same_difference_text address sides.row sides.other difference
 unmet_expectation_text address sides unmet.Nothing = codes "exit 0, since no expectation is set"
 
--- what comes before an unmet expectation: five spaces, and a word unless the text says what differs
+-- the text before an unmet expectation: five spaces, and `expected: ` unless the expectation says what differs
 abbrev pub unmet_margin : Unmet → List ℕ
 unmet_margin (unmet.Console difference) = codes "     "
 unmet_margin (unmet.Signature difference) = codes "     "
 unmet_margin _ = codes "     expected: "
 
--- the difference by lines if possible, else a single line
+-- the lines about an unmet expectation: line by line if the expected text is given, and otherwise a single line
 abbrev pub unmet_line_by : Option ℕ → Sides → Unmet → Option Wanted → List ℕ
 unmet_line_by address sides unmet None =
     line (unmet_margin unmet ++ unmet_expectation_text address sides unmet)
 unmet_line_by address sides unmet (Some wanted) = console_lines wanted.source sides.row.console wanted.text
 
+-- the lines about an unmet expectation
 unfoldable pub unmet_line : Option ℕ → Sides → Unmet → List ℕ
 unmet_line address sides unmet = unmet_line_by address sides unmet (expected_by_lines sides unmet)
 
--- the lines in the order of the unmet expectations
+-- the lines about the unmet expectations, in order
 abbrev pub unmet_lines : Option ℕ → Sides → List Unmet → List ℕ
 unmet_lines address sides unmet = flat_map (unmet_line address sides) unmet

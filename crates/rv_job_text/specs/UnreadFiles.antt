@@ -1,4 +1,4 @@
--- What is shown of a file that was not read: its path, and the reason.
+-- The text about a file that was not read: its path, and the reason.
 use Rattle.std.specs.Prelude.{ℕ, List, ◌++◌, codes, Option, Some, None}
 use Rattle.std.specs.Fmt.{decimal}
 use Rattle.std.specs.List.{find}
@@ -7,17 +7,20 @@ use Rattle.rv_files.specs.IoErrors.{io_error_text}
 use Rattle.rv_files.specs.declared.recording_store.UnreadPath.{UnreadPath}
 use Rattle.rv_jobs.specs.Limits.{most_bytes}
 
--- the first note on a path
+-- the first entry for this path in the list of files that could not be read
 abbrev pub unread_note : List UnreadPath → List ℕ → Option UnreadPath
 unread_note unread path = find (λ (one : UnreadPath). bytes_eq path one.path) unread
 
+-- why a file could not be read, in words
 abbrev pub unread_note_text : Option UnreadPath → List ℕ
 unread_note_text None = codes "cannot be read"
 unread_note_text (Some one) = io_error_text one.reason
 
+-- the path of a file, and why it could not be read
 unfoldable pub unread_file_text : List UnreadPath → List ℕ → List ℕ
 unread_file_text unread path = path ++ codes ": " ++ unread_note_text (unread_note unread path)
 
+-- the path of a file, and that the file is too long
 unfoldable pub too_long_file_text : List ℕ → List ℕ
 too_long_file_text path =
     path ++ codes ": the file is larger than " ++ decimal most_bytes ++ codes " bytes"

@@ -8,7 +8,7 @@ use rv_hang::{BudgetUse, Repetition};
 use rv_text::{Span, push_spans};
 use std::alloc::AllocError;
 
-/// Appends the explanation of the used-up budget of a run with this many steps, if there is one.
+/// Appends the line about a used-up budget of a run with this many steps; nothing if the run was not analysed.
 pub(crate) fn push_budget_use_line(
     text: &mut Vec<u8>,
     steps: u32,
@@ -23,6 +23,7 @@ pub(crate) fn push_budget_use_line(
     }
 }
 
+// Appends the line about a run that never ends: after how many steps it repeats, and how often.
 #[tactic(auto, unfolding(crate::specs::BudgetUseLine::repetition_line))]
 fn push_repetition_line(text: &mut Vec<u8>, repetition: Repetition) -> Result<(), AllocError>
     ensures { OnOk result (text.new.items ≡ text.old.items ++ repetition_line repetition) }
@@ -50,6 +51,7 @@ fn period_span(period: u32) -> Span<'static>
     }
 }
 
+// Returns the note that a loop waits for input after the end of the script; empty if it does not.
 fn waiting_text(waits: bool) -> &'static str
     ensures { result.now ≡ waiting_text waits }
 {
@@ -60,6 +62,7 @@ fn waiting_text(waits: bool) -> &'static str
     }
 }
 
+// Appends the line about a run in which no endless loop was found: `within` of its `steps` steps were searched.
 #[tactic(auto, unfolding(crate::specs::BudgetUseLine::changes_line))]
 fn push_changes_line(text: &mut Vec<u8>, steps: u32, within: u32) -> Result<(), AllocError>
     ensures { OnOk result (text.new.items ≡ text.old.items ++ changes_line steps within) }
@@ -75,6 +78,7 @@ fn push_changes_line(text: &mut Vec<u8>, steps: u32, within: u32) -> Result<(), 
     )
 }
 
+// Returns " its last " or " its ", by whether only the last steps or all steps of the run were searched.
 fn last_or_all_text(steps: u32, within: u32) -> &'static str
     ensures { result.now ≡ last_or_all_text steps within }
 {

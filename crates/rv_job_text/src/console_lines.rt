@@ -10,13 +10,13 @@ use crate::whole_lines::{split_whole_line, whole_line_count};
 use rv_text::{Span, push_spans};
 use std::alloc::AllocError;
 
-/// The maximum number of equal lines shown before the first difference.
+/// The maximum number of equal lines that are shown before the first difference.
 const EQUAL_LINES: usize = 2;
 
-/// The maximum number of differing lines shown of each side.
+/// The maximum number of differing lines that are shown of each text.
 const DIFFERING_LINES: usize = 3;
 
-// The rest of two texts after their equal leading lines.
+// The number of equal leading lines of two texts, and the rest of each text.
 #[derive(Clone, Copy)]
 struct Parting<'a> {
     equal: usize,
@@ -24,7 +24,8 @@ struct Parting<'a> {
     wanted: &'a [u8],
 }
 
-/// Appends the first difference between a console and the expected text, which has a name: the last equal lines, and the first that differ.
+/// Appends the difference between the console `met` and the expected text `wanted`, line by line: the last equal lines, and the first
+/// differing ones. `source` names the expected text.
 #[tactic(auto, unfolding(crate::specs::ConsoleLines::console_lines))]
 pub fn push_console_lines(
     bytes: &mut Vec<u8>,
@@ -42,12 +43,14 @@ pub fn push_console_lines(
     push_differing_lines(bytes, parting.met, parting.wanted)
 }
 
+// Returns the larger of two numbers.
 fn larger(count: usize, other: usize) -> usize
     ensures { result ≡ larger count other }
 {
     if count < other { other } else { count }
 }
 
+// Appends the line that says at which line the console differs from the expected text `source`, and how many lines there are.
 fn push_lines_heading(
     bytes: &mut Vec<u8>,
     source: Span<'_>,
@@ -71,7 +74,7 @@ fn push_lines_heading(
     )
 }
 
-// Appends the last of the equal lines at the start of a text.
+// Appends the last of the `equal` leading lines of a text.
 fn push_equal_lines(bytes: &mut Vec<u8>, equal: usize, text: &[u8]) -> Result<(), AllocError>
     ensures { OnOk result (bytes.new.items ≡ bytes.old.items ++ equal_lines equal (whole_lines text.now)) }
 {
@@ -80,7 +83,7 @@ fn push_equal_lines(bytes: &mut Vec<u8>, equal: usize, text: &[u8]) -> Result<()
     push_side_lines(bytes, "       ", equal - earlier, last, &[])
 }
 
-// Appends the first differing lines of two texts, the expected ones first.
+// Appends the lines that differ at the beginning of two texts: first the expected ones, then the actual ones.
 fn push_differing_lines(bytes: &mut Vec<u8>, met: &[u8], wanted: &[u8]) -> Result<(), AllocError>
     ensures { OnOk result (bytes.new.items
         ≡ bytes.old.items ++ differing_lines (whole_lines met.now) (whole_lines wanted.now)) }
@@ -90,7 +93,7 @@ fn push_differing_lines(bytes: &mut Vec<u8>, met: &[u8], wanted: &[u8]) -> Resul
     push_side_lines(bytes, "     + ", count, met, wanted)
 }
 
-// Appends the first lines of one side, relative to the other's, up to a maximum.
+// Appends the first `count` lines of one text, each shown around its difference from the other text's line.
 fn push_side_lines(
     bytes: &mut Vec<u8>,
     margin: &'static str,
@@ -114,7 +117,7 @@ fn push_side_lines(
     Ok(())
 }
 
-// Returns the text after the first `count` lines.
+// Returns the text after its first `count` lines.
 fn text_behind_lines(text: &[u8], count: usize) -> &[u8]
     ensures { whole_lines result.now ≡ drop count (whole_lines text.now) }
 {
@@ -128,7 +131,7 @@ fn text_behind_lines(text: &[u8], count: usize) -> &[u8]
     rest
 }
 
-// Returns the rest of both texts after their equal leading lines.
+// Skips the equal leading lines of both texts. Returns how many there are, and the rest of each text.
 fn parting_of<'a>(met: &'a [u8], wanted: &'a [u8]) -> Parting<'a>
     ensures equal { result.equal ≡ equal_line_count met.now wanted.now }
     ensures within { result.equal ≤ length met.now }
@@ -155,7 +158,7 @@ fn parting_of<'a>(met: &'a [u8], wanted: &'a [u8]) -> Parting<'a>
     parting
 }
 
-// Returns how many leading lines differ from those of the other side, up to `most`.
+// Returns how many leading lines differ pairwise, at most `most`.
 fn differing_line_count(most: usize, met: &[u8], wanted: &[u8]) -> usize
     ensures { result ≡ differing_line_count most (whole_lines met.now) (whole_lines wanted.now) }
 {

@@ -7,15 +7,14 @@ ghost use Rattle.rv_job_text.specs.ConsoleTail.{console_tail_line, console_tail,
 use rv_text::{Span, push_spans, tail_from};
 use std::alloc::AllocError;
 
-/// The maximum number of lines shown of a console.
+/// The maximum number of lines that are shown of a console's end.
 pub const TAIL_LINES: usize = 10;
 
-/// The number of bytes at a console's end from which lines are taken.
+/// The number of bytes at a console's end from which the lines are taken.
 pub const TAIL_BYTES: usize = 1_024;
 
-/// Appends the last lines of a console, at most [`TAIL_LINES`] from its last [`TAIL_BYTES`] bytes. Each is shown as by
-/// [`push_printable_text`](rv_text::push_printable_text), after a margin, and ends with a line feed, even if the last one has none in the
-/// console.
+/// Appends the last lines of a console, at most [`TAIL_LINES`] out of its last [`TAIL_BYTES`] bytes. Each line is written after a margin,
+/// as by [`push_printable_text`](rv_text::push_printable_text), and ends with a line feed, even if the console ends without one.
 #[tactic(auto, unfolding(crate::specs::ConsoleTail::console_tail))]
 pub fn push_console_tail(bytes: &mut Vec<u8>, console: &[u8]) -> Result<(), AllocError>
     ensures { OnOk result (bytes.new.items ≡ bytes.old.items ++ console_tail console.now) }
@@ -64,7 +63,7 @@ fn line_count(text: &[u8]) -> usize
     count
 }
 
-// Returns the first line, and the text after it.
+// Returns the first line without its line feed, and the text after it; `None` if the text is empty.
 fn split_first_line(text: &[u8]) -> Option<(&[u8], &[u8])>
     ensures lines { MatchOption result (text_lines text.now ≡ []) (λ parts.
         text_lines text.now ≡ parts.0.now ∷ text_lines parts.1.now) }
@@ -77,7 +76,7 @@ fn split_first_line(text: &[u8]) -> Option<(&[u8], &[u8])>
     Some((&text[..len], tail_from(text, len + 1)))
 }
 
-// Returns the length of the first line in bytes.
+// Returns the length of the first line in bytes, without its line feed.
 fn first_line_len(text: &[u8]) -> usize
     ensures len { result ≡ position_or_len is_feed text.now }
     ensures within { result ≤ length text.now }
@@ -90,7 +89,7 @@ fn first_line_len(text: &[u8]) -> usize
     text.len()
 }
 
-// Returns the last `count` bytes, or all if there are fewer.
+// Returns the last `count` bytes of a text, or all if there are fewer.
 fn last_bytes(text: &[u8], count: usize) -> &[u8]
     ensures { result.now ≡ last_elements count text.now }
 {

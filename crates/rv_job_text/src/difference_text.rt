@@ -9,7 +9,7 @@ use rv_jobs::ExpectedConsole;
 use rv_text::{Span, actual_and_expected_from, push_spans, push_text};
 use std::alloc::AllocError;
 
-/// Appends the difference from the expected console.
+/// Appends the message that the console `met` differs from the expected one; `file` is the text of the expectation file.
 #[tactic(auto, unfolding(crate::specs::UnmetLines::console_difference_text, crate::specs::UnmetLines::expected_console_text))]
 pub(crate) fn push_console_difference(
     bytes: &mut Vec<u8>,
@@ -35,7 +35,7 @@ pub(crate) fn push_console_difference(
     }
 }
 
-/// Appends what is compared with a name, before the difference.
+/// Appends the text `before` and a name.
 pub(crate) fn push_compared_name(
     bytes: &mut Vec<u8>,
     before: &'static str,
@@ -56,7 +56,7 @@ pub(crate) fn bytes_or_empty(file: Option<&[u8]>) -> &[u8]
     }
 }
 
-/// Appends the difference between actual and expected bytes.
+/// Appends the first difference between the actual text `met` and the expected text `wanted`.
 #[tactic(auto, unfolding(crate::specs::UnmetLines::bytes_difference_text))]
 pub(crate) fn push_bytes_difference(
     bytes: &mut Vec<u8>,
@@ -74,6 +74,7 @@ pub(crate) fn push_bytes_difference(
     }
 }
 
+// Appends the first byte in which the actual text `met` and the expected text `wanted` differ, at offset `place`.
 #[tactic(auto, unfolding(crate::specs::UnmetLines::byte_difference_text))]
 fn push_byte_difference<'a>(
     bytes: &mut Vec<u8>,
@@ -98,7 +99,7 @@ fn push_byte_difference<'a>(
     )
 }
 
-/// Appends the expected and the actual number of bytes or words.
+/// Appends the expected number `wanted` and the actual number `met` of bytes or words.
 #[tactic(auto, unfolding(crate::specs::UnmetLines::count_difference_text))]
 pub(crate) fn push_count_difference(
     bytes: &mut Vec<u8>,

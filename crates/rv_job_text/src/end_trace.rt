@@ -19,14 +19,14 @@ use std::alloc::{AllocError, Global};
 /// Options for showing how a run reached its end.
 #[derive(Clone, Copy)]
 pub struct TraceOptions {
-    /// How many of its last instructions to show.
+    /// How many of its last instructions are shown.
     pub last: u32,
     /// The analysis of a used-up budget.
     pub budget_use: Option<BudgetUse>,
 }
 
-/// Analyses the run of the job at an index if its row states that it used up its budget, which takes the time of two more runs. A run with
-/// another end is not analysed.
+/// Analyses the run of the job at index `place` if it used up its budget, which takes the time of two more runs. Returns `None` for any
+/// other end.
 pub fn budget_use_at(
     alloc: Global,
     plan: &Plan,
@@ -52,7 +52,7 @@ pub fn budget_use_at(
 }
 
 impl<'a> JobRow<'a> {
-    /// Appends how the run reached its end, with its last `last` instructions. The job is run once more.
+    /// Appends how the run reached its end, with its last instructions, at most `last`. Runs the job once more.
     #[tactic(auto, unfolding(crate::specs::RowReporter::way_to_end_lines))]
     pub(crate) fn push_end_trace(
         &self,
@@ -78,7 +78,7 @@ impl<'a> JobRow<'a> {
         }
     }
 
-    /// Appends the calls that have not returned when the run ended, if there are any. The job is run once more, one instruction at a time.
+    /// Appends the calls that have not returned when the run ended, if there are any. Runs the job once more, one instruction at a time.
     #[tactic(auto, unfolding(crate::specs::RowReporter::calls_lines))]
     pub(crate) fn push_calls(&self, alloc: Global, text: &mut Vec<u8>) -> Result<(), AllocError>
         ensures { OnOk result ((d : AJob) → text.new.items ≡ text.old.items
@@ -98,7 +98,7 @@ impl<'a> JobRow<'a> {
         }
     }
 
-    // Analyses the run if it used up its budget after the row's number of steps.
+    // Analyses the run, which used up its budget. Returns `None` if the job has no valid image.
     fn used_budget(&self, alloc: Global) -> Result<Option<BudgetUse>, AllocError>
         ensures { IfOk result (λ found. (d : AJob) → IsBudgetUseIn self.now.plan.now
             (job_at self.now.plan.now self.now.place d) self.now.row.now.steps found) }

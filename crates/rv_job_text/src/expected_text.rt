@@ -16,7 +16,7 @@ pub(crate) struct ExpectedText<'a> {
     pub(crate) text: &'a [u8],
 }
 
-/// Returns the expected text of an unmet expectation, if the difference is shown by lines.
+/// Returns the expected text of an unmet expectation, if the difference from it is shown line by line.
 pub(crate) fn expected_by_lines<'a>(
     comparison: &Comparison<'a, '_>,
     unmet: Unmet,
@@ -32,6 +32,7 @@ pub(crate) fn expected_by_lines<'a>(
     }
 }
 
+// Returns the expected console text with its name: from the list, or from a file whose contents are `file`.
 fn wanted_console<'a>(
     expected: &'a Option<ExpectedConsole>,
     file: Option<&'a [u8]>,
@@ -52,6 +53,7 @@ fn wanted_console<'a>(
     }
 }
 
+// Returns the expected text, if the difference from it is shown line by line.
 fn shown_by_lines<'a>(
     difference: Difference,
     met: &[u8],
@@ -65,6 +67,7 @@ fn shown_by_lines<'a>(
     }
 }
 
+// Whether a difference is shown line by line: both texts are present and are UTF-8.
 fn is_shown_by_lines(difference: Difference, met: &[u8], wanted: &[u8]) -> bool
     ensures { result ≡ is_shown_by_lines difference met.now wanted.now }
 {

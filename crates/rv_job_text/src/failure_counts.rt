@@ -32,6 +32,7 @@ pub(crate) fn push_failure_counts(
     Ok(())
 }
 
+// Returns the number of failures of this kind.
 fn failure_count(failures: &[FailureKind], kind: FailureKind) -> usize
     ensures { result ≡ failure_count failures.now kind }
 {
@@ -44,6 +45,7 @@ fn failure_count(failures: &[FailureKind], kind: FailureKind) -> usize
     count
 }
 
+// Appends the number of failures of a kind and its name, after a comma or an opening bracket.
 fn push_failure_count(
     bytes: &mut Vec<u8>,
     is_open: bool,
@@ -66,6 +68,7 @@ fn push_failure_count(
     )
 }
 
+// Returns the name of a kind of failure.
 fn failure_kind_name(kind: FailureKind) -> &'static str
     ensures { result.now ≡ failure_kind_name kind }
 {

@@ -14,8 +14,8 @@ use rv_memory::Region;
 use rv_text::{Span, push_spans, push_text};
 use std::alloc::{AllocError, Global};
 
-/// Appends why a file's image was refused for a job: the addresses beside the regions if the job's map rejects them, the name of a symbol,
-/// or a sentence. For a file that cannot be parsed as an image it is only the sentence. Allocates the image once more.
+/// Appends why the image of the job is refused: with the addresses of segments and regions or the name of a symbol, if the image can be
+/// parsed. Allocates the image once more.
 #[tactic(auto, unfolding(crate::specs::ImageReasons::image_reason))]
 pub(crate) fn push_image_reason(
     alloc: Global,
@@ -36,6 +36,7 @@ pub(crate) fn push_image_reason(
     }
 }
 
+// Appends the message about a refused image that can be parsed, with details about its segments or symbols.
 #[tactic(auto, unfolding(crate::specs::ImageReasons::image_details_text))]
 fn push_image_details(
     bytes: &mut Vec<u8>,
@@ -65,7 +66,7 @@ fn push_image_details(
     }
 }
 
-// Returns the sentence for a refusal without details.
+// Returns the message about a refused image without details.
 #[tactic(auto, unfolding(crate::specs::ImageReasons::image_error_sentence))]
 fn image_error_sentence(why: ImageError) -> &'static str
     ensures { result.now ≡ image_error_sentence why }
@@ -117,6 +118,7 @@ fn end_symbol_name(signature: &Option<Symbols>) -> Option<&[u8]>
     }
 }
 
+// Appends the message that the symbol of a signature is not defined.
 #[tactic(auto, unfolding(crate::specs::ImageReasons::missing_symbol_text))]
 fn push_missing_symbol(bytes: &mut Vec<u8>, name: Option<&[u8]>) -> Result<(), AllocError>
     ensures { OnOk result (bytes.new.items ≡ bytes.old.items
@@ -135,6 +137,7 @@ fn push_missing_symbol(bytes: &mut Vec<u8>, name: Option<&[u8]>) -> Result<(), A
     }
 }
 
+// Appends the message that a signature is not a sequence of words in one region, with its symbols and the regions.
 #[tactic(auto, unfolding(crate::specs::ImageReasons::signature_range_text))]
 fn push_signature_range(
     bytes: &mut Vec<u8>,
@@ -161,7 +164,7 @@ fn push_signature_range(
     }
 }
 
-// Appends the range from one symbol to another.
+// Appends the names and addresses of the two symbols of a signature.
 #[tactic(auto, unfolding(crate::specs::ImageReasons::signature_ends_text, crate::specs::ImageReasons::named_symbol_text))]
 fn push_signature_ends(
     bytes: &mut Vec<u8>,
@@ -196,7 +199,7 @@ fn push_signature_ends(
     )
 }
 
-// Returns the address of a symbol, if there is one.
+// Returns the address of a symbol in two spans, which are empty if the symbol is not defined.
 fn symbol_address_spans(file: &[u8], image: &Image, name: &[u8]) -> (Span<'static>, Span<'static>)
     requires image { IsImageOf file.now image.now }
     requires named { 0 < length name.now }

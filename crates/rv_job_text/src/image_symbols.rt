@@ -12,7 +12,7 @@ use rv_rows::RowEnd;
 use rv_trace::ElfFile;
 
 impl<'a> JobFile<'a> {
-    /// Returns the symbol of a fault's address.
+    /// Returns the symbol at or before the pc of a fault; `None` for any other end.
     #[tactic(auto, unfolding(crate::specs::ImageSymbols::fault_symbol))]
     pub(crate) fn fault_symbol(&self, ending: RowEnd) -> Option<SymbolAt<'_>>
         ensures { option_map (λ s. (s.name.now, s.offset)) result
@@ -34,7 +34,7 @@ impl<'a> JobFile<'a> {
         }
     }
 
-    /// Returns the address of a signature's first word.
+    /// Returns the address of the first word of a signature, if it can be found in the image.
     pub(crate) fn signature_begin(&self, names: &Option<Symbols>) -> Option<u32>
         requires { IfSome names.now (λ names. 0 < length names.begin) }
         ensures { result
@@ -50,7 +50,7 @@ impl<'a> JobFile<'a> {
     }
 }
 
-// Returns the value of the symbol at which a signature begins.
+// Returns the value of the symbol at which a signature begins, if it is defined.
 fn begin_symbol_value(elf: &ElfFile<'_>, names: &Symbols) -> Option<u32>
     requires { 0 < length names.now.begin }
     ensures { result ≡ value_if_defined (symbol_of elf.now.bytes.now names.now.begin) }

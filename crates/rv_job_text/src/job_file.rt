@@ -12,7 +12,7 @@ use rv_jobs::Plan;
 use rv_trace::{ElfFile, image_bytes};
 use std::alloc::{AllocError, Global};
 
-/// The bytes of a job's image, if they were read, and the image, if they are a valid one.
+/// The bytes of a job's image file, if they were read, and the image, if they are a valid one.
 #[derive(Drop)]
 pub(crate) struct JobFile<'a> {
     /// The instruction set that the bytes are parsed for.
@@ -23,7 +23,7 @@ pub(crate) struct JobFile<'a> {
 }
 
 impl<'a> JobFile<'a> {
-    /// Parses the image of the job at an index. Allocates the image.
+    /// Parses the image of the job at index `place`. Allocates the image.
     pub(crate) fn read(
         alloc: Global,
         plan: &'a Plan,
@@ -40,7 +40,7 @@ impl<'a> JobFile<'a> {
         Ok(JobFile { isa, bytes, image })
     }
 
-    /// Returns the file with its image, if it is a valid one.
+    /// Returns the file with its image; `None` if it was not read or is not a valid image.
     pub(crate) fn elf_file(&self) -> Option<ElfFile<'_>>
         ensures { MatchOption result
             (image_if_read self.now.isa (option_map (λ bytes. bytes.now) self.now.bytes) ≡ None)

@@ -4,12 +4,12 @@ ghost use Rattle.std.specs.Prelude.{◌≡◌, ◌≢◌, ℕ, List};
 ghost use Rattle.std.specs.List.{flat_map};
 ghost use Rattle.rv_job_text.specs.ConsoleLines.{DifferFirstAt, equal_line_count, whole_lines};
 
-/// The concatenated lines of a text are the text.
+/// The lines of a text, one after another, are the text.
 pub fn lines_are_the_text()
     ensures { (text : List ℕ) → flat_map (λ line. line) (whole_lines text) ≡ text }
 {}
 
-/// Before the line that is reported as the first difference, the lines of two texts are equal. At that line they differ, or one text has
+/// Before the line that is shown as the first difference, the lines of two texts are equal. At that line they differ, or one text has
 /// ended.
 pub fn shown_line_differs_first()
     ensures { (met wanted : List ℕ) → met ≢ wanted

@@ -12,7 +12,7 @@ use rv_rows::Row;
 use rv_text::{Span, push_spans, push_text};
 use std::alloc::AllocError;
 
-/// Appends a line, after five spaces, for each expectation of a job that its run meets: those that are not among the unmet ones.
+/// Appends a line for each expectation of a job that its run meets: for those that are not among the unmet ones.
 #[tactic(auto, unfolding(crate::specs::MetLines::met_lines))]
 pub(crate) fn push_met_lines(
     bytes: &mut Vec<u8>,
@@ -52,6 +52,7 @@ fn push_each_met_line(
     Ok(())
 }
 
+// Appends the line about an expectation, if it is met; nothing otherwise.
 #[tactic(auto, unfolding(crate::specs::MetLines::met_line))]
 fn push_met_line(
     bytes: &mut Vec<u8>,
@@ -70,6 +71,7 @@ fn push_met_line(
     push_text(bytes, "\n")
 }
 
+// Appends a met expectation, in words.
 #[tactic(auto, unfolding(crate::specs::MetLines::met_expectation_text))]
 fn push_met_expectation(
     bytes: &mut Vec<u8>,
@@ -89,7 +91,7 @@ fn push_met_expectation(
     }
 }
 
-// Appends what is met, with its path if it has one.
+// Appends which expectation is met, with the path of its file if it has one.
 fn push_met_file<'a>(
     bytes: &mut Vec<u8>,
     what: &'a str,
@@ -111,6 +113,7 @@ fn push_met_file<'a>(
     )
 }
 
+// Appends the expectation that a job has the same result as another job, in words.
 #[tactic(auto, unfolding(crate::specs::MetLines::same_as_job_text))]
 fn push_same_as_job(bytes: &mut Vec<u8>, other: Option<&Row>) -> Result<(), AllocError>
     ensures { OnOk result (bytes.new.items ≡ bytes.old.items

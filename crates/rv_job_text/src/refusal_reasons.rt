@@ -17,7 +17,7 @@ use rv_rows::{Refusal, RowEnd, expected_console_bytes, signature_reference_bytes
 use rv_trace::image_bytes;
 use std::alloc::{AllocError, Global};
 
-/// Returns why the job at an index was refused, if it was.
+/// Returns why the job at index `place` is refused; `None` if it is not.
 #[tactic(auto, unfolding(crate::specs::RefusalReasons::ending_reason))]
 pub fn ending_reason(
     alloc: Global,
@@ -36,6 +36,7 @@ pub fn ending_reason(
     }
 }
 
+// Returns the reason why a job is refused; `unread` says why files could not be read.
 #[tactic(auto, unfolding(crate::specs::RefusalReasons::refusal_reason))]
 fn refusal_reason(
     alloc: Global,
@@ -87,6 +88,7 @@ fn too_long_file_reason(alloc: Global, path: Option<&str>) -> Result<Option<Vec<
     }
 }
 
+// Returns the reason why an image that was read is refused; `None` if it was not read.
 fn image_refusal_text(
     alloc: Global,
     plan: &Plan,
@@ -105,7 +107,7 @@ fn image_refusal_text(
     Ok(Some(text))
 }
 
-// Returns the path of the reference or of the console file, whichever is the first that was not read.
+// Returns the path of the first expectation file that was not read: of the signature, or else of the console.
 #[tactic(auto, unfolding(crate::specs::RefusalReasons::unread_reference_path))]
 fn unread_reference_path(plan: &Plan, place: usize) -> Option<&str>
     requires { place < length plan.now.jobs }
@@ -119,6 +121,7 @@ fn unread_reference_path(plan: &Plan, place: usize) -> Option<&str>
     }
 }
 
+// Returns the path of a file, if its contents were not read.
 fn path_if_unread<'a>(bytes: Option<&[u8]>, path: Option<&'a str>) -> Option<&'a str>
     ensures { option_map (λ path. path.now) result
         ≡ path_if_unread (option_map (λ bytes. bytes.now) bytes.entry)

@@ -17,19 +17,18 @@ use rv_rows::{Refusal, Row, RowEnd};
 use rv_text::{Span, push_spans, push_symbol_in_brackets, push_text};
 use std::alloc::{AllocError, Global};
 
-/// What is known of a job's end beyond its row.
+/// What is known about a job's end in addition to its row.
 #[derive(Clone, Copy)]
 pub struct EndDetail<'a, 'b> {
-    /// The symbol of a fault's address.
+    /// The symbol at or before the pc of a fault.
     pub symbol: Option<SymbolAt<'a>>,
-    /// Why the job was refused.
+    /// Why the job is refused.
     pub reason: Option<&'b [u8]>,
 }
 
-/// Appends the line of a row: `PASS`, `FAIL` or `known`, the job's name, and how it ended. A known failure is followed by its reason in
-/// brackets; a row that passed although it is a known failure, by the file that lists it. A fault's address is also shown as a symbol if
-/// one is given, and a refusal with its reason if that is given. The symbol's name and the reasons are shown as by
-/// [`push_printable_text`](rv_text::push_printable_text).
+/// Appends the line about a row: `PASS`, `FAIL` or `KNOWN`, the job's name, and how the run ended. A known failure has its reason in
+/// brackets. For a job that passes although it is known to fail, the line names the file that lists it. The pc of a fault has its symbol,
+/// and a refusal its reason, if they are given. Texts from files are written as by [`push_printable_text`](rv_text::push_printable_text).
 #[tactic(auto, unfolding(crate::specs::ResultLine::result_line))]
 pub fn push_result_line(
     alloc: Global,
@@ -55,6 +54,7 @@ pub fn push_result_line(
     push_text(bytes, "\n")
 }
 
+// Returns the first word of the line about a row: PASS, FAIL or KNOWN.
 fn judged_word(judgement: Judgement<'_>) -> &'static str
     ensures { result.now ≡ judged_word (judged_of judgement.entry) }
 {
@@ -65,6 +65,7 @@ fn judged_word(judgement: Judgement<'_>) -> &'static str
     }
 }
 
+// Appends how a run ended, with the reason of a known failure, or the message that a job known to fail passes.
 fn push_judged_ending(
     alloc: Global,
     bytes: &mut Vec<u8>,
@@ -89,6 +90,7 @@ fn push_judged_ending(
     }
 }
 
+// Appends the reason of a known failure, in brackets; nothing without a reason.
 fn push_known_reason(bytes: &mut Vec<u8>, why: &[u8]) -> Result<(), AllocError>
     ensures { OnOk result (bytes.new.items ≡ bytes.old.items ++ known_reason_text why.now) }
 {
@@ -101,6 +103,7 @@ fn push_known_reason(bytes: &mut Vec<u8>, why: &[u8]) -> Result<(), AllocError>
     )
 }
 
+// Appends the message that a job passes although the file at the path lists it as known to fail.
 fn push_now_passes(bytes: &mut Vec<u8>, path: &str) -> Result<(), AllocError>
     ensures { OnOk result (bytes.new.items ≡ bytes.old.items ++ now_passes_text path.now) }
 {
@@ -113,6 +116,7 @@ fn push_now_passes(bytes: &mut Vec<u8>, path: &str) -> Result<(), AllocError>
     )
 }
 
+// Appends how a run ended, with its steps; for a fault also the pc, with its symbol `place`, and the value; for a refusal the reason.
 #[tactic(auto, unfolding(crate::specs::ResultLine::result_ending_text))]
 fn push_result_ending(
     alloc: Global,
@@ -154,7 +158,7 @@ fn push_exit_ending(bytes: &mut Vec<u8>, code: u32, steps: u32) -> Result<(), Al
     )
 }
 
-// Appends the kind and the address of a fault.
+// Appends the kind and the pc of a fault.
 fn push_fault_and_address(bytes: &mut Vec<u8>, kind: FaultKind, pc: u32) -> Result<(), AllocError>
     ensures { OnOk result (bytes.new.items ≡ bytes.old.items
         ++ (codes "fault " ++ fault_name kind ++ codes " at " ++ word_digits pc)) }

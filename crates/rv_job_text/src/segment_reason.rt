@@ -14,6 +14,7 @@ use rv_memory::Region;
 use rv_text::{Span, push_spans, push_text};
 use std::alloc::AllocError;
 
+/// Appends the message that a segment does not fit in one region, with the regions.
 #[tactic(auto, unfolding(crate::specs::ImageReasons::unfit_segment_text))]
 pub(crate) fn push_unfit_segment(
     bytes: &mut Vec<u8>,
@@ -32,7 +33,7 @@ pub(crate) fn push_unfit_segment(
     }
 }
 
-// Appends the part of a segment that is outside: its memory if its file bytes are inside, otherwise its file bytes at their load addresses.
+// Appends the addresses of the part of a segment that does not fit: of its memory if its file bytes fit, and otherwise of its file bytes.
 #[tactic(auto, unfolding(crate::specs::ImageReasons::outside_segment_text))]
 fn push_outside_segment(bytes: &mut Vec<u8>, job: &Job, segment: &Segment) -> Result<(), AllocError>
     ensures { OnOk result (bytes.new.items ≡ bytes.old.items
@@ -51,6 +52,7 @@ fn push_outside_segment(bytes: &mut Vec<u8>, job: &Job, segment: &Segment) -> Re
     }
 }
 
+/// Appends the addresses of the regions, each in brackets.
 #[tactic(auto, unfolding(crate::specs::ImageReasons::regions_text))]
 pub(crate) fn push_regions(bytes: &mut Vec<u8>, regions: &[Region]) -> Result<(), AllocError>
     ensures { OnOk result (bytes.new.items ≡ bytes.old.items ++ regions_text regions.now) }
@@ -61,7 +63,7 @@ pub(crate) fn push_regions(bytes: &mut Vec<u8>, regions: &[Region]) -> Result<()
     Ok(())
 }
 
-// Appends a range of `count` addresses, between two texts.
+// Appends the first and the last of `count` addresses from `from` on, between two texts.
 fn push_address_range(
     bytes: &mut Vec<u8>,
     before: &'static str,
@@ -84,7 +86,7 @@ fn push_address_range(
     )
 }
 
-// Returns the last of `count` addresses from one on.
+// Returns the last of `count` addresses from `from` on.
 #[tactic(auto, unfolding(crate::specs::ImageReasons::last_address_text))]
 fn last_address_span(from: u32, count: u32) -> Span<'static>
     ensures { span_text result ≡ last_address_text from count }
@@ -95,6 +97,7 @@ fn last_address_span(from: u32, count: u32) -> Span<'static>
     }
 }
 
+/// Appends the message that the file bytes of two segments overlap.
 #[tactic(auto, unfolding(crate::specs::ImageReasons::segment_overlap_text))]
 pub(crate) fn push_segment_overlap(
     bytes: &mut Vec<u8>,
@@ -110,7 +113,7 @@ pub(crate) fn push_segment_overlap(
     }
 }
 
-// Appends where the file bytes of two segments are loaded.
+// Appends the addresses to which the file bytes of two segments are loaded.
 #[tactic(auto, unfolding(crate::specs::ImageReasons::segment_pair_text))]
 fn push_segment_pair(
     bytes: &mut Vec<u8>,
@@ -139,7 +142,7 @@ fn push_segment_pair(
     )
 }
 
-// Returns the first segment that overlaps a later one, and the first such later one.
+// Returns the first segment that overlaps a later one, and the first later one that it overlaps; `None` if there is no overlap.
 fn overlapping_segments(at: LoadAt, segments: &[Segment]) -> Option<(Segment, Segment)>
     ensures { result ≡ overlapping_segments at segments.now }
 {
@@ -153,7 +156,7 @@ fn overlapping_segments(at: LoadAt, segments: &[Segment]) -> Option<(Segment, Se
     None
 }
 
-// Returns the first of the others that overlaps the given one.
+// Returns the first of `others` that overlaps the segment `one`.
 fn first_overlapping_segment<'a>(
     at: LoadAt,
     one: &Segment,

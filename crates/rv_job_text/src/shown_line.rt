@@ -10,13 +10,13 @@ use crate::whole_lines::first_feed;
 use rv_text::{push_printable_text, push_text, tail_from};
 use std::alloc::AllocError;
 
-/// The maximum number of characters shown of a line.
+/// The maximum number of characters that are shown of a line.
 const LINE_CHARACTERS: usize = 160;
 
-/// The maximum number of bytes before the first difference at which a longer line is shown.
+/// How many bytes before the first difference a longer line is shown, at most.
 const BYTES_BEFORE_DIFFERENCE: usize = 32;
 
-/// Appends the line of one side, relative to the other's, after a margin.
+/// Appends the line `own` of one text after a margin, shown around its first difference from the line `other` of the other text.
 #[tactic(auto, unfolding(crate::specs::ConsoleLines::side_line))]
 pub(crate) fn push_side_line(
     bytes: &mut Vec<u8>,
@@ -45,7 +45,7 @@ fn push_feed_note(bytes: &mut Vec<u8>, whole: &[u8], feed: usize) -> Result<(), 
     }
 }
 
-// Appends a line that differs at an offset; of a longer line only a part.
+// Appends a line with a difference at offset `place`; of a long line only the part around the difference.
 #[tactic(auto, unfolding(crate::specs::ConsoleLines::shown_line))]
 fn push_shown_line(bytes: &mut Vec<u8>, place: usize, text: &[u8]) -> Result<(), AllocError>
     ensures { OnOk result (bytes.new.items ≡ bytes.old.items ++ shown_line place text.now) }
@@ -63,6 +63,7 @@ fn push_text_from(bytes: &mut Vec<u8>, begin: usize, text: &[u8]) -> Result<(), 
     push_printable_text(bytes, &rest[..characters_len(LINE_CHARACTERS, rest)])
 }
 
+// Returns the offset from which a line with a difference at offset `place` is shown: 0, or for a longer line shortly before the difference.
 fn shown_begin(place: usize, text: &[u8]) -> usize
     ensures { result ≡ shown_begin place text.now }
 {
@@ -73,7 +74,7 @@ fn shown_begin(place: usize, text: &[u8]) -> usize
     begin + first_character_begin(tail_from(text, begin))
 }
 
-// Returns the offset of the first character's beginning, or the length if there is none.
+// Returns the offset at which the first character begins, or the length of the text if there is none.
 fn first_character_begin(text: &[u8]) -> usize
     ensures place { result ≡ position_or_len begins_character text.now }
     ensures within { result ≤ length text.now }
@@ -86,7 +87,7 @@ fn first_character_begin(text: &[u8]) -> usize
     text.len()
 }
 
-// Returns the number of bytes in the first characters, at most `most` of them.
+// Returns the number of bytes in the first `most` characters of a text.
 fn characters_len(most: usize, text: &[u8]) -> usize
     ensures len { result ≡ characters_len most text.now }
     ensures within { result ≤ length text.now }
@@ -103,13 +104,14 @@ fn characters_len(most: usize, text: &[u8]) -> usize
     text.len()
 }
 
+// Whether a UTF-8 character begins with this byte.
 fn begins_character(byte: u8) -> bool
     ensures { result ≡ begins_character byte }
 {
     byte < 0x80 || 0xC0 <= byte
 }
 
-// Returns the length of the common prefix in bytes.
+// Returns the number of equal leading bytes of two texts.
 fn equal_len(own: &[u8], other: &[u8]) -> usize
     ensures { result ≡ common_prefix_len nat_eq own.now other.now }
 {

@@ -11,7 +11,7 @@ use rv_rows::{LINE, Words};
 use rv_text::{Span, push_spans, push_text};
 use std::alloc::AllocError;
 
-/// Appends the difference from the expected signature. `address` is that of its first word, if it is known.
+/// Appends the message that a signature differs from the expected one. `address` is that of its first word, if it is known.
 #[tactic(auto, unfolding(crate::specs::UnmetLines::signature_difference_text))]
 pub(crate) fn push_signature_difference(
     bytes: &mut Vec<u8>,
@@ -34,6 +34,7 @@ pub(crate) fn push_signature_difference(
     push_reference_difference(bytes, address, words, reference, difference)
 }
 
+// Appends the first difference between the words of a signature and the text of a signature file.
 #[tactic(auto, unfolding(crate::specs::UnmetLines::reference_difference_text))]
 fn push_reference_difference(
     bytes: &mut Vec<u8>,
@@ -67,6 +68,7 @@ fn push_reference_difference(
     }
 }
 
+// Appends the message that a line of a signature file is invalid.
 #[tactic(auto, unfolding(crate::specs::UnmetLines::bad_reference_line_text))]
 fn push_bad_reference_line(bytes: &mut Vec<u8>, number: usize) -> Result<(), AllocError>
     ensures { OnOk result (bytes.new.items ≡ bytes.old.items ++ bad_reference_line_text number) }
@@ -81,7 +83,7 @@ fn push_bad_reference_line(bytes: &mut Vec<u8>, number: usize) -> Result<(), All
     )
 }
 
-/// Appends the difference between two signatures, either of which may be missing.
+/// Appends the first difference between the actual signature `words` and the expected one `others`; either may be missing.
 #[tactic(auto, unfolding(crate::specs::UnmetLines::signatures_difference_text))]
 pub(crate) fn push_signatures_difference(
     bytes: &mut Vec<u8>,
@@ -111,7 +113,7 @@ pub(crate) fn push_signatures_difference(
     }
 }
 
-// Returns the text for the one of two signatures that is missing.
+// Returns which of two signatures is missing: the actual one if it is `None`, and otherwise the expected one.
 fn absent_signature_text(words: &Option<Words>) -> &'static str
     ensures { result.now ≡ absent_signature_text words.now }
 {
@@ -121,7 +123,7 @@ fn absent_signature_text(words: &Option<Words>) -> &'static str
     }
 }
 
-// Appends the expected and the actual word at an index.
+// Appends the expected digits `wanted` and the actual digits `met` of the word at index `place`.
 fn push_word_difference<'a>(
     bytes: &mut Vec<u8>,
     first: Option<u32>,
@@ -166,7 +168,7 @@ fn word_address(first: u32, place: usize) -> u32
     ((first as u128 + 4 * place as u128) % 0x1_0000_0000) as u32
 }
 
-// Returns the digits of the word at an index, if there is one.
+// Returns the digits of the word of a signature at index `place`; empty if there is none.
 #[tactic(auto, unfolding(crate::specs::UnmetLines::signature_word_digits))]
 fn signature_word_digits(words: &[u32], place: usize) -> Span<'static>
     ensures { span_text result ≡ signature_word_digits words.now place }
@@ -178,7 +180,7 @@ fn signature_word_digits(words: &[u32], place: usize) -> Span<'static>
     }
 }
 
-// Returns the digits of the line at an index.
+// Returns the digits of the word of a signature file at index `place`; empty if there is none.
 #[tactic(auto, unfolding(crate::specs::UnmetLines::reference_digits_at))]
 fn reference_digits_at(text: &[u8], place: usize) -> &[u8]
     ensures { result.now ≡ reference_digits_at text.now place }

@@ -33,12 +33,12 @@ use std::alloc::{AllocError, Global};
 #[derive(Clone, Copy)]
 pub struct TextReporter<'a> {
     pub plan: &'a Plan,
-    /// A store's notes on the paths that it could not read.
+    /// The files that could not be read, with the reasons.
     pub unread: &'a [UnreadPath],
-    /// How rows are counted.
+    /// Which rows are failures.
     pub judge: Judge<'a>,
     pub verbosity: Verbosity,
-    /// How many of the last instructions of a failed job to show, if any.
+    /// How many last instructions of a failed job are shown, if any.
     pub last: Option<u32>,
 }
 
@@ -63,6 +63,7 @@ impl<'a> RowReporter for TextReporter<'a> {
 }
 
 impl<'a> TextReporter<'a> {
+    // Appends all lines about a row of the job; nothing if the row is not shown.
     #[tactic(auto, unfolding(crate::specs::RowReporter::row_lines))]
     fn push_row_lines(
         &self,
@@ -94,9 +95,9 @@ impl<'a> TextReporter<'a> {
         .push_run_lines(alloc, self.last, text)
     }
 
-    /// Appends an explanation of the row of the job at an index, regardless of the verbosity: its line and, if the job ran, every
-    /// expectation with the unmet ones first, the end of its console, the analysis of a used-up budget, how it reached its end, with the
-    /// registers there and its last instructions, and the calls that have not returned.
+    /// Appends an explanation of the row of the job at index `place`, whatever the verbosity: the line about it and, if the job ran, its
+    /// expectations with the unmet ones first, the end of its console, the use of its budget, how it reached its end with the registers and
+    /// last instructions, and the calls that have not returned.
     #[tactic(auto, unfolding(crate::specs::RowReporter::explanation_text))]
     pub fn push_job_explanation(
         &self,
@@ -126,7 +127,7 @@ impl<'a> TextReporter<'a> {
         .push_run_explanation(alloc, way, text)
     }
 
-    /// Appends the outcome of the job at an index, regardless of the verbosity: the line of its row and, if it ran, the unmet expectations.
+    /// Appends the line about the row of the job at index `place`, whatever the verbosity, and the unmet expectations if the job ran.
     #[tactic(auto, unfolding(crate::specs::RowReporter::outcome_text))]
     pub fn push_outcome(
         &self,
@@ -155,8 +156,8 @@ impl<'a> TextReporter<'a> {
         .push_expectation_lines(alloc, Detail::Unmet, text)
     }
 
-    /// Appends only the line of the row of the job at an index, regardless of the verbosity. The image is parsed only for the address of a
-    /// fault.
+    /// Appends only the line about the row of the job at index `place`, whatever the verbosity. Parses the image only if the run ended with
+    /// a fault.
     #[tactic(auto, unfolding(crate::specs::ImageSymbols::fault_symbol))]
     pub fn push_lone_row_line(
         &self,
@@ -181,7 +182,7 @@ impl<'a> TextReporter<'a> {
         }
     }
 
-    // Appends the line of the row of the job at an index, with the symbol of a fault's address.
+    // Appends the line about the row of the job at index `place`, with the symbol at the pc of a fault.
     #[tactic(auto, unfolding(crate::specs::RowReporter::row_line))]
     fn push_row_line(
         &self,
@@ -218,7 +219,7 @@ fn reason_bytes(reason: &Option<Vec<u8>>) -> Option<&[u8]>
 }
 
 impl<'a> JobRow<'a> {
-    // Appends the unmet expectations of the run, the end of its console, and how it reached its end.
+    // Appends the lines about a failed run: its unmet expectations, the end of its console and, if requested, how it reached its end.
     #[tactic(auto, unfolding(crate::specs::RowReporter::run_lines))]
     fn push_run_lines(
         &self,
@@ -238,8 +239,8 @@ impl<'a> JobRow<'a> {
         }
     }
 
-    // Appends every expectation, the end of the console, the analysis of a used-up budget, how the run reached its end, and the calls that
-    // have not returned.
+    // Appends the lines that explain a run: its expectations, the end of its console, the use of its budget, how it reached its end, and
+    // the calls that have not returned.
     #[tactic(auto, unfolding(crate::specs::RowReporter::run_explanation))]
     fn push_run_explanation(
         &self,
@@ -258,7 +259,7 @@ impl<'a> JobRow<'a> {
         self.push_calls(alloc, text)
     }
 
-    // Appends the expectations of the run that are to be shown.
+    // Appends the lines about the unmet expectations and, if `detail` says so, about the met ones.
     fn push_expectation_lines(
         &self,
         alloc: Global,
@@ -273,7 +274,7 @@ impl<'a> JobRow<'a> {
         self.push_compared_expectations(alloc, named.as_ref(), detail, text)
     }
 
-    // Like `push_expectation_lines`, with the row of the named job.
+    // Like `push_expectation_lines`, given the row of the job that `same_as` names.
     fn push_compared_expectations(
         &self,
         alloc: Global,
@@ -302,6 +303,7 @@ impl<'a> JobRow<'a> {
     }
 }
 
+// Appends the lines about the unmet expectations and, if `Detail` says so, about the met ones.
 fn push_compared_lines(
     comparison: &Comparison<'_, '_>,
     address: Option<u32>,

@@ -27,7 +27,7 @@ pub fn push_totals_line(
     push_text(bytes, "\n")
 }
 
-/// The rows of a plan's jobs at some indices, the first of which have rows.
+/// The rows of the first of the jobs at some indices of a plan.
 #[derive(Clone, Copy)]
 pub struct RunRows<'a> {
     pub plan: &'a Plan,
@@ -35,8 +35,8 @@ pub struct RunRows<'a> {
     pub rows: &'a [Row],
 }
 
-/// Like [`push_totals_line`], for a run that shows these rows and has `hidden` further jobs, before which a failure ended it. What did not
-/// match in the failed jobs is shown by kind.
+/// Like [`push_totals_line`], for a run with these rows, in which `hidden` jobs have no row since a failure stopped it. Failures are
+/// counted by what did not match.
 pub fn push_run_totals_line(
     bytes: &mut Vec<u8>,
     judge: &Judge<'_>,
@@ -54,6 +54,7 @@ pub fn push_run_totals_line(
     push_text(bytes, "\n")
 }
 
+// Appends the last line for rows with these failures, without its line feed.
 #[tactic(auto, unfolding(crate::specs::TotalsLine::totals_text))]
 fn push_totals_text(
     bytes: &mut Vec<u8>,
@@ -98,14 +99,14 @@ fn push_passed_counts(
     )
 }
 
-/// Returns the noun after a count of jobs.
+/// Returns ` job` or ` jobs`, by their number.
 pub fn job_word(count: usize) -> &'static str
     ensures { result.now ≡ job_word count }
 {
     if count == 1 { " job" } else { " jobs" }
 }
 
-// Appends the number of known failures, if there are any.
+// Appends the number of known failures; nothing if there are none.
 fn push_known_count(bytes: &mut Vec<u8>, count: usize) -> Result<(), AllocError>
     ensures { OnOk result (bytes.new.items ≡ bytes.old.items ++ known_count_text count) }
 {
@@ -118,6 +119,7 @@ fn push_known_count(bytes: &mut Vec<u8>, count: usize) -> Result<(), AllocError>
     )
 }
 
+// Returns the number of rows that passed.
 fn passed_count(judge: &Judge<'_>, rows: &[Row]) -> usize
     ensures { result ≡ passed_count (judging_of judge.now) rows.now }
 {
@@ -126,13 +128,14 @@ fn passed_count(judge: &Judge<'_>, rows: &[Row]) -> usize
         .count()
 }
 
+// Returns the number of rows that are failures.
 fn failed_count(judge: &Judge<'_>, rows: &[Row]) -> usize
     ensures { result ≡ failed_count (judging_of judge.now) rows.now }
 {
     rows.iter().filter(|row| judge.fails(row)).count()
 }
 
-/// Returns the number of known failures.
+/// Returns the number of rows that are known failures.
 pub fn known_count(judge: &Judge<'_>, rows: &[Row]) -> usize
     ensures { result ≡ known_count (judging_of judge.now) rows.now }
 {
@@ -141,7 +144,7 @@ pub fn known_count(judge: &Judge<'_>, rows: &[Row]) -> usize
         .count()
 }
 
-// Returns the steps of all rows. No row has more than a budget allows, so the sum does not overflow.
+// Returns the number of steps of all rows. A row has at most as many steps as a budget allows, so the sum does not overflow.
 fn total_steps(rows: &[Row]) -> u64
     requires { length rows.now < 2 ^ 32 }
     ensures { result ≡ total_steps rows.now }
@@ -149,7 +152,7 @@ fn total_steps(rows: &[Row]) -> u64
     rows.iter().map(|row| u64::from(row.steps)).sum()
 }
 
-// Appends how many jobs are not shown, if there are any.
+// Appends how many jobs have no row; nothing if there are none.
 fn push_hidden_count(bytes: &mut Vec<u8>, hidden: usize) -> Result<(), AllocError>
     ensures { OnOk result (bytes.new.items ≡ bytes.old.items ++ hidden_text hidden) }
 {
@@ -167,7 +170,7 @@ fn push_hidden_count(bytes: &mut Vec<u8>, hidden: usize) -> Result<(), AllocErro
     )
 }
 
-// Appends the steps of all jobs.
+// Appends the number of steps of all jobs.
 fn push_total_steps(bytes: &mut Vec<u8>, steps: u64) -> Result<(), AllocError>
     ensures { OnOk result (bytes.new.items ≡ bytes.old.items
         ++ (codes ", " ++ count_text steps (codes "step"))) }

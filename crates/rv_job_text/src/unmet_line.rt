@@ -15,7 +15,7 @@ use rv_rows::{Row, RowEnd};
 use rv_text::{Span, push_spans, push_text};
 use std::alloc::AllocError;
 
-/// Appends a line, after five spaces, for each unmet expectation. `address` is that of the first word of the signature, if it is known.
+/// Appends the lines about the unmet expectations. `address` is that of the first word of the signature, if it is known.
 pub(crate) fn push_unmet_lines(
     bytes: &mut Vec<u8>,
     comparison: &Comparison<'_, '_>,
@@ -31,7 +31,7 @@ pub(crate) fn push_unmet_lines(
     Ok(())
 }
 
-// Appends the lines of an unmet expectation: the console's difference by lines if possible, else a single line.
+// Appends the lines about an unmet expectation: a console line by line if possible, and otherwise a single line.
 #[tactic(auto, unfolding(crate::specs::UnmetLines::unmet_line))]
 fn push_unmet_line(
     bytes: &mut Vec<u8>,
@@ -50,7 +50,7 @@ fn push_unmet_line(
     }
 }
 
-// Appends the single line of an unmet expectation.
+// Appends the single line about an unmet expectation.
 fn push_expected_line(
     bytes: &mut Vec<u8>,
     comparison: &Comparison<'_, '_>,
@@ -65,7 +65,7 @@ fn push_expected_line(
     push_text(bytes, "\n")
 }
 
-// Returns what comes before an unmet expectation: five spaces, and a word unless the text says what differs.
+// Returns the text before an unmet expectation: five spaces, and `expected: ` unless the expectation says what differs.
 fn unmet_margin(unmet: Unmet) -> &'static str
     ensures { result.now ≡ unmet_margin unmet }
 {
@@ -75,6 +75,7 @@ fn unmet_margin(unmet: Unmet) -> &'static str
     }
 }
 
+// Appends an unmet expectation, in words; `address` is that of the first word of the signature, if it is known.
 #[tactic(auto, unfolding(crate::specs::UnmetLines::unmet_expectation_text))]
 fn push_unmet_expectation(
     bytes: &mut Vec<u8>,
@@ -114,7 +115,7 @@ fn push_unmet_expectation(
     }
 }
 
-/// Appends the expected end with an exit code.
+/// Appends the expected exit code, in words.
 #[tactic(auto, unfolding(crate::specs::UnmetLines::expected_exit_text))]
 pub(crate) fn push_expected_exit(
     bytes: &mut Vec<u8>,
@@ -128,7 +129,7 @@ pub(crate) fn push_expected_exit(
     }
 }
 
-/// Appends the expected end other than an exit.
+/// Appends the expected end other than an exit code, in words.
 #[tactic(auto, unfolding(crate::specs::UnmetLines::expected_end_text))]
 pub(crate) fn push_expected_end(
     bytes: &mut Vec<u8>,
@@ -145,7 +146,7 @@ pub(crate) fn push_expected_end(
     }
 }
 
-// Appends the difference from the job that this one names.
+// Appends the message that the result of a job differs from that of the job that it names by `same_as`.
 #[tactic(auto, unfolding(crate::specs::UnmetLines::same_difference_text))]
 fn push_same_difference(
     bytes: &mut Vec<u8>,
@@ -164,6 +165,7 @@ fn push_same_difference(
     push_rows_difference(bytes, first, row, other, difference)
 }
 
+// Appends the first difference between the row of a job and the row `other` of the job that it names by `same_as`.
 #[tactic(auto, unfolding(crate::specs::UnmetLines::rows_difference_text))]
 fn push_rows_difference(
     bytes: &mut Vec<u8>,
@@ -197,7 +199,7 @@ fn push_rows_difference(
     }
 }
 
-// Appends a text, then how a run ended, as what the job did.
+// Appends the text `before`, and how a run ended, as a clause about the job.
 #[tactic(auto, unfolding(crate::specs::UnmetLines::row_end_text))]
 fn push_row_end(bytes: &mut Vec<u8>, before: &'static str, ending: RowEnd) -> Result<(), AllocError>
     ensures { OnOk result (bytes.new.items ≡ bytes.old.items ++ (before.now ++ row_end_text ending)) }

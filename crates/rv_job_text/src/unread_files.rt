@@ -8,7 +8,7 @@ use rv_jobs::limits::MOST_BYTES;
 use rv_text::{Span, text_of_spans};
 use std::alloc::{AllocError, Global};
 
-/// Returns a path, and why its file could not be read.
+/// Returns the path of a file, and why it could not be read.
 #[tactic(auto, unfolding(crate::specs::UnreadFiles::unread_file_text))]
 pub fn unread_file_text(
     alloc: Global,
@@ -24,7 +24,7 @@ pub fn unread_file_text(
     )
 }
 
-/// Returns a path, and that its file is too long.
+/// Returns the path of a file, and that the file is too long.
 #[tactic(auto, unfolding(crate::specs::UnreadFiles::too_long_file_text))]
 pub fn too_long_file_text(alloc: Global, path: &str) -> Result<Vec<u8>, AllocError>
     ensures { IfOk result (λ text. text.items ≡ too_long_file_text path.now) }
@@ -40,13 +40,14 @@ pub fn too_long_file_text(alloc: Global, path: &str) -> Result<Vec<u8>, AllocErr
     )
 }
 
-// Returns the first note on a path.
+// Returns the first entry for this path in the list of files that could not be read.
 fn unread_note<'a>(unread: &'a [UnreadPath], path: &str) -> Option<&'a UnreadPath>
     ensures { option_map (λ one. one.now) result ≡ unread_note unread.now path.now }
 {
     unread.iter().find(|one| path == one.path.as_str())
 }
 
+// Returns why a file could not be read, in words.
 fn unread_note_text(noted: Option<&UnreadPath>) -> &'static str
     ensures { result.now ≡ unread_note_text (option_map (λ one. one.now) noted.entry) }
 {

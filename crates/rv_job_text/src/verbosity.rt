@@ -6,23 +6,23 @@ ghost use Rattle.rv_job_text.specs.RowReporter.{shows_row};
 
 use rv_expect::Judgement;
 
-/// How much is shown.
+/// Which rows are shown.
 #[derive(Clone, Copy)]
 pub enum Verbosity {
     /// No rows.
     Quiet,
-    /// The rows that count as failures; a known failure does not.
+    /// Only failures; a known failure is not one.
     Failures,
-    /// All rows; of a passed one only the line.
+    /// All rows; of passed rows and known failures only the first line.
     All,
 }
 
 /// Which expectations of a job are shown.
 #[derive(Clone, Copy)]
 pub(crate) enum Detail {
-    /// Those that its run does not meet.
+    /// Only the unmet ones.
     Unmet,
-    /// The unmet ones, then the met ones.
+    /// The unmet ones, and then the met ones.
     All,
 }
 

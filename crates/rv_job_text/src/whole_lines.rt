@@ -22,7 +22,7 @@ pub(crate) fn split_whole_line(text: &[u8]) -> (&[u8], &[u8])
     }
 }
 
-/// Returns the index of the first line feed, or the length if there is none.
+/// Returns the index of the first line feed, or the length of the text if there is none.
 pub(crate) fn first_feed(text: &[u8]) -> usize
     ensures place { result ≡ position_or_len is_feed text.now }
     ensures within { result ≤ length text.now }
@@ -35,6 +35,7 @@ pub(crate) fn first_feed(text: &[u8]) -> usize
     text.len()
 }
 
+/// Returns the number of lines of a text.
 pub(crate) fn whole_line_count(text: &[u8]) -> usize
     ensures { result ≡ length (whole_lines text.now) }
 {

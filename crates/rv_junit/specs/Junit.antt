@@ -17,70 +17,74 @@ use Rattle.rv_junit.specs.Pieces.{attribute, number_attribute}
 
 -- ---- a case
 
--- the text before the first line feed, or all of it
+-- the text before an offset, or the whole text without an offset
 abbrev pub text_up_to : Option ℕ → List ℕ → List ℕ
 text_up_to (Some place) text = take place text
 text_up_to None text = text
 
+-- the first line of a text, without its line feed
 abbrev pub first_line : List ℕ → List ℕ
 first_line text = text_up_to (position is_feed text) text
 
+-- the name of the XML element for a failed row: `failure`, or `error` if the job did not run
 abbrev pub problem_element_name : Row → List ℕ
 problem_element_name row = if did_run row.ending then codes "failure" else codes "error"
 
--- the lines of a row; the first of them is the message
+-- the XML element for a failed row with these lines, of which the first one is its message
 unfoldable pub problem_text : Row → List ℕ → List ℕ
 problem_text row lines =
     codes "<" ++ problem_element_name row ++ attribute (codes "message") (first_line lines) ++ codes ">"
     ++ xml_text Element lines ++ codes "</" ++ problem_element_name row ++ codes ">\n"
 
--- a known failure is skipped, with its reason if there is one
+-- the XML attribute with the reason of a known failure; empty without a reason
 abbrev pub reason_attribute : List ℕ → List ℕ
 reason_attribute why = if length why == 0 then [] else attribute (codes "message") why
 
+-- the XML element for a known failure with this reason
 unfoldable pub skipped_text : List ℕ → List ℕ
 skipped_text why = codes "<skipped" ++ reason_attribute why ++ codes "/>\n"
 
--- the contents of a row's test case, by its judgement
+-- the XML element in the test case of a row: for a failure, for a job that passes although it is known to fail, or for a known failure;
+-- empty if the row passed
 abbrev pub judged_text : Judged → Row → List ℕ → List ℕ
 judged_text passed row lines = []
 judged_text failed row lines = problem_text row lines
 judged_text (known why) row lines = skipped_text why
 judged_text (now_passes path) row lines = problem_text row lines
 
--- the steps, then the console
+-- the XML element with the steps and the console of a row
 unfoldable pub output_text : Row → List ℕ
 output_text row =
     codes "<system-out>" ++ decimal row.steps ++ codes " steps\n" ++ xml_text Element row.console
     ++ codes "</system-out>\n"
 
--- a row's test case with its class name and its lines
+-- the test case of a row, with its class name `class` and its lines
 unfoldable pub test_case_text : List ℕ → Judging → Row → List ℕ → List ℕ
 test_case_text class judging row lines =
     codes "<testcase" ++ attribute (codes "classname") class ++ attribute (codes "name") row.name
     ++ codes ">\n" ++ judged_text (judgement judging row) row lines ++ output_text row ++ codes "</testcase>\n"
 
--- the case of the job at an index and its row, with the lines that a reporter gives of them
+-- the test case of the job at index `index` and its row, whose lines `line` makes
 abbrev pub case_text : List ℕ → Judging → (ℕ → Row → List ℕ) → ℕ → Row → List ℕ
 case_text class judging line index row = test_case_text class judging row (line index row)
 
 -- ---- the document
 
--- the steps of a job, after its name
+-- the XML property `steps.NAME` of a job, whose value is the number of its steps
 unfoldable pub steps_property : Row → List ℕ
 steps_property row =
     codes "<property" ++ attribute (codes "name") (codes "steps." ++ row.name) ++ number_attribute (codes "value") row.steps
     ++ codes "/>\n"
 
--- the steps of all jobs
+-- the XML properties with the steps of all jobs
 unfoldable pub steps_properties : List Row → List ℕ
 steps_properties rows = codes "<properties>\n" ++ flat_map steps_property rows ++ codes "</properties>\n"
 
--- the number of skipped cases, if there are any
+-- the XML attribute with the number of skipped test cases; empty if there are none
 abbrev pub skipped_attribute : ℕ → List ℕ
 skipped_attribute count = if count == 0 then [] else number_attribute (codes "skipped") count
 
--- the name and the counts of the suite, and the steps of its jobs
+-- the beginning of a document: the name and the counts of the suite, and the steps of its jobs
 unfoldable pub suite_begin_text : List ℕ → Judging → List Row → List ℕ
 suite_begin_text class judging rows =
     codes "<?xml version=\"1.0\" encoding=\"UTF-8\"?>\n<testsuites>\n<testsuite"
@@ -89,31 +93,34 @@ suite_begin_text class judging rows =
     ++ number_attribute (codes "errors") (count_by (is_error judging) rows)
     ++ skipped_attribute (known_count judging rows) ++ codes ">\n" ++ steps_properties rows
 
--- one case per row, with the lines at its index
+-- the test cases of the rows, each with its lines
 unfoldable pub test_cases_text : List ℕ → Judging → List (List ℕ) → List Row → List ℕ
 test_cases_text class judging [] rows = []
 test_cases_text class judging (lines ∷ texts) [] = []
 test_cases_text class judging (lines ∷ texts) (row ∷ rows) =
     test_case_text class judging row lines ++ test_cases_text class judging texts rows
 
+-- the end of a document
 abbrev pub suite_end_text : List ℕ
 suite_end_text = codes "</testsuite>\n</testsuites>\n"
 
+-- the JUnit document of these rows, each with its lines; `class` is the name of the suite and the class name of its test cases
 unfoldable pub junit_text : List ℕ → Judging → List (List ℕ) → List Row → List ℕ
 junit_text class judging texts rows =
     suite_begin_text class judging rows ++ test_cases_text class judging texts rows ++ suite_end_text
 
--- ---- what rows are
+-- ---- rows as bytes
 
--- the name and the console are bytes, and the steps fit in 64 bits
+-- the name and the console of a row consist of bytes, and its steps fit in 64 bits
 pub record IsWrittenRow (row : Row) : Type 0 where
   pub name : IsBytes row.name
   pub console : IsBytes row.console
   pub steps : row.steps < 2 ^ 64
 
--- the reasons of known failures are bytes
+-- the reason of a known failure consists of bytes
 abbrev pub HasBytesAsReason : KnownJob → Type 0
 HasBytesAsReason job = IsBytes job.reason
 
+-- the reasons of all known failures consist of bytes
 abbrev pub AreReasonsBytes : Judging → Type 0
 AreReasonsBytes judging = IfSome judging.known (λ file. AllByRecursion HasBytesAsReason file.jobs)

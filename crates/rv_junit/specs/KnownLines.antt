@@ -5,12 +5,12 @@ use Rattle.rv_expect.specs.Judgement.{Judging, fails}
 use Rattle.rv_rows.specs.declared_row.Row.{Row}
 use Rattle.rv_stream.specs.declared.reported_row.ReportedRow.{ReportedRow}
 
--- the lines that are known of rows, by the rows' numbers, are those that the reporter gives of these rows and the jobs at some indices
+-- `texts` has, by the number of the row, the lines that `line` makes of the row and its job's index, or none if they are not known
 abbrev pub AreLinesOf : (ℕ → Row → List ℕ) → List ℕ → List Row → List (Option (Vec ℕ Global)) → Type 0
 AreLinesOf line indices rows texts = (k : ℕ) (any : Row) → k < length rows → IfSome (slice_index_or texts k None)
     (λ text. text.items ≡ line (slice_index_or indices k 0) (slice_index_or rows k any))
 
--- the text of a reported row that counts as a failure
+-- the reported row is a failure, and this is its text
 pub record IsFailureText (judging : Judging) (reported : ReportedRow) (text : List ℕ) : Type 0 where
   pub failed : fails judging reported.row ≡ true
   pub text_is : text ≡ reported.text.items

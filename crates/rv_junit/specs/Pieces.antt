@@ -6,12 +6,15 @@ use Rattle.rv_junit.specs.declared.pieces.Piece.TheVariants as piece
 use Rattle.rv_text.specs.declared.xml.Within.TheVariants.{Attribute, Element}
 use Rattle.rv_text.specs.Xml.{xml_text}
 
+-- an XML attribute with a name and a text as its value, which is escaped
 unfoldable pub attribute : List ℕ → List ℕ → List ℕ
 attribute name value = codes " " ++ name ++ codes "=\"" ++ xml_text Attribute value ++ codes "\""
 
+-- an XML attribute with a name and a number as its value
 unfoldable pub number_attribute : List ℕ → ℕ → List ℕ
 number_attribute name number = codes " " ++ name ++ codes "=\"" ++ decimal number ++ codes "\""
 
+-- a piece of a document, as it is written
 abbrev pub piece_text : Piece → List ℕ
 piece_text (piece.Text text) = text.now
 piece_text (piece.Number number) = decimal number

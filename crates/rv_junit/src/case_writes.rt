@@ -17,20 +17,20 @@ use std::alloc::{AllocError, Global};
 // The size in bytes from which the buffered text is written.
 const ENOUGH: usize = 32_768;
 
-/// The rows of a document, each with the index of its job in the list, a reporter that gives the lines of a row, and the lines that are known
-/// already.
+/// The rows of a document, each with the index of its job, a reporter that makes the lines about a row, and the lines that are already
+/// known.
 #[derive(Drop)]
 pub struct Cases<'a, T: RowReporter> {
     pub reporter: &'a T,
     pub places: &'a [usize],
     pub rows: &'a [Row],
-    /// The lines of a row by its number, if they are known: the reporter is not asked for them again. There may be fewer than rows.
+    /// The lines about a row by its number, if they are known; then the reporter does not make them again. There may be fewer than rows.
     pub texts: &'a [Option<Vec<u8>>],
     pub ghost placed: { length rows.now ≤ length places.now },
 }
 
 impl<T: RowReporter> Cases<'_, T> {
-    // The lines of a row, if they are known.
+    // Returns the lines about the row with this number, if they are known.
     fn known_lines(&self, number: usize) -> Option<&[u8]>
         requires number { number < length self.now.rows.now }
         requires known { AreLinesOf (T.line self.now.reporter.now) self.now.places.now self.now.rows.now self.now.texts.now }
@@ -46,7 +46,7 @@ impl<T: RowReporter> Cases<'_, T> {
         }
     }
 
-    // Appends the case of a row.
+    // Appends the test case of the row with this number.
     fn push_case(
         &self,
         alloc: Global,
@@ -75,8 +75,8 @@ impl<T: RowReporter> Cases<'_, T> {
     }
 }
 
-/// Appends the cases of rows to the buffered `text`. The first part of the whole is sent in few large writes, the rest stays in `text`. After
-/// an error a prefix of the whole has been written.
+/// Appends the test cases to the buffered `text`, which is written in few large writes; the rest stays in `text`. After an error a prefix
+/// of the test cases has been written.
 pub(crate) fn write_cases<T: RowReporter, W: Sink>(
     alloc: Global,
     text: &mut Vec<u8>,

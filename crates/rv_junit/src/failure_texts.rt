@@ -9,17 +9,17 @@ use rv_stream::{Flow, Observer, ReportedRow, StreamSpec};
 use std::alloc::Global;
 use std::marker::PhantomData;
 
-/// The most bytes that are kept.
+/// The maximum number of bytes that are kept.
 const MOST_KEPT: usize = 16_777_216;
 
-/// Keeps the texts of rows that count as failures, up to 16 MiB, so that a document need not make them again. A text that does not fit, or
-/// for which there is no memory, is not kept.
+/// Keeps the texts of failures, up to 16 MiB, so that a document need not make them again. A text that does not fit, or for which there is
+/// no memory, is not kept.
 #[derive(Drop)]
 pub struct FailureTexts<'k, J: StreamSpec> {
     alloc: Global,
     judge: Judge<'k>,
     texts: Vec<Option<Vec<u8>>>,
-    // How many more bytes are kept.
+    // How many more bytes can be kept.
     room: usize,
     // Whether nothing is kept: texts are not needed, or an allocation failed.
     is_closed: bool,

@@ -16,7 +16,7 @@ use rv_rows::{Row, did_run};
 use rv_text::push_text;
 use std::alloc::{AllocError, Global};
 
-/// Appends everything before the cases: the declaration, the suite's name and counts, and the steps of the rows.
+/// Appends the beginning of a document: the declaration, the suite's name and counts, and the steps of the rows.
 pub(crate) fn push_suite_begin(
     alloc: Global,
     text: &mut String,
@@ -44,7 +44,7 @@ pub(crate) fn push_suite_begin(
     push_steps_properties(alloc, text, rows)
 }
 
-// Appends the number of skipped cases, if there are any.
+// Appends the number of skipped test cases; nothing if there are none.
 fn push_skipped_attribute(text: &mut String, count: usize) -> Result<(), AllocError>
     ensures { OnOk result (string_bytes text.new ≡ string_bytes text.old ++ skipped_attribute count) }
 {
@@ -54,7 +54,7 @@ fn push_skipped_attribute(text: &mut String, count: usize) -> Result<(), AllocEr
     push_number_attribute(text, "skipped", count as u64)
 }
 
-// Appends the steps of rows as properties.
+// Appends the steps of the rows as XML properties.
 fn push_steps_properties(alloc: Global, text: &mut String, rows: &[Row]) -> Result<(), AllocError>
     ensures { OnOk result (string_bytes text.new ≡ string_bytes text.old ++ steps_properties rows.now) }
 {
@@ -76,6 +76,7 @@ fn push_each_steps_property(
     Ok(())
 }
 
+// Appends the XML property `steps.NAME` of a job, whose value is the number of its steps.
 #[tactic(auto, unfolding(crate::specs::Junit::steps_property))]
 fn push_steps_property(alloc: Global, text: &mut String, row: &Row) -> Result<(), AllocError>
     ensures { OnOk result (string_bytes text.new ≡ string_bytes text.old ++ steps_property row.now) }
@@ -115,7 +116,7 @@ fn error_count(judge: &Judge<'_>, rows: &[Row]) -> usize
     rows.iter().filter(|row| is_error(judge, row)).count()
 }
 
-/// Appends the test case of a row, with the row's lines.
+/// Appends the test case of a row, with its lines.
 pub(crate) fn push_test_case<'a>(
     alloc: Global,
     text: &mut String,
@@ -151,7 +152,8 @@ pub(crate) fn push_test_case<'a>(
     )
 }
 
-// Appends the contents of a row's test case, by its judgement.
+// Appends the XML element in the test case of a row: for a failure, for a job that passes although it is known to fail, or for a known
+// failure; nothing if the row passed.
 fn push_judged(
     alloc: Global,
     text: &mut String,
@@ -169,6 +171,7 @@ fn push_judged(
     }
 }
 
+// Appends the XML element for a known failure with this reason.
 #[tactic(auto, unfolding(crate::specs::Junit::skipped_text))]
 fn push_skipped(alloc: Global, text: &mut String, why: &[u8]) -> Result<(), AllocError>
     ensures { OnOk result (string_bytes text.new ≡ string_bytes text.old ++ skipped_text why.now) }
@@ -178,6 +181,7 @@ fn push_skipped(alloc: Global, text: &mut String, why: &[u8]) -> Result<(), Allo
     text.push_str("/>\n")
 }
 
+// Appends the XML attribute with the reason of a known failure; nothing without a reason.
 fn push_reason_attribute(alloc: Global, text: &mut String, why: &[u8]) -> Result<(), AllocError>
     ensures { OnOk result (string_bytes text.new ≡ string_bytes text.old ++ reason_attribute why.now) }
 {
@@ -187,6 +191,7 @@ fn push_reason_attribute(alloc: Global, text: &mut String, why: &[u8]) -> Result
     push_attribute(alloc, text, "message", why)
 }
 
+// Appends the XML element for a failed row with these lines, of which the first one is its message.
 #[tactic(auto, unfolding(crate::specs::Junit::problem_text))]
 fn push_problem(alloc: Global, text: &mut String, row: &Row, lines: &[u8]) -> Result<(), AllocError>
     ensures { OnOk result (string_bytes text.new
@@ -209,6 +214,7 @@ fn push_problem(alloc: Global, text: &mut String, row: &Row, lines: &[u8]) -> Re
     )
 }
 
+// Returns the name of the XML element for a failed row: `failure`, or `error` if the job did not run.
 fn problem_element_name(row: &Row) -> &'static str
     ensures { result.now ≡ problem_element_name row.now }
 {
@@ -219,6 +225,7 @@ fn problem_element_name(row: &Row) -> &'static str
     }
 }
 
+// Returns the first line of a text, without its line feed.
 fn first_line(text: &[u8]) -> &[u8]
     ensures { result.now ≡ first_line text.now }
 {

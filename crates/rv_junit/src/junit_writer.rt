@@ -17,7 +17,7 @@ use rv_text::push_text;
 use std::alloc::Global;
 
 /// Writes rows as JUnit XML: one suite, and one test case per row, in order, with its steps and its console. A failed row is a failure, or
-/// an error if the job was refused, with the lines that are reported for the job at its index. A known failure is skipped, with its reason.
+/// an error if the job is refused, with the lines about it. A known failure is skipped, with its reason.
 ///
 /// After an error a prefix of the text has been written.
 pub fn write_junit<T: RowReporter, W: Sink>(

@@ -8,7 +8,7 @@ use rv_text::{Within, push_xml_text};
 use std::alloc::{AllocError, Global};
 use std::fmt::Write;
 
-/// A part of a document.
+/// A piece of a document.
 #[derive(Clone, Copy)]
 pub(crate) enum Piece<'a> {
     /// Text as it is, including markup.
@@ -23,7 +23,7 @@ pub(crate) enum Piece<'a> {
     Element(&'a [u8]),
 }
 
-/// Appends parts one after another.
+/// Appends pieces one after another.
 pub(crate) fn push_pieces(
     alloc: Global,
     text: &mut String,
@@ -38,6 +38,7 @@ pub(crate) fn push_pieces(
     Ok(())
 }
 
+// Appends a piece of a document, as it is written.
 fn push_piece(alloc: Global, text: &mut String, piece: Piece<'_>) -> Result<(), AllocError>
     ensures { OnOk result (string_bytes text.new
         ≡ string_bytes text.old ++ piece_text piece.entry) }
@@ -51,6 +52,7 @@ fn push_piece(alloc: Global, text: &mut String, piece: Piece<'_>) -> Result<(), 
     }
 }
 
+/// Appends an XML attribute with a name and a text as its value, which is escaped.
 #[tactic(auto, unfolding(crate::specs::Pieces::attribute))]
 pub(crate) fn push_attribute(
     alloc: Global,
@@ -66,6 +68,7 @@ pub(crate) fn push_attribute(
     text.push_str("\"")
 }
 
+/// Appends an XML attribute with a name and a number as its value.
 #[tactic(auto, unfolding(crate::specs::Pieces::number_attribute))]
 pub(crate) fn push_number_attribute(
     text: &mut String,

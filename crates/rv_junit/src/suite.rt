@@ -2,11 +2,11 @@
 
 use rv_expect::Judge;
 
-/// The single suite of a document.
+/// The only suite of a document.
 #[derive(Clone, Copy)]
 pub struct Suite<'a> {
-    /// The suite's name, which is also the class name of its cases.
+    /// The suite's name, which is also the class name of its test cases.
     pub name: &'a [u8],
-    /// How its rows are counted.
+    /// Which rows are failures.
     pub judge: Judge<'a>,
 }

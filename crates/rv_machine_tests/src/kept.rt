@@ -6,10 +6,11 @@ use samples::{agree, cell_of, has_lines, hex_of, numbers};
 use std::alloc::{AllocError, Global};
 use std::test::Fail;
 
-// AUIPC, a store over itself, and FENCE.I. C.LI at the first halfword of the address space; an entry in the middle of a word; an
-// instruction whose halves are the last and the first halfword of the address space. Steps after an end also end, and a run with a budget
-// of 0 does nothing. Last, in each of 70,000 rounds the immediate of the loop's first instruction is stored again, followed by FENCE.I; the
-// first store is over the image's first instruction: label | entry | parts of the image | dialogue.
+// label | entry | parts of the image | dialogue. In the order of the lines: AUIPC, a store over itself, and FENCE.I; C.LI in the first
+// halfword of the address space; an entry in the middle of a word; an instruction whose halves are the last and the first halfword of the
+// address space; steps after the end of a run, which end as well; a run with a budget of 0, which does nothing; and 70,000 rounds of a
+// loop, each of which stores the immediate of the loop's first instruction and executes FENCE.I, after a store over the first instruction
+// of the image.
 const KEPT: &str = "\
 fallen asleep | 80000000 | 80000000: 00000297 0052a223 0000100f | kept 80000000 = nothing; step = goes on; kept 80000000 = Auipc 5 0 0 0, 4 bytes; kept 80000001 = nothing; kept 80000002 = nothing; kept 80000004 = nothing; kept 80002000 = nothing; clean 80000004 = yes; step = goes on; kept 80000004 = Sw 0 5 5 4, 4 bytes; clean 80000004 = no; step = goes on; kept 80000000 = Auipc 5 0 0 0, 4 bytes; kept 80000004 = nothing; clean 80000004 = yes
 first halfword | 0 | 0: 4515 9002 | run 10 = 1; kept 0 = Addi 10 0 0 5, 2 bytes
@@ -20,6 +21,7 @@ no budget | 80000000 | 80000000: 00500513 X | run 0 = 0; kept 80000000 = nothing
 many rounds | 80000000 | 80000000: 00000297 00028023 00011337 17030313 00000513 00a40433 01038393 00729923 0000100f fff30313 fe0314e3 00040513 X | run 2 = 2; kept 80000000 = Auipc 5 0 0 0, 4 bytes; run 1000000 = 490004; kept 80000000 = nothing
 ";
 
+// Returns a writable region.
 fn region(base: u32, size: u32) -> Region {
     Region {
         base,
@@ -40,6 +42,7 @@ fn place(alloc: Global, bus: &mut Bus, part: &str) -> Result<(), Fail> {
     Ok(())
 }
 
+// Writes all parts of an image, separated by semicolons, to memory.
 fn load(alloc: Global, bus: &mut Bus, image: &str) -> Result<(), Fail> {
     for part in image.split("; ") {
         place(alloc, bus, part)?;
@@ -47,7 +50,7 @@ fn load(alloc: Global, bus: &mut Bus, image: &str) -> Result<(), Fail> {
     Ok(())
 }
 
-// Returns a machine with all instructions, with memory at both ends and in the middle of the address space.
+// Returns a machine for all instructions, with memory at both ends and in the middle of the address space.
 fn machine_of(alloc: Global, entry: u32, image: &str) -> Result<Machine, Fail> {
     if entry % 2 != 0 {
         return Err("an entry".into());
@@ -62,6 +65,7 @@ fn machine_of(alloc: Global, entry: u32, image: &str) -> Result<Machine, Fail> {
     Ok(Machine::new(alloc, bus, entry, Isa::Imc)?)
 }
 
+// Returns the instruction that is cached for an address and its length as text, or `nothing`.
 fn cached_or_invalidated_at(
     alloc: Global,
     machine: &Machine,
@@ -75,6 +79,7 @@ fn cached_or_invalidated_at(
     format!(in alloc; "{op:?} {rd} {rs1} {rs2} {imm}, {length} bytes")
 }
 
+// Executes one step, and returns whether it `goes on` or `ends`.
 fn step(machine: &mut Machine) -> &'static str {
     if machine.step().is_none() {
         "goes on"
@@ -83,6 +88,7 @@ fn step(machine: &mut Machine) -> &'static str {
     }
 }
 
+// Returns whether the four bytes from an address on are clean, as `yes` or `no`.
 fn clean(machine: &Machine, addr: u32) -> &'static str {
     if machine.bus().clean(addr, 4) {
         "yes"
@@ -91,13 +97,14 @@ fn clean(machine: &Machine, addr: u32) -> &'static str {
     }
 }
 
-// Returns how many steps of a run complete.
+// Runs a machine within a budget, and returns the number of completed steps as text.
 fn run(alloc: Global, machine: &mut Machine, budget: u32) -> Result<String, AllocError> {
     let steps = machine.run(budget).steps;
     format!(in alloc; "{steps}")
 }
 
-// Checks that a machine responds as `ASK = ANSWER` says, where the request is `run BUDGET`, `step`, `kept ADDRESS` or `clean ADDRESS`.
+// Makes a request of a dialogue and checks its result: `run BUDGET`, `step`, `kept ADDRESS` or `clean ADDRESS`, followed by ` = ` and the
+// result.
 fn ask(alloc: Global, machine: &mut Machine, line: &str, exchange: &str) -> Result<(), Fail> {
     let (ask, wanted) = exchange.split_once(" = ").unwrap_or((exchange, ""));
     let (verb, number) = ask.split_once(' ').unwrap_or((ask, "0"));
@@ -117,6 +124,7 @@ fn ask(alloc: Global, machine: &mut Machine, line: &str, exchange: &str) -> Resu
     }
 }
 
+// Makes the requests of a line's dialogue in order, and checks their results.
 fn dialogue(alloc: Global, machine: &mut Machine, line: &str) -> Result<(), Fail> {
     for exchange in cell_of(line, 3).split("; ") {
         ask(alloc, machine, line, exchange)?;
@@ -124,11 +132,13 @@ fn dialogue(alloc: Global, machine: &mut Machine, line: &str) -> Result<(), Fail
     Ok(())
 }
 
+// Checks the dialogue of a line with a new machine.
 fn check(alloc: Global, line: &str) -> Result<(), Fail> {
     let mut machine = machine_of(alloc, hex_of(cell_of(line, 1))?, cell_of(line, 2))?;
     dialogue(alloc, &mut machine, line)
 }
 
+// A machine caches the instructions that it executes, until FENCE.I after a store over them.
 #[test]
 fn machines_keep_instructions(rt: HostRuntime) -> Result<(), Fail> {
     has_lines(KEPT, 7)?;

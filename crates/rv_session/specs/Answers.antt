@@ -32,55 +32,60 @@ use Rattle.rv_session.specs.declared.monitor.TheConstants.{HELP}
 use Rattle.rv_session.specs.declared.reply.Reply.{Reply}
 use Rattle.rv_session.specs.declared.session.Session.{Session}
 
--- ---- what is shown of the state
+-- ---- requests that do not change the session
 
--- a count as a value of four bytes
+-- a count as a number of 32 bits, saturating
 abbrev pub shown_count : ℕ → ℕ
 shown_count count = min count 4294967295
 
--- the number of bytes consumed from the input script
+-- the number of bytes that the program has consumed from the input script at the session's current step
 abbrev pub taken_here : Session → ℕ
 taken_here session = session.script - length (here session).bus.script
 
--- x0 to x31, then the pc
+-- the value of x0 to x31 by its number at the current step, or of the pc for any greater number
 abbrev pub hart_value : Session → ℕ → ℕ
 hart_value session number = if nat_lt number 32 then register (here session) number else (here session).pc
 
--- the value of a register in the target's description
+-- the value of a register of the target description at the current step
 abbrev pub value_of : Session → Register → ℕ
 value_of session (reg.Hart number) = hart_value session number
 value_of session reg.Steps = session.history.place
 value_of session reg.Printed = shown_count (length (here session).bus.output)
 value_of session reg.Taken = shown_count (taken_here session)
 
+-- x0 to x31 and the pc at the current step, as hexadecimal digits
 abbrev pub registers_here : Session → List ℕ
 registers_here session = registers_text (here session).registers (here session).pc
 
--- `E01` if no byte can be read
+-- the reply with these bytes of memory; `E01` if there are none
 abbrev pub memory_reply : List ℕ → Reply
 memory_reply bytes = if length bytes == 0 then refused refusal.Failed else with_body (encode_lower bytes)
 
--- `F`, a count of eight digits and `;`
+-- the beginning of a file reply: `F`, a number of eight hexadecimal digits, and `;`
 abbrev pub counted : ℕ → List ℕ
 counted number = codes "F" ++ (encode_lower (to_be_bytes w32 number) ++ codes ";")
 
+-- the maximum number of bytes in one part of the image file
 abbrev pub most_file_part : ℕ
 most_file_part = 8180
 
+-- the requested part of the image file, with at most `most_file_part` bytes
 abbrev pub file_part : List ℕ → Part → List ℕ
 file_part image part = take (min most_file_part part.count) (drop part.offset image)
 
+-- the reply with these bytes of the image file
 abbrev pub file_reply : List ℕ → Reply
 file_reply bytes = with_body (counted (length bytes) ++ bytes)
 
--- the words of gdb's `struct stat`: the third is the mode, that of a readable file, and the ninth the size
+-- the words of gdb's `struct stat`: the third is the mode of a readable file, the ninth the size
 abbrev pub stat_words : ℕ → List ℕ
 stat_words size = 0 ∷ 0 ∷ 0x8124 ∷ 0 ∷ 0 ∷ 0 ∷ 0 ∷ 0 ∷ size ∷ 0 ∷ 0 ∷ 0 ∷ 0 ∷ 0 ∷ 0 ∷ 0 ∷ []
 
+-- the reply to `vFile:fstat`, for a file of this size
 abbrev pub size_reply : ℕ → Reply
 size_reply size = with_body (counted 64 ++ flat_map (to_be_bytes w32) (stat_words (shown_count size)))
 
--- the reply that is equal in every session; the empty reply to an unknown request
+-- the reply that is equal in every session; empty if there is none for the request
 abbrev pub fixed_answer : Request → Reply
 fixed_answer request = with_body (unwrap_or (fixed_reply request) [])
 
@@ -104,11 +109,11 @@ shown_reply session request = fixed_answer request
 
 -- ---- commands
 
--- the commands that move to the start of the run
+-- whether a `monitor` command moves to the start of the run
 abbrev pub is_reset : List ℕ → Bool
 is_reset text = bytes_eq text (codes "reset") || bytes_eq text (codes "reset halt")
 
--- the output of the other commands
+-- the output of a `monitor` command other than a reset
 abbrev pub command_text : Session → List ℕ → List ℕ
 command_text session text =
     if bytes_eq text (codes "when") then decimal session.history.place ++ codes " steps executed\n"
@@ -117,29 +122,30 @@ command_text session text =
     decimal (taken_here session) ++ codes " of " ++ decimal session.script ++ codes " bytes read\n"
     else HELP.now
 
--- ---- what changes the session
+-- ---- requests that change the session
 
--- the session is at the first step with this value of a count; or no step has it
+-- if the Bool is true, `next` is the session at the first step at which `count` has this value; otherwise no step has it, and the session
+-- is unchanged
 abbrev pub IsSoughtAs : Bool → Session → Count → ℕ → Session → Type 0
 IsSoughtAs true session count value next =
     IsFirstWith count value session.history.budget session.history.start next.history.place
 IsSoughtAs false session count value next =
     IsFound count value session.history.budget session.history.start None × (next ≡ session)
 
--- a seek by a count is accepted if the run reaches the value
+-- a seek to the first step at which `count` has this value: the reply is `OK` if there is one, and a refusal otherwise
 pub record IsSought (session : Session) (count : Count) (value : ℕ) (reply : Reply) (next : Session) : Type 0 where
   pub is_granted : Bool
   pub reply_is : reply ≡ granted_if is_granted refusal.NotReached
   pub sought : IsSoughtAs is_granted session count value next
   pub run : next ≡ at_place session next.history.place
 
--- a seek to a step is accepted if the run reaches it
+-- a seek to the step `place`: the reply is `OK` if the run reaches it; otherwise it is a refusal, and the session is unchanged
 abbrev pub IsPlaceSought : Session → ℕ → Reply → Session → Type 0
 IsPlaceSought session place reply next =
     (reply ≡ granted_if (nat_le place (last_place session.history.budget session.history.start)) refusal.NotReached)
     × (next ≡ (if nat_le place (last_place session.history.budget session.history.start) then at_place session place else session))
 
--- a write to a register of the hart is accepted only if it does not change the value; a write to a count of the run is a seek
+-- a write to a register: one of the hart is granted only if the value does not change; a write to a count of the run is a seek
 abbrev pub IsWritten : Session → Register → ℕ → Reply → Session → Type 0
 IsWritten session (reg.Hart number) value reply next =
     (reply ≡ granted_if (value_of session (reg.Hart number) == value) refusal.WouldChange) × (next ≡ session)
@@ -147,26 +153,27 @@ IsWritten session reg.Steps value reply next = IsPlaceSought session value reply
 IsWritten session reg.Printed value reply next = IsSought session count.Printed value reply next
 IsWritten session reg.Taken value reply next = IsSought session count.Taken value reply next
 
--- the stoppoint is set, or was set already, or is refused
+-- the reply to setting a stoppoint, and the session with the new stops; a refusal leaves the session unchanged
 abbrev pub IsSet : Session → Result Stops Refusal → Reply → Session → Type 0
 IsSet session (Ok stops) reply next = (reply ≡ granted) × (next ≡ record session { stops = stops })
 IsSet session (Err refusal) reply next = (reply ≡ refused refusal) × (next ≡ session)
 
--- the result of setting a stoppoint, and the session after it
+-- the reply to setting the stoppoint `place`, and the session after it
 pub record IsTrapAsked (session : Session) (place : Stoppoint) (reply : Reply) (next : Session) : Type 0 where
   pub outcome : Result Stops Refusal
   pub trapped : IsTrapped session.stops (here session).bus place outcome
   pub set : IsSet session outcome reply next
 
--- a `monitor` command: its output, then `OK`
+-- the reply to a `monitor` command: its output, then `OK`
 abbrev pub command_reply : Session → List ℕ → Reply
 command_reply session text = if is_reset text then granted else printing (command_text session text) (codes "OK")
 
+-- the reply to a `monitor` command, and the session after it, which is at step 0 after a reset
 abbrev pub IsCommanded : Session → List ℕ → Reply → Session → Type 0
 IsCommanded session text reply next =
     (reply ≡ command_reply session text) × (next ≡ (if is_reset text then at_place session 0 else session))
 
--- The reply to a request, and the session after it. A move is only recorded as requested; its reply follows once it is made.
+-- the reply to a request, and the session `next` after it; a move is only recorded, and its reply follows once it is made
 abbrev pub IsAnswered : Session → Request → Reply → Session → Type 0
 IsAnswered session (ask.Move asked) reply next = (reply ≡ silent) × (next ≡ record session { asked = Some asked })
 IsAnswered session (ask.WriteRegister register value) reply next = IsWritten session register value reply next

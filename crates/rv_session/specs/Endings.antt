@@ -1,4 +1,4 @@
--- What gdb is told about the end of the run.
+-- What is reported to gdb about the end of the run.
 use Rattle.std.specs.Prelude.{ℕ, List, []}
 use Rattle.rv_history.specs.declared.found.Found.{Found}
 use Rattle.rv_history.specs.declared.found.Found.TheVariants as found
@@ -6,12 +6,13 @@ use Rattle.rv_machine.specs.declared.ending.Ending.{Ending}
 use Rattle.rv_machine.specs.declared.ending.Ending.TheVariants as ending
 use Rattle.rv_gdb_protocol.specs.Stops.{Aborted, BadCall, BusError, Exited, FileTooLarge, IllegalInstruction, NoEnding, SegmentFault, Told, UsedUp, told_by_fault}
 
+-- the kind of end that a stop at this ending reports
 abbrev pub told_by_ending : Ending → Told
 told_by_ending (ending.Exit code) = Exited
 told_by_ending (ending.Fault kind pc value) = told_by_fault kind
 told_by_ending ending.Budget = UsedUp
 
--- a move's result reports an end if it is one
+-- the kind of end that a move with this result reports; `NoEnding` if it did not reach the end of the run
 abbrev pub told_by_found : Found → Told
 told_by_found (found.End ending) = told_by_ending ending
 told_by_found found.Done = NoEnding
@@ -20,7 +21,7 @@ told_by_found found.Change = NoEnding
 told_by_found found.Begin = NoEnding
 told_by_found found.Interrupted = NoEnding
 
--- a text that accompanies only a stop at the end of the run
+-- the text, if a stop reports an end of the run; empty otherwise
 abbrev pub text_with : Told → List ℕ → List ℕ
 text_with NoEnding text = []
 text_with Exited text = text

@@ -11,7 +11,7 @@ leading [] = []
 leading (None ∷ rest) = []
 leading (Some byte ∷ rest) = byte ∷ leading rest
 
--- the maximum number of bytes in a reply, two digits each
+-- the maximum number of memory bytes in a reply, which has two digits for each
 abbrev pub most_bytes : ℕ
 most_bytes = 8184
 
@@ -19,19 +19,20 @@ most_bytes = 8184
 abbrev pub end_of_addresses : ℕ
 end_of_addresses = 4294967296
 
--- how many bytes of a range are read: as many as fit a reply, and none past the last address
+-- how many bytes of a range are read: as many as fit in a reply, and none past the last address
 abbrev pub bytes_asked : Range → ℕ
 bytes_asked range = min (min range.count most_bytes) (end_of_addresses - range.address)
 
--- the bytes of a range up to the first that is in no region
+-- the bytes of a range up to the first address that is in no region
 unfoldable pub bytes_from : Contents → Range → List ℕ
 bytes_from bus range = leading (map (fin.get bus.memory) (range_with_len range.address (bytes_asked range)))
 
+-- whether there is a byte and it equals the given one
 abbrev pub is_byte : Option ℕ → ℕ → Bool
 is_byte (Some other) byte = other == byte
 is_byte None byte = false
 
--- memory has these bytes from an address on, none of them past the last address
+-- whether memory has these bytes from the address on, none of them past the last address
 unfoldable pub stand_at : Contents → ℕ → List ℕ → Bool
 stand_at bus address [] = true
 stand_at bus address (byte ∷ rest) =

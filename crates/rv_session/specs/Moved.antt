@@ -23,6 +23,7 @@ use Rattle.rv_session.specs.Sessions.{state_at}
 use Rattle.rv_session.specs.declared.reply.Reply.{Reply}
 use Rattle.rv_session.specs.declared.session.Session.{Session}
 
+-- whether a move goes forwards in the run
 abbrev pub is_forward : Move → Bool
 is_forward move.Continue = true
 is_forward move.Step = true
@@ -30,7 +31,7 @@ is_forward (move.StepWithin low high) = true
 is_forward move.ContinueBack = false
 is_forward move.StepBack = false
 
--- where a move ends, and what it finds there
+-- a move from the step `from` of the run from `start` ends at the step `place` with the result `found`
 abbrev pub IsMoveResult : Move → Stops → ℕ → State → ℕ → ℕ → Found → Type 0
 IsMoveResult move.Continue stops budget start from place found = IsNextStop stops bounds.All budget start from place found
 IsMoveResult move.Step stops budget start from place found = IsNextStep stops budget start from place found
@@ -39,34 +40,34 @@ IsMoveResult (move.StepWithin low high) stops budget start from place found =
 IsMoveResult move.ContinueBack stops budget start from place found = IsStopBefore stops budget start from place found
 IsMoveResult move.StepBack stops budget start from place found = IsStepBefore stops budget start from place found
 
--- how an end is reported
+-- the stop that reports this end of the run
 abbrev pub end_stop : Ending → Stop
 end_stop (ending.Exit code) = stop.Exit
 end_stop (ending.Fault kind pc value) = stop.Fault kind
 end_stop ending.Budget = stop.Budget
 
--- the watchpoint that is reported
+-- the stop that reports this watchpoint hit; a plain stop without a hit
 abbrev pub watch_told : Option WatchHit → Stop
 watch_told (Some (set_off.Change address)) = stop.Watch watch.Writes address
 watch_told (Some (set_off.Read address)) = stop.Watch watch.Reads address
 watch_told (Some (set_off.Access address)) = stop.Watch watch.Accesses address
 watch_told None = stop.Here
 
--- the first watchpoint that the step from one step of the run to another triggers
+-- the first watchpoint that is hit on the way from step `one` to step `other`
 abbrev pub watch_between : Session → ℕ → ℕ → Option WatchHit
 watch_between session one other = first_triggered session.stops (state_at session one) (state_at session other)
 
--- the first watchpoint triggered by the next step, or, moving backwards, by the preceding step
+-- the stop at step `place` for a watchpoint hit: by the next step after a forward move, by the preceding step after a backward move
 abbrev pub watch_stop : Session → Move → ℕ → Stop
 watch_stop session asked place = watch_told
     (if is_forward asked then watch_between session place (place + 1) else watch_between session (place - 1) place)
 
--- a watchpoint found by a forward move is triggered by a step that completes
+-- if a forward move found a watchpoint hit, the session is before the last step of its run
 abbrev pub CanTell : Session → Move → Found → Type 0
 CanTell session asked what = what ≡ found.Change → is_forward asked ≡ true
     → session.history.place < last_place session.history.budget session.history.start
 
--- how the result of a move is reported
+-- the stop that reports the result `found` of a move to the step `place`
 abbrev pub stop_of : Session → Move → ℕ → Found → Stop
 stop_of session asked place found.Done = stop.Here
 stop_of session asked place found.Break = stop.Here
@@ -75,14 +76,15 @@ stop_of session asked place (found.End ending) = end_stop ending
 stop_of session asked place found.Begin = stop.Beginning
 stop_of session asked place found.Interrupted = stop.Interrupt
 
--- the output sent before the stop: for a forward move, what was not sent yet
+-- the console output that is sent before the stop in state `s`: after a forward move all that was not sent before, else nothing
 abbrev pub printed_on : Session → Move → State → List ℕ
 printed_on session asked s = if is_forward asked then drop session.shown s.bus.output else []
 
+-- how many console bytes were sent once a move has stopped in state `s`
 abbrev pub shown_on : Session → Move → State → ℕ
 shown_on session asked s = if is_forward asked then max session.shown (length s.bus.output) else session.shown
 
--- the text about the run's end is sent before the stop at the end, and before no other
+-- the text about the end of the run, if the move reached it; empty otherwise
 abbrev pub end_text_at : List ℕ → Found → List ℕ
 end_text_at end_text (found.End ending) = end_text
 end_text_at end_text found.Done = []
@@ -91,7 +93,8 @@ end_text_at end_text found.Change = []
 end_text_at end_text found.Begin = []
 end_text_at end_text found.Interrupted = []
 
--- The session moved in a run with this text about its end, and its reply. The move was interrupted only if it could be.
+-- the session made the move `asked`: its reply and the session after it; `end_text` is about the end of the run, and only if `may_break` is
+-- true can the move have been interrupted
 pub record IsMoved (end_text : List ℕ) (may_break : Bool) (session : Session) (asked : Move) (reply : Reply) (next : Session)
     : Type 0 where
   pub place : ℕ

@@ -4,11 +4,11 @@ use Rattle.rv_gdb_protocol.specs.Replies.{refusal_text}
 use Rattle.rv_gdb_protocol.specs.declared.request.Refusal.{Refusal}
 use Rattle.rv_session.specs.declared.reply.Reply.{Reply}
 
--- only a body
+-- a reply with only a body
 abbrev pub with_body : List ℕ → Reply
 with_body body = record { printed = []; end_text = []; body = Some body }
 
--- output, followed by a body
+-- a reply with console output and a body
 abbrev pub printing : List ℕ → List ℕ → Reply
 printing printed body = record { printed = printed; end_text = []; body = Some body }
 
@@ -16,16 +16,18 @@ printing printed body = record { printed = printed; end_text = []; body = Some b
 abbrev pub silent : Reply
 silent = record { printed = []; end_text = []; body = None }
 
--- a stop, after the output up to it and the text about the run's end
+-- a reply with console output, the text about the run's end, and a body
 abbrev pub stopping : List ℕ → List ℕ → List ℕ → Reply
 stopping printed end_text body = record { printed = printed; end_text = end_text; body = Some body }
 
+-- the reply `OK`
 abbrev pub granted : Reply
 granted = with_body (codes "OK")
 
+-- the reply to a refused request
 abbrev pub refused : Refusal → Reply
 refused refusal = with_body (refusal_text refusal)
 
--- `OK` if accepted, else the refusal
+-- the reply `OK` if the request is granted, and the refusal otherwise
 abbrev pub granted_if : Bool → Refusal → Reply
 granted_if is_granted refusal = if is_granted then granted else refused refusal

@@ -9,7 +9,7 @@ use Rattle.rv_trace.specs.Trace.{state_after}
 use Rattle.rv_session.specs.declared.program.Program.{Program}
 use Rattle.rv_session.specs.declared.session.Session.{Session}
 
--- at the start of a run, before gdb has sent anything
+-- the session at the start of a run within `budget`, before gdb has sent anything
 abbrev pub at_first : Start → ℕ → Program → Session
 at_first start budget program = record {
   reader = between;
@@ -25,7 +25,7 @@ at_first start budget program = record {
   is_over = false;
 }
 
--- the state of the session's run after a number of steps
+-- the state of the session's run after `place` steps
 abbrev pub state_at : Session → ℕ → State
 state_at session place = state_after place session.history.start
 
@@ -33,7 +33,7 @@ state_at session place = state_after place session.history.start
 abbrev pub here : Session → State
 here session = state_at session session.history.place
 
--- the session at another step of its run
+-- the session at the step `place` of its run
 abbrev pub at_place : Session → ℕ → Session
 at_place session place = record session { history = record session.history { place = place } }
 
@@ -41,7 +41,7 @@ at_place session place = record session { history = record session.history { pla
 abbrev pub MayAsk : Session → Type 0
 MayAsk session = (session.asked ≡ None) ⊎ (session.is_over ≡ false)
 
--- Whatever a session receives, its run stays the same.
+-- both sessions debug one run: with the same start, budget, program and script
 pub record IsSameRun (session next : Session) : Type 0 where
   pub start_is : next.history.start ≡ session.history.start
   pub budget_is : next.history.budget ≡ session.history.budget

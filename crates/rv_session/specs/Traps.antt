@@ -17,73 +17,77 @@ use Rattle.rv_gdb_protocol.specs.declared.request.Watched.TheVariants as watch
 abbrev pub most_traps : ℕ
 most_traps = 1024
 
+-- whether the watchpoint is for exactly this range
 abbrev pub is_on : Range → Watch → Bool
 is_on range watch = watch.address == range.address && watch.count == range.count
 
--- the watchpoints of a kind
+-- the watchpoints of this kind
 abbrev pub watches_of : Stops → Watched → List Watch
 watches_of stops watch.Writes = stops.watches
 watches_of stops watch.Reads = stops.reads
 watches_of stops watch.Accesses = stops.accesses
 
+-- the stops with `watches` as the watchpoints of this kind
 abbrev pub with_watches : Stops → Watched → List Watch → Stops
 with_watches stops watch.Writes watches = record stops { watches = watches }
 with_watches stops watch.Reads watches = record stops { reads = watches }
 with_watches stops watch.Accesses watches = record stops { accesses = watches }
 
--- the stoppoint is set already
+-- whether the stoppoint is already set
 abbrev pub is_set : Stops → Stoppoint → Bool
 is_set stops (trap.Break address) = list_any (λ other. other == address) stops.breaks
 is_set stops (trap.Watch kind range) = list_any (is_on range) (watches_of stops kind)
 
--- one of the bytes is in a region
+-- whether a byte of the range is in a region
 abbrev pub has_byte : Contents → Range → Bool
 has_byte bus range = list_any (λ address. is_some (fin.get bus.memory address)) (range_with_len range.address range.count)
 
--- whether the stoppoint is valid: a watchpoint is within the address space and has a byte in a region
+-- whether the stoppoint is valid: a watchpoint must be within the address space and have a byte in a region
 abbrev pub can_be_set : Contents → Stoppoint → Bool
 can_be_set bus (trap.Break address) = true
 can_be_set bus (trap.Watch kind range) = nat_le (range.address + range.count) 4294967296 && has_byte bus range
 
+-- whether the maximum number of breakpoints and watchpoints is set
 abbrev pub is_full : Stops → Bool
 is_full stops = nat_le most_traps ((length stops.breaks + length stops.watches) + (length stops.reads + length stops.accesses))
 
--- why the stoppoint is not set, if it is refused
+-- why the stoppoint cannot be set: it is invalid, or it is new and the maximum number is set; none if it can be set
 abbrev pub trap_refusal : Stops → Contents → Stoppoint → Option Refusal
 trap_refusal stops bus place =
     if not (can_be_set bus place) then Some refusal.Malformed
     else if is_set stops place then None
     else if is_full stops then Some refusal.TooManyTraps else None
 
+-- the stops without this stoppoint
 abbrev pub without_trap : Stops → Stoppoint → Stops
 without_trap stops (trap.Break address) =
     record stops { breaks = filter (λ other. not (other == address)) stops.breaks }
 without_trap stops (trap.Watch kind range) =
     with_watches stops kind (filter (λ watch. not (is_on range watch)) (watches_of stops kind))
 
--- one more watchpoint, at the end
+-- `next` are the watchpoints with one for this range added at the end
 pub record IsWatchAdded (watches : List Watch) (range : Range) (next : List Watch) : Type 0 where
   pub watch : Watch
   pub next_is : next ≡ watches ++ watch ∷ []
   pub on : is_on range watch ≡ true
 
--- one more watchpoint, among those of its kind
+-- `next` are the stops with a watchpoint of this kind for this range added
 pub record IsKindAdded (stops : Stops) (kind : Watched) (range : Range) (next : Stops) : Type 0 where
   pub watches : List Watch
   pub added : IsWatchAdded (watches_of stops kind) range watches
   pub next_is : next ≡ with_watches stops kind watches
 
--- one more stoppoint, at the end of those of its kind
+-- `next` are the stops with this stoppoint added
 abbrev pub IsAdded : Stops → Stoppoint → Stops → Type 0
 IsAdded stops (trap.Break address) next = next ≡ record stops { breaks = stops.breaks ++ address ∷ [] }
 IsAdded stops (trap.Watch kind range) next = IsKindAdded stops kind range next
 
--- a stoppoint that is set already adds nothing
+-- `next` are the stops with this stoppoint added, or the unchanged stops if the Bool says that it is already set
 abbrev pub IsAddedUnless : Bool → Stops → Stoppoint → Stops → Type 0
 IsAddedUnless true stops place next = next ≡ stops
 IsAddedUnless false stops place next = IsAdded stops place next
 
--- the stops with the stoppoint, or why it is not set
+-- the result of setting the stoppoint `place`: the new stops, which are unchanged if it was already set, or the refusal
 abbrev pub IsTrapped : Stops → Contents → Stoppoint → Result Stops Refusal → Type 0
 IsTrapped stops bus place (Ok next) = (trap_refusal stops bus place ≡ None)
     × IsAddedUnless (is_set stops place) stops place next

@@ -18,7 +18,7 @@ use rv_gdb_protocol::{
 use std::alloc::{AllocError, Global};
 
 impl Session {
-    /// Answers a request. A move is only recorded; its reply follows once it is made.
+    /// Returns the reply to a request. A move is only recorded; its reply follows once [`Session::work`] has made it.
     pub(crate) fn answer(&mut self, alloc: Global, request: &Request) -> Result<Reply, AllocError>
         ensures { IfOk result (λ reply. IsAnswered self.old request.now reply self.new) }
     {
@@ -38,7 +38,7 @@ impl Session {
         }
     }
 
-    // Answers a request that does not change the session.
+    // Returns the reply to a request that does not change the session.
     fn look(&self, alloc: Global, request: &Request) -> Result<Reply, AllocError>
         ensures { IfOk result (λ reply. reply ≡ shown_reply self.now request.now) }
     {
@@ -60,7 +60,7 @@ impl Session {
         }
     }
 
-    // Handles `?`.
+    // Handles `?`: returns the last stop.
     fn last_stop(&self, alloc: Global) -> Result<Reply, AllocError>
         ensures { IfOk result (λ reply. reply ≡ with_body (stop_text self.now.last)) }
     {
@@ -69,7 +69,7 @@ impl Session {
         Ok(Reply::with_body(alloc, body))
     }
 
-    // Handles `Z`.
+    // Handles `Z`: sets a breakpoint or watchpoint.
     fn set(&mut self, alloc: Global, trap: Stoppoint) -> Result<Reply, AllocError>
         ensures { IfOk result (λ reply. IsTrapAsked self.old trap reply self.new) }
     {
@@ -83,7 +83,7 @@ impl Session {
         }
     }
 
-    // Handles `z`.
+    // Handles `z`: clears a breakpoint or watchpoint.
     fn clear(&mut self, alloc: Global, trap: Stoppoint) -> Result<Reply, AllocError>
         ensures { IfOk result (λ reply. (reply ≡ granted)
             × (self.new ≡ record self.old { stops = without_trap self.old.stops trap })) }
@@ -103,7 +103,7 @@ impl Session {
         self.last_stop(alloc)
     }
 
-    // Handles `QStartNoAckMode`. Its own packet was acknowledged.
+    // Handles `QStartNoAckMode`: later packets are not acknowledged.
     fn end_acknowledgements(&mut self, alloc: Global) -> Result<Reply, AllocError>
         ensures { IfOk result (λ reply. (reply ≡ granted) × (self.new ≡ record self.old { acknowledges = false })) }
     {
@@ -112,7 +112,7 @@ impl Session {
         Ok(reply)
     }
 
-    // Handles `D`.
+    // Handles `D`: ends the session.
     fn detach(&mut self, alloc: Global) -> Result<Reply, AllocError>
         ensures { IfOk result (λ reply. (reply ≡ granted) × (self.new ≡ record self.old { is_over = true })) }
     {
@@ -130,7 +130,7 @@ impl Session {
         Reply::silent(alloc)
     }
 
-    // Handles `k`.
+    // Handles `k`: ends the session without a reply.
     fn end(&mut self, alloc: Global) -> Reply
         ensures reply { result ≡ silent }
         ensures next { self.new ≡ record self.old { is_over = true } }
@@ -140,13 +140,14 @@ impl Session {
     }
 }
 
-// Returns a reply that is equal in every session.
+// Returns the reply that is equal in every session; empty if there is none for the request.
 fn fixed(alloc: Global, request: &Request) -> Result<Reply, AllocError>
     ensures { IfOk result (λ reply. reply ≡ fixed_answer request.now) }
 {
     Reply::with_text(alloc, fixed_reply(request).unwrap_or(""))
 }
 
+// Returns the reply with a part of a text.
 fn part_of(alloc: Global, text: &[u8], part: Part) -> Result<Reply, AllocError>
     ensures { IfOk result (λ reply. reply ≡ with_body (part_text text.now part)) }
 {

@@ -3,7 +3,7 @@
 use rv_machine::Machine;
 use std::alloc::{AllocError, Global};
 
-/// Describes how a run ended.
+/// Provides a text about how a run ended.
 pub trait EndText {
     ghost use Rattle.std.specs.Prelude.{◌≡◌, ◌++◌, ℕ, List, OnOk};
     ghost use Rattle.rv_history.specs.Places.{IsReached};
@@ -16,7 +16,8 @@ pub trait EndText {
     // The text about the run's end.
     ghost end_text: { Self → List ℕ };
 
-    /// Appends the text, given a machine at a step of the run. The nearer that is to the end, the less time it takes.
+    /// Appends the text about the run's end, given the machine after `place` steps of the run. The closer this is to the end, the less time
+    /// the call takes.
     fn push_end_text(
         &self,
         alloc: Global,

@@ -14,7 +14,7 @@ use crate::session::Session;
 use rv_gdb_protocol::{Part, Refusal};
 use std::alloc::{AllocError, Global};
 
-/// The maximum number of bytes in a part, each of which may have to be escaped.
+/// The maximum number of bytes in one part of the image file, each of which may have to be escaped.
 const MOST_PART: usize = 8180;
 
 /// The size of gdb's `struct stat` in bytes.
@@ -24,7 +24,7 @@ const STAT_BYTES: u32 = 64;
 const READABLE_FILE: u32 = 0x8124;
 
 impl Session {
-    // Handles `vFile:open:`.
+    // Handles `vFile:open:`: opens the image file as descriptor 5, and refuses any other file.
     pub(crate) fn open_file(&self, alloc: Global, path: &[u8]) -> Result<Reply, AllocError>
         ensures { IfOk result (λ reply. reply
             ≡ (if bytes_eq self.now.program.path path.now then with_body (codes "F5") else refused refusal.OtherFile)) }
@@ -36,7 +36,7 @@ impl Session {
         }
     }
 
-    // Handles `vFile:fstat:5`: big-endian words of four bytes, all 0 except the mode and the size.
+    // Handles `vFile:fstat:5`: returns big-endian words of four bytes, all 0 except the mode and the size.
     pub(crate) fn file_size(&self, alloc: Global) -> Result<Reply, AllocError>
         ensures { IfOk result (λ reply. reply ≡ size_reply (length self.now.program.image)) }
     {
@@ -47,7 +47,7 @@ impl Session {
         Ok(Reply::with_body(alloc, body))
     }
 
-    // Handles `vFile:pread:5,`.
+    // Handles `vFile:pread:5,`: returns a part of the image file.
     pub(crate) fn read_file(&self, alloc: Global, part: Part) -> Result<Reply, AllocError>
         ensures { IfOk result (λ reply. reply ≡ file_reply (file_part self.now.program.image part)) }
     {
@@ -59,6 +59,7 @@ impl Session {
     }
 }
 
+// Returns the requested part of the image file, with at most [`MOST_PART`] bytes.
 fn file_part(image: &[u8], part: Part) -> &[u8]
     ensures bytes { result.now ≡ file_part image.now part }
     ensures short { length result.now ≤ 8180 }
@@ -101,7 +102,7 @@ fn push_words(body: &mut Vec<u8>, words: &[u32]) -> Result<(), AllocError>
     Ok(())
 }
 
-// Appends `F`, a count and `;`.
+// Appends `F`, the count as eight hexadecimal digits, and `;`.
 fn push_count(body: &mut Vec<u8>, count: u32) -> Result<(), AllocError>
     ensures { OnOk result (body.new.items ≡ body.old.items ++ counted count) }
 {

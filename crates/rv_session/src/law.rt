@@ -17,7 +17,7 @@ pub fn reads_can_be_split()
         → IsFed end_text behind session (front ++ rest) (out ++ more) next }
 {}
 
-/// Without 0x03, what is sent and the resulting session are determined by the session and by the received bytes, once all requested moves
+/// If no 0x03 is received, the session and the received bytes determine what is sent and the resulting session, once all requested moves
 /// are made.
 pub fn answers_are_determined()
     ensures { (end_text : List ℕ) (session one other : Session) (bytes out more : List ℕ)
@@ -25,21 +25,21 @@ pub fn answers_are_determined()
         → IsFed end_text false session bytes more other → other.asked ≡ None → (out ≡ more) × (one ≡ other) }
 {}
 
-/// The output sent before stops is a prefix of what the run prints, in order and each byte once.
+/// The console output that is sent before stops is a prefix of what the run prints: in order, and each byte once.
 pub fn printed_bytes_go_out_once()
     ensures { (end_text : List ℕ) (may_break : Bool) (session next : Session) (asked : Move) (reply : Reply) (shown : List ℕ)
         → HasShown session shown → IsMoved end_text may_break session asked reply next
         → HasShown next (shown ++ reply.printed) }
 {}
 
-/// Received bytes never cause the run's output to be sent before a stop; only moves do.
+/// Console output of the run is sent only for moves, never for received bytes.
 pub fn only_moves_show_printed_bytes()
     ensures { (session next : Session) (byte : ℕ) (out shown : List ℕ)
         → HasShown session shown → IsByteFed session byte out next → HasShown next shown }
 {}
 
-/// The stop that a move reports is the run's end if the move reaches it, and no end otherwise. The text about the run's end is sent with
-/// that stop, and with no other.
+/// A move reports the end of the run if it reaches it, and otherwise reports no end. The text about the run's end is sent with the stop at
+/// the end, and with no other.
 pub fn ends_are_told()
     ensures { (end_text : List ℕ) (may_break : Bool) (session next : Session) (asked : Move) (reply : Reply)
         (moved : IsMoved end_text may_break session asked reply next)

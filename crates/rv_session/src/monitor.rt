@@ -14,7 +14,7 @@ const HELP: &str =
     "when: how many steps were executed\nconsole: the output up to here\ninput: how much of the script was read\nreset, reset halt: go back to the start of the run\n";
 
 impl Session {
-    // Handles `qRcmd,`.
+    // Handles `qRcmd,`: runs a `monitor` command.
     pub(crate) fn command(&mut self, alloc: Global, text: &[u8]) -> Result<Reply, AllocError>
         ensures { IfOk result (λ reply. IsCommanded self.old text.now reply self.new) }
     {
@@ -58,6 +58,7 @@ impl Session {
     }
 }
 
+// Whether a `monitor` command moves to the start of the run.
 fn is_reset(text: &[u8]) -> bool
     ensures { result ≡ is_reset text.now }
 {

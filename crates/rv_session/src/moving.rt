@@ -43,7 +43,7 @@ impl Session {
         Ok(out)
     }
 
-    // Handles `vCont;`, `c`, `s`, `bc` and `bs`: moves, and reports the stop.
+    // Handles `vCont;`, `c`, `s`, `bc` and `bs`: moves, and returns the reply with the stop.
     fn move_as<E: EndText, I: Interrupt>(
         &mut self,
         alloc: Global,
@@ -61,6 +61,7 @@ impl Session {
         self.tell(alloc, asked, stop, text)
     }
 
+    // Makes a move, and returns its result.
     fn go<I: Interrupt>(
         &mut self,
         alloc: Global,
@@ -87,6 +88,7 @@ impl Session {
         }
     }
 
+    // Returns the stop that reports the result of a move.
     fn stop_of(&self, alloc: Global, asked: Move, found: Found) -> Result<Stop, AllocError>
         requires { CanTell self.now asked found }
         ensures { IfOk result (λ stop. stop ≡ stop_of self.now asked self.now.history.place found) }
@@ -100,7 +102,7 @@ impl Session {
         }
     }
 
-    // Returns the first watchpoint triggered by the next step, or, moving backwards, by the preceding step.
+    // Returns the stop for a watchpoint hit: by the next step after a forward move, by the preceding step after a backward move.
     fn watch_stop(&self, alloc: Global, asked: Move) -> Result<Stop, AllocError>
         requires { CanTell self.now asked found.Change }
         ensures { IfOk result (λ stop. stop ≡ watch_stop self.now asked self.now.history.place) }
@@ -114,7 +116,7 @@ impl Session {
         }
     }
 
-    // Returns the text about the run's end if a move reached it, else nothing.
+    // Returns the text about the run's end, if the move reached it; empty otherwise.
     fn end_text_at<E: EndText>(
         &self,
         alloc: Global,
@@ -135,7 +137,7 @@ impl Session {
         Ok(text)
     }
 
-    // Reports a stop, the output up to it, and the text about the run's end.
+    // Returns the reply with a stop, the console output before it, and the text about the run's end.
     fn tell(
         &mut self,
         alloc: Global,
@@ -158,7 +160,7 @@ impl Session {
         })
     }
 
-    // Returns the output that was not sent yet, once a forward move has reached it.
+    // Returns the console output that was not sent yet, if the move went forwards; empty otherwise.
     fn show(&mut self, alloc: Global, asked: Move) -> Result<Vec<u8>, AllocError>
         ensures printed { IfOk result (λ printed. printed.items ≡ printed_on self.old asked (here self.old)) }
         ensures shown { IfOk result (λ printed. self.new ≡ record self.old { shown = shown_on self.old asked (here self.old) }) }
@@ -173,6 +175,7 @@ impl Session {
     }
 }
 
+// Whether a move goes forwards in the run.
 fn is_forward(asked: Move) -> bool
     ensures { result ≡ is_forward asked }
 {
@@ -182,6 +185,7 @@ fn is_forward(asked: Move) -> bool
     }
 }
 
+// Returns the stop that reports this watchpoint hit; a plain stop without a hit.
 fn watch_told(set_off: Option<WatchHit>) -> Stop
     ensures { result ≡ watch_told set_off }
 {
@@ -193,6 +197,7 @@ fn watch_told(set_off: Option<WatchHit>) -> Stop
     }
 }
 
+// Returns the stop that reports this end of the run.
 fn end_stop(ending: Ending) -> Stop
     ensures { result ≡ end_stop ending }
 {

@@ -2,10 +2,10 @@
 
 use rv_base::Bytes;
 
-/// The image of the job's program, which gdb can request.
+/// The debugged program: its image file, which gdb can read.
 #[derive(Drop)]
 pub struct Program {
-    /// Its path, as gdb shows it.
+    /// The path of the image file, as gdb shows it.
     pub path: Bytes,
     pub image: Bytes,
 }

@@ -18,7 +18,7 @@ use std::alloc::{AllocError, Global};
 const MOST_BYTES: u32 = 8184;
 
 impl Session {
-    // Handles `g`.
+    // Handles `g`: returns x0 to x31 and the pc.
     pub(crate) fn registers(&self, alloc: Global) -> Result<Reply, AllocError>
         ensures { IfOk result (λ reply. reply ≡ with_body (registers_here self.now)) }
     {
@@ -28,7 +28,7 @@ impl Session {
         Ok(Reply::with_body(alloc, body))
     }
 
-    // Handles `p`.
+    // Handles `p`: returns the value of a register.
     pub(crate) fn register(&self, alloc: Global, register: Register) -> Result<Reply, AllocError>
         ensures { IfOk result (λ reply. reply ≡ with_body (register_text (value_of self.now register))) }
     {
@@ -37,7 +37,7 @@ impl Session {
         Ok(Reply::with_body(alloc, body))
     }
 
-    // Returns the value of a register. A number that is not a register of the hart has the value of the pc.
+    // Returns the value of a register of the target description at the current step.
     pub(crate) fn value(&self, register: Register) -> u32
         ensures { result ≡ value_of self.now register }
     {
@@ -49,6 +49,7 @@ impl Session {
         }
     }
 
+    // Returns the value of x0 to x31 by its number, or of the pc for any greater number.
     fn hart_value(&self, number: u32) -> u32
         ensures { result ≡ hart_value self.now number }
     {
@@ -60,7 +61,7 @@ impl Session {
         }
     }
 
-    /// Returns the number of bytes consumed from the input script.
+    /// Returns the number of bytes that the program has consumed from the input script.
     pub(crate) fn taken(&self) -> usize
         ensures { result ≡ taken_here self.now }
     {
@@ -68,7 +69,7 @@ impl Session {
         self.script.saturating_sub(left)
     }
 
-    // Handles `m`: as many consecutive bytes as are in regions.
+    // Handles `m`: returns the bytes of a range up to the first address that is in no region.
     pub(crate) fn memory(&self, alloc: Global, range: Range) -> Result<Reply, AllocError>
         ensures { IfOk result (λ reply. reply ≡ memory_reply (bytes_from (here self.now).bus range)) }
     {
@@ -89,14 +90,14 @@ pub(crate) fn are_same(one: &[u8], other: &[u8]) -> bool
     one == other
 }
 
-/// Returns a count as a value of four bytes.
+/// Returns a count as a number of 32 bits, saturating.
 pub(crate) fn shown_count(count: usize) -> u32
     ensures { result ≡ shown_count count }
 {
     count.min(u32::MAX as usize) as u32
 }
 
-// Returns how many bytes of a range are read: as many as fit a reply, and none past the last address.
+// Returns how many bytes of a range are read: as many as fit in a reply, and none past the last address.
 fn bytes_asked(range: Range) -> u32
     ensures { result ≡ bytes_asked range }
 {
@@ -105,7 +106,7 @@ fn bytes_asked(range: Range) -> u32
     u64::from(count).min(room) as u32
 }
 
-// Returns the bytes from an address on, up to the first that is in no region.
+// Returns the bytes of a range up to the first address that is in no region.
 fn bytes_from(alloc: Global, bus: &Bus, range: Range) -> Result<Vec<u8>, AllocError>
     ensures { IfOk result (λ bytes. bytes.items ≡ bytes_from bus.now range) }
 {

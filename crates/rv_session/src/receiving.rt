@@ -13,12 +13,12 @@ use rv_base::Bytes;
 use rv_gdb_protocol::{Incoming, Refusal, Sum, parse_request, push_frame, push_printed};
 use std::alloc::{AllocError, Global};
 
-/// The maximum number of output bytes in a packet, two digits each.
+/// The maximum number of console bytes in a packet, which has two digits for each.
 const MOST_PRINTED: usize = 8184;
 
 impl Session {
-    /// Receives a byte from gdb and returns the bytes to send. If a move is requested then, [`Session::work`] makes it before another byte
-    /// is received. After an error the session must be abandoned.
+    /// Receives a byte from gdb and returns the bytes to send. If the byte requests a move, [`Session::work`] must make it before another
+    /// byte is received. After an error the session must be abandoned.
     pub fn receive(&mut self, alloc: Global, byte: u8) -> Result<Vec<u8>, AllocError>
         requires { self.old.asked ≡ None }
         ensures heard { IfOk result (λ out. IsByteFed self.old byte out.items self.new) }
@@ -30,7 +30,7 @@ impl Session {
         Ok(out)
     }
 
-    // Appends what to send for a byte.
+    // Appends the bytes to send when this byte is received.
     fn receive_byte(&mut self, alloc: Global, out: &mut Vec<u8>, byte: u8) -> Result<(), AllocError>
         ensures { OnOk result (IsAppended out.old.items out.new.items
             (λ told. IsByteFed self.old byte told self.new)) }
@@ -41,7 +41,7 @@ impl Session {
         }
     }
 
-    // Appends what to send for a received item. At Ctrl-C no move is in progress.
+    // Appends the bytes to send for a received item. Ctrl-C has no effect here, since no move is in progress.
     fn respond(
         &mut self,
         alloc: Global,
@@ -68,7 +68,7 @@ impl Session {
         }
     }
 
-    // Sends the last packet again.
+    // Appends the last packet, if packets are acknowledged.
     fn send_again(&self, out: &mut Vec<u8>) -> Result<(), AllocError>
         ensures { OnOk result (out.new.items ≡ out.old.items ++ sent_again self.now) }
     {
@@ -78,6 +78,7 @@ impl Session {
         Ok(())
     }
 
+    // Acknowledges a packet that is too long, and appends the reply that refuses it.
     fn refuse_long(&mut self, alloc: Global, out: &mut Vec<u8>) -> Result<(), AllocError>
         ensures out { OnOk result (out.new.items
             ≡ out.old.items ++ (acknowledgement self.old ++ packets_of (refused refusal.TooLong))) }
@@ -88,14 +89,14 @@ impl Session {
         self.send(alloc, out, &reply)
     }
 
-    // Whether to request a packet again. Without acknowledgements its checksum is not checked.
+    // Whether a packet must be requested again. Without acknowledgements its checksum is not checked.
     fn is_refused(&self, sum: Sum) -> bool
         ensures { result ≡ (self.now.acknowledges && is_wrong sum) }
     {
         self.acknowledges && is_wrong(sum)
     }
 
-    // Handles an acknowledged packet.
+    // Acknowledges a packet, and appends the reply to it.
     fn take_body(&mut self, alloc: Global, out: &mut Vec<u8>, body: &[u8]) -> Result<(), AllocError>
         ensures { OnOk result (IsAppended out.old.items out.new.items
             (λ told. IsTaken self.old body.now told self.new)) }
@@ -106,6 +107,7 @@ impl Session {
         self.send(alloc, out, &reply)
     }
 
+    // Appends `+` if packets are acknowledged.
     fn acknowledge(&self, out: &mut Vec<u8>) -> Result<(), AllocError>
         ensures { OnOk result (out.new.items ≡ out.old.items ++ acknowledgement self.now) }
     {
@@ -115,7 +117,7 @@ impl Session {
         Ok(())
     }
 
-    // Appends a reply's packets, and keeps the last one.
+    // Appends a reply's packets, and keeps the last one in case gdb requests it again.
     pub(crate) fn send(
         &mut self,
         alloc: Global,
@@ -133,7 +135,7 @@ impl Session {
         }
     }
 
-    // Appends a body's packet, and keeps it.
+    // Appends the packet with this body, and keeps it in case gdb requests it again.
     fn send_body(&mut self, alloc: Global, out: &mut Vec<u8>, body: &[u8]) -> Result<(), AllocError>
         ensures out { OnOk result (out.new.items ≡ out.old.items ++ framed body.now) }
         ensures next { OnOk result (self.new ≡ record self.old { sent = framed body.now }) }
@@ -146,6 +148,7 @@ impl Session {
     }
 }
 
+// Appends `-`, which requests the last packet again.
 fn ask_again(out: &mut Vec<u8>) -> Result<(), AllocError>
     ensures { OnOk result (out.new.items ≡ out.old.items ++ 45 ∷ []) }
 {
@@ -153,6 +156,7 @@ fn ask_again(out: &mut Vec<u8>) -> Result<(), AllocError>
     Ok(())
 }
 
+// Whether a checksum is wrong.
 fn is_wrong(sum: Sum) -> bool
     ensures { result ≡ is_wrong sum }
 {
@@ -162,6 +166,7 @@ fn is_wrong(sum: Sum) -> bool
     }
 }
 
+// Appends the packets with all bytes of the console output, in order.
 #[tactic(auto, unfolding(crate::specs::Incoming::printed_packets))]
 fn push_printed_packets(alloc: Global, out: &mut Vec<u8>, printed: &[u8]) -> Result<(), AllocError>
     ensures { OnOk result (out.new.items ≡ out.old.items ++ printed_packets printed.now) }
@@ -173,7 +178,7 @@ fn push_printed_packets(alloc: Global, out: &mut Vec<u8>, printed: &[u8]) -> Res
     Ok(())
 }
 
-// Appends the packet with this number.
+// Appends the packet with this number of the console output.
 fn push_printed_packet(
     alloc: Global,
     out: &mut Vec<u8>,
@@ -187,6 +192,7 @@ fn push_printed_packet(
     push_frame(alloc, out, body.as_slice())
 }
 
+// Returns the console bytes of the packet with this number, counted from 0.
 fn printed_part(printed: &[u8], number: usize) -> &[u8]
     ensures { result.now ≡ printed_part printed.now number }
 {

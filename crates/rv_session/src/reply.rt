@@ -9,9 +9,9 @@ use std::alloc::{AllocError, Global};
 /// The reply to a request.
 #[derive(Drop)]
 pub struct Reply {
-    /// Output that gdb shows, in packets of its own before the body.
+    /// Console output, which gdb shows. It is sent in packets of its own, before the body.
     pub printed: Bytes,
-    /// The text about the run's end, which gdb shows after the output.
+    /// The text about the run's end, which gdb shows after the console output.
     pub end_text: Bytes,
     /// The body, if there is one.
     pub body: Option<Bytes>,
@@ -20,7 +20,7 @@ pub struct Reply {
 impl Reply {
     ghost use Rattle.rv_session.specs.Replies.{granted, granted_if, printing, refused, with_body, silent};
 
-    /// Creates a reply with only a body.
+    /// Creates a reply with only this body.
     pub(crate) fn with_body(alloc: Global, body: Vec<u8>) -> Reply
         ensures { result ≡ with_body body.items }
     {
@@ -42,7 +42,7 @@ impl Reply {
         }
     }
 
-    /// Creates a reply with a text to show, followed by `OK`.
+    /// Creates a reply with a text that gdb shows, followed by `OK`.
     pub(crate) fn printing(alloc: Global, text: Vec<u8>) -> Result<Reply, AllocError>
         ensures { IfOk result (λ reply. reply ≡ printing text.items (codes "OK")) }
     {
@@ -54,7 +54,7 @@ impl Reply {
         })
     }
 
-    /// Creates a reply with only this text.
+    /// Creates a reply with only this text as its body.
     pub(crate) fn with_text(alloc: Global, text: &str) -> Result<Reply, AllocError>
         ensures { IfOk result (λ reply. reply ≡ with_body text.now) }
     {
@@ -68,13 +68,14 @@ impl Reply {
         Reply::with_text(alloc, "OK")
     }
 
+    /// Creates the reply to a refused request.
     pub(crate) fn refusing(alloc: Global, refusal: Refusal) -> Result<Reply, AllocError>
         ensures { IfOk result (λ reply. reply ≡ refused refusal) }
     {
         Reply::with_text(alloc, refusal_text(refusal))
     }
 
-    /// Creates the reply `OK` or a refusal.
+    /// Creates the reply `OK` if the request is granted, and the refusal otherwise.
     pub(crate) fn granted_if(
         alloc: Global,
         is_granted: bool,

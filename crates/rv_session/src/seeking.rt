@@ -19,7 +19,7 @@ impl Session {
         Ok(())
     }
 
-    /// Handles `P21=`: moves to a step.
+    /// Handles `P21=`: moves to the step with this number. The reply is a refusal if the run does not reach it.
     pub(crate) fn seek_place(&mut self, alloc: Global, place: u32) -> Result<Reply, AllocError>
         ensures { IfOk result (λ reply. IsPlaceSought self.old place reply self.new) }
     {
@@ -27,7 +27,7 @@ impl Session {
         Reply::granted_if(alloc, granted, Refusal::NotReached)
     }
 
-    /// Handles `P22=` and `P23=`: moves to the first step with this value of a count.
+    /// Handles `P22=` and `P23=`: moves to the first step at which a count has this value. The reply is a refusal if there is none.
     pub(crate) fn seek_count(
         &mut self,
         alloc: Global,

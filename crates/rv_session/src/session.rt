@@ -10,7 +10,7 @@ use rv_gdb_protocol::{Move, Reader, Stop};
 use rv_history::{History, Start, Stops};
 use std::alloc::{AllocError, Global};
 
-/// A gdb session over the run from a start within a budget.
+/// A gdb session that debugs a run from a start within a budget.
 #[derive(Drop)]
 pub struct Session {
     pub(crate) reader: Reader,
@@ -19,15 +19,15 @@ pub struct Session {
     /// The length of the input script in bytes.
     pub(crate) script: usize,
     pub(crate) stops: Stops,
-    /// Whether each packet is acknowledged.
+    /// Whether packets are acknowledged.
     pub(crate) acknowledges: bool,
-    /// The number of output bytes sent so far.
+    /// The number of console bytes that were sent so far.
     pub(crate) shown: usize,
-    /// The last stop.
+    /// The stop that was reported last.
     pub(crate) last: Stop,
-    /// The last packet sent.
+    /// The packet that was sent last.
     pub(crate) sent: Bytes,
-    /// The move that is requested and not made yet.
+    /// The requested move that is not made yet.
     pub(crate) asked: Option<Move>,
     pub(crate) is_over: bool,
 }
@@ -64,14 +64,14 @@ impl Session {
         })
     }
 
-    /// Limits its memory to `megabytes`, from 64 to 4,096. The default is 256. No reply depends on it.
+    /// Limits the session's memory to `megabytes`, from 64 to 4,096. The default is 256. No reply depends on it.
     pub fn set_memory(&mut self, alloc: Global, megabytes: u32)
         ensures { self.new ≡ self.old }
     {
         self.history.set_memory(alloc, megabytes);
     }
 
-    /// Returns the number of completed steps of the run.
+    /// Returns the current step: how many steps of the run are completed.
     pub fn place(&self) -> u32
         ensures value { result ≡ self.now.history.place }
         ensures within { result ≤ last_place self.now.history.budget self.now.history.start }
@@ -86,7 +86,7 @@ impl Session {
         self.asked.is_some()
     }
 
-    /// Whether gdb ended the session. Nothing is answered from then on.
+    /// Whether gdb has ended the session. Nothing more is answered then.
     pub fn is_over(&self) -> bool
         ensures { result ≡ self.now.is_over }
     {

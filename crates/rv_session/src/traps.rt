@@ -14,7 +14,7 @@ use std::alloc::{AllocError, Global};
 /// The maximum number of breakpoints and watchpoints together.
 const MOST_TRAPS: usize = 1024;
 
-/// Returns the stops with one more, which can be set already, or why it is not set.
+/// Returns the stops with a stoppoint added, unless it is already set, or why it cannot be set.
 pub(crate) fn with_trap(
     alloc: Global,
     stops: &Stops,
@@ -29,7 +29,7 @@ pub(crate) fn with_trap(
     }
 }
 
-/// Returns the stops without one, which need not be set.
+/// Returns the stops without a stoppoint, which need not be set.
 pub(crate) fn without_trap(
     alloc: Global,
     stops: &Stops,
@@ -43,6 +43,7 @@ pub(crate) fn without_trap(
     }
 }
 
+// Whether the maximum number of breakpoints and watchpoints is set.
 fn is_full(stops: &Stops) -> bool
     ensures { result ≡ is_full stops.now }
 {
@@ -138,7 +139,7 @@ fn without_watch(
     Ok(with_watches(next, kind, watches))
 }
 
-// Returns the watchpoints of a kind.
+// Returns the watchpoints of this kind.
 fn watches_of(stops: &Stops, kind: Watched) -> &[Watch]
     ensures { result.now ≡ watches_of stops.now kind }
 {
@@ -149,7 +150,7 @@ fn watches_of(stops: &Stops, kind: Watched) -> &[Watch]
     }
 }
 
-// Returns the stops with other watchpoints of a kind.
+// Returns the stops with `watches` as the watchpoints of this kind.
 fn with_watches(mut stops: Stops, kind: Watched, watches: Vec<Watch>) -> Stops
     ensures { result ≡ with_watches stops kind watches.items }
 {
@@ -190,14 +191,14 @@ fn copied(alloc: Global, stops: &Stops) -> Result<Stops, AllocError>
     })
 }
 
-// Whether a watchpoint is that of a range.
+// Whether the watchpoint is for exactly this range.
 fn is_on(watch: &Watch, range: Range) -> bool
     ensures { result ≡ is_on range watch.now }
 {
     watch.address == range.address && watch.count == range.count
 }
 
-// Whether one of the bytes is in a region.
+// Whether a byte of the range is in a region.
 fn has_byte(bus: &Bus, range: Range) -> bool
     requires { range.address + range.count ≤ 2 ^ 32 }
     ensures { result ≡ has_byte bus.now range }

@@ -22,7 +22,7 @@ use std::alloc::{AllocError, Global};
 const END_OF_ADDRESSES: u64 = 0x1_0000_0000;
 
 impl Session {
-    // Handles `G`.
+    // Handles `G`: grants the write only if it does not change a register.
     pub(crate) fn write_registers(&self, alloc: Global, bytes: &[u8]) -> Result<Reply, AllocError>
         ensures { IfOk result (λ reply. reply
             ≡ granted_if (bytes_eq (registers_here self.now) (encode_lower bytes.now)) refusal.WouldChange) }
@@ -36,7 +36,7 @@ impl Session {
         Reply::granted_if(alloc, same, Refusal::WouldChange)
     }
 
-    // Handles `P`: a register of the hart, or a seek by one of the run's counts.
+    // Handles `P`: grants a write to a register of the hart only if it does not change it; a write to a count of the run is a seek.
     pub(crate) fn write_register(
         &mut self,
         alloc: Global,
@@ -56,7 +56,7 @@ impl Session {
         }
     }
 
-    // Handles `M` and `X`.
+    // Handles `M` and `X`: grants the write only if it does not change memory.
     pub(crate) fn write_memory(
         &self,
         alloc: Global,
@@ -71,7 +71,7 @@ impl Session {
     }
 }
 
-// Whether memory has these bytes from an address on, none of them past the last address.
+// Whether memory has these bytes from the address on, none of them past the last address.
 fn stand_at(bus: &Bus, address: u32, bytes: &[u8]) -> bool
     ensures { result ≡ stand_at bus.now address bytes.now }
 {
@@ -83,13 +83,14 @@ fn stand_at(bus: &Bus, address: u32, bytes: &[u8]) -> bool
     true
 }
 
-// Whether memory has a byte at an address, which can be past the last one.
+// Whether memory has this byte at the address, which can be past the last one.
 fn stands_at(bus: &Bus, address: u64, byte: u8) -> bool
     ensures { result ≡ (nat_lt address end_of_addresses && is_byte (fin.get bus.now.memory address) byte) }
 {
     address < END_OF_ADDRESSES && is_byte(bus.byte(address as u32), byte)
 }
 
+// Whether there is a byte and it equals the given one.
 fn is_byte(found: Option<u8>, byte: u8) -> bool
     ensures { result ≡ is_byte found byte }
 {

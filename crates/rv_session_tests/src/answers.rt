@@ -17,8 +17,8 @@ use samples::{agree, cell_of, has_lines, numbers};
 use std::alloc::{AllocError, Global};
 use std::test::Fail;
 
-// x5 is 80000100, and x6 counts down from 3: the store at 8000000c is in steps 3, 6 and 9, with the values 3, 2 and 1. The exit call is
-// step 13, which does not complete.
+// In this program x5 is 80000100, and x6 counts down from 3: the store at 8000000c is in steps 3, 6 and 9, with the values 3, 2 and 1. The
+// exit call is step 13, which does not complete.
 const LOOP: &str = "00000297 10028293 00300313 0062a023 fff30313 fe031ce3 X";
 
 // The bodies of requests and their responses, in a session without acknowledgements that is at the start. The console input is `hi`. label
@@ -138,7 +138,7 @@ struct Talk {
     ghost unasked: { is_some session.asked ≡ false },
 }
 
-// Appends the output for a byte, and for the move that it requests.
+// Appends the response to a byte; if the byte completes the request for a move, makes the move and appends its response too.
 fn answer_byte(
     alloc: Global,
     session: &mut Session,
@@ -159,7 +159,7 @@ fn answer_byte(
     Ok(())
 }
 
-// Returns the output for the bytes from gdb.
+// Returns the response to bytes from a debugger.
 fn answered(alloc: Global, session: &mut Session, end: &End, heard: &[u8]) -> Result<String, Fail>
     requires { IsReady (start_of end.now.start) session.old }
     ensures { OnOk result (IsReady (start_of end.now.start) session.new) }
@@ -172,6 +172,7 @@ fn answered(alloc: Global, session: &mut Session, end: &End, heard: &[u8]) -> Re
     Ok(String::from_str(alloc, text)?)
 }
 
+// Returns the bus of a run: the code, or that of `LOOP`, at 80000000 in memory of 4,096 bytes, and the console input `hi`.
 fn bus_of(alloc: Global, code: &str) -> Result<Bus, Fail> {
     let memory = Region {
         base: 0x8000_0000,
@@ -189,6 +190,7 @@ fn bus_of(alloc: Global, code: &str) -> Result<Bus, Fail> {
     Ok(bus)
 }
 
+// Returns a new session for the run of code within a budget.
 fn session_of(alloc: Global, code: &str, budget: u32) -> Result<Talk, Fail> {
     let bus = bus_of(alloc, code)?;
     let copy = bus.copied(alloc)?;
@@ -210,7 +212,7 @@ fn session_of(alloc: Global, code: &str, budget: u32) -> Result<Talk, Fail> {
     })
 }
 
-// Returns bodies in their frames: `empty` is a body of no bytes, and `nothing` is no body.
+// Returns bodies, separated by ` & `, in their frames: `empty` represents a body without bytes, and `nothing` that there is no body.
 fn framed(alloc: Global, bodies: &str) -> Result<Vec<u8>, Fail> {
     let mut out = Vec::new(alloc);
     for body in bodies.split(" & ") {
@@ -232,7 +234,7 @@ fn session_of_line(alloc: Global, line: &str) -> Result<Talk, Fail> {
     Ok(Talk { session, end })
 }
 
-// Returns the output for the packet with a body.
+// Returns the response to the packet with this body.
 fn answered_body(
     alloc: Global,
     session: &mut Session,
@@ -246,6 +248,7 @@ fn answered_body(
     answered(alloc, session, end, packet.as_slice())
 }
 
+// Makes a request of a dialogue, and checks the response.
 fn check_answer(
     alloc: Global,
     session: &mut Session,
@@ -262,6 +265,7 @@ fn check_answer(
     agree(line, met.as_str(), std::str::from_utf8(wanted.as_slice())?)
 }
 
+// Makes the requests of a line's dialogue in order, and checks the responses.
 fn check_answers(alloc: Global, line: &str) -> Result<(), Fail> {
     let talk = session_of_line(alloc, line)?;
     let Talk { mut session, end } = talk;
@@ -271,6 +275,7 @@ fn check_answers(alloc: Global, line: &str) -> Result<(), Fail> {
     Ok(())
 }
 
+// Requests about hand-written runs have the expected responses.
 #[test]
 fn requests_are_answered(rt: HostRuntime) -> Result<(), Fail> {
     has_lines(ANSWERS, 40)?;
@@ -280,6 +285,7 @@ fn requests_are_answered(rt: HostRuntime) -> Result<(), Fail> {
     Ok(())
 }
 
+// Sends the packets of a line of a recording, and checks the response.
 fn check_recording(alloc: Global, session: &mut Session, end: &End, line: &str) -> Result<(), Fail>
     requires { IsReady (start_of end.now.start) session.old }
     ensures { OnOk result (IsReady (start_of end.now.start) session.new) }
@@ -290,6 +296,7 @@ fn check_recording(alloc: Global, session: &mut Session, end: &End, line: &str) 
     agree(line, met.as_str(), wanted)
 }
 
+// The packets of a recorded session with LLDB have the recorded responses.
 #[test]
 fn a_recorded_session_is_replayed(rt: HostRuntime) -> Result<(), Fail> {
     let alloc = rt.alloc();

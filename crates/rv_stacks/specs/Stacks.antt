@@ -17,75 +17,76 @@ use Rattle.rv_call_tree.specs.Trees.{all_steps, arrivals_at, own_in, steps_at, H
 
 -- ---- functions
 
--- the last address, at which no instruction can begin and so no function of code can be
+-- the last address, at which no instruction can begin, so no function of code can begin there
 abbrev pub last_address : ℕ
 last_address = 0xffff_ffff
 
--- the function that represents code without a symbol: 0, or the last address if there can be a function at 0
+-- the number that represents code without a symbol, given the symbol at address 0: 0 if there is none, else the last address
 abbrev pub no_function : Option (List ℕ × ℕ) → ℕ
 no_function None = 0
 no_function (Some symbol) = last_address
 
--- the start of the symbol at an address, or the value that represents none
+-- the start of the symbol at an address, or `none` if there is no symbol
 abbrev pub start_of : ℕ → ℕ → Option (List ℕ × ℕ) → ℕ
 start_of none address None = none
 start_of none address (Some symbol) = address - symbol.1
 
--- the function of a code address
+-- the function of a code address: the start of its symbol, or the number that represents code without a symbol
 unfoldable pub function_at : Image → List ℕ → ℕ → ℕ
 function_at image file address = start_of (no_function (symbol_at image file 0)) address (symbol_at image file address)
 
--- the functions that made the calls that have not returned, outermost first, and the function of the pc
+-- the call path of a pc: the functions whose calls have not returned, outermost first, and the function of the pc
 abbrev pub path_at : (ℕ → ℕ) → List Frame → ℕ → List ℕ
 path_at function frames pc = map (λ f. function f.call) frames ++ function pc ∷ []
 
--- ---- arrivals
+-- ---- entries into paths
 
 -- where control is after the returns of a transfer: at the call of the outermost frame that it pops, or where it was if it pops none
 abbrev pub back_at : List Frame → Transfer → ℕ
 back_at frames t = (slice_index_or frames (length (popped frames t)) (frame_of t)).call
 
--- where control continues in the remaining frames: at the call, or else at the target of the transfer
+-- where control continues in the frames that remain after the pops: at the call instruction if a frame is pushed, else at the target
 abbrev pub goes_on_at : List Frame → Transfer → ℕ
 goes_on_at frames t = if is_pushed (popped frames t) t then t.from else t.to
 
--- continuing in another function, by a jump or by running into it, enters the path with that function in place of the last; so a tail call
--- replaces its caller
+-- whether a transfer enters `path` by continuing in another function, through a jump or by running into it; that function replaces the last
+-- one of the path, so a tail call replaces its caller
 abbrev pub jumps_to : (ℕ → ℕ) → List ℕ → List Frame → Transfer → Bool
 jumps_to function path frames t = not (function (back_at frames t) == function (goes_on_at frames t))
     && bytes_eq (path_at function (popped frames t) (goes_on_at frames t)) path
 
--- a call enters the path with the function of its target appended
+-- whether a transfer enters `path` by a call, which appends the function of its target
 abbrev pub calls_to : (ℕ → ℕ) → List ℕ → List Frame → Transfer → Bool
 calls_to function path frames t = is_pushed (popped frames t) t
     && bytes_eq (path_at function (after_transfer frames t) t.to) path
 
+-- how often a transfer enters a path, at most twice: by continuing in another function, and by a call
 abbrev pub arrivals_by : (ℕ → ℕ) → List ℕ → List Frame → Transfer → ℕ
 arrivals_by function path frames t = once_if (jumps_to function path frames t) + once_if (calls_to function path frames t)
 
 -- ---- a run
 
--- how many instructions are executed on a path within a budget of n steps, starting with some frames
+-- how many instructions are executed on a path within a budget of n steps from a state on, starting with some frames
 unfoldable pub steps_in : (ℕ → ℕ) → List ℕ → ℕ → List Frame → State → ℕ
 steps_in function path zero frames s = 0
 steps_in function path (suc n) frames s =
     once_if (is_begun (fetch_at s) && bytes_eq (path_at function frames s.pc) path)
     + behind (step_of s) (λ t. steps_in function path n (after_transfer frames (transfer_of s t)) t)
 
--- how often a path is entered within a budget of n steps, starting with some frames
+-- how often a path is entered within a budget of n steps from a state on, starting with some frames
 unfoldable pub arrivals_in : (ℕ → ℕ) → List ℕ → ℕ → List Frame → State → ℕ
 arrivals_in function path zero frames s = 0
 arrivals_in function path (suc n) frames s = behind (step_of s)
     (λ t. arrivals_by function path frames (transfer_of s t)
     + arrivals_in function path n (after_transfer frames (transfer_of s t)) t)
 
--- how many instructions are executed in a function, on all paths that end in it
+-- how many instructions are executed in function `f`, on all paths that end in it, within a budget of n steps from a state on
 unfoldable pub begun_in_function : (ℕ → ℕ) → ℕ → ℕ → State → ℕ
 begun_in_function function f zero s = 0
 begun_in_function function f (suc n) s =
     once_if (is_begun (fetch_at s) && (function s.pc == f)) + behind (step_of s) (λ t. begun_in_function function f n t)
 
--- the nodes of a run of at most n steps, which begins without frames and so enters its first function
+-- `spots` are the call-tree nodes of a run of at most n steps from a state on, which begins without frames and so enters its first function
 pub record AreStacksOf (function : ℕ → ℕ) (n : ℕ) (s : State) (spots : List Spot) : Type 0 where
   pub tree : IsTree spots
   pub some : HasArrivals spots
@@ -95,7 +96,7 @@ pub record AreStacksOf (function : ℕ → ℕ) (n : ℕ) (s : State) (spots : L
   pub own : (f : ℕ) → own_in f spots ≡ begun_in_function function f n s
   pub all : all_steps spots ≡ begun_steps n s
 
--- the counts and the call tree of a job that begins in this state, or none if the job is refused
+-- the counts and the call tree of a job that begins in this state, within a budget of n steps; none if the job is refused
 abbrev pub AreCountsAndStacksOfJob : (ℕ → ℕ) → ℕ → Result State Refusal → Option (List AddressCounts × List Spot) → Type 0
 AreCountsAndStacksOfJob function n (Ok s) (Some both) = AreCountsOf n s both.0 × AreStacksOf function n s both.1
 AreCountsAndStacksOfJob function n (Ok s) None = ⊥
@@ -104,7 +105,7 @@ AreCountsAndStacksOfJob function n (Err why) None = Unit {0}
 
 -- ---- counts
 
--- how often the instructions at a function's addresses were executed
+-- how often the instructions at the addresses of function `f` were executed, by the counts of addresses
 abbrev pub counts_of_function : (ℕ → ℕ) → ℕ → List AddressCounts → ℕ
 counts_of_function function f [] = 0
 counts_of_function function f (c ∷ cs) = (if function c.address == f then c.begun else 0) + counts_of_function function f cs

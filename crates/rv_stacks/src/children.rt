@@ -33,6 +33,7 @@ struct Links {
     many: u32,
 }
 
+/// The links of a node without links.
 const UNLINKED: Links = Links {
     first: 0,
     next: 0,
@@ -50,7 +51,7 @@ impl Children {
         })
     }
 
-    /// Adds the next node, which has this number, as a child.
+    /// Adds the next node, which has this number, as the child of `parent` for this function.
     pub(crate) fn add(
         &mut self,
         parent: usize,
@@ -79,7 +80,7 @@ impl Children {
         Ok(())
     }
 
-    /// Returns the number of a parent's child for a function.
+    /// Returns the number of the child of `parent` for this function; `None` if there is none.
     pub(crate) fn find(&self, nodes: &[Node], parent: usize, function: u32) -> Option<usize>
         ensures { IfSome result (λ number. IsChild parent function number nodes.now) }
     {
@@ -99,7 +100,7 @@ impl Children {
         }
     }
 
-    /// Returns a parent's next child, from a function on, that a run entered.
+    /// Returns the number of the next child of `parent`, with a function from `from` on, that a run entered; `None` if there is none.
     pub(crate) fn next(&self, nodes: &[Node], parent: usize, from: u64) -> Option<usize>
         ensures { IfSome result (λ number. IsNext parent from number nodes.now) }
     {
@@ -115,7 +116,7 @@ impl Children {
         next
     }
 
-    // Returns the next child outside the chains.
+    // Returns the number of the next child of `parent`, with a function from `from` on, outside the chains.
     fn next_of_others(&self, nodes: &[Node], parent: usize, from: u64) -> Option<usize>
         ensures { IfSome result (λ number. IsNext parent from number nodes.now) }
     {
@@ -127,13 +128,13 @@ impl Children {
         }
     }
 
-    // Returns the links of the node with this number.
+    // Returns the links of the node with this number; no links if there is no such node.
     fn links_of(&self, number: usize) -> Links {
         self.links.get(number).copied().unwrap_or(UNLINKED)
     }
 }
 
-// Whether the node with this number is the parent's child for the function, and the parent comes before it.
+// Whether the node with this number is the child of `parent` for this function; its number is the greater one.
 fn is_child(nodes: &[Node], parent: usize, function: u32, number: usize) -> bool
     ensures { result ≡ true → IsChild parent function number nodes.now }
 {
@@ -144,6 +145,7 @@ fn is_child(nodes: &[Node], parent: usize, function: u32, number: usize) -> bool
     node.parent == parent && node.function == function
 }
 
+// Whether the node with this number is a child of `parent` that a run entered, with a function from `from` on.
 fn is_next(nodes: &[Node], parent: usize, from: u64, number: usize) -> bool
     ensures { result ≡ true → IsNext parent from number nodes.now }
 {
@@ -154,7 +156,7 @@ fn is_next(nodes: &[Node], parent: usize, from: u64, number: usize) -> bool
     node.parent == parent && from <= u64::from(node.function) && node.arrivals != 0
 }
 
-// Whether a node has a lower function than the other one, or there is no other one.
+// Whether the node with this number has a lower function than the node `than`, or there is no such node.
 fn is_lower(nodes: &[Node], number: usize, than: Option<usize>) -> bool {
     match than {
         Some(other) => function_of(nodes, number) < function_of(nodes, other),
@@ -162,7 +164,7 @@ fn is_lower(nodes: &[Node], number: usize, than: Option<usize>) -> bool {
     }
 }
 
-// Returns the function of the node with this number.
+// Returns the function of the node with this number; `None` if there is no such node.
 fn function_of(nodes: &[Node], number: usize) -> Option<u32> {
     Some(nodes.get(number.checked_sub(1)?)?.function)
 }

@@ -40,16 +40,18 @@ pub(crate) fn spots_of_nodes(
     if are_empty(left.as_slice()) {
         return Ok(Spots::new(flat.spots));
     }
-    // Out of memory: never so. Each node hangs below one that is come to, and is met from there, so that none is left; no clause says so.
+    // Out of memory: not reached. Each node is found from its parent, so all counts have been moved; no contract says so.
     Err(AllocError)
 }
 
+// Whether no node has counts.
 fn are_empty(nodes: &[Node]) -> bool
     ensures { result ≡ list_all is_empty nodes.now }
 {
     nodes.iter().all(is_empty)
 }
 
+// Whether a node has no counts.
 fn is_empty(node: &Node) -> bool
     ensures { result ≡ is_empty node.now }
 {
@@ -57,6 +59,7 @@ fn is_empty(node: &Node) -> bool
 }
 
 impl Flat {
+    // Creates the conversion's state before the first node.
     fn new(alloc: Global) -> Result<Flat, AllocError>
         ensures { IfOk result (λ flat. (nodes : List ANode) → IsFlat nodes flat × (flat.spots.items ≡ [])) }
     {

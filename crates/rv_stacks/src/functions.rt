@@ -24,7 +24,7 @@ pub struct Known {
     pub function: u32,
 }
 
-/// Creates the cache of functions. Each lookup can replace an entry.
+/// Returns a new cache of functions, each entry of which has the function of this address.
 pub(crate) fn known_functions(
     alloc: Global,
     symbols: &CodeSymbols<'_>,
@@ -38,7 +38,7 @@ pub(crate) fn known_functions(
     Ok(known)
 }
 
-/// Returns the function of a code address. A cached one takes no search.
+/// Returns the function of a code address, from the cache or by a search, and caches it.
 pub(crate) fn look_up(known: &mut Vec<Known>, symbols: &CodeSymbols<'_>, address: u32) -> u32
     requires { AreKnown (function_at symbols.now.image.now symbols.now.bytes.now) known.old.items }
     ensures value { result ≡ function_at symbols.now.image.now symbols.now.bytes.now address }
@@ -54,7 +54,7 @@ pub(crate) fn look_up(known: &mut Vec<Known>, symbols: &CodeSymbols<'_>, address
     function
 }
 
-/// Returns how many of a block's instructions, except its last, belong to the function of the first, and are followed by an instruction of
+/// Returns how many instructions, from a block's first one on, belong to its function and are followed in the block by an instruction of
 /// that function.
 pub(crate) fn steps_in_function(
     known: &mut Vec<Known>,
@@ -83,7 +83,7 @@ pub(crate) fn steps_in_function(
     block.steps - 1
 }
 
-/// Returns the start of the symbol at an address, or the value that represents none: 0, or the last address if there can be a function at
+/// Returns the function of a code address: the start of its symbol. Without a symbol it is 0, or the last address if there is a symbol at
 /// 0. Takes one or two searches of the symbols.
 #[tactic(auto, unfolding(crate::specs::Stacks::function_at))]
 pub fn function_of(symbols: &CodeSymbols<'_>, address: u32) -> u32
@@ -95,7 +95,7 @@ pub fn function_of(symbols: &CodeSymbols<'_>, address: u32) -> u32
     }
 }
 
-// Returns the function that represents code without a symbol.
+// Returns the number that represents code without a symbol: 0, or the last address if there is a symbol at 0.
 fn no_function(symbols: &CodeSymbols<'_>) -> u32
     ensures { result ≡ no_function (symbol_at symbols.now.image.now symbols.now.bytes.now 0) }
 {

@@ -20,7 +20,7 @@ ghost use Rattle.rv_stacks.specs.StackTables.{places_of_shard, without_stacks, A
 
 use rv_call_tree::one_tree_has_these_counts;
 
-/// A run has exactly one list of nodes.
+/// A run has exactly one list of call-tree nodes.
 pub fn run_has_one_list_of_spots()
     ensures { (function : ℕ → ℕ) (n : ℕ) (s : State) (a b : List Spot) → AreStacksOf function n s a
         → AreStacksOf function n s b → a ≡ b }
@@ -28,20 +28,20 @@ pub fn run_has_one_list_of_spots()
     one_tree_has_these_counts();
 }
 
-/// The steps of the nodes that end in a function are the counts of the function's addresses.
+/// The call-tree nodes that end in a function have as many instructions as the counts of the function's addresses.
 pub fn own_steps_are_the_counts_of_addresses()
     ensures { (function : ℕ → ℕ) (f n : ℕ) (s : State) (cs : List AddressCounts) (spots : List Spot)
         → AreCountsOf n s cs → AreStacksOf function n s spots → own_in f spots ≡ counts_of_function function f cs }
 {}
 
-/// The table with call trees of the jobs at some indices does not depend on the order of the indices.
+/// The table of counts and call trees of the jobs at some indices does not depend on the order of the indices.
 pub fn jobs_have_one_table_with_stacks()
     ensures { (plan : Planned) (places others : List ℕ) (t u : CountTable) → IsPermutation places others
         → IsTableWithStacks plan places t → IsTableWithStacks plan others u → t ≡ u }
 {}
 
-/// The tables with call trees of the parts of some indices add up to the table of all, however the indices are divided, and so have its
-/// text.
+/// However the indices of jobs are divided into parts, the tables of the parts, with call trees, add up to the table of all, and the sum
+/// has the text of that table.
 pub fn tables_with_stacks_of_parts_sum_to_that_of_all()
     ensures table { (plan : Planned) (places : List ℕ) (parts : List (List ℕ)) (ts : List CountTable) (sum : CountTable)
         → IsPermutation (flat_map (λ part. part) parts) places → AreTablesWithStacksOfParts plan parts ts
@@ -51,8 +51,8 @@ pub fn tables_with_stacks_of_parts_sum_to_that_of_all()
         → SumsTo no_counts ts sum → IsTableWithStacks plan places whole → table_text sum ≡ table_text whole }
 {}
 
-/// The tables with call trees of the shards of some indices, where a shard has the indices with one remainder modulo the number of shards,
-/// add up to the table of all, in whatever order they are added, and so have its text.
+/// The tables of all shards, with call trees, add up in any order to the table of all indices, and the sum has the text of that table. A
+/// shard has the indices with the same remainder modulo the number of shards.
 pub fn tables_with_stacks_of_shards_sum_to_that_of_all()
     ensures table { (plan : Planned) (shards : ℕ) (places numbers : List ℕ) (ts : List CountTable) (sum : CountTable)
         → 0 < shards → IsPermutation (range_with_len 0 shards) numbers
@@ -64,13 +64,14 @@ pub fn tables_with_stacks_of_shards_sum_to_that_of_all()
         → IsTableWithStacks plan places whole → table_text sum ≡ table_text whole }
 {}
 
-/// A table with call trees equals the table of counts alone, except for its nodes and names.
+/// A table of counts and call trees, without its nodes and function names, is the table of the counts.
 pub fn table_without_stacks_is_that_of_counts()
     ensures { (plan : Planned) (places : List ℕ) (t : CountTable) → IsTableWithStacks plan places t
         → IsTableOfPlaces plan places (without_stacks t) }
 {}
 
-/// There is no table with call trees only if memory ran out or a function has two names: with so few jobs no number reaches 2^64.
+/// For at most `most_jobs` jobs, a table with call trees can be missing for two reasons only: memory ran out, or a function has two names.
+/// No number reaches 2^64.
 pub fn names_alone_refuse_a_table_with_stacks()
     ensures { (plan : Planned) (places : List ℕ) (error : Refused) → length places ≤ most_jobs
         → HaveNoTableWithStacks plan places error → IsOfNamesOrMemory error }

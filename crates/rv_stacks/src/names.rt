@@ -18,8 +18,8 @@ use rv_counting::shown_text;
 use rv_elf::CodeSymbols;
 use std::alloc::{AllocError, Global};
 
-/// Returns the names of the nodes' functions, each once. Takes the time of a symbol lookup for each function and of a sort of the nodes,
-/// and memory for a copy of these.
+/// Returns the names of the functions in which the nodes end, each once. Takes a symbol lookup for each function, a sort of the nodes, and
+/// memory for a copy of them.
 pub(crate) fn names_of_spots(
     alloc: Global,
     symbols: &CodeSymbols<'_>,
@@ -32,7 +32,7 @@ pub(crate) fn names_of_spots(
     names_in_order(alloc, symbols, sorted.as_slice())
 }
 
-// Returns the nodes, sorted by function.
+// Returns a copy of the nodes, sorted by function.
 fn by_function(alloc: Global, spots: &[Spot]) -> Result<Vec<Spot>, AllocError>
     ensures same { IfOk result (λ sorted. IsPermutation spots.now sorted.items) }
     ensures rising { IfOk result (λ sorted. IsNonDecreasingBy (λ s. s.function) sorted.items) }
@@ -64,7 +64,7 @@ fn names_in_order(
     Ok(FunctionNames::new(names))
 }
 
-// Appends the name of a node's function, unless it is there already. Functions below `next` have their names.
+// Appends the name of a node's function, unless it is below `next`: those functions have their names already.
 fn name_spot(
     alloc: Global,
     symbols: &CodeSymbols<'_>,
@@ -91,7 +91,7 @@ fn name_spot(
     Ok(())
 }
 
-// Returns the name of a function in the form that a table holds.
+// Returns the printable name of a function, as a table holds it.
 #[tactic(auto, unfolding(crate::specs::StackTables::name_of_function))]
 fn shown_name(alloc: Global, symbols: &CodeSymbols<'_>, function: u32) -> Result<Text, AllocError>
     ensures value { IfOk result (λ text. text ≡ name_of_function symbols.now.image.now symbols.now.bytes.now function) }
@@ -101,6 +101,7 @@ fn shown_name(alloc: Global, symbols: &CodeSymbols<'_>, function: u32) -> Result
     shown_text(alloc, symbol_name(symbols, function))
 }
 
+// Returns the name of the symbol at a function's address; `?` for the last address or without a symbol.
 fn symbol_name<'a>(symbols: &CodeSymbols<'a>, function: u32) -> &'a [u8]
     ensures { result.now ≡ name_in_file symbols.now.image.now symbols.now.bytes.now function }
 {

@@ -1,4 +1,4 @@
-//! Nodes as values.
+//! Call-tree nodes, and counting in them.
 
 ghost use Rattle.std.specs.Prelude.{◌+◌, ◌^◌, ◌<◌, IfOk, length};
 ghost use Rattle.rv_stacks.specs.Nodes.{all_arrivals, all_steps, ArrivesOnce, HasChild, StepsMore};
@@ -19,7 +19,7 @@ pub struct Node {
     pub steps: u64,
 }
 
-/// Returns the number of a parent's child for a function. Creates the child if there is none.
+/// Returns the number of the child of `parent` for this function. Creates the child if there is none.
 pub(crate) fn number_of_child(
     nodes: &mut Vec<Node>,
     children: &mut Children,
@@ -43,7 +43,7 @@ pub(crate) fn number_of_child(
     Ok(number)
 }
 
-/// Counts an entry into a node.
+/// Counts an entry into the node with this number.
 pub(crate) fn count_arrival(nodes: &mut Vec<Node>, number: usize)
     requires some { 0 < number }
     requires within { number < length nodes.old.items + 1 }
@@ -59,7 +59,7 @@ pub(crate) fn count_arrival(nodes: &mut Vec<Node>, number: usize)
     };
 }
 
-/// Counts instructions in a node.
+/// Counts instructions in the node with this number.
 pub(crate) fn count_steps(nodes: &mut Vec<Node>, number: usize, steps: u32)
     requires some { 0 < number }
     requires within { number < length nodes.old.items + 1 }

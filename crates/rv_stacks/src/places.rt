@@ -12,7 +12,7 @@ use std::marker::Brand;
 use std::sync::Wait;
 use std::thread::Threads;
 
-/// Returns the table of a batch's jobs with their counts and call trees, identical for every crew. There is none if two files with equal
+/// Returns the table of the counts and call trees of a batch's jobs, identical for every crew. There is none if two files with equal
 /// digests give a function different names; with so few jobs no number reaches 2^64. Each job is run once more, by the threads of the crew.
 /// Takes memory for the tables that wait to be added, and for two sums.
 pub fn count_batch_with_stacks<R: Threads + Wait + Sync>(

@@ -15,7 +15,7 @@ use rv_elf::CodeSymbols;
 use rv_machine::Machine;
 use std::alloc::{AllocError, Global};
 
-/// Counts a machine's run within a budget of steps, and its call tree by the functions of a file. Takes longer than the run alone, and
+/// Returns the counts of a machine's run within a budget of steps, and its call tree by these symbols. Takes longer than the run alone, and
 /// memory for each address and each path that the run reaches.
 pub fn count_with_stacks(
     alloc: Global,
@@ -32,7 +32,7 @@ pub fn count_with_stacks(
     Ok((counter.into_addresses(), spots))
 }
 
-// Runs the machine and returns what was counted. Straight-line code in one function is executed as a unit, every other instruction by
+// Runs the machine and returns its counts and its call tree. A block within one function is executed as a unit, every other instruction by
 // itself.
 fn follow_run(
     alloc: Global,

@@ -6,7 +6,7 @@ use rv_engine::{Work, WorkerState};
 use rv_fleet::Batch;
 use std::alloc::{AllocError, Global};
 
-/// Counts the jobs of a batch, with their call trees.
+/// The work of a batch: one table for each of its jobs, with its counts and its call tree.
 #[derive(Drop)]
 pub(crate) struct StackWork<'a> {
     pub(crate) batch: &'a Batch<'a>,

@@ -15,8 +15,8 @@ use rv_jobs::Plan;
 use rv_trace::{JobImage, image_bytes, image_of_bytes};
 use std::alloc::{AllocError, Global};
 
-/// Returns the table of the job at an index: the counts and the call tree of its run, or the table of no runs if the job is refused. The
-/// job is run once more.
+/// Runs the job at an index once more, and returns its table: the counts and the call tree of its run. A refused job has the table of no
+/// runs.
 pub(crate) fn count_place_with_stacks(
     alloc: Global,
     plan: &Plan,
@@ -46,7 +46,7 @@ pub(crate) fn count_place_with_stacks(
     }
 }
 
-// Returns the table of the counts and the nodes of one run of the image with this path.
+// Returns the table of one run of the image with this path: its counts, its nodes and the names of their functions.
 fn table_of_run(
     alloc: Global,
     path: &str,

@@ -10,7 +10,7 @@ use crate::node::{Node, count_arrival, count_steps, number_of_child};
 use rv_call_tree::Spots;
 use std::alloc::{AllocError, Global};
 
-/// The nodes so far, and the run's current one.
+/// The call-tree nodes so far, and the current one.
 #[derive(Drop)]
 pub struct Walk {
     /// The path of the current node.
@@ -76,14 +76,14 @@ impl Walk {
         count_steps(&mut self.nodes, number, steps);
     }
 
-    /// Returns the entered nodes in preorder.
+    /// Returns the nodes in preorder.
     pub fn into_spots(self, alloc: Global) -> Result<Spots, AllocError>
         ensures { IfOk result (AreSpotsOf self.nodes.items) }
     {
         spots_of_nodes(alloc, self.nodes, &self.children)
     }
 
-    // Returns the number of the current node, or 0.
+    // Returns the number of the current node; 0 if the walk has entered no node.
     fn last_number(&self) -> usize
         requires { IsWalk self.now }
         ensures within { result < length self.now.nodes.items + 1 }

@@ -21,11 +21,11 @@ const FILE: &str = "\
 00000000 00940000 00500000 00020000 00000000 00040000 00100000 00000000 00030000 00000000 00000000 00e40000 \
 00090000 00000000 00000000 00010000 00000000 00";
 
-// The offsets of the values of its symbols.
+// The offsets of the values of the file's four function symbols.
 const VALUES: [usize; 4] = [168, 184, 200, 216];
 
 // Each program starts at 80000000, x2 is 0 at first, and `X` is the exit call, two instructions. Nodes were found by hand: depth, function,
-// calls, steps. A function without a symbol is 0. label | set | budget | functions | program | nodes.
+// calls, steps. A function without a symbol is 0. label | budget | functions | program | nodes.
 const RUNS: &str = "\
 no instruction | 0 | 80000000 | X | 0 80000000 1 0
 one function | 9 | 80000000 | X | 0 80000000 1 2
@@ -48,6 +48,7 @@ switch by both links | 9 | 80000000 8000000c | 00c000ef X 000082e7 | \
     0 80000000 1 1, 1 8000000c 1 1, 0 8000000c 1 0, 1 80000000 1 2
 ";
 
+// Returns a machine that starts a program at `BASE`, with 4,096 bytes of memory from there on.
 fn machine_of(alloc: Global, program: &str) -> Result<Machine, Fail> {
     let map = Map::of(&[Region {
         base: BASE,
@@ -82,7 +83,7 @@ fn file_of(alloc: Global, functions: &str) -> Result<Vec<u8>, Fail> {
     Ok(bytes)
 }
 
-// Returns the call-tree nodes of a run, in the form of a row.
+// Returns the call-tree nodes of the run of a row, in the form of a row.
 fn told(alloc: Global, row: &str) -> Result<String, Fail> {
     let bytes = file_of(alloc, cell_of(row, 2))?;
     let image = read_image(alloc, bytes.as_slice(), Isa::Imc)?;
@@ -108,6 +109,7 @@ fn told(alloc: Global, row: &str) -> Result<String, Fail> {
     Ok(text)
 }
 
+// Runs have the call-tree nodes that were found by hand.
 #[test]
 fn runs_have_these_spots(rt: HostRuntime) -> Result<(), Fail> {
     has_lines(RUNS, 14)?;

@@ -1,4 +1,4 @@
--- The rows of a run that ends after a failure.
+-- The rows of a run that stops after some failures.
 use Rattle.std.specs.Prelude.{ℕ, zero, suc, Bool, List, [], ◌∷◌, Option, Some, None, if◌then◌else◌}
 use Rattle.rv_expect.specs.Judgement.{fails, judging_of}
 use Rattle.rv_stream.specs.declared.failure_limit.FailureLimit.{FailureLimit}
@@ -10,17 +10,17 @@ rows_until fails zero rows = []
 rows_until fails (suc more) [] = []
 rows_until fails (suc more) (row ∷ rows) = row ∷ rows_until fails (if fails row then more else suc more) rows
 
--- how many failures are left, after these rows, before the run ends
+-- how many more failures stop the run after these rows, if `n` failures stop it
 abbrev pub failures_left_after : (Row → Bool) → ℕ → List Row → ℕ
 failures_left_after fails zero rows = zero
 failures_left_after fails (suc more) [] = suc more
 failures_left_after fails (suc more) (row ∷ rows) = failures_left_after fails (if fails row then more else suc more) rows
 
--- the rows up to the failure that ends the run, or all rows without such a limit
+-- the rows up to and including the failure that stops the run; all rows without a limit
 abbrev pub rows_up_to : Option ℕ → (Row → Bool) → List Row → List Row
 rows_up_to None fails rows = rows
 rows_up_to (Some most) fails rows = rows_until fails most rows
 
--- the rows of a run under a limit, out of all rows that it would have without
+-- the rows of a run with this limit, given all rows that it would have without one
 abbrev pub rows_within : FailureLimit → List Row → List Row
 rows_within limit rows = rows_up_to limit.failures (fails (judging_of limit.judge)) rows

@@ -21,7 +21,7 @@ pub enum StreamError {
     /// A thread could not be started.
     #[error("no worker")]
     NoWorker,
-    /// The observer said stop before the last row.
+    /// The observer stopped the run before the last row.
     #[error("observer stopped")]
     ObserverStopped,
 }

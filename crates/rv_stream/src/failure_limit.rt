@@ -2,11 +2,11 @@
 
 use rv_expect::Judge;
 
-/// The failure that ends a run, if any: the first, the second, and so on.
+/// The number of failures after which a run stops, if there is a limit.
 #[derive(Clone, Copy, Drop)]
 pub struct FailureLimit<'a> {
-    /// What counts as a failure.
+    /// Which rows are failures.
     pub judge: Judge<'a>,
-    /// The number of the failure that ends the run, counted from 1; `None` if no failure ends it. With 0 there are no rows.
+    /// After how many failures the run stops; `None` if it runs to its end. With 0 there are no rows.
     pub failures: Option<u32>,
 }

@@ -87,7 +87,7 @@ impl<J: StreamSpec, W: Sink + Drop> Outbox<J, W> {
         }
     }
 
-    /// Writes the buffered text and returns the sink: it has received the whole text, or after an error a prefix.
+    /// Writes the buffered text and returns the sink, which has received the whole text, or a prefix after an error.
     pub(crate) fn finish(self) -> (W, Result<(), WriteError>)
         ensures all { (text : List ℕ) → IsSent J.before (W.taken self.out) J.failures (W.failed self.out) self.failed self.unsent.items text
             → OnOk result.1 (Appends J.before (W.taken result.0) text

@@ -7,7 +7,7 @@ use rv_fleet::Batch;
 use rv_rows::{Row, RowReporter, row_at_with_recent};
 use std::alloc::{AllocError, Global};
 
-/// The row of a job, and the text that a reporter gives of it.
+/// The row of a job, with the text that a reporter makes of it.
 #[derive(Drop)]
 pub struct ReportedRow {
     /// The job's index in its list.
@@ -16,7 +16,7 @@ pub struct ReportedRow {
     pub text: Vec<u8>,
 }
 
-/// Makes the rows of a batch and their reported texts.
+/// Makes the rows of a batch and their texts.
 #[derive(Drop)]
 pub(crate) struct ReportedRowWork<'b, 't, T: RowReporter> {
     pub(crate) batch: &'b Batch<'b>,

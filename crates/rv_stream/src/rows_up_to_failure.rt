@@ -13,12 +13,12 @@ use rv_rows::Row;
 use std::alloc::Global;
 use std::marker::PhantomData;
 
-/// Keeps the rows that it receives, and returns `Stop` at the failure that ends the run.
+/// A listener that keeps the rows up to the failure that stops the run, and stops the run there.
 #[derive(Drop)]
 pub(crate) struct RowsUpToFailure<'k, J: StreamSpec> {
-    // What counts as a failure.
+    // Which rows are failures.
     judge: Judge<'k>,
-    /// The number of failures left before the run ends.
+    /// How many more failures stop the run.
     pub(crate) left: Option<u32>,
     pub(crate) rows: Vec<Row>,
     /// Whether an allocation failed.
@@ -72,7 +72,7 @@ impl<J: StreamSpec> Listener<ReportedRow> for RowsUpToFailure<'_, J> {
     }
 }
 
-// Keeps a row, and returns whether an allocation failed.
+// Keeps a row. Returns whether an allocation failed.
 fn keep_row(rows: &mut Vec<Row>, row: Row) -> bool
     ensures { result ≡ false → rows.new.items ≡ rows.old.items ++ row ∷ [] }
 {
@@ -80,7 +80,7 @@ fn keep_row(rows: &mut Vec<Row>, row: Row) -> bool
     rows.push(row).is_err()
 }
 
-// Returns the number of failures left after a row, if they are counted.
+// Returns how many more failures stop the run after one more row; `None` without a limit.
 fn failures_left(left: Option<u32>, failed: bool) -> Option<u32>
     ensures { result ≡ (if failed then option_map (λ n. n - 1) left else left) }
 {

@@ -24,19 +24,18 @@ use std::marker::Brand;
 use std::sync::Wait;
 use std::thread::Threads;
 
-/// A reporter of rows, and the sink that takes its texts.
+/// A reporter of rows, and the sink that receives its texts.
 #[derive(Drop)]
 pub struct ReporterOutput<'t, T: RowReporter, W: Sink + Drop> {
     pub reporter: &'t T,
     pub out: W,
 }
 
-/// Runs a batch up to the failure that ends it, if one does. Sends the text of each row to the sink, in list order, as soon as the texts of
-/// all earlier rows are out; an observer sees each row with its text. Returns the sink and the observer: with the rows, the sink took all
-/// texts and no write failed, and the observer has seen all rows; with an error, the sink took a beginning of the texts, and the observer
-/// has seen the first rows.
+/// Runs a batch, up to the failure that stops it if there is a limit. Writes the text of each row to the sink, in list order, as soon as
+/// the texts of all earlier rows have been written. An observer sees each row with its text. Returns the sink, the observer and the rows.
+/// If it returns the rows, the sink has received all texts and the observer has seen all rows; after an error, only a prefix of them.
 ///
-/// `J` is the stream's `Brand`, whose ghost members the caller picks.
+/// `J` is the stream's `Brand`, whose ghost members the caller chooses.
 pub fn stream_rows<
     J: StreamSpec + Send,
     R: Threads + Wait + Sync,
@@ -103,7 +102,7 @@ pub fn stream_rows<
     }
 }
 
-// The rows of a run, unless it ended before its last row.
+// Returns the rows of a run, or an error if it ended before its last row.
 fn rows_of_run<J: StreamSpec>(
     ran: Result<Flow, RunError>,
     kept: RowsUpToFailure<'_, J>,

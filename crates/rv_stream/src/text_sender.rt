@@ -11,14 +11,14 @@ use rv_fleet::Sink;
 use rv_rows::WriteError;
 use std::alloc::Global;
 
-/// Writes the texts that the workers made for each row. Rows that arrive together are written at once.
+/// An observer that writes the texts that the workers made of the rows. Rows that arrive together are written at once.
 #[derive(Drop)]
 pub(crate) struct TextSender<J: StreamSpec, W: Sink + Drop> {
     pub(crate) outbox: Outbox<J, W>,
 }
 
 impl<J: StreamSpec, W: Sink + Drop> TextSender<J, W> {
-    /// Creates a sender that has seen no rows.
+    /// Creates an observer that has seen no rows.
     pub(crate) fn new(alloc: Global, out: W) -> TextSender<J, W>
         requires before { J.before ≡ W.taken out }
         requires failures { J.failures ≡ W.failed out }

@@ -12,21 +12,21 @@ use Rattle.rv_terminal.specs.declared.course.OutputState.TheVariants as course
 use Rattle.rv_terminal.specs.declared.place.Mark.{Mark}
 use Rattle.rv_terminal.specs.declared.place.Place.{Place}
 
--- ---- what goes out
+-- ---- the coloured output
 
--- the plain bytes are the earlier ones and a text, and the bytes that were written are the earlier ones and the text in its colours
+-- `plain` is `before` followed by a text, and `out` is `before` followed by that text in its colours
 pub record IsColored (before plain out : List ℕ) : Type 0 where
   pub text : List ℕ
   pub put : plain ≡ before ++ text
   pub shown : out ≡ before ++ colored beginning text
 
--- the first bytes of an escape sequence, or all of them
+-- `part` is the first bytes of an escape sequence, or all of them
 pub record IsMarkBegun (part : List ℕ) : Type 0 where
   pub mark : Mark
   pub rest : List ℕ
   pub whole : mark_text mark ≡ part ++ rest
 
--- like `IsColored`, but the first bytes of an escape sequence may have been written after the text
+-- like `IsColored`, but `out` may have the first bytes of an escape sequence after the text
 pub record IsColoredInPart (before plain out : List ℕ) : Type 0 where
   pub text : List ℕ
   pub part : List ℕ
@@ -34,25 +34,25 @@ pub record IsColoredInPart (before plain out : List ℕ) : Type 0 where
   pub put : plain ≡ before ++ text
   pub shown : out ≡ before ++ (colored beginning text ++ part)
 
--- both are known, and the relation holds for them
+-- both texts are present, and the relation holds between them
 abbrev pub AreTold : (List ℕ → List ℕ → Type 0) → Option (List ℕ) → Option (List ℕ) → Type 0
 AreTold are None out = ⊥
 AreTold are (Some plain) None = ⊥
 AreTold are (Some plain) (Some out) = are plain out
 
--- results were written as they are, or in their colours after the earlier bytes, if these are known
+-- `out` is the plain results, or with colours `before` followed by the results in their colours; any bytes if `before` is unknown
 abbrev pub IsOut : Colors → Option (List ℕ) → Option (List ℕ) → Option (List ℕ) → Type 0
 IsOut colors.Without before plain out = out ≡ plain
 IsOut colors.With None plain out = ⊤
 IsOut colors.With (Some before) plain out = AreTold (IsColored before) plain out
 
--- as `IsOut`, but a write may have failed
+-- as `IsOut`, but with colours the last write may have failed within an escape sequence
 abbrev pub IsOutInPart : Colors → Option (List ℕ) → Option (List ℕ) → Option (List ℕ) → Type 0
 IsOutInPart colors.Without before plain out = out ≡ plain
 IsOutInPart colors.With None plain out = ⊤
 IsOutInPart colors.With (Some before) plain out = AreTold (IsColoredInPart before) plain out
 
--- ---- a sink
+-- ---- the state of a sink
 
 -- what contracts see of a colouring sink: the sink below it, its number of failed writes, and how its output continues
 pub record InColors (S : Type 0) : Type 0 where
@@ -60,67 +60,68 @@ pub record InColors (S : Type 0) : Type 0 where
   pub failures : ℕ
   pub course : OutputState
 
--- the results that were written, given what the sink below received
+-- the results that were written, without their colours, given the bytes `before` them and what the sink below received
 abbrev pub results_of : Colors → Option (List ℕ) → Option (List ℕ) → Option (List ℕ)
 results_of colors.Without before out = out
 results_of colors.With None out = None
 results_of colors.With (Some before) out =
     option_map (λ bytes. before ++ uncolored InText (drop (length before) bytes)) out
 
--- how the output of a sink begins
+-- how the output of a sink with or without colours begins
 abbrev pub first_course : Colors → OutputState
 first_course colors.Without = course.Plain
 first_course colors.With = course.Colored beginning
 
+-- whether the output ends because a write failed
 abbrev pub is_cut_off : OutputState → Bool
 is_cut_off course.Plain = false
 is_cut_off (course.Colored here) = false
 is_cut_off course.CutOff = true
 
--- the text was written in its colours from a position in a line on: up to the position after it, or up to a failed write
+-- the text was written in its colours from the position `here` on: up to the next position, or up to a failed write
 abbrev pub IsPutFrom : Place → OutputState → List ℕ → Option (List ℕ) → Option (List ℕ) → Type 0
 IsPutFrom here course.Plain text old new = ⊥
 IsPutFrom here (course.Colored there) text old new = (there ≡ fold place_behind here text) × Appends old new (colored here text)
 IsPutFrom here course.CutOff text old new =
     (part : List ℕ) × (IsMarkBegun part × Appends old new (colored here text ++ part))
 
--- the text was written as the state says, which led to the next state; if no text was written, a write failed
+-- the text was written in the first state, which led to the second; no text was written only if a write failed
 abbrev pub IsPutBy : OutputState → OutputState → List ℕ → Option (List ℕ) → Option (List ℕ) → Type 0
 IsPutBy course.Plain next text old new = (next ≡ course.Plain) × Appends old new text
 IsPutBy (course.Colored here) next text old new = IsPutFrom here next text old new
 IsPutBy course.CutOff next text old new = (next ≡ course.CutOff) × ((text ≡ []) × (new ≡ old))
 
--- the failures of the sink below after a write of a number of bytes: one more if that wrote none of them or cut the results off; if they
--- were cut off before, nothing was written to it
+-- the failures of the sink below after a write of `count` bytes that led from one state to the next: one more than `before` if no byte was
+-- written or the output was cut off by it; unchanged if it was cut off already
 abbrev pub failures_below : OutputState → OutputState → ℕ → ℕ → ℕ
 failures_below here next count before = if is_cut_off here then before
     else if is_cut_off next || count == 0 then one_more before else before
 
--- the sink failed as often as the sink below, up to the failed write to that one that cut the results off
+-- the colouring sink has as many failures as the sink below; once the output is cut off, the sink below has at least one
 abbrev pub IsCounted : OutputState → ℕ → ℕ → Type 0
 IsCounted course.CutOff failures below = 1 ≤ below
 IsCounted _ failures below = failures ≡ below
 
--- the results were written up to a position in a line
+-- `out` is `before` followed by a text in its colours, which ends at the position `here` in a line
 pub record IsShownUpTo (here : Place) (before out : List ℕ) : Type 0 where
   pub text : List ℕ
   pub shown : out ≡ before ++ colored beginning text
   pub place : here ≡ fold place_behind beginning text
 
--- the results were written, and the first bytes of an escape sequence
+-- `out` is `before` followed by a text in its colours and the first bytes of an escape sequence
 pub record IsShownInPart (before out : List ℕ) : Type 0 where
   pub text : List ℕ
   pub part : List ℕ
   pub begun : IsMarkBegun part
   pub shown : out ≡ before ++ (colored beginning text ++ part)
 
--- how the output of a sink continues, given what was written after the earlier bytes
+-- how coloured output continues, given that `out` was written, of which `before` are the earlier bytes
 abbrev pub IsCourseBehind : List ℕ → List ℕ → OutputState → Type 0
 IsCourseBehind before out course.Plain = ⊥
 IsCourseBehind before out (course.Colored here) = IsShownUpTo here before out
 IsCourseBehind before out course.CutOff = IsShownInPart before out
 
--- how the output of a sink continues, if what was written is known
+-- how the output of a sink with or without colours continues, if the bytes that were written are known
 abbrev pub IsOnCourse : Colors → Option (List ℕ) → Option (List ℕ) → OutputState → Type 0
 IsOnCourse colors.Without before out course.Plain = ⊤
 IsOnCourse colors.Without before out (course.Colored here) = ⊥

@@ -7,46 +7,53 @@ use Rattle.rv_terminal.specs.declared.place.Place.TheVariants as place
 
 -- ---- marks
 
--- the byte that begins a terminal's escape sequences, and the one that ends those for colours
+-- the byte that begins a terminal's escape sequences
 abbrev pub escape : ℕ
 escape = 27
 
+-- the byte `m`, which ends a terminal's escape sequences for colours
 abbrev pub end_of_mark : ℕ
 end_of_mark = 109
 
--- the terminal's escape sequence for a mark: red, green, and reset
+-- the terminal's escape sequence for a mark: red, green, reset, or none
 abbrev pub mark_text : Mark → List ℕ
 mark_text mark.Nothing = []
 mark_text mark.Red = escape ∷ codes "[31m"
 mark_text mark.Green = escape ∷ codes "[32m"
 mark_text mark.End = escape ∷ codes "[0m"
 
+-- whether a mark has no escape sequence
 abbrev pub is_nothing : Mark → Bool
 is_nothing mark.Nothing = true
 is_nothing _ = false
 
--- ---- places of a line
+-- ---- positions in a line
 
+-- whether a byte begins an escape sequence
 abbrev pub is_escape : ℕ → Bool
 is_escape byte = byte == escape
 
+-- whether a byte is a line feed
 abbrev pub is_feed : ℕ → Bool
 is_feed byte = byte == 10
 
+-- whether a byte is a space
 abbrev pub is_space : ℕ → Bool
 is_space byte = byte == 32
 
--- the letters that FAIL and PASS begin with
+-- whether a byte is the letter that FAIL begins with
 abbrev pub is_fail : ℕ → Bool
 is_fail byte = byte == 70
 
+-- whether a byte is the letter that PASS begins with
 abbrev pub is_pass : ℕ → Bool
 is_pass byte = byte == 80
 
--- the signs of what is expected or removed, and of what is actual or new
+-- whether a byte is a minus, the sign before expected or removed text
 abbrev pub is_minus : ℕ → Bool
 is_minus byte = byte == 45
 
+-- whether a byte is a plus, the sign before actual or new text
 abbrev pub is_plus : ℕ → Bool
 is_plus byte = byte == 43
 
@@ -54,9 +61,11 @@ is_plus byte = byte == 43
 abbrev pub margin : ℕ
 margin = 5
 
+-- the mark before a line's sign: red before a minus, green before a plus, none before any other byte
 abbrev pub sign_mark : ℕ → Mark
 sign_mark byte = if is_minus byte then mark.Red else if is_plus byte then mark.Green else mark.Nothing
 
+-- the mark before the first byte of a line without a margin: red before an F, green before a P, or else that of a sign
 abbrev pub word_mark : ℕ → Mark
 word_mark byte = if is_fail byte then mark.Red else if is_pass byte then mark.Green else sign_mark byte
 
@@ -76,12 +85,12 @@ line_mark place.Rest byte = mark.Nothing
 abbrev pub mark_before : Place → ℕ → Mark
 mark_before here byte = if is_escape byte then mark.End else line_mark here byte
 
--- the position after the first byte of a line that is not a space
+-- the position after the first byte of a line that is not a space, given the number of spaces before it
 abbrev pub begun_place : ℕ → ℕ → Place
 begun_place spaces byte = if is_nothing (begin_mark spaces byte) then place.Rest
     else if is_minus byte || is_plus byte then place.Line else place.Word
 
--- the position after a further byte of a line
+-- the position after a byte of a line that is neither a line feed nor an escape
 abbrev pub place_in_line : Place → ℕ → Place
 place_in_line (place.Margin spaces) byte = if is_space byte
     then (if nat_lt spaces margin then place.Margin (spaces + 1) else place.Rest) else begun_place spaces byte
@@ -93,9 +102,9 @@ abbrev pub place_behind : Place → ℕ → Place
 place_behind here byte = if is_feed byte then place.Margin 0
     else if is_escape byte then place.Rest else place_in_line here byte
 
--- ---- the whole
+-- ---- coloured texts
 
--- a text from a position in a line on, with its marks
+-- a text with its marks, which begins at this position in a line
 unfoldable pub colored : Place → List ℕ → List ℕ
 colored here [] = []
 colored here (byte ∷ rest) = mark_text (mark_before here byte) ++ byte ∷ colored (place_behind here byte) rest
@@ -104,27 +113,27 @@ colored here (byte ∷ rest) = mark_text (mark_before here byte) ++ byte ∷ col
 abbrev pub beginning : Place
 beginning = place.Margin 0
 
--- ---- without colours
+-- ---- removing the colours
 
--- the position of a byte in a coloured text: in the text, in a mark, or right after one
+-- where a byte of a coloured text is: in the text, in a mark, or right after one
 pub data Seat : Type 0 where
   InText : Seat
   InMark : Seat
   BehindMark : Seat
 
--- the position after a byte; the byte right after a mark belongs to the text, whichever it is
+-- where the next byte is, given where a byte is; the byte right after a mark belongs to the text, whichever it is
 abbrev pub seat_behind : Seat → ℕ → Seat
 seat_behind InText byte = if is_escape byte then InMark else InText
 seat_behind InMark byte = if byte == end_of_mark then BehindMark else InMark
 seat_behind BehindMark byte = InText
 
--- what a byte contributes to the text
+-- the bytes of the plain text that a byte of a coloured text gives: itself, or none within a mark
 abbrev pub text_of_byte : Seat → ℕ → List ℕ
 text_of_byte InText byte = if is_escape byte then [] else byte ∷ []
 text_of_byte InMark byte = []
 text_of_byte BehindMark byte = byte ∷ []
 
--- a coloured text without its marks
+-- a coloured text without its marks, given where its first byte is
 unfoldable pub uncolored : Seat → List ℕ → List ℕ
 uncolored here [] = []
 uncolored here (byte ∷ rest) = text_of_byte here byte ++ uncolored (seat_behind here byte) rest

@@ -2,35 +2,39 @@
 use Rattle.std.specs.Prelude.{ℕ, Bool, List, [], ◌∷◌, Option, Some, None, ◌++◌, ◌-◌, ◌==◌, codes, if◌then◌else◌, length, not, slice_get}
 use Rattle.std.specs.Fmt.{decimal}
 
--- the text after the number of jobs that are done
+-- the end of the progress line: the number of jobs of the run, and how many of those done failed
 abbrev pub jobs_and_failed_text : ℕ → ℕ → List ℕ
 jobs_and_failed_text jobs failed = decimal jobs ++ codes " jobs done, " ++ decimal failed ++ codes " failed"
 
+-- the progress line: how many jobs are done, how many the run has, and how many failed
 abbrev pub progress_text : ℕ → ℕ → ℕ → List ℕ
 progress_text done jobs failed = decimal done ++ codes " of " ++ jobs_and_failed_text jobs failed
 
--- whether other output ends in the middle of a line, given the last byte of a text, if it has one, and whether it did before
+-- whether other output ends in the middle of a line after one more text, given the text's last byte; an empty text leaves it as it was,
+-- `held`
 abbrev pub is_mid_line : Bool → Option ℕ → Bool
 is_mid_line held None = held
 is_mid_line held (Some last) = not (last == 10)
 
+-- the last byte of a text; none if it is empty
 abbrev pub last_byte : List ℕ → Option ℕ
 last_byte text = slice_get text (length text - 1)
 
--- ---- what the line's terminal is given
+-- ---- the bytes written to the terminal
 
--- a return to the start of the line, and the counts, which overwrite it
+-- the bytes that show the progress line: a return to the start of the line, and the counts, which overwrite it
 abbrev pub counts_text : ℕ → ℕ → ℕ → List ℕ
 counts_text done jobs failed = 13 ∷ progress_text done jobs failed
 
--- what removes the line if it is shown: a return to its start, and an erase to its end
+-- the bytes that remove the progress line if it is shown: a return to its start, and an erase to its end
 abbrev pub erasing_text : Bool → List ℕ
 erasing_text is_shown = if is_shown then 13 ∷ 27 ∷ codes "[K" else []
 
--- nothing in the middle of a line of other output
+-- the text, or nothing if other output ends in the middle of a line
 abbrev pub text_unless_held : Bool → List ℕ → List ℕ
 text_unless_held is_held text = if is_held then [] else text
 
--- around a write of other output: the line is removed if it is shown, and then shown again, unless the output ends in the middle of a line
+-- the bytes of the progress line around a write of other output: it is removed if it is shown, and then shown again, unless the output ends
+-- in the middle of a line
 abbrev pub text_around_put : Bool → Bool → List ℕ → List ℕ
 text_around_put was_shown is_held counts = if was_shown then erasing_text was_shown ++ text_unless_held is_held counts else []

@@ -24,7 +24,7 @@ pub(crate) enum OutputState {
 }
 
 impl OutputState {
-    /// Returns how the output begins, at the start of a line.
+    /// Returns how output with or without colours begins: at the start of a line.
     pub(crate) fn first(colors: Colors) -> OutputState
         ensures { result ≡ first_course colors }
     {
@@ -34,6 +34,7 @@ impl OutputState {
         }
     }
 
+    /// Whether the output ends because a write failed.
     pub(crate) fn is_cut_off(self) -> bool
         ensures { result ≡ is_cut_off self }
     {
@@ -41,7 +42,8 @@ impl OutputState {
     }
 }
 
-/// Writes leading bytes, with their marks, and returns how many, and how the output continues. If none were written, a write failed.
+/// Writes leading bytes of `bytes`, with their marks if the output is coloured. Returns how many, 0 only if a write failed, and how the
+/// output continues.
 pub(crate) fn put_by_course<S: Sink>(
     sink: &mut S,
     course: OutputState,
@@ -62,7 +64,7 @@ pub(crate) fn put_by_course<S: Sink>(
     }
 }
 
-// Writes all of the bytes, piece by piece, up to a failed write.
+// Writes the bytes with their marks, piece by piece, up to a failed write. Returns how many, and how the output continues.
 fn put_colored<S: Sink>(sink: &mut S, place: Place, bytes: &[u8]) -> (usize, OutputState)
     requires { 0 < length bytes.now }
     ensures within { result.0 ≤ length bytes.now }
@@ -84,7 +86,7 @@ fn put_colored<S: Sink>(sink: &mut S, place: Place, bytes: &[u8]) -> (usize, Out
     (at, OutputState::Colored(here))
 }
 
-// Writes the first bytes, with the mark before the first of them.
+// Writes the mark before the first byte, and then leading bytes up to the next mark. Returns how many bytes were written.
 fn put_piece<S: Sink>(sink: &mut S, place: Place, bytes: &[u8]) -> Result<usize, SinkFailed>
     requires { 0 < length bytes.now }
     ensures within { IfOk result (λ count. (1 ≤ count) × (count ≤ length bytes.now)) }
@@ -99,7 +101,7 @@ fn put_piece<S: Sink>(sink: &mut S, place: Place, bytes: &[u8]) -> Result<usize,
     sink.put(&bytes[..marked_len(place, bytes)])
 }
 
-// Returns the number of leading bytes without a mark, except before the first.
+// Returns the number of leading bytes up to the next mark; the first byte can have a mark before it.
 fn marked_len(place: Place, bytes: &[u8]) -> usize
     requires { 0 < length bytes.now }
     ensures within { (1 ≤ result) × (result ≤ length bytes.now) }

@@ -4,7 +4,7 @@ ghost use Rattle.std.specs.Prelude.{◌≡◌, fold};
 ghost use Rattle.rv_terminal.specs.Colors.{begin_mark, begun_place, is_nothing, line_mark, mark_before, mark_text, place_behind};
 ghost use Rattle.rv_terminal.specs.Colors.{place_in_line, sign_mark, word_mark};
 
-/// What is sent to a terminal before a byte.
+/// The escape sequence that is sent to a terminal before a byte, if any.
 #[derive(Clone, Copy)]
 pub(crate) enum Mark {
     Nothing,
@@ -34,7 +34,7 @@ const MARGIN: u8 = 5;
 const ESCAPE: u8 = 0x1b;
 
 impl Mark {
-    /// Returns the terminal's escape sequence.
+    /// Returns the terminal's escape sequence; empty for `Nothing`.
     pub(crate) fn text(self) -> &'static str
         ensures { result.now ≡ mark_text self }
     {
@@ -46,6 +46,7 @@ impl Mark {
         }
     }
 
+    /// Whether the mark has no escape sequence.
     pub(crate) fn is_nothing(self) -> bool
         ensures { result ≡ is_nothing self }
     {
@@ -54,7 +55,7 @@ impl Mark {
 }
 
 impl Place {
-    /// Returns the mark before a byte.
+    /// Returns the mark before a byte at this position.
     pub(crate) fn mark_before(self, byte: u8) -> Mark
         ensures { result ≡ mark_before self byte }
     {
@@ -65,6 +66,7 @@ impl Place {
         }
     }
 
+    // Returns the mark before a byte at this position that does not begin an escape sequence.
     fn line_mark(self, byte: u8) -> Mark
         ensures { result ≡ line_mark self byte }
     {
@@ -76,7 +78,7 @@ impl Place {
         }
     }
 
-    /// Returns the position after a byte.
+    /// Returns the position after a byte at this position.
     pub(crate) fn behind(self, byte: u8) -> Place
         ensures { result ≡ place_behind self byte }
     {
@@ -87,6 +89,7 @@ impl Place {
         }
     }
 
+    // Returns the position after a byte that is neither a line feed nor the start of an escape sequence.
     fn place_in_line(self, byte: u8) -> Place
         ensures { result ≡ place_in_line self byte }
     {
@@ -104,7 +107,7 @@ impl Place {
         }
     }
 
-    /// Returns the position after bytes.
+    /// Returns the position after these bytes, the first of which is at this position.
     pub(crate) fn behind_all(self, bytes: &[u8]) -> Place
         ensures { result ≡ fold place_behind self bytes.now }
     {
@@ -129,6 +132,7 @@ fn begin_mark(spaces: u8, byte: u8) -> Mark
     }
 }
 
+// Returns the mark before the first byte of a line that begins without spaces.
 fn word_mark(byte: u8) -> Mark
     ensures { result ≡ word_mark byte }
 {
@@ -139,6 +143,7 @@ fn word_mark(byte: u8) -> Mark
     }
 }
 
+// Returns red before a minus, green before a plus, and no mark before any other byte.
 fn sign_mark(byte: u8) -> Mark
     ensures { result ≡ sign_mark byte }
 {

@@ -31,8 +31,8 @@ pub struct Progress<'k, W: Drop> {
 }
 
 impl<'k, W: Write + Drop> Progress<'k, W> {
-    /// Creates the progress of a run of `jobs` jobs, whose rows a judge counts. The line is shown on `out` if that is a terminal, but not
-    /// before the clock's next tenth of a second: a run that is done by then shows none.
+    /// Creates the progress of a run of `jobs` jobs, whose rows are judged by `judge`. If `out` is a terminal, the line is shown on it, but
+    /// not before the clock's next tenth of a second: a shorter run shows none.
     pub fn new<C: Clock>(
         clock: &C,
         jobs: usize,
@@ -48,7 +48,7 @@ impl<'k, W: Write + Drop> Progress<'k, W> {
         Progress::from_start(start, jobs, judge, out, is_terminal)
     }
 
-    // Creates the progress of a run that begins at a time in tenths of a second of the clock.
+    // Creates the progress of a run that begins at `start`, in tenths of a second of the clock.
     fn from_start(
         start: u64,
         jobs: usize,
@@ -87,8 +87,8 @@ impl<'k, W: Write + Drop> Progress<'k, W> {
         out
     }
 
-    /// Counts a row. If a tenth of a second has passed since the line was last shown and no other thread writes to the terminal, it is
-    /// shown again.
+    /// Counts a row if the line is on a terminal. The counts are shown at most once in a tenth of a second, and only if no other thread
+    /// writes to the terminal.
     pub(crate) fn count_row<R: Clock + Wait>(&self, rt: &R, alloc: Global, row: &Row) {
         if !self.is_terminal {
             return;
@@ -105,7 +105,7 @@ impl<'k, W: Write + Drop> Progress<'k, W> {
         }
     }
 
-    // Counts one more row, by the judge of the run.
+    // Adds a row to a tally, which counts it as failed if it fails by the judge of the run.
     fn count_in_tally(&self, tally: &mut Tally, row: &Row)
         ensures { (rows : List ARow) → length rows + 1 < 2 ^ 64 → IsTallyOf (judging_of self.now.judge) rows tally.old
             → IsTallyOf (judging_of self.now.judge) (rows ++ row.now ∷ []) tally.new }
@@ -113,7 +113,8 @@ impl<'k, W: Write + Drop> Progress<'k, W> {
         tally.count_row(&self.judge, row);
     }
 
-    // Whether no line was shown in this tenth of a second. If several threads ask in the same one, only one gets `true`.
+    // Whether the line is to be shown: once in each tenth of a second after the first one of the run. If several threads ask in the same
+    // one, only one gets `true`.
     fn claim_line_turn<C: Clock>(&self, clock: &C) -> bool {
         match clock_tenths(clock) {
             Some(now) => {
@@ -124,21 +125,21 @@ impl<'k, W: Write + Drop> Progress<'k, W> {
         }
     }
 
-    // Returns the number of tenths of a second between the start of the run and a time of the clock: 0 within the first.
+    // Returns the number of tenths of a second from the start of the run to `now`; 0 if the clock went back.
     fn tenths_since_start(&self, now: u64) -> u64
         ensures { result ≡ now - self.now.start }
     {
         now.saturating_sub(self.start)
     }
 
-    /// Returns the tally of the rows so far. No contract says more about a lock's contents than that at most as many failed as are done.
+    /// Returns the tally of the rows so far. A contract can only say of a lock's contents that at most as many failed as are done.
     pub(crate) fn tally_so_far<R: Wait>(&self, rt: &R) -> Tally
         ensures { result.failed ≤ result.done }
     {
         *self.tally.lock(rt)
     }
 
-    /// Returns the counts of rows, and of the jobs of the run.
+    /// Returns the tally together with the number of jobs of the run.
     pub(crate) fn counts_of(&self, tally: Tally) -> Counts
         ensures tally { result.tally ≡ tally }
         ensures jobs { result.jobs ≡ self.now.jobs }
@@ -149,12 +150,12 @@ impl<'k, W: Write + Drop> Progress<'k, W> {
         }
     }
 
-    /// Locks the line for one thread at a time.
+    /// Locks the line for this thread.
     pub(crate) fn lock_line<R: Wait>(&self, rt: &R) -> MutexGuard<'_, Line<W>> {
         self.line.lock(rt)
     }
 
-    /// Whether the line is shown.
+    /// Whether the line can be shown: its output is a terminal.
     pub(crate) fn is_terminal(&self) -> bool
         ensures { result ≡ self.now.is_terminal }
     {
@@ -162,7 +163,7 @@ impl<'k, W: Write + Drop> Progress<'k, W> {
     }
 }
 
-// Returns the clock's time in tenths of a second.
+// Returns the clock's time in tenths of a second; `None` if the clock cannot be read.
 fn clock_tenths<C: Clock>(clock: &C) -> Option<u64> {
     match clock.monotonic() {
         Ok(time) => {

@@ -9,7 +9,7 @@ use std::io::Write;
 use std::sync::Wait;
 use std::time::Clock;
 
-/// Reports what another reporter reports, and counts each row that is reported.
+/// Reports rows by another reporter, and counts each row that is reported.
 #[derive(Drop)]
 pub struct ProgressReporter<'r, 't, 'p, 'k, R: Clock + Wait, T: RowReporter, W: Drop> {
     rt: &'r R,
@@ -26,6 +26,7 @@ impl<'r, 't, 'p, 'k, R: Clock + Wait, T: RowReporter, W: Write + Drop> ProgressR
     T,
     W,
 > {
+    /// Creates a reporter that reports by `reporter` and counts in `progress`.
     pub fn new(
         rt: &'r R,
         reporter: &'t T,

@@ -10,13 +10,14 @@ use rv_expect::Judge;
 use rv_rows::Row;
 
 impl Tally {
+    /// Creates a tally of no rows.
     pub(crate) fn new() -> Tally
         ensures { (judging : Judging) → IsTallyOf judging [] result }
     {
         Tally { done: 0, failed: 0 }
     }
 
-    /// Counts one more row.
+    /// Counts one more row, as failed if it fails by the judge.
     pub(crate) fn count_row(&mut self, judge: &Judge<'_>, row: &Row)
         ensures { (rows : List ARow) → length rows + 1 < 2 ^ 64 → IsTallyOf (judging_of judge.now) rows self.old
             → IsTallyOf (judging_of judge.now) (rows ++ row.now ∷ []) self.new }

@@ -10,7 +10,7 @@ use rv_text::{Span, push_spans};
 use std::alloc::{AllocError, Global};
 use std::io::Write;
 
-/// How many jobs of a run are done, and how many of those failed.
+/// The counts that the line shows: how many jobs are done and failed, and how many the run has.
 #[derive(Clone, Copy)]
 pub(crate) struct Counts {
     pub(crate) tally: Tally,
@@ -30,6 +30,7 @@ pub(crate) struct Line<W: Drop> {
 }
 
 impl<W: Write + Drop> Line<W> {
+    /// Creates a line on a terminal that shows nothing yet.
     pub(crate) fn new(out: W) -> Line<W>
         ensures out { result.out ≡ out }
         ensures shown { result.is_shown ≡ false }
@@ -42,7 +43,7 @@ impl<W: Write + Drop> Line<W> {
         }
     }
 
-    /// Removes the line, and returns the terminal.
+    /// Removes the line, and returns the terminal, and whether it accepted all bytes.
     pub(crate) fn finish(self) -> (W, Result<(), WriteError>)
         ensures { OnOk result.1
             (Appends (W.contents self.out) (W.contents result.0) (erasing_text self.is_shown)) }
@@ -52,7 +53,7 @@ impl<W: Write + Drop> Line<W> {
         (line.out, erased)
     }
 
-    /// Writes the counts over the previous ones. They never have fewer digits.
+    /// Writes the counts over the previous ones, unless other output ends in the middle of a line. They never have fewer digits.
     pub(crate) fn show_counts(&mut self, alloc: Global, counts: Counts) -> Result<(), WriteError>
         // In the middle of a line of other output, nothing is written.
         ensures unchanged { IsTrue self.old.is_held → self.new ≡ self.old }
@@ -70,13 +71,14 @@ impl<W: Write + Drop> Line<W> {
         self.write_and_flush(text.as_slice())
     }
 
+    /// Whether the line is shown.
     pub(crate) fn is_shown(&self) -> bool
         ensures { result ≡ self.now.is_shown }
     {
         self.is_shown
     }
 
-    /// Removes the line, if it is shown.
+    /// Removes the line if it is shown, and returns whether the terminal accepted all bytes.
     pub(crate) fn take_away(&mut self) -> Result<(), WriteError>
         ensures away { self.new.is_shown ≡ false }
         ensures held { self.new.is_held ≡ self.old.is_held }
@@ -90,7 +92,7 @@ impl<W: Write + Drop> Line<W> {
         self.write_and_flush(CLEAR)
     }
 
-    /// Notes that other output went to the terminal. Until it ends with a line feed, nothing is shown.
+    /// Notes that this text, other output, went to the terminal. Until it ends with a line feed, no line is shown.
     pub(crate) fn note_other_text(&mut self, text: &[u8])
         ensures held { self.new.is_held ≡ is_mid_line self.old.is_held (last_byte text.now) }
         ensures shown { self.new.is_shown ≡ self.old.is_shown }
@@ -101,6 +103,7 @@ impl<W: Write + Drop> Line<W> {
         }
     }
 
+    // Writes bytes to the terminal and flushes it; an error if either fails.
     fn write_and_flush(&mut self, bytes: &[u8]) -> Result<(), WriteError>
         ensures shown { self.new.is_shown ≡ self.old.is_shown }
         ensures held { self.new.is_held ≡ self.old.is_held }
@@ -116,7 +119,7 @@ impl<W: Write + Drop> Line<W> {
     }
 }
 
-// Appends the counts, which overwrite what the line shows.
+// Appends the line: a return to its start, and the counts.
 fn push_progress_text(text: &mut Vec<u8>, counts: Counts) -> Result<(), AllocError>
     ensures { OnOk result (text.new.items
         ≡ text.old.items ++ counts_text counts.tally.done counts.jobs counts.tally.failed) }

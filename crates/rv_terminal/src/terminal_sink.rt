@@ -25,7 +25,8 @@ pub struct TerminalSink<'a, 'k, R: Wait, S: Sink + Drop, W: Drop> {
 }
 
 impl<'a, 'k, R: Wait, S: Sink + Drop, W: Write + Drop> TerminalSink<'a, 'k, R, S, W> {
-    /// Creates a sink that writes to a terminal or not; if not, the line stays.
+    /// Creates a sink that writes to `sink`; `is_terminal` says whether that is a terminal. If it is, and the progress line is shown there,
+    /// the line is removed during each write.
     pub fn new(
         rt: &'a R,
         alloc: Global,
@@ -46,6 +47,7 @@ impl<'a, 'k, R: Wait, S: Sink + Drop, W: Write + Drop> TerminalSink<'a, 'k, R, S
         }
     }
 
+    /// Returns the sink that this one writes to.
     pub fn into_inner(self) -> S
         ensures { result ≡ self.entry.sink }
     {
@@ -75,7 +77,7 @@ impl<'a, 'k, R: Wait, S: Sink + Drop, W: Write + Drop> Sink for TerminalSink<'a,
 }
 
 impl<'a, 'k, R: Wait, S: Sink + Drop, W: Write + Drop> TerminalSink<'a, 'k, R, S, W> {
-    // Writes bytes to the sink: first the line of a progress is removed, and afterwards it is shown again with the counts of its jobs.
+    // Writes bytes to the sink: first the line is removed, and afterwards it is shown again with this tally.
     fn put_beside_counts(
         &mut self,
         progress: &Progress<'k, W>,

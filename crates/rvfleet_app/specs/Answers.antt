@@ -19,53 +19,53 @@ use Rattle.rvfleet_app.specs.ElfImage.{script_bytes, is_bad_image_request, is_ba
 use Rattle.rvfleet_app.specs.Plans.{AreJobRows, IsPossibleListError, IsPossibleList, Stored}
 use Rattle.rvfleet_app.specs.FlatImage.{AreRawRows}
 
--- ---- which words are refused
+-- ---- rejected arguments
 
--- there is no request, or its path or digits are rejected
+-- whether the arguments are rejected: they make no request, or its path or its digits are invalid
 abbrev pub is_request_refused : Option Request → Bool
 is_request_refused (Some (raw budget)) = false
 is_request_refused (Some (one path budget digits)) = is_bad_image_request path digits
 is_request_refused (Some (run path workers group)) = is_bad_path path
 is_request_refused None = true
 
--- the error of a list that the store may contain for the request
+-- the error is one of a job list that the store may contain at the path of the request, given its contents if they are known
 abbrev pub IsFaultOfRequest : Option Request → Option FileContents → JobError → Type 0
 IsFaultOfRequest (Some (raw budget)) known error = ⊥
 IsFaultOfRequest (Some (one path budget digits)) known error = ⊥
 IsFaultOfRequest (Some (run path workers group)) known error = IsPossibleListError known path error
 IsFaultOfRequest None known error = ⊥
 
--- a list that the store may contain for the request has an error
+-- a job list that the store may contain at the path of the request has an error
 abbrev pub HasFault : Option Request → Stored → Type 0
 HasFault request store = (error : JobError) × IsFaultOfRequest request store.known error
 
--- ---- which rows are owed
+-- ---- the rows of a request
 
--- the arguments request a file
+-- whether a request reads a file
 abbrev pub reads_store : Option Request → Bool
 reads_store (Some (raw budget)) = false
 reads_store (Some (one path budget digits)) = true
 reads_store (Some (run path workers group)) = true
 reads_store None = false
 
--- the arguments request the input
+-- whether a request reads the input
 abbrev pub reads_input : Option Request → Bool
 reads_input (Some (raw budget)) = true
 reads_input (Some (one path budget digits)) = false
 reads_input (Some (run path workers group)) = false
 reads_input None = false
 
--- the rows of the single job with this path and the console input that the digits represent
+-- the rows are those of the single job with this path, this budget and the console input that the digits represent
 abbrev pub AreImageRows : Stored → List ℕ → ℕ → Option (List ℕ) → List Row → Type 0
 AreImageRows store path budget digits rows = (script : List ℕ) × ((script_bytes digits ≡ Ok script)
     × AreJobRows store (single_image_jobs path budget script) rows)
 
--- the rows of the jobs of a list that the store may contain at a path
+-- the rows are those of the jobs of a list that the store may contain at a path
 abbrev pub AreListRows : Stored → List ℕ → List Row → Type 0
 AreListRows store path rows =
     (jobs : List Job) × (IsPossibleList store.known path jobs × AreJobRows store jobs rows)
 
--- the rows of a request, given the bytes of the input and what the store may return
+-- the rows are those of a request, given the bytes of the input and the contents that the store may have
 abbrev pub AreRows : Option Request → Option (List ℕ) → Stored → List Row → Type 0
 AreRows (Some (raw budget)) input store rows = AreRawRows input budget rows
 AreRows (Some (one path budget digits)) input store rows = AreImageRows store path budget digits rows
@@ -74,31 +74,33 @@ AreRows None input store rows = ⊥
 
 -- ---- the report
 
+-- whether a verdict is fail
 abbrev pub is_fail_verdict : Verdict → Bool
 is_fail_verdict verdict.Unasked = false
 is_fail_verdict verdict.Pass = false
 is_fail_verdict verdict.Fail = true
 
+-- whether some row has a failed verdict
 abbrev pub has_failed_row : List Row → Bool
 has_failed_row rows = list_any (λ row. is_fail_verdict row.verdict) rows
 
--- 1 if some verdict is fail, else 0
+-- the exit status for rows: 1 if some verdict is fail, else 0
 abbrev pub verdicts_status : List Row → ℕ
 verdicts_status rows = if has_failed_row rows then 1 else 0
 
--- the report of these rows was written, and the status is that of the report
+-- the report of these rows was written, and the status is that of the rows; `before` and `after` are the bytes written so far
 pub record IsReportSent (before after : Option (List ℕ)) (status : ℕ) (rows : List Row) : Type 0 where
   pub appended : Appends before after (report_text rows)
   pub verdicts : status ≡ verdicts_status rows
 
--- a prefix of their report was written
+-- a prefix of the report of these rows was written; `before` and `after` are the bytes written so far
 abbrev pub IsReportPrefixWritten : Option (List ℕ) → Option (List ℕ) → List Row → Type 0
 IsReportPrefixWritten before after rows = AppendsBeginning before after (report_text rows)
 
--- ---- the answer
+-- ---- the response
 
--- the response to arguments with this request: with status 0 or 1 there are rows of the request whose report was written; with 2, nothing
--- was written; with 3, nothing or a prefix of the report of such rows
+-- the response to arguments with this request: with status 0 or 1, the report of rows of the request was written; with 2, nothing was
+-- written, because the request is rejected or its list has an error; with 3, nothing or a prefix of the report of rows of the request
 pub record Answers (request : Option Request) (input : Option (List ℕ)) (store : Stored)
     (before after : Option (List ℕ)) (status : ℕ) : Type 0 where
   pub reported : status ≡ 0 ⊎ status ≡ 1
@@ -109,9 +111,9 @@ pub record Answers (request : Option Request) (input : Option (List ℕ)) (store
   pub failed : status ≡ 3 → Keeps before after
       ⊎ ((rows : List Row) × (AreRows request input store rows × IsReportPrefixWritten before after rows))
 
--- ---- what standard error says
+-- ---- the line on standard error
 
--- the line says why a request is rejected: invalid arguments, or the error of its list
+-- a line says why a request is rejected: invalid arguments, or the error of its list
 abbrev pub TellsRefusal : Option Request → Option FileContents
     → Option (List ℕ) → Option (List ℕ) → ℕ → ℕ → Type 0
 TellsRefusal request known before after failures_before failures_after =
@@ -120,14 +122,14 @@ TellsRefusal request known before after failures_before failures_after =
     ⊎ ((error : JobError) × (IsFaultOfRequest request known error
     × IsLinePut before after failures_before failures_after (fault_line error)))
 
--- whether the request can fail in this way
+-- whether the program can fail in this way for a request; without a request, it can only fail as it writes the help
 abbrev pub may_fail : Option Request → Failure → Bool
 may_fail (Some (raw budget)) failure = is_failure_of_raw failure
 may_fail (Some (one path budget digits)) failure = is_failure_of_sending failure
 may_fail (Some (run path workers group)) failure = is_failure_of_list failure
 may_fail None failure = is_failure_of_sending failure
 
--- the line reports a failure that the request can have
+-- a line reports a failure that the request can have
 abbrev pub TellsFailure : Option Request → Option (List ℕ) → Option (List ℕ) → ℕ → ℕ → Type 0
 TellsFailure request before after failures_before failures_after =
     (failure : Failure) × ((may_fail request failure ≡ true)
@@ -138,7 +140,7 @@ abbrev pub IsQuiet : Option (List ℕ) → Option (List ℕ) → ℕ → ℕ →
 IsQuiet before after failures_before failures_after =
     Keeps before after × (failures_after ≡ failures_before)
 
--- the line says why the status is 2 or 3; for 0 and 1, nothing is written
+-- a line says why the status is 2 or 3; for 0 and 1, nothing is written
 pub record ReportsReason (request : Option Request) (known : Option FileContents)
     (before after : Option (List ℕ)) (failures_before failures_after : ℕ) (status : ℕ)
     : Type 0 where

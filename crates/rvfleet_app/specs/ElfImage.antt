@@ -11,12 +11,12 @@ use Rattle.rv_jobs.specs.Jobs.{single_job}
 abbrev pub is_bad_path : List ℕ → Bool
 is_bad_path path = (length path == 0) || nat_lt most_path (length path)
 
--- the bytes that the digits represent; without digits there are no bytes
+-- the bytes that the hexadecimal digits represent, or why they represent none; without digits there are no bytes
 abbrev pub script_bytes : Option (List ℕ) → Result (List ℕ) FromHexError
 script_bytes None = Ok []
 script_bytes (Some digits) = decode_of digits
 
--- text that is not hexadecimal is rejected, and so are more bytes than a console input may have
+-- whether the digits are rejected: they are not hexadecimal, or represent more bytes than a console input may have
 abbrev pub is_bad_script : Result (List ℕ) FromHexError → Bool
 is_bad_script (Ok script) = nat_lt most_script (length script)
 is_bad_script (Err _) = true
@@ -25,6 +25,6 @@ is_bad_script (Err _) = true
 abbrev pub is_bad_image_request : List ℕ → Option (List ℕ) → Bool
 is_bad_image_request path digits = is_bad_path path || is_bad_script (script_bytes digits)
 
--- the single job
+-- the list of the single job with this path, budget and console input
 abbrev pub single_image_jobs : List ℕ → ℕ → List ℕ → List Job
 single_image_jobs path budget script = single_job path budget script ∷ []

@@ -15,28 +15,28 @@ use Rattle.rvfleet_app.specs.declared.error.Failure.TheVariants as failure
 use Rattle.rvfleet_app.specs.declared.error.RunError.{RunError}
 use Rattle.rvfleet_app.specs.declared.error.RunError.TheVariants as run
 
--- a failed read of the input
+-- the error of a run whose read of the input failed in this way
 abbrev pub input_read_failure : InputError → RunError
 input_read_failure input.OutOfMemory = run.OutOfMemory
 input_read_failure (input.Failed reason) = run.ReadFailed
 
--- a report that was not written
+-- the error of a run whose report was not written, for this reason
 abbrev pub write_failure : WriteError → RunError
 write_failure write.OutOfMemory = run.OutOfMemory
 write_failure write.Failed = run.WriteFailed
 
--- the report of a flat image was not written, or not completely
+-- the failure of the program for an error of the run of a flat image
 abbrev pub run_failure : RunError → Failure
 run_failure run.OutOfMemory = failure.OutOfMemory
 run_failure run.ReadFailed = failure.ReadFailed
 run_failure run.WriteFailed = failure.WriteFailed
 
--- the report of a plan was not made
+-- the failure of the program if the report of a plan was not made, for this reason
 abbrev pub fleet_failure : FleetError → Failure
 fleet_failure fleet.OutOfMemory = failure.OutOfMemory
 fleet_failure fleet.NoWorker = failure.NoWorker
 
--- the report of a plan was not written completely
+-- the failure of the program if the report of a plan was not written completely, for this reason
 abbrev pub send_failure : WriteError → Failure
 send_failure write.OutOfMemory = failure.OutOfMemory
 send_failure write.Failed = failure.WriteFailed
@@ -59,12 +59,13 @@ abbrev pub is_failure_of_list : Failure → Bool
 is_failure_of_list failure.ReadFailed = false
 is_failure_of_list _ = true
 
--- reading a list failed in this way, if it failed
+-- the failure of reading a list is one that running a job list can have; no claim about a list with an error
 abbrev pub IsListFailure : ListError → Type 0
 IsListFailure (Refused error) = Unit {0}
 IsListFailure (Failed failure) = is_failure_of_list failure ≡ true
 
--- the list is rejected for this error; running out of memory is a failure of the program instead
+-- the result of reading a list for this error of its parser: the list is rejected for it, but running out of memory is a failure of the
+-- program
 abbrev pub IsListError : JobError → ListError → Type 0
 IsListError error (Refused why) = (why ≡ error) × (error.what ≡ what.OutOfMemory → ⊥)
 IsListError error (Failed why) = (why ≡ failure.OutOfMemory) × (error.what ≡ what.OutOfMemory)

@@ -10,7 +10,7 @@ use Rattle.rv_jobs.specs.declared_error.JobError.{JobError}
 use Rattle.rvfleet_app.specs.declared.error.Failure.{Failure}
 use Rattle.rvfleet_app.specs.declared.error.Failure.TheVariants as failure
 
--- each line begins with the program's name
+-- a line on standard error: the program's name, and a text
 abbrev pub program_line : List ℕ → List ℕ
 program_line text = line (codes "rvfleet: " ++ text)
 
@@ -23,6 +23,7 @@ abbrev pub fault_line : JobError → List ℕ
 fault_line error =
     program_line (codes "job " ++ decimal error.job ++ codes ": " ++ what_name error.what)
 
+-- the text for a failure
 abbrev pub failure_name : Failure → List ℕ
 failure_name failure.OutOfMemory = codes "out of memory"
 failure_name failure.NoWorker = codes "no worker"

@@ -1,4 +1,4 @@
--- What the store may return for what the program requests.
+-- The lists and plans that the store may contain for the program's requests.
 use Rattle.std.specs.Prelude.{◌≡◌, ℕ, List, Option, Ok, Err}
 use Rattle.rv_fleet.specs.declared_row.Row.{Row}
 use Rattle.rv_fleet.specs.Rows.{rows_of}
@@ -12,23 +12,24 @@ use Rattle.rv_jobs.specs.Kept.{IsKeptOf}
 use Rattle.rvfleet_app.specs.declared.error.ListError.{ListError}
 use Rattle.rvfleet_app.specs.declared.error.ListError.TheVariants.{Failed, Refused}
 
--- a store's contents, if they are known, and its count of unreadable files before and after
+-- a store's contents, if they are known, and its number of unreadable files before and after the run
 pub record Stored : Type 0 where
   pub known : Option FileContents
   pub before : ℕ
   pub after : ℕ
 
+-- the record of a store with these contents and these numbers of unreadable files
 abbrev pub stored_contents : Option FileContents → ℕ → ℕ → Stored
 stored_contents known before after = record { known = known; before = before; after = after }
 
--- a plan of jobs over results that the store may return: one for each of their paths, and one more fault for each that cannot be read
+-- the plan has these jobs and, for each of their paths, a result that the store may return; each unreadable one is counted
 pub record IsPossiblePlan (store : Stored) (list : List Job) (plan : Planned) : Type 0 where
   pub jobs : plan.jobs ≡ list
   pub paths : paths_of plan.answers ≡ paths_used list
   pub kept : AreKept store.known plan.answers
   pub faults : store.after ≡ one_more_times store.before (unreadable_count plan.answers)
 
--- the rows of the jobs, over results that the store may return
+-- the rows are those of a plan of these jobs, with results that the store may return for their paths
 abbrev pub AreJobRows : Stored → List Job → List Row → Type 0
 AreJobRows store jobs rows = (plan : Planned) × (IsPossiblePlan store jobs plan × (rows ≡ rows_of plan))
 
@@ -42,7 +43,7 @@ abbrev pub IsPossibleListError : Option FileContents → List ℕ → JobError �
 IsPossibleListError known path error =
     (list : List ℕ) × (IsKeptOf known path (Content list) × (job_list_of list ≡ Err error))
 
--- the error of a list that was read; a list that was not read has none
+-- if reading a list ended because the list has an error, a list that the store may contain at the path has this error
 abbrev pub IsListFault : Option FileContents → List ℕ → ListError → Type 0
 IsListFault known path (Refused error) = IsPossibleListError known path error
 IsListFault known path (Failed failure) = Unit {0}

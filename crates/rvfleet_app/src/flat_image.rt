@@ -16,7 +16,7 @@ use rv_fleet::{Report, Rows, Sink, flat_row, write_report};
 use std::alloc::{AllocError, Global};
 use std::io::Read;
 
-// One byte more than an image may have.
+// The maximum number of bytes that are read: one more than an image may have.
 const MOST_READ: usize = 1_048_577;
 
 /// Runs the reader's bytes as a flat image, and writes its report to the sink. Reads at most 1,048,577 bytes from the reader.
@@ -46,7 +46,7 @@ pub fn run_raw<R: Read, O: Sink>(
     Ok(())
 }
 
-// Reads the reader's first bytes, one more than the longest image, so that a longer one is detected.
+// Reads the reader's first bytes, at most one more than the longest image has, so that a longer one is detected.
 fn read_flat_image<R: Read>(alloc: Global, input: &mut R) -> Result<Vec<u8>, InputError>
     ensures first { IfOk result (λ bytes. IsInputBeginning (R.remaining input.old) bytes.items) }
     ensures left { OnOk result
@@ -55,6 +55,7 @@ fn read_flat_image<R: Read>(alloc: Global, input: &mut R) -> Result<Vec<u8>, Inp
     read_at_most(alloc, input, MOST_READ)
 }
 
+// Returns the report with the single row of a flat image, run within this budget.
 fn flat_report(alloc: Global, bytes: &[u8], budget: u32) -> Result<Report, AllocError>
     ensures { IfOk result (λ report. report.rows ≡ flat_row_of bytes.now budget ∷ []) }
 {

@@ -16,7 +16,7 @@ use std::alloc::Global;
 use std::sync::Wait;
 use std::thread::Threads;
 
-/// Reads the job list at a path of the store.
+/// Reads the job list at a path of the store. A list with an error is `Refused`; anything else that goes wrong is `Failed`.
 pub fn read_list<S: Store>(alloc: Global, store: &mut S, path: &str) -> Result<JobList, ListError>
     ensures same { S.contents store.new ≡ S.contents store.old }
     ensures listed { IfOk result (IsPossibleList (S.contents store.old) path.now) }
@@ -34,6 +34,7 @@ pub fn read_list<S: Store>(alloc: Global, store: &mut S, path: &str) -> Result<J
     }
 }
 
+// Returns the failure of the program for an error of reading the list's file.
 fn list_read_failure(error: ReadError) -> Failure
     ensures { is_failure_of_list result ≡ true }
 {
@@ -44,7 +45,7 @@ fn list_read_failure(error: ReadError) -> Failure
     }
 }
 
-// Running out of memory is not an error in the list.
+// Returns why there is no list, for an error of its parser: out of memory is a failure of the program, not an error in the list.
 fn job_list_error(error: JobError) -> ListError
     ensures { IsListError error result }
 {
@@ -54,8 +55,8 @@ fn job_list_error(error: JobError) -> ListError
     }
 }
 
-/// Runs jobs on the workers of a crew, given what a store returns for their paths, each of which is read once, and writes the report to the
-/// sink. Returns the status of the report's verdicts.
+/// Runs jobs on the workers of a crew, with the results that a store returns for their paths, each of which is read once, and writes the
+/// report to the sink. Returns the exit status of the report's verdicts.
 #[tactic(auto, using(crate::proofs::Failing::fleet_why, crate::proofs::Failing::list_why))]
 pub fn run_jobs<R: Threads + Wait, S: Store, O: Sink, G: Gate>(
     crew: &Crew<'_, R>,

@@ -82,7 +82,7 @@ pub fn run_words<'a, R: Threads + Wait, T: AsStr, S: Store, I: Read, O: Sink, E:
     }
 }
 
-/// What the program runs on.
+/// What the program runs on: threads, an allocator, and a gate.
 #[derive(Drop)]
 struct Host<'a, R, G> {
     rt: &'a R,
@@ -107,6 +107,7 @@ struct ListArgs<'a> {
 }
 
 impl<'a, R: Threads + Wait, G: Gate> Host<'a, R, G> {
+    // Responds to a request and returns the exit status.
     fn answer_request<S: Store, I: Read, O: Sink, E: Sink>(
         &self,
         asked: Request<'_>,
@@ -158,7 +159,8 @@ impl<'a, R: Threads + Wait, G: Gate> Host<'a, R, G> {
         }
     }
 
-    // Reads the list, and rejects it if it has an error, before the files of its jobs are read.
+    // Responds to a request to run a job list, and returns the exit status. A list with an error is rejected before the files of its jobs
+    // are read.
     fn answer_list<S: Store, O: Sink, E: Sink>(
         &self,
         asked: &ListArgs<'_>,
@@ -195,6 +197,7 @@ impl<'a, R: Threads + Wait, G: Gate> Host<'a, R, G> {
     }
 }
 
+// Runs the flat image on the input, and returns the exit status: 0 if its report was written, or 3.
 #[tactic(auto, using(crate::proofs::Failing::raw_why))]
 fn answer_raw<I: Read, O: Sink, E: Sink>(
     alloc: Global,
@@ -222,7 +225,7 @@ fn answer_raw<I: Read, O: Sink, E: Sink>(
     }
 }
 
-// Checks both the path and the digits before the store is read.
+// Responds to a request to run one image, and returns the exit status. The path and the digits are checked before the store is read.
 fn answer_image<S: Store, O: Sink, E: Sink>(
     alloc: Global,
     asked: &ImageAsked<'_>,
@@ -263,7 +266,8 @@ fn answer_image<S: Store, O: Sink, E: Sink>(
     }
 }
 
-// A request for help is an error of `clap`, and the help goes to `out`; any other error except running out of memory rejects the arguments.
+// Responds to an error of `clap` and returns the exit status: a request for help writes it to `out`, out of memory is a failure, and any
+// other error rejects the arguments.
 fn answer_clap_error<O: Sink, E: Sink>(
     alloc: Global,
     error: &Error,
@@ -290,6 +294,7 @@ fn answer_clap_error<O: Sink, E: Sink>(
     }
 }
 
+// Writes the help to `out`, and returns the exit status: 0, or 3 if memory ran out or the write failed.
 fn put_help<O: Sink, E: Sink>(alloc: Global, help: &Error, out: &mut O, errors: &mut E) -> u8
     ensures counted { result ≡ DONE → O.failed out.new ≡ O.failed out.old }
     ensures quiet { result ≡ DONE → IsQuiet (E.taken errors.old) (E.taken errors.new)

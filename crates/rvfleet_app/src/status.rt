@@ -15,13 +15,13 @@ pub const DONE: u8 = 0;
 /// The status if a report with a failed verdict was written.
 pub const SOME_FAIL: u8 = 1;
 
-/// The status if the arguments are rejected.
+/// The status if the arguments or a job list are rejected.
 pub const BAD_WORDS: u8 = 2;
 
-/// The status if memory ran out, or a read or a write failed.
+/// The status if memory ran out, a thread could not be started, or a read or a write failed.
 pub const FAILED: u8 = 3;
 
-/// Reports that the arguments are rejected, and returns the status.
+/// Writes the line for rejected arguments, and returns the status 2.
 pub fn refuse_words<E: Sink>(errors: &mut E) -> u8
     ensures status { result ≡ BAD_WORDS }
     ensures told { IsLinePut (E.taken errors.old) (E.taken errors.new)
@@ -31,7 +31,7 @@ pub fn refuse_words<E: Sink>(errors: &mut E) -> u8
     BAD_WORDS
 }
 
-/// Reports what is wrong with a job list, and returns the status.
+/// Writes the line for the error of a job list, and returns the status 2; or 3 with another line if memory runs out.
 pub fn refuse_list<E: Sink>(alloc: Global, errors: &mut E, error: JobError) -> u8
     ensures status { result ≡ BAD_WORDS ⊎ result ≡ FAILED }
     ensures told { result ≡ BAD_WORDS
@@ -49,7 +49,7 @@ pub fn refuse_list<E: Sink>(alloc: Global, errors: &mut E, error: JobError) -> u
     BAD_WORDS
 }
 
-/// Reports why the program failed, and returns the status.
+/// Writes the line for a failure, and returns the status 3.
 pub fn put_failure<E: Sink>(errors: &mut E, failure: Failure) -> u8
     ensures status { result ≡ FAILED }
     ensures told { IsLinePut (E.taken errors.old) (E.taken errors.new)
@@ -59,7 +59,8 @@ pub fn put_failure<E: Sink>(errors: &mut E, failure: Failure) -> u8
     FAILED
 }
 
-/// Reports arguments that the process cannot provide, and returns the status: arguments that are not UTF-8 are invalid.
+/// Writes the line for arguments that the process cannot provide, and returns the status: 3 if memory ran out; 2 for any other error, such
+/// as arguments that are not UTF-8.
 pub fn refuse_unreadable_words<E: Sink>(error: &io::Error, errors: &mut E) -> u8
     ensures status { result ≡ BAD_WORDS ⊎ result ≡ FAILED }
     ensures refused { result ≡ BAD_WORDS
@@ -75,6 +76,7 @@ pub fn refuse_unreadable_words<E: Sink>(error: &io::Error, errors: &mut E) -> u8
     }
 }
 
+// Returns the line for a failure.
 fn failure_line(failure: Failure) -> &'static str
     ensures { result.now ≡ failure_line failure }
 {
@@ -88,7 +90,7 @@ fn failure_line(failure: Failure) -> &'static str
     }
 }
 
-// A failure to write the line changes no status.
+// Writes a line on standard error. A failure to write it is ignored: it changes no status.
 fn put_error_line<E: Sink>(errors: &mut E, line: &str)
     ensures { IsLinePut (E.taken errors.old) (E.taken errors.new)
         (E.failed errors.old) (E.failed errors.new) line.now }

@@ -17,7 +17,7 @@ use std::sync::Wait;
 use std::test::Fail;
 use std::thread::Threads;
 
-// Returns the output for a case, with these bytes as its input.
+// Returns the output of the program for a case, with these bytes as its input.
 fn told_of(
     rt: &(impl Threads + Wait),
     alloc: Global,
@@ -30,11 +30,13 @@ fn told_of(
     streams.told(alloc, store.faults, store.log.as_str(), status)
 }
 
+// Returns the output of the program for a case.
 fn told(rt: &(impl Threads + Wait), alloc: Global, case: &str) -> Result<String, Fail> {
     let bytes = numbers(alloc, part(case, 6))?;
     told_of(rt, alloc, case, &bytes)
 }
 
+// Appends a word, after a space if the text has words already.
 fn put_word(text: &mut String, word: &str) -> Result<(), AllocError> {
     if !text.is_empty() && !word.is_empty() {
         text.push_str(" ")?;
@@ -42,7 +44,8 @@ fn put_word(text: &mut String, word: &str) -> Result<(), AllocError> {
     text.push_str(word)
 }
 
-// Returns what a summary keeps of a line of a report: what comes after one of some words, or the last line.
+// Returns the part of a report's line that a summary keeps: all of the last line, the rest of a line whose first word is in `view`, and
+// nothing of any other line.
 fn kept<'a>(view: &str, line: &'a str) -> &'a str {
     match line.split_once(' ') {
         Some(("done", _)) => line,
@@ -51,7 +54,8 @@ fn kept<'a>(view: &str, line: &'a str) -> &'a str {
     }
 }
 
-// Returns the reads if they are requested, the status, the error output, and what is requested of a report, separated by spaces.
+// Returns the summary of an output: the reads if `view` requests them, the status, the error output, and what is kept of the report's
+// lines, separated by spaces.
 fn summary(alloc: Global, view: &str, told: &str) -> Result<String, AllocError> {
     let mut text = String::new(alloc);
     if view.contains("reads") {
@@ -65,6 +69,7 @@ fn summary(alloc: Global, view: &str, told: &str) -> Result<String, AllocError> 
     Ok(text)
 }
 
+// Returns what is compared of an output: everything after the number of bars in `view`, or the summary for its words.
 fn shown(alloc: Global, view: &str, told: &str) -> Result<String, AllocError> {
     match view.parse::<usize>() {
         Ok(bars) => {
@@ -75,12 +80,14 @@ fn shown(alloc: Global, view: &str, told: &str) -> Result<String, AllocError> {
     }
 }
 
+// Returns what is compared of the output for a row; `ask` is the form of the input.
 fn answer(rt: &(impl Threads + Wait), alloc: Global, ask: &str, row: &str) -> Result<String, Fail> {
     let case = written(alloc, ask, row)?;
     let told = told(rt, alloc, case.as_str())?;
     Ok(shown(alloc, part(case.as_str(), 1), told.as_str())?)
 }
 
+// Checks the output for a row, given the forms of the input and of the expected output.
 fn check_row(
     rt: &(impl Threads + Wait),
     alloc: Global,
@@ -93,6 +100,7 @@ fn check_row(
     agree(row, answer.as_str(), wanted.as_str())
 }
 
+// Checks the output for a row with a number in place of each `%`.
 fn check_numbered(
     rt: &(impl Threads + Wait),
     alloc: Global,
@@ -105,6 +113,7 @@ fn check_numbered(
     check_row(rt, alloc, ask, wanted, row.as_str())
 }
 
+// Checks the outputs for a line: one row, or as many as it says, with their numbers.
 fn check_line(
     rt: &(impl Threads + Wait),
     alloc: Global,
@@ -119,6 +128,7 @@ fn check_line(
     Ok(())
 }
 
+// Checks that a table has as many lines as its form of the input says, and checks the outputs for each.
 fn check_parts(
     rt: &(impl Threads + Wait),
     alloc: Global,
@@ -133,12 +143,15 @@ fn check_parts(
     Ok(())
 }
 
+// Returns the part of a table with this index, from 0.
 fn part_of_table(table: &str, place: usize) -> &str {
     table.split("\n====\n").nth(place).unwrap_or("")
 }
 
+/// The key that `$S` represents in a table.
 const SIGNATURE: &str = "signature = ['begin_signature', 'end_signature']";
 
+// Checks that the program responds to each row of a table as expected.
 fn check_table(rt: &(impl Threads + Wait), alloc: Global, table: &str) -> Result<(), Fail> {
     let table = table.replace(alloc, "$S", SIGNATURE)?;
     let (ask, wanted) = (part_of_table(&table, 0), part_of_table(&table, 1));

@@ -59,7 +59,7 @@ all six but one | image = 'sign', $S, expect_signature = 'bytes 38 30*7 0a 66*8 
 expect_exit = 0 | 1 fail
 ";
 
-// An image that prints `A` 65,536 times, and exits or prints once more: what follows in the image | a key | its value | the output
+// An image that prints `A` 65,536 times, and then exits or prints once more: what follows in the image | a key | its value | the output
 const FULL_CONSOLES: &str = "\
 6|verdict|rvfleet run jobs|job = [{name = 'a', budget = 200000, \
 image = 'code 100002b7 00010337 04100513 00a2a023 fff30313 fe031ce3 $0', $1 = ' + $2 + '}]
@@ -74,8 +74,8 @@ X | expect_console_file | bytes 41*65537 | 1 fail done 1
 00a2a023 | expect_end | console-full | 0 pass done 1
 ";
 
-// The reference and the console's file | the end, and the steps | the files that are not found, and what is read. The reference comes
-// first.
+// The reference | the console's file | the end, and the steps | how many files are not found, and the paths that are read, the reference
+// first
 const REFERRING: &str = "\
 9|reads end steps|rvfleet run jobs|job = [{name = 'a', budget = 100, image = 'sign', $S, \
 expect_signature = '$0', expect_console_file = '$1'}]
@@ -93,8 +93,8 @@ missing | missing | refused reference-unreadable 0 | 1;jobs;sign;missing;
 bytes 00 | sign | exit 0 9 | 0;jobs;sign;bytes 00;
 ";
 
-// A job that names one with expectations of its own is judged by the latter's outcome alone; both have both files. Each file is read once,
-// and none is missing.
+// A job that names another one is compared with the latter's outcome, whatever its verdict. Each file is read once, and none is missing.
+// The rows are the arguments.
 const NAMING: &str = "\
 3|reads verdict|$_|[[job]]
 name = 'a'
@@ -132,6 +132,7 @@ rvfleet run jobs --workers 4
 rvfleet run jobs --workers 64
 ";
 
+// Verdicts compare the console, the end and the exit code of a run with what the job expects.
 #[test]
 fn judges_consoles_and_endings(rt: HostRuntime) -> Result<(), Fail> {
     check(&rt, rt.alloc(), &[RUNS, FULL_CONSOLES, REFERRING, NAMING])

@@ -3,8 +3,8 @@
 use crate::cases::check;
 use std::test::Fail;
 
-// Writes of which one fails: arguments | a key of the first job | the most bytes per write | how many succeed before | their bytes. With
-// one worker, and with some that share the list, each of 405 writes of a byte; and if all rows are one write, the first.
+// One write of a report fails: arguments | a key of the first job | the maximum number of bytes per write | how many writes succeed before
+// | their bytes. With one worker and with four, each of 405 writes of one byte fails in turn, or the only write if it accepts all rows.
 const CUT_REPORTS: &str = "\
 4|0|rvfleet $0|
 [[job]]
@@ -79,8 +79,8 @@ run jobs --workers 1 | expect_exit = 5 | 1000000 | 0 | 0
 run jobs --workers 4 --group 2 | expect_exit = 5 | 1000000 | 0 | 0
 ";
 
-// A flat image that sets x10 to 5 and exits, from a reader that returns one byte per read: label | the most bytes per write | the number of
-// writes. The report has 71 bytes.
+// A flat image that sets x10 to 5 and exits, from a reader that returns one byte per read: label | the maximum number of bytes per write |
+// the number of writes. The report has 71 bytes.
 const RAW_PUTS: &str = "\
 2|0|rvfleet raw --budget 3|||read_most=1 $1|00500513 X
 ====
@@ -90,7 +90,7 @@ in one put | | 1
 a byte a put | put_most=1 | 71
 ";
 
-// Writes of ten bytes, of which one fails: label | what fails | how many succeed before | their bytes
+// Writes of ten bytes, one of which fails: label | what fails | how many succeed before | their bytes
 const CUT_PUTS: &str = "\
 1|0|rvfleet raw --budget 3|||read_most=1 $1|00500513 X
 ====
@@ -100,7 +100,7 @@ none/done 1/
 8 rows: ten bytes a put | put_most=10 puts=% | % | %0
 ";
 
-// A reader that returns one byte per read, and fails after the last; nothing is written.
+// The bytes of a reader that returns one byte per read, and fails after the last; nothing is written.
 const BROKEN_OFF: &str = "\
 14|0|rvfleet raw --budget 3|||read_most=1 read_fails|$_
 ====
@@ -122,7 +122,7 @@ const BROKEN_OFF: &str = "\
 00500513
 ";
 
-// At most one byte more than an image may have is read: its bytes | how many are left
+// At most one byte more than an image may have is read: the bytes of the input | how many are left
 const LEFT_INPUT: &str = "\
 1|0|rvfleet raw --budget 3||||$0
 ====
@@ -131,7 +131,8 @@ const LEFT_INPUT: &str = "\
 01*1048580 | 3
 ";
 
-// Arguments whose line on standard error is not accepted | the status | the reads
+// The line on standard error cannot be written: arguments | the status | the number of files that are not found, and the paths that are
+// read
 const UNTOLD: &str = "\
 2|0|rvfleet $0||jobs = missing|line=0
 ====
@@ -141,6 +142,8 @@ raw | 2 | 0;
 run jobs | 3 | 1;jobs;
 ";
 
+// After a failed read nothing is written, and after a failed write nothing more. The status does not depend on whether the error line can
+// be written.
 #[test]
 fn stops_where_a_read_or_a_put_fails(rt: HostRuntime) -> Result<(), Fail> {
     let tables = [

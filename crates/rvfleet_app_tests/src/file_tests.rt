@@ -7,6 +7,7 @@ use samples::{agree, cell_of, file, numbers};
 use std::fs;
 use std::test::Fail;
 
+/// The output for an image that exits with code 5.
 const IMAGE_REPORT: &str = "\
 1 0 0 0|0;|0||job 1 one
 end exit 5
@@ -17,6 +18,7 @@ verdict none
 done 1
 ";
 
+// The program runs an image that is a file.
 #[test]
 fn runs_a_file(rt: HostRuntime) -> Result<(), Fail> {
     fs::write(&rt, "image.elf", file(rt.alloc(), "one")?)?;
@@ -26,7 +28,7 @@ fn runs_a_file(rt: HostRuntime) -> Result<(), Fail> {
     agree(line, told.as_str(), IMAGE_REPORT)
 }
 
-// Returns what the store returns for a path that may have these bytes.
+// Reads the file at a path, and returns as text whether it has these bytes, or why it was not read.
 fn answer(rt: &HostRuntime, path: &str, bytes: &[u8]) -> &'static str {
     let mut store = FileStore::new(rt);
     match store.read(rt.alloc(), path) {
@@ -38,8 +40,8 @@ fn answer(rt: &HostRuntime, path: &str, bytes: &[u8]) -> &'static str {
     }
 }
 
-// No bytes, the most, and one more; a UTF-8 byte order mark, some pages of bytes and one more, and spaces in a path: the path
-// | the bytes | the result.
+// The path | the bytes of the file | the result of reading it. The files have no bytes, the maximum number, and one more; a UTF-8 byte
+// order mark, some pages of bytes and one more, and a path with spaces.
 const FILES: &str = "\
 zeros.bin| | these bytes
 zeros.bin| 00*16777216 | these bytes
@@ -50,7 +52,7 @@ pages.bin| 01 02 03 5a*8190 | these bytes
  spaced | 01 02 03 | these bytes
 ";
 
-// Checks that the store returns the result of a line while its file exists, and finds no file once it is removed.
+// Writes the file of a line, checks that the store returns the line's result, and that it finds no file once the file is removed.
 fn reads_file(rt: &HostRuntime, line: &str) -> Result<(), Fail> {
     let path = line.split('|').next().unwrap_or("");
     let bytes = numbers(rt.alloc(), cell_of(line, 1))?;
@@ -60,6 +62,7 @@ fn reads_file(rt: &HostRuntime, line: &str) -> Result<(), Fail> {
     agree(line, answer(rt, path, &bytes), "unreadable")
 }
 
+// The store returns the bytes of files, or why there are none.
 #[test]
 fn reads_files(rt: HostRuntime) -> Result<(), Fail> {
     for line in FILES.lines() {

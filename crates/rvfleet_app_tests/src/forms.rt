@@ -7,6 +7,7 @@
 use samples::cell_of;
 use std::alloc::{AllocError, Global};
 
+/// The names of a row's cells in a form.
 const CELLS: [&str; 10] = ["$0", "$1", "$2", "$3", "$4", "$5", "$6", "$7", "$8", "$9"];
 
 /// Returns the part of a text with this index, from 0; parts are separated by bars.
@@ -14,6 +15,7 @@ pub(crate) fn part(text: &str, place: usize) -> &str {
     text.split('|').nth(place).unwrap_or("")
 }
 
+// Returns a form with the cells of a row, or the whole row, in place of their names, and a line feed in place of each slash.
 fn filled(alloc: Global, form: &str, row: &str) -> Result<String, AllocError> {
     let mut text = form.replace(alloc, "$_", row)?;
     for (place, name) in CELLS.iter().enumerate() {
@@ -29,6 +31,7 @@ pub(crate) fn numbered(alloc: Global, form: &str, number: usize) -> Result<Strin
     Ok(text)
 }
 
+// Appends a text with a number in place of each `%`.
 fn put_numbered(text: &mut String, form: &str, number: usize) -> Result<(), AllocError> {
     for (nth, part) in form.split('%').enumerate() {
         if nth > 0 {
@@ -39,6 +42,7 @@ fn put_numbered(text: &mut String, form: &str, number: usize) -> Result<(), Allo
     Ok(())
 }
 
+// Appends a text as often as `count` says, each time with its number, from 1, in place of each `%`.
 fn put_each(text: &mut String, form: &str, count: usize) -> Result<(), AllocError> {
     for number in 0..count {
         put_numbered(text, form, number.saturating_add(1))?;
@@ -46,7 +50,7 @@ fn put_each(text: &mut String, form: &str, count: usize) -> Result<(), AllocErro
     Ok(())
 }
 
-// Fast, because the count is often millions.
+// Appends a text as often as `count` says. It is fast, because the count is often millions.
 fn put_same(text: &mut String, form: &str, count: usize) -> Result<(), AllocError> {
     for _ in 0..count {
         text.push_str(form)?;
@@ -54,6 +58,7 @@ fn put_same(text: &mut String, form: &str, count: usize) -> Result<(), AllocErro
     Ok(())
 }
 
+// Appends a part: the text after `3 times ` three times, any other part once.
 fn put_times(text: &mut String, part: &str) -> Result<(), AllocError> {
     let (count, form) = part.split_once(" times ").unwrap_or(("1", part));
     let count = count.parse::<usize>().unwrap_or(0);
@@ -64,11 +69,13 @@ fn put_times(text: &mut String, part: &str) -> Result<(), AllocError> {
     }
 }
 
+// Returns the first bytes of a text; if there are fewer, a text that no test expects.
 fn first_bytes<'a>(count: &str, text: &'a str) -> &'a str {
     let count = count.parse::<usize>().unwrap_or(usize::MAX);
     text.get(..count).unwrap_or("more than there are")
 }
 
+// Appends a part: the first three bytes of the text after `3 bytes of `, any other part by `put_times`.
 fn put_part(text: &mut String, part: &str) -> Result<(), AllocError> {
     match part.split_once(" bytes of ") {
         Some((count, whole)) => text.push_str(first_bytes(count, whole)),
@@ -76,6 +83,7 @@ fn put_part(text: &mut String, part: &str) -> Result<(), AllocError> {
     }
 }
 
+// Returns the parts of a text, separated by ` + `, as one text.
 fn expanded(alloc: Global, form: &str) -> Result<String, AllocError> {
     let mut text = String::new(alloc);
     for part in form.split(" + ") {
@@ -84,7 +92,7 @@ fn expanded(alloc: Global, form: &str) -> Result<String, AllocError> {
     Ok(text)
 }
 
-/// Returns the text of a form and a row.
+/// Returns the text of a form that a row fills.
 pub(crate) fn written(alloc: Global, form: &str, row: &str) -> Result<String, AllocError> {
     let text = filled(alloc, form, row)?;
     expanded(alloc, text.as_str())

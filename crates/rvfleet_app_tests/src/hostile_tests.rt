@@ -88,9 +88,9 @@ empty string table | sign 312=00000000 | 100 | $S | refused no-begin | 0 | -
 begin between two words | sign 152=80000029 | 100 | $S | refused signature-range | 0 | -
 ";
 
-// A job for each number of bytes, from 1, that may be left of the image's 332, and then one for none. How each ends, and its steps:
-// truncated in the header, in its table, in the segment, after it, and not at all. The signature | how the image ends without its sections,
-// and its steps.
+// A job for each number of bytes, from 1 to 332, that is left of an image of 332 bytes, and then one for none. The output shows how each
+// ends, and its steps: cut off in the header, in the program headers, in the segment, after the segment, and not at all. The signature |
+// how the image ends if only its sections are cut off, and its steps.
 const CUT_IMAGES: &str = "\
 2|end steps|rvfleet run jobs --workers 2 --group 3| + 332 times [[job]]/name = '%'/image = 'sign %'/budget = 100/$0/ \
 + [[job]]/name = '0'/image = 'sign 0'/budget = 100/$0/
@@ -151,6 +151,7 @@ const CUT_LISTS: &str = "\
 40 | job 0: not-toml
 ";
 
+/// How many bytes of the list are left: all, or all but the last line feed.
 const WHOLE_LISTS: &str = "\
 2|1|rvfleet run jobs| + $0 bytes of [[job]]/name = \"a\"/image = \"b\"/budget = 3/
 ====
@@ -160,6 +161,7 @@ const WHOLE_LISTS: &str = "\
 42
 ";
 
+// Truncated files and lists, and fields at their limits, have the expected results.
 #[test]
 fn reads_what_is_cut_or_at_its_ends(rt: HostRuntime) -> Result<(), Fail> {
     check(

@@ -33,6 +33,7 @@ impl<'a> Store for KnownStore<'a> {
     }
 }
 
+/// The output for an image that exits with code 5.
 const IMAGE_REPORT: &str = "\
 1 0 0 0|0;|0||job 1 one
 end exit 5
@@ -45,7 +46,7 @@ done 1
 
 const LIST: &[u8] = b"[[job]]\nname = 'j'\nimage = 'i'\nbudget = 3\n";
 
-// The list is not an image.
+// The output for the list, whose job has the list itself as its image.
 const LIST_REPORT: &str = "\
 1 0 0 0|0;|0||job 1 j
 end refused short-header
@@ -56,6 +57,7 @@ verdict none
 done 1
 ";
 
+// Checks the output for a command line, with a store that has these bytes at each path.
 fn answers(
     rt: &(impl Threads + Wait),
     alloc: Global,
@@ -67,6 +69,7 @@ fn answers(
     agree(line, told.as_str(), wanted)
 }
 
+// The program runs an image and a list from a store whose contents are known.
 #[test]
 fn files_are_known(rt: HostRuntime) -> Result<(), Fail> {
     answers(

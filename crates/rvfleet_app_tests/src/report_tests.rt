@@ -3,8 +3,8 @@
 use crate::cases::check;
 use std::test::Fail;
 
-// A list with one job of each kind of end: arguments | a key of the first job | its verdict | the most bytes per write
-// | how many writes it takes. Each path is read once, in order of first use. The report has 405 bytes.
+// A list with one job of each kind of end: arguments | a key of the first job | its verdict | the maximum number of bytes per write | how
+// many writes it takes. Each path is read once, in order of first use. The report has 405 bytes.
 const REPORTED: &str = "\
 8|0|rvfleet $0|
 [[job]]
@@ -83,8 +83,8 @@ run jobs --workers 1 | expect_exit = 5 | pass | 1 | 405
 run jobs --workers 4 --group 2 | expect_exit = 5 | pass | 1 | 405
 ";
 
-// With one worker, and with some that share the list, if the file of one read is not found: arguments | a key of the first job | its
-// verdict | the read | the status | the end of each row
+// The file of one read is not found, with one worker and with four: arguments | a key of the first job | its verdict | the read | the
+// status | the end of each row
 const FAILED_READS: &str = "\
 8|0|rvfleet $0|
 [[job]]
@@ -169,7 +169,8 @@ fault breakpoint pc=80000000 value=00000000/steps 0 | budget/steps 2 | refused s
 refused image-unreadable/steps 0/console -/signature -
 ";
 
-// arguments | a key of the first job | the reads | the one that fails | the error output: nothing is written to standard output
+// A read ends the program, and nothing is written to standard output: arguments | a key of the first job | how many files are not found,
+// and the paths that are read | the read that fails | the error output
 const ENDS: &str = "\
 12|0|rvfleet $0|
 [[job]]
@@ -220,6 +221,7 @@ run jobs --workers 1 | expect_exit = 5 | 0;jobs;a.elf;f.elf;cut.elf;s.elf; | no_
 run jobs --workers 4 --group 2 | expect_exit = 5 | 0;jobs;a.elf;f.elf;cut.elf;s.elf; | no_memory=5 | out of memory
 ";
 
+// The report of a list does not depend on the number of workers, and each unreadable file has its row.
 #[test]
 fn reports_alike(rt: HostRuntime) -> Result<(), Fail> {
     check(&rt, rt.alloc(), &[REPORTED, FAILED_READS, ENDS])

@@ -22,6 +22,7 @@ pub(crate) struct SampleStore<'a> {
 }
 
 impl<'a> SampleStore<'a> {
+    /// Creates the store for the files of a case.
     pub(crate) fn new(alloc: Global, case: &'a str) -> SampleStore<'a> {
         SampleStore {
             case,
@@ -47,6 +48,7 @@ impl<'a> SampleStore<'a> {
     }
 }
 
+// Returns the description of the file at a path: that of its line, or else the path itself, up to a `#`.
 fn sample_at<'a>(files: &'a str, path: &'a str) -> &'a str {
     for line in files.lines() {
         let (at, sample) = line.split_once(" = ").unwrap_or(("", ""));
@@ -57,6 +59,7 @@ fn sample_at<'a>(files: &'a str, path: &'a str) -> &'a str {
     path.split('#').next().unwrap_or("")
 }
 
+// Returns the file that this text describes.
 fn bytes_of(alloc: Global, sample: &str) -> Result<Vec<u8>, BadSample> {
     let (kind, text) = sample.split_once(' ').unwrap_or((sample, ""));
     match kind {

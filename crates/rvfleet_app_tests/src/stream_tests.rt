@@ -4,7 +4,7 @@ use rv_files::StreamSink;
 use rv_fleet::{Sink, put_all};
 use std::io::{self, Write};
 
-// A writer that counts its calls, and fails at one write or at each flush.
+// A writer that accepts at most four bytes per write, counts its calls, and fails at one write or at each flush.
 #[derive(Drop)]
 struct CountingWriter {
     writes: u64,
@@ -31,8 +31,8 @@ impl Write for CountingWriter {
     }
 }
 
-// Returns the result of writing ten bytes to a stream over a writer that fails in this way: whether all were accepted, the failures, and
-// the calls of the writer, which writes at most four bytes.
+// Writes ten bytes to a stream over a writer that fails in this way. Returns whether all were accepted, the number of failures, and the
+// numbers of writes and of flushes of the writer.
 fn put_ten(fails_at: u64, flush_fails: bool) -> (bool, u64, u64, u64) {
     let mut stream = StreamSink::new(CountingWriter {
         writes: 0,

@@ -11,7 +11,7 @@ use std::sync::Wait;
 use std::test::Fail;
 use std::thread::Threads;
 
-/// Returns the number that a text of words gives for a name, such as 3 for `put_most=`; else the greatest number.
+/// Returns the number after a name, such as `put_most=`, in a text of words; the greatest number if there is none.
 pub(crate) fn number(faults: &str, name: &str) -> usize {
     let (_, rest) = faults.split_once(name).unwrap_or(("", ""));
     let number = rest.split(' ').next().unwrap_or("");
@@ -29,6 +29,7 @@ pub(crate) struct MemorySink {
 }
 
 impl MemorySink {
+    /// Creates an empty sink that accepts at most `most` bytes per write, and fails once, after `fails_behind` successful writes.
     pub(crate) fn new(alloc: Global, most: usize, fails_behind: usize) -> MemorySink {
         MemorySink {
             bytes: Vec::new(alloc),
@@ -39,7 +40,7 @@ impl MemorySink {
         }
     }
 
-    /// Returns the sink's text, and how many writes succeeded and failed.
+    /// Returns the sink's text, the number of its successful writes, and the number of its failures.
     pub(crate) fn taken(&self) -> Result<(&str, usize, u64), Fail> {
         let text = std::str::from_utf8(self.bytes.as_slice())?;
         Ok((text, self.puts, self.failures))
@@ -88,7 +89,7 @@ impl<'a> Read for MemoryReader<'a> {
     }
 }
 
-/// The streams of a run.
+/// The standard input, the standard output and the error output of a run.
 #[derive(Drop)]
 pub(crate) struct Streams<'a> {
     input: MemoryReader<'a>,
@@ -123,9 +124,9 @@ impl<'a> Streams<'a> {
         Ok(run_words(rt, alloc, &words, store, input, out, errors, &FreeGate))
     }
 
-    /// Returns how many writes succeeded, how many failed, how many failed for the line on standard error, and how many bytes of the input
-    /// are left; a bar; the number of files that were not found, a semicolon, and the paths that were read; a bar; the status; a bar; the
-    /// error output; a bar; and the standard output.
+    /// Returns the output as one text: how many writes succeeded, how many failed, how many failed for the line on standard error, and how
+    /// many bytes of the input are left; a bar; the number of files that were not found, a semicolon, and the paths that were read; a bar;
+    /// the status; a bar; the error output; a bar; and the standard output.
     pub(crate) fn told(
         &self,
         alloc: Global,
@@ -142,6 +143,7 @@ impl<'a> Streams<'a> {
     }
 }
 
+// Returns the words of a command line, which single spaces separate.
 fn words_of(alloc: Global, line: &str) -> Result<Vec<&str>, AllocError> {
     let mut words = Vec::new(alloc);
     for word in line.split(' ') {
@@ -150,7 +152,7 @@ fn words_of(alloc: Global, line: &str) -> Result<Vec<&str>, AllocError> {
     Ok(words)
 }
 
-/// Returns the output of a run with a store that records no paths, without input.
+/// Runs the program with a store that records no paths, and without input, and returns the output as one text.
 pub(crate) fn told_over<S: Store>(
     rt: &(impl Threads + Wait),
     alloc: Global,

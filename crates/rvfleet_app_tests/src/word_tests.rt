@@ -3,7 +3,7 @@
 use crate::cases::check;
 use std::test::Fail;
 
-// Arguments that are rejected, one line each; no path is read. The first line has none.
+// Arguments that are rejected, one line each; no path is read. The first line has no arguments.
 const BAD_WORDS: &str = "\
 31|1|rvfleet $_
 ====
@@ -42,7 +42,7 @@ run jobs --group 4097
 run jobs --group x
 ";
 
-// An image at a path, with console input: the length of the path, and the number of bytes of the input.
+// An image at a path, with console input: the length of the path | the number of bytes of the input
 const LONGEST_WORDS: &str = "\
 1|1|rvfleet one  + $0 times a +  --budget 10 --input-hex  + $1 times 4f + || + $0 times a +  = code 100002b7 0042a503 X
 ====
@@ -57,6 +57,7 @@ done 1/
 4096 | 65536
 ";
 
+/// As `LONGEST_WORDS`, but the input or the path is too long, and the arguments are rejected.
 const LONGER_WORDS: &str = "\
 2|1|rvfleet one  + $0 times a +  --budget 10 --input-hex  + $1 times 4f + || + $0 times a +  = code 100002b7 0042a503 X
 ====
@@ -75,6 +76,7 @@ const LONGEST_PATH: &str = "\
 4096
 ";
 
+/// A list at a path of this length, which is too long.
 const LONGER_PATH: &str = "\
 1|1|rvfleet run  + $0 times a
 ====
@@ -83,6 +85,7 @@ const LONGER_PATH: &str = "\
 4097
 ";
 
+/// Arguments that request the help of the command.
 const HELP: &str = "\
 2|1|rvfleet $_
 ====
@@ -102,6 +105,7 @@ Options:
 -h
 ";
 
+/// Arguments that request the help of `raw`.
 const RAW_HELP: &str = "\
 1|1|rvfleet $_
 ====
@@ -116,6 +120,7 @@ Options:
 raw --help
 ";
 
+/// Arguments that request the help of `one`.
 const ONE_HELP: &str = "\
 1|1|rvfleet $_
 ====
@@ -134,6 +139,7 @@ Options:
 one --help
 ";
 
+/// Arguments that request the help of `run`.
 const RUN_HELP: &str = "\
 1|1|rvfleet $_
 ====
@@ -152,6 +158,7 @@ Options:
 run --help
 ";
 
+// Invalid arguments are rejected, the longest ones are accepted, and help is written to standard output.
 #[test]
 fn takes_words(rt: HostRuntime) -> Result<(), Fail> {
     check(

@@ -1,4 +1,4 @@
--- What `run` reports for a job that `accept` accepted, when it runs against the store with the new files.
+-- The row of an accepted job when `run` reads the files that `accept` wrote.
 use Rattle.std.specs.Prelude.{◌≡◌, ◌⊎◌, ℕ, Bool, true, false, IfSome, IsFalse, IsTrue, List, Ok, Some, None, slice_get}
 use Rattle.std.specs.List.{All, Any}
 use Rattle.rv_accept.specs.Sharing.{names_golden_file}
@@ -25,24 +25,29 @@ use Rattle.rvtest_app.specs.Runs.{IsPlanFor}
 
 -- ---- the store
 
--- paths lead to files, and several paths may lead to one file, as links do. Each file that was written is in the new store, and every path
--- that leads to none of these files still has its old contents
+-- the store `after` is the store `before` once the files `written` have been written
 pub record IsStoreAfter (written : List CommittedFile) (before after : FileContents) : Type 0 where
+  -- the file that a path leads to; links give one file several paths
   pub leads : List ℕ → List ℕ
+  -- paths that lead to one file had equal contents before
   pub one_before : (path other : List ℕ) → leads path ≡ leads other → before path ≡ before other
+  -- paths that lead to one file have equal contents afterwards
   pub one_after : (path other : List ℕ) → leads path ≡ leads other → after path ≡ after other
+  -- the new store has the bytes of each written file
   pub there : All (λ file. after file.path ≡ Some file.bytes) written
+  -- a path that leads to no written file keeps its contents
   pub others : (path : List ℕ) → (after path ≡ before path) ⊎ Any (λ file. leads file.path ≡ leads path) written
 
--- golden files whose paths lead to one file are given the same text
+-- golden files whose paths lead to one file, by `leads`, get the same text
 abbrev pub HaveOneTextEach : (List ℕ → List ℕ) → List GoldenFile → Type 0
 HaveOneTextEach leads files = All (λ (file : GoldenFile). All (λ (other : GoldenFile).
     leads file.place ≡ leads other.place → file.target.fate ≡ other.target.fate) files) files
 
 -- ---- the job
 
--- this job of the list is chosen and not rejected, none of its golden files is rejected, and it names no other job
+-- `job` is at index `place` of the list, it is accepted, none of its golden files is skipped, and it has no `same_as`
 pub record IsWhollyAccepted (told : AcceptSummary) (place : ℕ) (job : Job) : Type 0 where
+  -- the job is at index `place` of the list
   pub stands : slice_get told.list.jobs.now place ≡ Some job
   pub accepted : IsTrue (is_of_accepted (slice_get told.runs.now place))
   pub files : All (λ (file : GoldenFile). IsTrue (names_golden_file file.target.path job)
@@ -51,23 +56,25 @@ pub record IsWhollyAccepted (told : AcceptSummary) (place : ℕ) (job : Job) : T
 
 -- ---- the run
 
+-- whether the contents of a file were read
 abbrev pub is_read : Kept → Bool
 is_read (kept.Content bytes) = true
 is_read _ = false
 
--- all files of the job were read
+-- the image of the job and each of its expectation files were read
 pub record AreFilesRead (answers : List Answer) (job : Job) : Type 0 where
   pub image : IsTrue (is_read (kept_for answers job.image))
   pub signature : IfSome job.expect_signature (λ path. IsTrue (is_read (kept_for answers path)))
   pub console : IfSome (console_path job.expect_console) (λ path. IsTrue (is_read (kept_for answers path)))
 
--- the row of the job at this index when the list runs against the store, with all of the job's files read
+-- `row` is the row of the job at index `place` when the list runs against the store, and all files of the job were read
 pub record IsRowIn (store : FileContents) (words : RunArgs) (place : ℕ) (row : Row) : Type 0 where
   pub bytes : List ℕ
   pub read : IsTextAt (Some store) words.list.now bytes
   pub jobs : List Job
   pub listed : job_list_of bytes ≡ Ok jobs
   pub job : Job
+  -- the job is at index `place`
   pub stands : slice_get jobs place ≡ Some job
   pub places : List ℕ
   pub plan : Planned

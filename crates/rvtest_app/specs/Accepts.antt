@@ -43,14 +43,15 @@ use Rattle.rvtest_app.specs.Runs.{IsPlanFor, places_of_marks}
 use Rattle.rvtest_app.specs.CommandOutputs.{IsOnlyStandardOutput, IsOnlyErrorOutput, CommandOutputs}
 use Rattle.rvtest_app.specs.Standings.{AreCandidates}
 
--- ---- what is run
+-- ---- the rows
 
--- with or without `--ends`
+-- which ends are accepted: with `--ends`, also a different exit code or kind of fault; otherwise only the expected end
 abbrev pub acceptance_of : Bool → Acceptance
 acceptance_of true = acceptance.InExpectedWay
 acceptance_of false = acceptance.Expected
 
--- the selected jobs ran without their expectations, over a plan of the files in the store; each row is at the index of its job
+-- `rows` are the rows of the selected jobs of the list `bare`, each at the index of its job, with the files read from the store; `note` is
+-- the note about missing images
 pub record AreRowsOfMarked (known : Option FileContents) (root : Option (List ℕ)) (bare : List Job) (marks : List Bool)
     (rows : List (Option Row)) (note : List ℕ) : Type 0 where
   pub plan : Planned
@@ -59,67 +60,77 @@ pub record AreRowsOfMarked (known : Option FileContents) (root : Option (List �
   pub are : rows ≡ indexed_rows marks (rows_at plan (places_of_marks marks))
   pub noted : note ≡ missing_images_note plan.jobs unread (length (places_of_marks marks)) root
 
--- the selected jobs ran as above, and the note about missing images went to standard error
+-- `rows` are the rows of the selected jobs, and only the note about missing images was output, to standard error
 pub record AreRowsPut (known : Option FileContents) (root : Option (List ℕ)) (bare : List Job) (marks : List Bool)
     (rows : List (Option Row)) (before after : CommandOutputs) : Type 0 where
   pub note : List ℕ
   pub are : AreRowsOfMarked known root bare marks rows note
   pub told : IsOnlyErrorOutput note before after
 
--- ---- what is written
+-- ---- the files
 
--- the contents of the file at a path, or none if there is no file
+-- `old` is the contents of the file at the path, or none if there is no file, as far as contents are known
 abbrev pub IsOldAt : Option FileContents → List ℕ → Option (List ℕ) → Type 0
 IsOldAt known path old = IfSome known (λ files. files path ≡ old)
 
--- the golden file of a target, with the contents of the file at its path
+-- `file` is the golden file of `target`: it has the target's path, resolved against `root`, and the contents of the file there
 pub record IsGoldenFile (known : Option FileContents) (root : Option (List ℕ)) (target : Target) (file : GoldenFile)
     : Type 0 where
   pub of : file.target ≡ target
   pub leads : file.place ≡ resolved_path root target.path
+  -- the old contents are those of the file there
   pub stands : IsOldAt known file.place file.old
 
+-- the files are the golden files of the targets, in order: with the targets' paths, resolved against `root`, and the contents of the files
+-- there
 abbrev pub AreGoldenFiles : Option FileContents → Option (List ℕ) → List Target → List GoldenFile → Type 0
 AreGoldenFiles known root [] [] = ⊤
 AreGoldenFiles known root (target ∷ targets) (file ∷ files) =
     IsGoldenFile known root target file × AreGoldenFiles known root targets files
 AreGoldenFiles known root _ _ = ⊥
 
+-- the file with this path and text; no file without a text
 abbrev pub file_if : List ℕ → Option (List ℕ) → List CommittedFile
 file_if path None = []
 file_if path (Some text) = placed_file path text ∷ []
 
+-- the text of the new list, if `accept` writes one
 abbrev pub new_list_text : AcceptSummary → Option (List ℕ)
 new_list_text told = option_map (λ text. text.items) told.new.now.text
 
--- the golden files that are written, in list order, followed by the list
+-- the files that `accept` writes: the golden files that get a new text, in order, and then the list if it changes
 abbrev pub written_files : AcceptSummary → List CommittedFile
 written_files told = flat_map (λ file. file_if file.place (new_text told.list file)) told.files.now
     ++ file_if told.list.path.now (new_list_text told)
 
--- ---- the whole
+-- ---- the command
 
--- 0 if nothing is rejected and, in a check, nothing would change
+-- the exit status of `accept`: 0 if `left`, the number of skipped jobs and files, and `changed` are both 0, and otherwise 1
 abbrev pub accept_status : ℕ → ℕ → ℕ
 accept_status left changed = if left == 0 && changed == 0 then 0 else 1
 
--- what is reported about the golden files and the list follows from the runs of the list's jobs, more of which may be rejected: the text of
--- each golden file is what all jobs that name it make of it, and a new list parses as the intended jobs; without a new list, the intended
--- jobs are those of the old one
+-- the summary `told` of `accept` follows from `judged`, the runs of the list's jobs, of which more may be skipped
 pub record IsOutcome (known : Option FileContents) (words : AcceptArgs) (bytes : List ℕ) (jobs : List Job)
     (judged : List (Option JobRun)) (told : AcceptSummary) : Type 0 where
   pub path : told.list.path.now ≡ words.run.list.now
   pub text : told.list.text.now ≡ bytes
   pub listed : told.list.jobs.now ≡ jobs
+  -- runs that are accepted in `judged` may be skipped in the summary, but not the other way round
   pub runs : AreLeftFrom judged told.runs.now
+  -- the text that each accepted or skipped run gives to each golden file of its job
   pub claims : told.claims.now ≡ golden_texts_of_runs 0 jobs told.runs.now
+  -- the golden files of the accepted jobs, with their old contents
   pub files : AreGoldenFiles known (optional_text words.run.root)
       (fold (with_target told.runs.now told.claims.now) [] told.claims.now) told.files.now
+  -- a new list is the old one with some edits
   pub edited : IfSome told.new.now.text (λ text. (edits : List Edit) × (text.items ≡ edited_from 0 bytes edits))
+  -- a new list parses as the intended jobs
   pub meant : IfSome told.new.now.text (λ text. job_list_of text.items ≡ Ok (intended_jobs jobs told.runs.now))
+  -- without a new list, the intended jobs are those of the old list
   pub unchanged : told.new.now.text ≡ None → intended_jobs jobs told.runs.now ≡ jobs
 
--- the report went to standard output, with the summary line; unless this is a check, the files were written to their paths
+-- what `accept` wrote: its lines and the summary line to standard output and, unless the Bool, `--check`, is true, the files at their
+-- paths; `status` is the exit status
 abbrev pub IsAcceptanceWritten : Bool → AcceptSummary → ℕ → CommandOutputs → CommandOutputs → Type 0
 IsAcceptanceWritten true told status before after =
     (status ≡ accept_status (left_count told) (changed_count told))
@@ -130,32 +141,34 @@ IsAcceptanceWritten false told status before after =
     × (after.errors ≡ before.errors) × (after.failures ≡ before.failures)
     × AreFilesCommitted before.placed after.placed (Some (written_files told))
 
--- the summary with these parts
+-- the summary has this list, these runs, golden texts and golden files, and this new list
 abbrev pub IsAcceptSummaryOf : ListFile → List (Option JobRun) → List GoldenText → List GoldenFile → NewList → AcceptSummary → Type 0
 IsAcceptSummaryOf list runs claims files new told = (told.list ≡ list) × (told.runs.now ≡ runs) × (told.claims.now ≡ claims)
     × (told.files.now ≡ files) × (told.new.now ≡ new)
 
+-- the summary of this list, these runs, golden texts and golden files, and this new list was written as `IsAcceptanceWritten` says
 pub record IsOutcomeWritten (check : Bool) (list : ListFile) (runs : List (Option JobRun)) (claims : List GoldenText)
     (files : List GoldenFile) (new : NewList) (status : ℕ) (before after : CommandOutputs) : Type 0 where
   pub told : AcceptSummary
   pub of : IsAcceptSummaryOf list runs claims files new told
   pub put : IsAcceptanceWritten check told status before after
 
--- the golden files outside of the list's directory were reported; there are none if committed files are reported
+-- only a message about golden files outside of the directory was output, to standard error; it is empty if the outputs report the committed
+-- files
 pub record AreOutsideFilesReported (before after : CommandOutputs) : Type 0 where
   pub outside : List ℕ
   pub inside : IfSome before.placed (λ _. outside ≡ [])
   pub told : IsOnlyErrorOutput outside before after
 
--- the runs of a list's jobs, some of which are chosen, are judged by their rows: each job is rejected or accepted by its verdict
+-- `judged` are the runs of the jobs by their rows: some jobs are chosen, and each run is accepted or skipped by the verdict on it
 pub record AreJudged (known : Option FileContents) (words : AcceptArgs) (jobs : List Job) (chosen : List Bool)
     (rows : List (Option Row)) (judged : List (Option JobRun)) : Type 0 where
   pub candidates : List Candidate
   pub stand : AreCandidates known (optional_text words.run.root) rows jobs chosen candidates
   pub are : judged ≡ judged_runs (acceptance_of words.ends) jobs candidates rows
 
--- the outside files were reported; the chosen jobs ran without their expectations, and so did the jobs that name one of their golden files
--- and those that one of all these jobs is compared with
+-- `accept` ran the jobs that it needs for the chosen ones, without their expectations, and wrote the summary of their runs; before that it
+-- reported the golden files outside of the directory
 pub record IsAcceptedOfMarks (known : Option FileContents) (words : AcceptArgs) (bytes : List ℕ) (jobs : List Job)
     (chosen : List Bool) (status : ℕ) (before after : CommandOutputs) : Type 0 where
   pub first : CommandOutputs
@@ -170,14 +183,14 @@ pub record IsAcceptedOfMarks (known : Option FileContents) (words : AcceptArgs) 
   pub outcome : IsOutcome known words bytes jobs judged told
   pub put : IsAcceptanceWritten words.check told status middle after
 
--- if no job is chosen, the status is 0 and nothing more is reported
+-- `accept` of the chosen jobs; if none is chosen, the status is 0 and nothing more is output
 abbrev pub IsAcceptedOfChosen : Option FileContents → AcceptArgs → List ℕ → List Job → Option (List Bool) → ℕ
     → CommandOutputs → CommandOutputs → Type 0
 IsAcceptedOfChosen known words bytes jobs None status before after = (status ≡ 0) × (after ≡ before)
 IsAcceptedOfChosen known words bytes jobs (Some chosen) status before after =
     IsAcceptedOfMarks known words bytes jobs chosen status before after
 
--- for the list at the path in the arguments, notes about the choice go to standard error, and then the chosen jobs are accepted
+-- `accept` read the list at the path in the arguments, wrote the notes about the choice to standard error, and accepted the chosen jobs
 pub record IsAcceptedAt (known : Option FileContents) (words : AcceptArgs) (status : ℕ) (before after : CommandOutputs)
     : Type 0 where
   pub bytes : List ℕ

@@ -21,8 +21,8 @@ use Rattle.rvtest_app.specs.Runs.{IsRunAt}
 use Rattle.rvtest_app.specs.CommandOutputs.{IsOnlyStandardOutput, CommandOutputs}
 use Rattle.rvtest_app.specs.Shows.{IsShownAt}
 
--- a command did what was requested, given what is known of files and standard input and whether standard output is a terminal: its status,
--- and everything written to standard output, to standard error and to files
+-- a command did what the request asks for: its `status`, and everything that it output and committed between `before` and `after`. `known`
+-- and `input` are the contents of files and of standard input, if known; `is_terminal` says whether standard output is a terminal
 abbrev pub IsDone : Option FileContents → Option (List ℕ) → Bool → Request → ℕ → CommandOutputs → CommandOutputs → Type 0
 IsDone known input is_terminal (request.Run words) status before after =
     IsRunAt known words status before after
@@ -56,8 +56,8 @@ IsDone known input is_terminal (request.Help words) status before after =
     (text : List ℕ) × (IsTopicPrinted words.topic.now text status
     × IsOnlyStandardOutput text before after)
 
--- a command did what was requested, and its results on standard output were coloured as requested, given whether standard output is a
--- terminal that supports colours
+-- a command did what the request asks for, and its results on standard output are coloured as requested; `is_colored` says whether standard
+-- output is a terminal that supports colours
 pub record IsDoneInColors (known : Option FileContents) (input : Option (List ℕ)) (is_terminal is_colored : Bool) (args : Request)
     (status : ℕ) (before after : CommandOutputs) : Type 0 where
   pub plain : CommandOutputs
@@ -68,12 +68,12 @@ pub record IsDoneInColors (known : Option FileContents) (input : Option (List �
 abbrev pub AskForHelp : List (List ℕ) → Type 0
 AskForHelp words = IsAmong DisplayHelp (words_fault_kinds words) ⊎ IsAmong DisplayVersion (words_fault_kinds words)
 
--- a response that only writes text to standard output: there were no arguments, or they request the help
+-- the program only prints a text: the arguments request nothing, with status 2, or the help or version, with status 0
 abbrev pub IsAnsweredAlone : List (List ℕ) → ℕ → Type 0
 IsAnsweredAlone words status =
     ((words_request words ≡ None) × (status ≡ 2)) ⊎ (AskForHelp words × (status ≡ 0))
 
--- the program responded to its arguments: it did what they request, coloured or not, or it reported how it is used
+-- the program responded to its arguments: it did what they request, or it only printed the usage, the help or the version
 abbrev pub IsAnswered : Option FileContents → Option (List ℕ) → Bool → Bool → List (List ℕ) → ℕ → CommandOutputs → CommandOutputs → Type 0
 IsAnswered known input is_terminal is_colored words status before after =
     ((args : Request) × ((words_request words ≡ Some (words_of_request args))

@@ -29,41 +29,43 @@ use Rattle.rv_text.specs.Words.{count_text}
 use Rattle.rvtest_app.specs.Commands.{is_job_refused, refused_job_count, warned_job_count}
 use Rattle.rvtest_app.specs.MissingImages.{missing_images_line}
 
--- ---- where a job stands
+-- ---- the location of a job
 
--- the line on which each job begins; unknown in a text that is not UTF-8, which no list is
+-- the line on which each job begins; none for a text that is not UTF-8, which is never a valid list
 abbrev pub job_begin_lines : List ℕ → List ℕ
 job_begin_lines text = if is_utf8 text then job_lines text else []
 
--- the path of the list, and the line if it is known
+-- the path of the list, followed by the line number if it is known
 abbrev pub path_and_line : List ℕ → Option ℕ → List ℕ
 path_and_line path None = printable_text path
 path_and_line path (Some number) = printable_text path ++ codes ":" ++ decimal number
 
--- where the job at an index begins, how severe the problem is, the number of the job, counted from 1, and its name
+-- the prefix of a line of `check`: where the job at index `place` begins, the severity, and the job's number from 1 and its name
 unfoldable pub job_prefix : List ℕ → List ℕ → List ℕ → ℕ → Job → List ℕ
 job_prefix severity path lines place job =
     path_and_line path (slice_get lines place) ++ severity ++ codes " job " ++ decimal (place + 1) ++ codes " \"" ++ job.name ++ codes "\": "
 
 -- ---- a job that is refused
 
--- the word for the reason of the refusal, and details where they are known
+-- the word for the reason of a refusal, with details if they are known
 abbrev pub refusal_text : Refusal → Option (List ℕ) → List ℕ
 refusal_text why reason = codes "refused " ++ refusal_name why ++ optional_reason_text reason
 
+-- the error line for one file of a refused job
 unfoldable pub refused_file_line : List ℕ → List ℕ → ℕ → Job → Refusal → Option (List ℕ) → List ℕ
 refused_file_line path lines place job why reason = line (job_prefix (codes ": error:") path lines place job ++ refusal_text why reason)
 
--- the line for a job's image if the image alone makes the job refused, whatever its other files are
+-- the error line for a job whose image is the reason why it is refused
 abbrev pub refused_image_line : List ℕ → List ℕ → Planned → List UnreadPath → ℕ → Job → Refusal → List ℕ
 refused_image_line path lines plan unread place job why =
     refused_file_line path lines place job why (refusal_reason plan.answers unread job why)
 
+-- the error line for a job whose image alone makes it refused; empty if the image does not
 abbrev pub refused_image_text : List ℕ → List ℕ → Planned → List UnreadPath → ℕ → Job → List ℕ
 refused_image_text path lines plan unread place job =
     unwrap_or (option_map (refused_image_line path lines plan unread place job) (image_refusal_in plan.answers job)) []
 
--- the line for an expectation file, given what is kept of its path; empty if the file was read
+-- the error line for the expectation file `file`, given what was kept of its path; empty if the file was read
 abbrev pub unread_reference_text : List ℕ → List ℕ → List UnreadPath → ℕ → Job → Option Kept → Option (List ℕ) → List ℕ
 unread_reference_text path lines unread place job (Some kept.Unreadable) (Some file) =
     refused_file_line path lines place job refusal.ReferenceUnreadable (Some (unread_file_text unread file))
@@ -71,65 +73,68 @@ unread_reference_text path lines unread place job (Some kept.TooLong) (Some file
     refused_file_line path lines place job refusal.ReferenceTooLong (Some (too_long_file_text file))
 unread_reference_text path lines unread place job _ _ = []
 
--- the line for the expectation file at a path
+-- the error line for a job's expectation file; empty if it was read or none is named
 abbrev pub reference_text : List ℕ → List ℕ → Planned → List UnreadPath → ℕ → Job → Option (List ℕ) → List ℕ
 reference_text path lines plan unread place job file =
     unread_reference_text path lines unread place job (option_map (kept_for plan.answers) file) file
 
--- the lines for the image and for the files with the expected signature and console
+-- the error lines for a job's image and for the files with its expected signature and console
 unfoldable pub refused_files_text : List ℕ → List ℕ → Planned → List UnreadPath → ℕ → Job → List ℕ
 refused_files_text path lines plan unread place job = refused_image_text path lines plan unread place job
     ++ (reference_text path lines plan unread place job job.expect_signature
     ++ reference_text path lines plan unread place job (console_path job.expect_console))
 
--- the lines for a refused job; empty if the job is not refused
+-- the error lines for a job; empty if the job is not refused
 unfoldable pub refused_job_text : List ℕ → List ℕ → Planned → List UnreadPath → ℕ → Job → List ℕ
 refused_job_text path lines plan unread place job =
     if is_job_refused plan job then refused_files_text path lines plan unread place job else []
 
 -- ---- a job that expects two ends
 
--- the list's word for the end that a job expects
+-- the name of the end that a job expects, as the list writes it
 abbrev pub expected_end_name : Option ExpectedEnd → List ℕ
 expected_end_name (Some (expected.Fault kind)) = fault_name kind
 expected_end_name _ = codes "budget"
 
--- the code and the end that a job expects, which no run satisfies
+-- the warning that a job expects both an exit code and another end, which no run satisfies
 abbrev pub two_ends_text : Option ℕ → Option ExpectedEnd → List ℕ
 two_ends_text code end = codes "expect_exit = " ++ decimal (unwrap_or code 0)
     ++ codes " with expect_end = \"" ++ expected_end_name end
     ++ codes "\": a run ends in only one way, so the job never passes"
 
+-- the warning line for a job that expects two ends
 unfoldable pub two_ends_line : List ℕ → List ℕ → ℕ → Job → List ℕ
 two_ends_line path lines place job =
     line (job_prefix (codes ": warning:") path lines place job ++ two_ends_text job.expect_exit job.expect_end)
 
--- the warning for a job that expects two ends; empty for any other job
+-- the warning line for a job that expects two ends; empty for any other job
 unfoldable pub warned_job_text : List ℕ → List ℕ → ℕ → Job → List ℕ
 warned_job_text path lines place job = if expects_two_ends job then two_ends_line path lines place job else []
 
 -- ---- the counts
 
+-- the number of refused jobs, in words
 abbrev pub refused_count_text : ℕ → List ℕ
 refused_count_text refused = if refused == 0 then codes "none refused" else decimal refused ++ codes " refused"
 
--- the number of warnings, if there are any
+-- the number of warnings, in words; empty if there are none
 abbrev pub warning_count_text : ℕ → List ℕ
 warning_count_text warned = if warned == 0 then []
     else codes ", " ++ count_text warned (codes "warning")
 
+-- the last line of `check`: the number of jobs, of refused jobs and of warnings
 unfoldable pub job_counts_line : ℕ → ℕ → ℕ → List ℕ
 job_counts_line jobs refused warned =
     line (decimal jobs ++ job_word jobs ++ codes ", " ++ refused_count_text refused ++ warning_count_text warned)
 
 -- ---- the text
 
--- a text for each job and its index, counted from 0, in order
+-- the texts of all jobs, in list order; `text` takes a job's index and the job
 abbrev pub texts_of_jobs : (ℕ → Job → List ℕ) → List Job → List ℕ
 texts_of_jobs text jobs = flat_map (λ entry. text entry.0 entry.1) (enumerate_from 0 jobs)
 
--- the whole output for the list with this path and text, with paths resolved against the root if one is given, from its plan and the notes
--- about files that were not read
+-- the output of `check` for a list without errors: `path` and `text` are those of the list, `root` is the directory of `--root`, and
+-- `unread` are the files that could not be read
 unfoldable pub check_text : List ℕ → List ℕ → Option (List ℕ) → Planned → List UnreadPath → List ℕ
 check_text path text root plan unread = let lines = job_begin_lines text in
     texts_of_jobs (refused_job_text path lines plan unread) plan.jobs

@@ -11,21 +11,22 @@ use Rattle.rvtest_app.specs.IntoReports.{uses_run_stdout}
 use Rattle.rvtest_app.specs.Outlets.{is_stdout_at}
 use Rattle.rvtest_app.specs.CommandOutputs.{CommandOutputs}
 
--- by default, results are coloured on a terminal
+-- the default of `--color`: coloured on a terminal, plain otherwise
 abbrev pub terminal_colors : Bool → Colors
 terminal_colors is_terminal = if is_terminal then colors.With else colors.Without
 
+-- the colours for a value of `--color`, given whether standard output is a terminal
 abbrev pub colors_of_word : Option (List ℕ) → Bool → Colors
 colors_of_word (Some word) is_terminal = if bytes_eq word (codes "always") then colors.With
     else if bytes_eq word (codes "never") then colors.Without else terminal_colors is_terminal
 colors_of_word None is_terminal = terminal_colors is_terminal
 
--- results are not coloured if a file goes to standard output
+-- plain output if an output file goes to standard output, and the given colours otherwise
 abbrev pub beside_file : Bool → Colors → Colors
 beside_file uses_stdout args = if uses_stdout then colors.Without else args
 
--- the requested colours, given whether standard output is a terminal that supports them; names, consoles, errors and reports are never
--- coloured
+-- the colours of a request's results, given whether standard output is a terminal that supports them; only the results of `run`, `explain`,
+-- `diff` and `show` are ever coloured
 abbrev pub requested_colors : Request → Bool → Colors
 requested_colors (request.Run words) is_terminal =
     beside_file (uses_run_stdout words) (colors_of_word (optional_text words.color) is_terminal)
@@ -35,7 +36,7 @@ requested_colors (request.Show words) is_terminal =
     beside_file (is_stdout_at (optional_text words.junit)) (colors_of_word (optional_text words.color) is_terminal)
 requested_colors _ is_terminal = colors.Without
 
--- the plain output, with the results on standard output coloured and nothing else
+-- the outputs `after` are the outputs `plain` with the results on standard output coloured, and nothing else changed
 pub record IsColoredOutput (colors : Colors) (before plain after : CommandOutputs) : Type 0 where
   pub out : IsOut colors before.out plain.out after.out
   pub errors : after.errors ≡ plain.errors

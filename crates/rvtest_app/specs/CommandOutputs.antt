@@ -5,15 +5,18 @@ use Rattle.rv_command.specs.Messages.{IsMessageWritten}
 use Rattle.rv_files.specs.Placed.{CommittedFile}
 use Rattle.rvtest_app.specs.declared.destinations.Destinations.{Destinations}
 
--- what went to standard output and to standard error, how many writes to standard error failed, and which files were committed, each if it
--- is reported
+-- the outputs of a command so far; standard output, standard error and the files are none if the destination does not report them
 pub record CommandOutputs : Type 0 where
+  -- the bytes on standard output
   pub out : Option (List ℕ)
+  -- the bytes on standard error
   pub errors : Option (List ℕ)
+  -- the number of failed writes to standard error
   pub failures : ℕ
+  -- the files that were committed, in order
   pub placed : Option (List CommittedFile)
 
--- the outputs that the destinations report
+-- the outputs that the destinations report: the committed files, standard output, standard error, and its failed writes
 abbrev pub outputs_of : {F O E : Type 0} → (F → Option (List CommittedFile)) → (O → Option (List ℕ)) → (E → Option (List ℕ))
     → (E → ℕ) → Destinations F O E → CommandOutputs
 outputs_of placed taken told failed to = record {
@@ -23,22 +26,22 @@ outputs_of placed taken told failed to = record {
   placed = placed to.files;
 }
 
--- the committed files, if those committed before were reported
+-- the committed files, if those committed earlier were reported; none otherwise
 abbrev pub placed_if_reported : Option (List CommittedFile) → Option (List CommittedFile) → Option (List CommittedFile)
 placed_if_reported None placed = None
 placed_if_reported (Some earlier) placed = placed
 
--- the outputs, with the committed files if those committed before were reported
+-- the outputs, with the committed files only if those committed earlier were reported
 abbrev pub with_placed_if_reported : Option (List CommittedFile) → CommandOutputs → CommandOutputs
 with_placed_if_reported earlier now = record now { placed = placed_if_reported earlier now.placed }
 
--- the text went to standard output, and nothing else was output
+-- the text was written to standard output, and nothing else was output
 abbrev pub IsOnlyStandardOutput : List ℕ → CommandOutputs → CommandOutputs → Type 0
 IsOnlyStandardOutput text before after =
     Appends before.out after.out text × (after.errors ≡ before.errors) × (after.failures ≡ before.failures)
     × (after.placed ≡ before.placed)
 
--- the message went to standard error, or a prefix of it if a write failed, and nothing else was output
+-- the text was written to standard error, or a prefix of it if a write failed, and nothing else was output
 abbrev pub IsOnlyErrorOutput : List ℕ → CommandOutputs → CommandOutputs → Type 0
 IsOnlyErrorOutput text before after =
     (after.out ≡ before.out) × IsMessageWritten before.errors after.errors before.failures after.failures text

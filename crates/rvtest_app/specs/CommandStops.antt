@@ -1,4 +1,4 @@
--- Why commands stopped before their work was done.
+-- Why each command stops early.
 use Rattle.std.specs.Prelude.{◌≡◌, ◌⊎◌, ℕ, Bool, true, false, List, [], MatchOption, Option, None, Some, Ok}
 use Rattle.clap.specs.Kinds.{IsAmong}
 use Rattle.clap.specs.declared.error.kind.ErrorKind.{ErrorKind as WordsFault}
@@ -39,78 +39,78 @@ use Rattle.rvtest_app.specs.RunStops.{IsRunStop}
 use Rattle.rvtest_app.specs.CommandOutputs.{CommandOutputs}
 use Rattle.rvtest_app.specs.ReportedStops.{IsHelpRequested}
 
--- `check`: the list was not read, memory ran out, or the list has an error
+-- why `check` stopped: the list could not be read, memory ran out, or the list has an error
 abbrev pub IsCheckStop : Option FileContents → CheckArgs → Stop → Type 0
 IsCheckStop known words why = IsListUnreadStop known words.list.now why
     ⊎ ((text : List ℕ) × (IsTextAt known words.list.now text × IsListFaultStop words.list.now text why))
 
--- the text at the path is not a list, or none of its jobs has the name
+-- the text at the path is not a list, or none of its jobs has this name
 abbrev pub IsNoJobStop : List ℕ → List ℕ → List ℕ → Stop → Type 0
 IsNoJobStop path text name why = IsListFaultStop path text why
     ⊎ ((jobs : List Job) × ((job_list_of text ≡ Ok jobs) × IsUnknownNameStop path jobs name why))
 
--- `explain`: the list was not read, or it has no job of that name
+-- why `explain` stopped: the list could not be read, it has an error, or no job has the requested name
 abbrev pub IsExplainStop : Option FileContents → ExplainArgs → Stop → Type 0
 IsExplainStop known words why = IsListUnreadStop known words.list.now why
     ⊎ ((text : List ℕ) × (IsTextAt known words.list.now text × IsNoJobStop words.list.now text words.name.now why))
 
--- `console`: the list was not read, or it has no job of that name
+-- why `console` stopped: the list could not be read, it has an error, or no job has the requested name
 abbrev pub IsConsoleStop : Option FileContents → ConsoleArgs → Stop → Type 0
 IsConsoleStop known words why = IsListUnreadStop known words.list.now why
     ⊎ ((text : List ℕ) × (IsTextAt known words.list.now text × IsNoJobStop words.list.now text words.name.now why))
 
--- `gdb`: the list was not read, it has no job of that name, the job is refused, memory ran out, or standard input was not read
+-- why `gdb` could not open the job: the list could not be read, it has an error or no job of this name, or the job is refused
 abbrev pub IsUnopenedAtStop : Option FileContents → GdbArgs → Stop → Type 0
 IsUnopenedAtStop known words why = IsListUnreadStop known words.list.now why
     ⊎ ((text : List ℕ) × (IsTextAt known words.list.now text
     × (IsNoJobStop words.list.now text words.name.now why ⊎ IsUnopenedOfStop known words text why)))
 
--- standard output is a terminal, or it is not and the job was not opened
+-- why `gdb` did not start a session: standard output is a terminal, or the job could not be opened
 abbrev pub IsUnshownStop : Option FileContents → Bool → GdbArgs → Stop → Type 0
 IsUnshownStop known is_terminal words why = ((is_terminal ≡ true) × IsNoGdbStop why)
     ⊎ ((is_terminal ≡ false) × IsUnopenedAtStop known words why)
 
--- the job was not opened, or the session ended with an error
+-- why `gdb` stopped: it did not start a session, or the session ended with an error
 abbrev pub IsGdbStop : Option FileContents → Bool → GdbArgs → Stop → Type 0
 IsGdbStop known is_terminal words why = IsUnshownStop known is_terminal words why
     ⊎ ((is_terminal ≡ false) × ((broken : SessionError) × IsBrokenStop broken why))
 
--- The job was not opened, and nothing was output. Or the session ended with an error: a failed write if the count of failed writes to
--- standard output rose, and another error if it did not.
+-- `gdb` started no session and output nothing; or its session ended with an error: a failed write if the count of failed writes rose, and
+-- another error if it did not
 abbrev pub IsGdbStopped : Option FileContents → Bool → GdbArgs → Stop → CommandOutputs → CommandOutputs → ℕ → ℕ → Type 0
 IsGdbStopped known is_terminal words why before after failures_before failures_after =
     (IsUnshownStop known is_terminal words why × (after ≡ before))
     ⊎ ((is_terminal ≡ false) × ((broken : SessionError) × (IsBrokenStop broken why × IsFailureCounted broken failures_before failures_after)))
 
--- the text is not a list, or the arguments choose none of its jobs
+-- the text is not a list, or choosing its jobs by the arguments stopped
 abbrev pub IsNoChoiceStop : Option FileContents → RunArgs → List ℕ → Stop → Type 0
 IsNoChoiceStop known words text why = IsListFaultStop words.list.now text why
     ⊎ ((jobs : List Job) × ((job_list_of text ≡ Ok jobs)
     × IsChoiceStop known words (failure_rule words.lenient) jobs why))
 
--- `list`: the list was not read, or the arguments choose none of its jobs
+-- why `list` stopped: the list could not be read, it has an error, or choosing its jobs stopped
 abbrev pub IsListStop : Option FileContents → RunArgs → Stop → Type 0
 IsListStop known words why = IsListUnreadStop known words.list.now why
     ⊎ ((text : List ℕ) × (IsTextAt known words.list.now text × IsNoChoiceStop known words text why))
 
--- `accept`: no chosen jobs were found, or they were not accepted
+-- why `accept` stopped: the jobs could not be chosen, or accepting them stopped
 abbrev pub IsAcceptStop : Option FileContents → AcceptArgs → Stop → Type 0
 IsAcceptStop known words why = IsListStop known words.run why ⊎ IsUnacceptedStop known words why
 
--- `diff`: the old report was not read, or it was and the new one was not
+-- why `diff` stopped: the old report could not be read, or the new one could not
 abbrev pub IsDiffAtStop : Option FileContents → DiffArgs → Stop → Type 0
 IsDiffAtStop known words why = IsRequestedUnreadStop known words.partial words.old.now why
     ⊎ ((found : PartialReport) × (IsReportReadAt known words.partial words.old.now found
     × IsRequestedUnreadStop known words.partial words.new.now why))
 
--- `show`: the JUnit file would replace the report; or the report was not read; or it was, and the output was not written
+-- why `show` stopped: the JUnit file would overwrite the report, the report could not be read, or the output not be written
 abbrev pub IsShowStop : Option FileContents → ShowArgs → Stop → Type 0
 IsShowStop known words why = IsShowOverwriteStop words why ⊎ (IsRequestedUnreadStop known words.partial words.report.now why
     ⊎ ((found : PartialReport) × (IsReportReadAt known words.partial words.report.now found
     × IsOutputStop None (optional_text words.junit) why)))
 
--- what stopped a command, given whether standard output is a terminal; a command that only prints a text stopped earlier or could not write
--- it
+-- why a command stopped, given whether standard output is a terminal; for a command that only prints text, this is its own reason, or a
+-- write to standard output failed
 abbrev pub IsCommandStop : Option FileContents → Bool → Request → Stop → Type 0
 IsCommandStop known is_terminal (request.Explain words) why = (why ≡ stop.WriteFailed) ⊎ IsExplainStop known words why
 IsCommandStop known is_terminal (request.List words) why = (why ≡ stop.WriteFailed) ⊎ IsListStop known words why
@@ -127,27 +127,27 @@ IsCommandStop known is_terminal (request.Counts words) why = IsCountsStop known 
 IsCommandStop known is_terminal (request.Cover words) why = (why ≡ stop.WriteFailed) ⊎ IsCoverStop known words why
 IsCommandStop known is_terminal (request.Profile words) why = (why ≡ stop.WriteFailed) ⊎ IsProfileStop known words why
 
--- the arguments have an error of some kind other than a request for help
+-- the arguments have an error of some kind; a request for help is not an error here
 abbrev pub AreFaulty : List (List ℕ) → Type 0
 AreFaulty words = (kind : WordsFault) × (IsAmong kind (words_fault_kinds words) × (IsHelpRequested kind → ⊥))
 
--- the message names the options that cannot be combined, if that is the error
+-- the stop reports the misuse in the arguments with its message; without a misuse, memory ran out
 abbrev pub IsMisuseStop : List (List ℕ) → Stop → Type 0
 IsMisuseStop words why =
     MatchOption (words_misuse words) (why ≡ stop.OutOfMemory) (λ misuse. IsUsageStop (misuse_text misuse) why)
 
--- invalid arguments are rejected; if `clap` finds no error, the message names the options that cannot be combined
+-- invalid arguments are rejected with status 2; if `clap` finds no error, the message is about a misuse
 pub record IsFaultStop (words : List (List ℕ)) (why : Stop) : Type 0 where
   pub faulty : AreFaulty words
   pub refused : IsRefusal why
   pub misused : words_faults words ≡ [] → IsMisuseStop words why
 
--- the arguments stopped the program: memory ran out, the requested help was not written, or the arguments are rejected
+-- the arguments stopped the program: memory ran out, the requested help could not be written, or the arguments are invalid
 abbrev pub IsWordsStop : List (List ℕ) → Stop → Type 0
 IsWordsStop words why = (why ≡ stop.OutOfMemory)
     ⊎ ((AskForHelp words × (why ≡ stop.WriteFailed)) ⊎ IsFaultStop words why)
 
--- what stopped the program
+-- why the program stopped: the requested command stopped, or the arguments are invalid
 abbrev pub IsStopFor : Option FileContents → Bool → List (List ℕ) → Stop → Type 0
 IsStopFor known is_terminal words why =
     ((args : Request) × ((words_request words ≡ Some (words_of_request args)) × IsCommandStop known is_terminal args why))

@@ -1,4 +1,4 @@
--- What the arguments request of the commands, and the exit statuses.
+-- Options that several commands share, and exit statuses.
 use Rattle.std.specs.Prelude.{◌==◌, ℕ, Bool, true, false, length}
 use Rattle.std.specs.Prelude.{if◌then◌else◌, is_some}
 use Rattle.std.specs.List.{filter}
@@ -15,41 +15,41 @@ use Rattle.rv_job_text.specs.declared.verbosity.Verbosity.TheVariants.{Quiet, Fa
 use Rattle.rv_diff.specs.Diff.{differing_count}
 use Rattle.rv_diff.specs.declared.diff.Differing.{Differing}
 
--- the rule by which jobs fail, with or without `--lenient`
+-- the rule by which jobs fail: lenient with `--lenient`, and otherwise strict
 abbrev pub failure_rule : Bool → Rule
 failure_rule true = Lenient
 failure_rule false = Strict
 
--- how the rows of a report are counted: no job is known to fail
+-- how the rows of a report are judged, with or without `--lenient`: no job is known to fail
 abbrev pub report_judging : Bool → Judging
 report_judging is_lenient = judging_by_rule (failure_rule is_lenient)
 
--- what is shown of jobs, with or without `--verbose` and `--quiet`
+-- which rows are shown, by `--verbose` and `--quiet`: all, failures, or none
 abbrev pub requested_verbosity : Bool → Bool → Verbosity
 requested_verbosity verbose true = Quiet
 requested_verbosity true false = All
 requested_verbosity false false = Failures
 
--- the status of comparing two reports: 0 if no job differs, else 1
+-- the exit status of `diff`: 0 if no job differs, and otherwise 1
 abbrev pub diff_status : Differing → ℕ
 diff_status counts = if differing_count counts == 0 then 0 else 1
 
--- whether a job of the plan is refused before it runs
+-- whether a job of the plan is refused
 abbrev pub is_job_refused : Planned → Job → Bool
 is_job_refused plan job = is_some (refusal_in (outcome_in plan.answers job).ending)
 
--- the number of refused jobs in the plan
+-- the number of refused jobs of the plan
 abbrev pub refused_job_count : Planned → ℕ
 refused_job_count plan = length (filter (is_job_refused plan) plan.jobs)
 
--- the number of jobs in the plan that expect two ends and so never pass
+-- the number of jobs of the plan that expect two ends, and so never pass
 abbrev pub warned_job_count : Planned → ℕ
 warned_job_count plan = length (filter expects_two_ends plan.jobs)
 
--- the status of checking a plan: 2 if a job is refused, else 0
+-- the exit status of `check` for a list without errors: 0 if no job is refused, and otherwise 2
 abbrev pub check_status : ℕ → ℕ
 check_status refused = if refused == 0 then 0 else 2
 
--- the status for a single job
+-- the exit status of a command that runs one job: 0 if the job passed, and otherwise 1
 abbrev pub passing_status : Bool → ℕ
 passing_status passed = if passed then 0 else 1

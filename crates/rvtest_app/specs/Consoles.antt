@@ -17,7 +17,7 @@ use Rattle.rvtest_app.specs.Commands.{passing_status}
 use Rattle.rvtest_app.specs.Reports.{AreNotesOf, IsFirstNamed}
 use Rattle.rvtest_app.specs.CommandOutputs.{IsOnlyStandardOutput, IsOnlyErrorOutput, CommandOutputs}
 
--- the console, the line and the status are those of the row of the job at this index, with the files that the row needs read from the store
+-- `console` is what the job at index `place` printed, `line` is the line about its row, and `status` is the exit status
 pub record IsJobConsole (known : Option FileContents) (jobs : List Job) (place : ℕ) (console line : List ℕ) (status : ℕ)
     : Type 0 where
   pub plan : Planned
@@ -32,7 +32,7 @@ pub record IsJobConsole (known : Option FileContents) (jobs : List Job) (place :
   pub judged : (d : Job) → status ≡ passing_status
       (has_passed Strict (row_of plan (slice_index_or plan.jobs place d)))
 
--- the console, line and status of the first job of this name in the list with this text
+-- the console, line and status of the first job of this name in the list whose text is `bytes`
 pub record IsConsoleOf (known : Option FileContents) (bytes name console line : List ℕ) (status : ℕ) : Type 0 where
   pub jobs : List Job
   pub listed : job_list_of bytes ≡ Ok jobs
@@ -40,14 +40,14 @@ pub record IsConsoleOf (known : Option FileContents) (bytes name console line : 
   pub first : IsFirstNamed jobs name place
   pub of_job : IsJobConsole known jobs place console line status
 
--- the console, line and status for the list at the path in the arguments
+-- the console, line and status of the job in the arguments, with the list read from its path
 pub record IsConsoleAt (known : Option FileContents) (words : ConsoleArgs) (console line : List ℕ) (status : ℕ)
     : Type 0 where
   pub bytes : List ℕ
   pub read : IsTextAt known words.list.now bytes
   pub of_list : IsConsoleOf (contents_below (optional_text words.root) known) bytes words.name.now console line status
 
--- only the console went to standard output, and then the line to standard error
+-- the console went to standard output, and then the line about the job's row to standard error
 pub record IsConsoleWritten (known : Option FileContents) (words : ConsoleArgs) (status : ℕ) (before after : CommandOutputs)
     : Type 0 where
   pub console : List ℕ

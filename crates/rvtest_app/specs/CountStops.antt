@@ -1,4 +1,4 @@
--- Why `counts` stopped before its work was done.
+-- Why `counts` stops early.
 use Rattle.std.specs.Prelude.{◌≡◌, ◌⊎◌, ◌++◌, ◌∷◌, ℕ, List, Option, codes}
 use Rattle.std.specs.Borrow.{Bor}
 use Rattle.rv_base.specs.Files.{FileContents}
@@ -23,24 +23,24 @@ use Rattle.rvtest_app.specs.CountSums.{AreAdded, IsTableAt}
 use Rattle.rvtest_app.specs.Overwrites.{IsSumOverwriteStop}
 use Rattle.rvtest_app.specs.WrittenTexts.{IsUnwrittenAtStop, written_path}
 
--- the text at the path is rejected as a table of counts
+-- the stop reports this error of the table of counts at the path, or that memory ran out
 abbrev pub IsReadErrorStop : List ℕ → ReadError → Stop → Type 0
 IsReadErrorStop path read.OutOfMemory why = why ≡ stop.OutOfMemory
 IsReadErrorStop path (read.Line line) why =
     IsStop 2 (path_number_message path (codes ":") line (codes ": invalid line in a table of counts\n")) why
 IsReadErrorStop path read.CutOff why = IsStop 2 (path_message path (codes "the table is truncated")) why
 
--- adding the table at the path would make the count of an address, or in the stacks of a function, 2^64 or more
+-- the message that adding the table at the path makes a count 2^64 or more: `what` says which count of `address`
 abbrev pub count_overflow_message : List ℕ → List ℕ → ℕ → List ℕ
 count_overflow_message path what address = codes "rvtest: " ++ printable_text path ++ what ++ word_digits address
     ++ codes " does not fit in 64 bits\n"
 
--- a function has one name in the table at the path and another in the tables before it
+-- the message that the table at the path gives a function another name than an earlier table does
 abbrev pub two_names_message : List ℕ → ℕ → List ℕ
 two_names_message path function = codes "rvtest: " ++ printable_text path ++ codes ": the function at " ++ word_digits function
     ++ codes " has two names in one image\n"
 
--- a table cannot be added to the others
+-- the stop reports this error of adding the table at the path to the sum of the earlier tables, or that memory ran out
 abbrev pub IsSumErrorStop : List ℕ → SumError → Stop → Type 0
 IsSumErrorStop path sum.OutOfMemory why = why ≡ stop.OutOfMemory
 IsSumErrorStop path (sum.Count address) why = IsStop 2 (count_overflow_message path (codes ": the count at ") address) why
@@ -49,34 +49,34 @@ IsSumErrorStop path (sum.Spot function) why =
 IsSumErrorStop path (sum.Names function) why = IsStop 2 (two_names_message path function) why
 IsSumErrorStop path sum.Runs why = IsStop 2 (path_message path (codes "the number of runs does not fit in 64 bits")) why
 
--- out of memory, or the text at the path is not a table: the first line that no table has there is reported, or that the table is cut off;
--- a complete table has no error
+-- the stop reports the first error of `text` as a table of counts, or that memory ran out; a valid table has no error
 pub record IsTableFaultStop (path text : List ℕ) (why : Stop) : Type 0 where
   pub told : (error : ReadError) × (IsLeast error text × IsReadErrorStop path error why)
   pub whole : (table : CountTable) → IsTable table → table_text table ≡ text → why ≡ stop.OutOfMemory
 
--- the table at the path cannot be added to the sum of those before it
+-- the table at the path cannot be added to `before`, the sum of the earlier tables
 abbrev pub IsSumOverflowStop : Option FileContents → List ℕ → CountTable → Stop → Type 0
 IsSumOverflowStop known path before why = (table : CountTable) × (IsTableAt known path table
     × ((error : SumError) × (HaveNoSum error before table × IsSumErrorStop path error why)))
 
--- the path was not read, its text is not a table, or the table cannot be added to the sum of those before it
+-- the table at the path could not be read, is invalid, or cannot be added to `before`, the sum of the earlier tables
 abbrev pub IsUnaddedStop : Option FileContents → List ℕ → CountTable → Stop → Type 0
 IsUnaddedStop known path before why = IsResultUnreadStop known path why
     ⊎ (((text : List ℕ) × (IsTextAt known path text × IsTableFaultStop path text why))
     ⊎ IsSumOverflowStop known path before why)
 
--- one of the paths failed in this way, and the tables at the paths before it were added
+-- the tables before one of the paths were added up, and then the table at this path could not be added
 pub record IsSumStop (known : Option FileContents) (paths : List (Bor (List ℕ))) (why : Stop) : Type 0 where
   pub before : List (Bor (List ℕ))
   pub path : Bor (List ℕ)
+  -- the paths after that of the table
   pub behind : List (Bor (List ℕ))
   pub sum : CountTable
   pub listed : paths ≡ before ++ path ∷ behind
   pub added : AreAdded known before no_counts sum
   pub stopped : IsUnaddedStop known path.now sum why
 
--- `counts`: the sum would replace a table, memory ran out, a table was not added, or all were and their sum was not written
+-- why `counts` stopped: the sum would overwrite a table, memory ran out, a table could not be added, or the sum not be written
 abbrev pub IsCountsStop : Option FileContents → CountsArgs → Stop → Type 0
 IsCountsStop known words why = IsSumOverwriteStop words why ⊎ ((why ≡ stop.OutOfMemory) ⊎ (IsSumStop known words.tables.items why
     ⊎ ((sum : CountTable) × (AreAdded known words.tables.items no_counts sum

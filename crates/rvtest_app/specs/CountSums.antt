@@ -14,56 +14,64 @@ use Rattle.rv_count_tables.specs.declared.table.ImageCounts.{ImageCounts}
 use Rattle.rvtest_app.specs.CommandOutputs.{IsOnlyErrorOutput, CommandOutputs}
 use Rattle.rvtest_app.specs.WrittenTexts.{IsWrittenAt, written_path}
 
--- the table whose text is at the path
+-- the file at the path is the text of this table of counts
 abbrev pub IsTableAt : Option FileContents → List ℕ → CountTable → Type 0
 IsTableAt known path table = IsTable table × IsTextAt known path (table_text table)
 
--- a table plus the one at the path
+-- `after` is `before` plus the table of counts at the path
 abbrev pub IsAdded : Option FileContents → List ℕ → CountTable → CountTable → Type 0
 IsAdded known path before after = (table : CountTable) × (IsTableAt known path table × IsSum before table after)
 
--- a table plus those at the paths, added one after the other
+-- `after` is `before` plus the tables of counts at the paths
 abbrev pub AreAdded : Option FileContents → List (Bor (List ℕ)) → CountTable → CountTable → Type 0
 AreAdded known [] before after = after ≡ before
 AreAdded known (path ∷ paths) before after =
     (next : CountTable) × (IsAdded known path.now before next × AreAdded known paths next after)
 
--- the number of executed instructions in all, or the greatest 64-bit number if there are more
+-- how many instructions were executed at these addresses
 abbrev pub executed_at_addresses : List AddressCounts → ℕ
 executed_at_addresses [] = 0
 executed_at_addresses (c ∷ cs) = c.begun + executed_at_addresses cs
 
+-- how many instructions were executed in these images
 abbrev pub executed_in_images : List ImageCounts → ℕ
 executed_in_images [] = 0
 executed_in_images (image ∷ images) = executed_at_addresses image.addresses + executed_in_images images
 
+-- the greatest 64-bit number
 abbrev pub most_number : ℕ
 most_number = 2 ^ 64 - 1
 
+-- the number that is shown: the number itself, or the greatest 64-bit number if it is greater
 abbrev pub shown_number : ℕ → ℕ
 shown_number number = min number most_number
 
--- the summary of a sum: the number of runs, of images and of executed instructions
+-- " run of " or " runs of ", by the number of runs
 abbrev pub run_word : ℕ → List ℕ
 run_word count = if count == 1 then codes " run of " else codes " runs of "
 
+-- " image, " or " images, ", by the number of images
 abbrev pub image_word : ℕ → List ℕ
 image_word count = if count == 1 then codes " image, " else codes " images, "
 
+-- "at least " before the greatest 64-bit number, and nothing before any other
 abbrev pub number_head : ℕ → List ℕ
 number_head number = if number == most_number then codes "at least " else []
 
+-- " instruction" or " instructions", by their number, and a line feed
 abbrev pub instruction_word : ℕ → List ℕ
 instruction_word count = if count == 1 then codes " instruction\n" else codes " instructions\n"
 
+-- the number of executed instructions, in words
 abbrev pub instructions_text : ℕ → List ℕ
 instructions_text number = number_head number ++ decimal number ++ instruction_word number
 
+-- the line about a sum of tables: the number of runs, of images and of executed instructions
 abbrev pub sum_note : CountTable → List ℕ
 sum_note table = decimal table.runs ++ run_word table.runs ++ decimal (length table.images) ++ image_word (length table.images)
     ++ instructions_text (shown_number (executed_in_images table.images))
 
--- the sum of the tables at the paths went to the given path or to standard output, and its summary to standard error; the status is 0
+-- the sum of the tables was written to the path of `--out` or to standard output, and the line about it to standard error
 pub record IsSumWritten (known : Option FileContents) (words : CountsArgs) (status : ℕ) (before after : CommandOutputs) : Type 0 where
   pub sum : CountTable
   pub added : AreAdded known words.tables.items no_counts sum

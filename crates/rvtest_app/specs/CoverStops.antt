@@ -1,4 +1,4 @@
--- Why `cover` stopped before its work was done.
+-- Why `cover` stops early.
 use Rattle.std.specs.Prelude.{Option}
 use Rattle.rv_base.specs.Files.{FileContents}
 use Rattle.rvtest_cli.specs.declared.cover.CoverArgs.{CoverArgs}
@@ -6,6 +6,6 @@ use Rattle.rv_command.specs.declared.stop.Stop.{Stop}
 use Rattle.rvtest_app.specs.ViewStops.{IsViewStop}
 use Rattle.rvtest_app.specs.declared.view.View.TheVariants as view
 
--- the requested jobs were not found, or they were and the coverage of their images was not written
+-- why `cover` stopped: the requested jobs could not be found, or their coverage not be written
 abbrev pub IsCoverStop : Option FileContents → CoverArgs → Stop → Type 0
 IsCoverStop known words why = IsViewStop known words.run (view.Cover words.csv) why

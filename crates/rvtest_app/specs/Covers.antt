@@ -6,6 +6,6 @@ use Rattle.rvtest_app.specs.CommandOutputs.{CommandOutputs}
 use Rattle.rvtest_app.specs.Views.{IsViewWritten}
 use Rattle.rvtest_app.specs.declared.view.View.TheVariants as view
 
--- notes about the choice went to standard error, and then the coverage of the requested jobs' images was written; the status is 0
+-- the notes about the choice went to standard error, and then the coverage of the requested jobs' images was written
 abbrev pub IsCoverageWritten : Option FileContents → CoverArgs → ℕ → CommandOutputs → CommandOutputs → Type 0
 IsCoverageWritten known words status before after = IsViewWritten known words.run (view.Cover words.csv) status before after

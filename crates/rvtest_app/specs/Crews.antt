@@ -1,7 +1,7 @@
 -- The worker threads of a run.
 use Rattle.std.specs.Prelude.{◌≡◌, ◌≤◌, ℕ, max, min, Option, Some, None}
 
--- the requested number of threads, limited to 1 to 64; by default the number that the system reports, with the same limits
+-- the number of threads is the requested one, limited to 1 to 64; without a request it is some number from 1 to 64
 abbrev pub AreRequestedWorkers : Option ℕ → ℕ → Type 0
 AreRequestedWorkers (Some args) workers = workers ≡ max 1 (min args 64)
 AreRequestedWorkers None workers = (1 ≤ workers) × (workers ≤ 64)

@@ -1,4 +1,4 @@
--- How `gdb` responds to gdb, for a job.
+-- The session of the command `gdb`: which job it debugs, and what it reads and writes.
 use Rattle.std.specs.Prelude.{◌≡◌, ◌≢◌, ◌⊎◌, ℕ, Bool, List, [], ◌∷◌, Option, Some, None, Ok, codes, false, is_ok, option_and_then, slice_get, slice_index_or, true, unwrap_or}
 use Rattle.std.specs.Io.KnownBytes.{Consumes, IsAtEnd}
 use Rattle.std.specs.Result.{result_ok}
@@ -30,22 +30,22 @@ use Rattle.rv_session.specs.declared.session.Session.{Session}
 use Rattle.rvtest_app.specs.Reports.{AreNotesOf, IsFirstNamed}
 use Rattle.rvtest_app.specs.CommandOutputs.{IsOnlyStandardOutput, CommandOutputs}
 
--- what `run` reports for a job: its line and its unmet expectations
+-- what `run` reports for the job: its line and its unmet expectations; nothing without a job
 abbrev pub end_text_of_job : Planned → List UnreadPath → Option Job → List ℕ
 end_text_of_job plan unread None = []
 end_text_of_job plan unread (Some job) = outcome_text plan unread (judging_by_rule Strict) job (row_of plan job)
 
--- what `run` reports for the job at an index
+-- what `run` reports for the job at index `place` of the plan
 unfoldable pub job_end_text : Planned → List UnreadPath → ℕ → List ℕ
 job_end_text plan unread place = end_text_of_job plan unread (slice_get plan.jobs place)
 
--- the state in which the run of the job at an index starts, or would start if the job is refused, as for an image of 0 bytes
+-- the state in which the run of the job at index `place` starts; if the job is refused, that of an image of 0 bytes
 unfoldable pub job_start : Planned → ℕ → State
 job_start plan place =
     unwrap_or (option_and_then (λ (job : Job). result_ok (start_in plan.answers job)) (slice_get plan.jobs place)) (flat_state [])
 
--- the session debugs the run of the job at this index, with the files that its row needs read from the store and its image's path resolved
--- against the root; the text is what `run` reports for the job
+-- `session` debugs the run of the job at index `place`, with the files that its row needs read from the store; `end_text` is what `run`
+-- reports for the job, and the image's path is resolved against `root`
 pub record IsJobOpened (known : Option FileContents) (root : Option (List ℕ)) (jobs : List Job) (place : ℕ) (end_text : List ℕ)
     (session : Session) : Type 0 where
   pub plan : Planned
@@ -58,7 +58,7 @@ pub record IsJobOpened (known : Option FileContents) (root : Option (List ℕ)) 
       (resolved_path root (slice_index_or plan.jobs place d).image) session
   pub outputs_of : end_text ≡ job_end_text plan unread place
 
--- the session and text for the first job of this name in the list with this text
+-- the session and `end_text` of the first job of the requested name in the list whose text is `bytes`
 pub record IsOpenedOf (known : Option FileContents) (words : GdbArgs) (bytes end_text : List ℕ) (session : Session) : Type 0 where
   pub jobs : List Job
   pub listed : job_list_of bytes ≡ Ok jobs
@@ -66,26 +66,29 @@ pub record IsOpenedOf (known : Option FileContents) (words : GdbArgs) (bytes end
   pub first : IsFirstNamed jobs words.name.now place
   pub of_job : IsJobOpened (contents_below (optional_text words.root) known) (optional_text words.root) jobs place end_text session
 
--- the session and text for the list at the path in the arguments
+-- the session and `end_text` of the job in the arguments, with the list read from its path
 pub record IsOpenedAt (known : Option FileContents) (words : GdbArgs) (end_text : List ℕ) (session : Session) : Type 0 where
   pub bytes : List ℕ
   pub read : IsTextAt known words.list.now bytes
   pub of_list : IsOpenedOf known words bytes end_text session
 
--- bytes of standard input were read, up to the end of the session or of the input and none after the session ended. Only the session's
--- responses went to standard output, which is not a terminal; before each stop at the end of the run comes what `run` reports for the job.
--- A move was interrupted only if 0x03 or the end of the input came next.
+-- `gdb` read bytes of standard input until the session or the input ended, and wrote only the session's responses to standard output, which
+-- is not a terminal
 pub record IsGdbAnswered (known : Option FileContents) (is_terminal : Bool) (words : GdbArgs) (input rest : Option (List ℕ))
     (status : ℕ) (before after : CommandOutputs) : Type 0 where
   pub spoken : is_terminal ≡ false
   pub end_text : List ℕ
   pub first : Session
   pub opened : IsOpenedAt known words end_text first
+  -- the bytes that were read
   pub heard : List ℕ
   pub read : Consumes input rest heard
+  -- no byte was read after the session ended
   pub while_open : IsReadWhileOpen end_text first heard
+  -- the replies; before each stop at the end of the run they have what `run` reports for the job
   pub told : List ℕ
   pub last : Session
+  -- whether the end of the input may have interrupted a move; otherwise only the byte 0x03 did
   pub may_end : Bool
   pub at_end : may_end ≡ true → IsAtEnd rest
   pub fed : IsFed end_text may_end first heard told last
@@ -94,14 +97,14 @@ pub record IsGdbAnswered (known : Option FileContents) (is_terminal : Bool) (wor
   pub put : IsOnlyStandardOutput told before after
   pub done : status ≡ 0
 
--- ---- why it is stopped
+-- ---- why the command stops
 
--- standard output is a terminal instead of gdb: the message shows how gdb starts the command
+-- the stop reports that standard output is a terminal, and shows how gdb starts the command
 abbrev pub IsNoGdbStop : Stop → Type 0
 IsNoGdbStop why = IsStop 2 (path_message (codes "standard output")
     (codes "expected gdb, found a terminal; run gdb-multiarch -ex 'target remote | rvtest gdb LIST NAME'")) why
 
--- the job is refused, with its line as the message
+-- the stop reports that the job at index `place` is refused, with its line as the message
 pub record IsRefusedJobStop (known : Option FileContents) (jobs : List Job) (place : ℕ) (why : Stop) : Type 0 where
   pub plan : Planned
   pub listed : plan.jobs ≡ jobs
@@ -113,11 +116,11 @@ pub record IsRefusedJobStop (known : Option FileContents) (jobs : List Job) (pla
   pub told : (d : Job) → IsStop 2 (row_line plan unread (judging_by_rule Strict) (slice_index_or plan.jobs place d)
       (row_of plan (slice_index_or plan.jobs place d))) why
 
--- out of memory, or the job at the index is refused
+-- memory ran out, or the job at index `place` is refused
 abbrev pub IsUnopenedStop : Option FileContents → List Job → ℕ → Stop → Type 0
 IsUnopenedStop known jobs place why = (why ≡ stop.OutOfMemory) ⊎ IsRefusedJobStop known jobs place why
 
--- the first job of this name in the list with this text was not opened
+-- the first job of the requested name in the list whose text is `bytes` is refused
 pub record IsUnopenedOfStop (known : Option FileContents) (words : GdbArgs) (bytes : List ℕ) (why : Stop) : Type 0 where
   pub jobs : List Job
   pub listed : job_list_of bytes ≡ Ok jobs
@@ -125,7 +128,7 @@ pub record IsUnopenedOfStop (known : Option FileContents) (words : GdbArgs) (byt
   pub first : IsFirstNamed jobs words.name.now place
   pub refused : IsRefusedJobStop (contents_below (optional_text words.root) known) jobs place why
 
--- the session ended with an error: memory ran out, standard input was not read for a reason that the system gave, or a write failed
+-- the stop for an error of the session: memory ran out, standard input could not be read, or a write failed
 abbrev pub IsBrokenStop : SessionError → Stop → Type 0
 IsBrokenStop broken.OutOfMemory why = why ≡ stop.OutOfMemory
 IsBrokenStop (broken.UnreadPath reason) why = IsSystemStop (codes "standard input") reason why

@@ -6,7 +6,7 @@ use Rattle.rv_job_text.specs.declared.verbosity.Verbosity.TheVariants.{All, Fail
 use Rattle.rv_report.specs.declared.row.Row.{Row}
 use Rattle.rvtest_cli.specs.declared.run.RunArgs.{RunArgs}
 
--- the lines for the row of the job at an index when only failures are reported: for a failed job, the same lines as when all jobs are
+-- the lines about the row of the job at an index if only failures are shown: empty if the row is not a failure
 abbrev pub failure_lines : RowReporter → ℕ → Row → List ℕ
 failure_lines reporter = row_lines_at (record reporter { verbosity = Failures })
 

@@ -6,19 +6,20 @@ use Rattle.rv_command.specs.declared.stop.Stop.TheVariants as stop
 use Rattle.rv_text.specs.Printable.{printable_value}
 use Rattle.rvtest_app.specs.declared.list_keys.TheConstants.{LIST_KEYS}
 
--- the topic that describes the keys of a list
+-- the topic that describes the keys of a job list
 abbrev pub keys_topic : List ℕ
 keys_topic = codes "keys"
 
--- what is printed for a topic: the keys of a list for `keys`, and nothing for any other topic
+-- the topic is `keys`, the only one that is not a command, the text describes the keys of a list, and the status is 0
 abbrev pub IsTopicPrinted : List ℕ → List ℕ → ℕ → Type 0
 IsTopicPrinted topic text status = (topic ≡ keys_topic) × ((text ≡ LIST_KEYS.now) × (status ≡ 0))
 
+-- the message about an unknown topic
 abbrev pub no_topic_message : List ℕ → List ℕ
 no_topic_message topic = codes "rvtest: unknown help topic \"" ++ printable_value topic
     ++ codes "\": try \"help keys\" for the keys of a list, or \"help COMMAND\" for a command\n"
 
--- out of memory, or the topic is unknown and the message names it
+-- memory ran out, or the topic is unknown and the message names it
 abbrev pub IsNoTopicStop : List ℕ → Stop → Type 0
 IsNoTopicStop topic why = (why ≡ stop.OutOfMemory)
     ⊎ ((topic ≡ keys_topic → ⊥) × IsStop 2 (no_topic_message topic) why)

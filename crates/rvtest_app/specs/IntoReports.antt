@@ -1,4 +1,4 @@
--- Merging the rows of a run into the whole report of their list.
+-- Updating the report of the whole list with the rows of a run (`--into`).
 use Rattle.std.specs.Prelude.{◌≡◌, ◌||◌, ℕ, Bool, List, [], ◌∷◌, IsSomeAnd, MatchOption, Option, Some, None, if◌then◌else◌, map, slice_set}
 use Rattle.std.specs.Option.{option_or}
 use Rattle.rv_base.specs.Files.{FileContents}
@@ -17,6 +17,7 @@ use Rattle.rvtest_app.specs.RunOutput.{chosen_last_line, chosen_report_text}
 
 -- ---- the whole report
 
+-- the names of the jobs, in order
 abbrev pub job_names : List Job → List (List ℕ)
 job_names jobs = map (λ (job : Job). job.name) jobs
 
@@ -25,48 +26,49 @@ pub record IsWholeReport (jobs : List Job) (report : SavedReport) : Type 0 where
   pub extent : report.extent ≡ extent.Whole
   pub named : row_names report.rows ≡ job_names jobs
 
--- the rows are those of a whole report at the path
+-- `rows` are the rows of a report of the whole list, and this report is at the path
 abbrev pub IsWholeReportAt : Option FileContents → List ℕ → List Job → List Row → Type 0
 IsWholeReportAt known path jobs rows = (report : SavedReport) × (IsReportAt known path report
     × (IsWholeReport jobs report × (rows ≡ report.rows)))
 
--- the old rows into which the run's rows are merged, if the arguments name a report for that
+-- `old` are the rows of the report of `--into`, which the run updates; none without `--into`
 abbrev pub AreOldRows : Option FileContents → RunArgs → List Job → Option (List Row) → Type 0
 AreOldRows known words jobs old = MatchOption words.into (old ≡ None)
     (λ path. IsSomeAnd old (IsWholeReportAt known path.now jobs))
 
--- ---- the rows that are put into it
+-- ---- the updated report
 
--- the old rows, with those at some indices replaced by these, in order
+-- the rows `old`, with the row at each of these indices replaced by the corresponding one of the new rows
 abbrev pub merged_rows : List ℕ → List Row → List Row → List Row
 merged_rows [] rows old = old
 merged_rows (place ∷ places) [] old = old
 merged_rows (place ∷ places) (row ∷ rows) old = merged_rows places rows (slice_set old place row)
 
--- the report of the rows of the jobs at some indices: the whole report after merging, or a report of these rows alone
+-- the report of a run: the old rows updated with the new ones, or without old rows a report of the new rows alone
 abbrev pub run_report_text : Option (List Row) → ℕ → List ℕ → Option Shard → List Row → List ℕ
 run_report_text (Some old) jobs places shard rows = report_text (merged_rows places rows old)
 run_report_text None jobs places shard rows = chosen_report_text jobs places shard rows
 
--- the report text of a row that is written as the row arrives: empty if rows are not streamed
+-- the text of a row that is written to the report as soon as the job has finished; empty if rows are not streamed
 abbrev pub report_row_text : Bool → ℕ → Row → List ℕ
 report_row_text is_streaming place row = if is_streaming then row_text place row else []
 
--- the part of the report that is written as rows arrive: empty if they are merged into another report
+-- the text of the report that is written as jobs finish: nothing if the rows update another report
 abbrev pub streamed_rows : Option (List Row) → List ℕ → List Row → List ℕ
 streamed_rows (Some old) places rows = []
 streamed_rows None places rows = joined_row_texts row_text places rows
 
--- the part of the report that is written after that
+-- the text of the report that is written after all jobs have finished: the whole report if the rows update another one, and otherwise its
+-- last line
 abbrev pub run_report_rest : Option (List Row) → ℕ → List ℕ → Option Shard → List Row → List ℕ
 run_report_rest (Some old) jobs places shard rows = report_text (merged_rows places rows old)
 run_report_rest None jobs places shard rows = chosen_last_line jobs places shard rows
 
--- the path at which the report is written
+-- the path of the report to write: that of `--into`, or else that of `--report`
 abbrev pub run_report_path : RunArgs → Option (List ℕ)
 run_report_path words = option_or (optional_text words.into) (optional_text words.report)
 
--- whether one of the requested files goes to standard output
+-- whether the report, the JUnit XML or the table of counts goes to standard output
 abbrev pub uses_run_stdout : RunArgs → Bool
 uses_run_stdout words = (is_stdout_at (run_report_path words) || is_stdout_at (optional_text words.junit))
     || is_stdout_at (optional_text words.counts)

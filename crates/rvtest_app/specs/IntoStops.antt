@@ -1,4 +1,4 @@
--- Why rows cannot be merged into a report.
+-- Why the report of `--into` cannot be updated.
 use Rattle.std.specs.Prelude.{◌≡◌, ◌⊎◌, ◌==◌, ◌++◌, ◌+◌, ℕ, false, List, IsSomeAnd, Option, Some, None, codes, length, slice_get, take}
 use Rattle.std.specs.Fmt.{decimal}
 use Rattle.std.specs.Str.{bytes_eq}
@@ -19,43 +19,45 @@ use Rattle.rvtest_app.specs.declared.whole_report.NotWhole.{NotWhole}
 use Rattle.rvtest_app.specs.declared.whole_report.NotWhole.TheVariants as other
 use Rattle.rvtest_app.specs.declared.whole_report.OtherName.{OtherName}
 
--- ---- the texts
+-- ---- the messages
 
--- what is expected instead of such a report
+-- the end of each message about a report that `--into` rejects
 abbrev pub expected_whole_report : List ℕ
 expected_whole_report = codes ": --into expects a report of the whole list\n"
 
--- the report at the path has this many rows of a list of this many jobs
+-- the message that the report at the path has only some rows of a list with this many jobs
 abbrev pub part_refusal : List ℕ → ℕ → ℕ → List ℕ
 part_refusal path rows jobs = codes "rvtest: " ++ printable_text path ++ codes ": a partial report (" ++ decimal rows
     ++ codes " of " ++ count_text jobs (codes "job") ++ codes ")" ++ expected_whole_report
 
--- the report has this many rows, and the list at the path this many jobs
+-- the message that the report at `path` and the list at `list` have different numbers of rows and jobs
 abbrev pub count_refusal : List ℕ → List ℕ → ℕ → ℕ → List ℕ
 count_refusal path list rows jobs = codes "rvtest: " ++ printable_text path ++ codes ": has " ++ count_text rows (codes "row")
     ++ codes ", but " ++ printable_text list ++ codes " has " ++ count_text jobs (codes "job") ++ expected_whole_report
 
--- the job of this number has one name in the report and another in the list at the path
+-- the message that the job of this number is called `name` in the report and `wanted` in the list
 abbrev pub name_refusal : List ℕ → List ℕ → ℕ → List ℕ → List ℕ → List ℕ
 name_refusal path list number name wanted = codes "rvtest: " ++ printable_text path ++ codes ": job "
     ++ decimal number ++ codes " is \"" ++ name ++ codes "\", but \"" ++ wanted ++ codes "\" in "
     ++ printable_text list ++ expected_whole_report
 
+-- the message about a report at `path` that is not a report of all jobs of the list at `list`
 abbrev pub not_whole_refusal : List ℕ → List ℕ → NotWhole → List ℕ
 not_whole_refusal path list (other.Part rows jobs) = part_refusal path rows jobs
 not_whole_refusal path list (other.Count rows jobs) = count_refusal path list rows jobs
 not_whole_refusal path list (other.Name name) = name_refusal path list name.number name.met.now name.listed.now
 
--- ---- which of them is told
+-- ---- which message is shown
 
--- the number of jobs in the list of which the report covers a part
+-- the number of jobs in the list of a partial report; none for a whole report
 abbrev pub jobs_beside_part : Extent → Option ℕ
 jobs_beside_part extent.Whole = None
 jobs_beside_part (extent.Choice jobs) = Some jobs
 jobs_beside_part (extent.Shard shard) = Some shard.jobs
 
--- the first index at which two lists have different names
+-- `other` has the number, counted from 1, of the first name that differs between the two lists, and the name in each list
 pub record IsFirstOtherName (names all : List (List ℕ)) (other : OtherName) : Type 0 where
+  -- the index of the name
   pub place : ℕ
   pub number : other.number ≡ place + 1
   pub met : slice_get names place ≡ Some other.met.now
@@ -63,8 +65,7 @@ pub record IsFirstOtherName (names all : List (List ℕ)) (other : OtherName) : 
   pub differ : bytes_eq other.met.now other.listed.now ≡ false
   pub before : take place names ≡ take place all
 
--- why a report is not the whole report of a list's jobs: it covers a part; or it is whole and has a different number of rows, or the same
--- number with one different name
+-- why a report is not a report of all jobs of the list: it is partial, its number of rows differs, or the name of a row does
 abbrev pub IsNotWhole : List Job → SavedReport → NotWhole → Type 0
 IsNotWhole jobs report (other.Part rows count) = (rows ≡ length report.rows)
     × (jobs_beside_part report.extent ≡ Some count)
@@ -73,13 +74,13 @@ IsNotWhole jobs report (other.Count rows count) = (report.extent ≡ extent.Whol
 IsNotWhole jobs report (other.Name name) = (report.extent ≡ extent.Whole)
     × ((length report.rows ≡ length jobs) × IsFirstOtherName (row_names report.rows) (job_names jobs) name)
 
--- the report at the path was not read, or it is rejected because it is not the whole report of the jobs of the list at the other path
+-- the report at `path` could not be read, or it is not a report of all jobs of the list at `list`
 abbrev pub IsNoWholeReportStop : Option FileContents → List ℕ → List ℕ → List Job → Stop → Type 0
 IsNoWholeReportStop known path list jobs why = IsReportReadError known path why
     ⊎ ((report : SavedReport) × (IsReportAt known path report
     × ((other : NotWhole) × (IsNotWhole jobs report other × IsStop 2 (not_whole_refusal path list other) why))))
 
--- the arguments name such a path for the rows of a run
+-- why the report of `--into` cannot be updated, if the option is given
 abbrev pub IsIntoStop : Option FileContents → RunArgs → List Job → Stop → Type 0
 IsIntoStop known words jobs why =
     IsSomeAnd words.into (λ path. IsNoWholeReportStop known path.now words.list.now jobs why)

@@ -1,4 +1,4 @@
--- The jobs that the file at a path lists as known failures.
+-- The file of known failures.
 use Rattle.std.specs.Prelude.{◌≡◌, ◌++◌, ℕ, IsSomeAnd, List, Ok, Option, Some, None, codes}
 use Rattle.std.specs.Fmt.{decimal}
 use Rattle.rv_base.specs.Files.{FileContents}
@@ -12,21 +12,21 @@ use Rattle.rv_lists.specs.JobList.{names_of_jobs}
 use Rattle.rv_lists.specs.declared.job.Job.{Job}
 use Rattle.rv_text.specs.Printable.{printable_text, printable_value}
 
--- the known failures that the text at the path names among the jobs of a list
+-- `known` are the known failures that the file at the path names among the jobs, and their path
 pub record IsKnownFile (files : Option FileContents) (path : List ℕ) (jobs : List Job) (known : KnownJobs) : Type 0 where
   pub bytes : List ℕ
   pub read : IsTextAt files path bytes
   pub named : known_jobs_of (names_of_jobs jobs) bytes ≡ Ok known.jobs
   pub named_by : known.path ≡ path
 
--- the known failures if the arguments name a file, else none
+-- the known failures of the file of `--known`; none without the option
 abbrev pub IsKnownAt : Option FileContents → Option (List ℕ) → List Job → Option KnownJobs → Type 0
 IsKnownAt files None jobs known = known ≡ None
 IsKnownAt files (Some path) jobs known = IsSomeAnd known (IsKnownFile files path jobs)
 
--- ---- a file that is refused
+-- ---- errors in the file
 
--- what is wrong with a line, given the path of the list
+-- what is wrong with a line of the file of known failures; `list` is the path of the job list
 abbrev pub known_fault_text : List ℕ → List ℕ → KnownFaultKind → List ℕ
 known_fault_text list name kind.NoName =
     codes "\"" ++ printable_value name ++ codes "\" is not a job name: expected NAME [# REASON]"
@@ -34,6 +34,7 @@ known_fault_text list name kind.Twice = codes "duplicate job name \"" ++ printab
 known_fault_text list name kind.NoJob =
     codes "no job named \"" ++ printable_value name ++ codes "\" in " ++ printable_text list
 
+-- the message about an error in the file of known failures at `path`
 abbrev pub known_fault_message : List ℕ → List ℕ → KnownFault → List ℕ
 known_fault_message path list fault = codes "rvtest: " ++ printable_text path ++ codes ":" ++ decimal fault.line
     ++ codes ": " ++ known_fault_text list fault.name fault.kind ++ codes "\n"

@@ -12,18 +12,18 @@ use Rattle.rv_lists.specs.JobList.{names_of_jobs}
 use Rattle.rv_lists.specs.declared.job.Job.{Job}
 use Rattle.rvtest_app.specs.KnownFiles.{known_fault_message}
 
--- out of memory, or the text at the path has an error, given the jobs of the list at the other path, and the first error is reported
+-- memory ran out, or the stop reports the first error in the file of known failures whose text is `bytes`
 abbrev pub IsKnownFaultStop : List ℕ → List ℕ → List Job → List ℕ → Stop → Type 0
 IsKnownFaultStop path list jobs bytes why = (why ≡ stop.OutOfMemory)
     ⊎ ((fault : KnownFault) × ((known_jobs_of (names_of_jobs jobs) bytes ≡ Err fault)
     × IsStop 2 (known_fault_message path list fault) why))
 
--- the file at the path was not read, or it has an error
+-- the file of known failures at `path` could not be read, or it has an error
 abbrev pub IsNoKnownFileStop : Option FileContents → List ℕ → List ℕ → List Job → Stop → Type 0
 IsNoKnownFileStop known path list jobs why = IsListUnreadStop known path why
     ⊎ ((bytes : List ℕ) × (IsTextAt known path bytes × IsKnownFaultStop path list jobs bytes why))
 
--- the arguments name such a path for the known failures
+-- why the file of `--known` could not be used, if the option is given
 abbrev pub IsKnownStop : Option FileContents → RunArgs → List Job → Stop → Type 0
 IsKnownStop known words jobs why =
     IsSomeAnd words.known (λ path. IsNoKnownFileStop known path.now words.list.now jobs why)

@@ -13,20 +13,20 @@ use Rattle.rvtest_app.specs.Commands.{failure_rule}
 use Rattle.rvtest_app.specs.Runs.{places_of_marks}
 use Rattle.rvtest_app.specs.CommandOutputs.{IsOnlyStandardOutput, IsOnlyErrorOutput, CommandOutputs}
 
+-- the name of a job, as a line
 abbrev pub name_line : Job → List ℕ
 name_line job = line job.name
 
--- the names of the jobs at some indices, one per line
+-- the names of the jobs at these indices, one per line
 abbrev pub name_lines : List Job → List ℕ → List ℕ
 name_lines jobs places = flat_map (λ place. name_line (slice_index_or jobs place (single_job [] 0 []))) places
 
--- the names of the jobs that a run with this selection would run
+-- the names of the selected jobs, one per line; nothing without a selection
 abbrev pub chosen_name_lines : List Job → Option (List Bool) → List ℕ
 chosen_name_lines jobs None = []
 chosen_name_lines jobs (Some marks) = name_lines jobs (places_of_marks marks)
 
--- the names are those of the jobs that a run with these arguments would run, of the list with this text, and the notes are those about the
--- choice
+-- `names` are the lines that `list` prints for the list whose text is `bytes`, and `notes` are the notes about the choice
 pub record AreListedOf (known : Option FileContents) (words : RunArgs) (bytes names notes : List ℕ) : Type 0 where
   pub jobs : List Job
   pub listed : job_list_of bytes ≡ Ok jobs
@@ -40,7 +40,7 @@ pub record AreListedAt (known : Option FileContents) (words : RunArgs) (names no
   pub read : IsTextAt known words.list.now bytes
   pub of : AreListedOf known words bytes names notes
 
--- the notes went to standard error, and then the names to standard output; the status is 0
+-- the notes about the choice went to standard error, and then the names to standard output; the status is 0
 pub record IsListWritten (known : Option FileContents) (words : RunArgs) (status : ℕ) (before after : CommandOutputs) : Type 0 where
   pub names : List ℕ
   pub notes : List ℕ

@@ -1,4 +1,4 @@
--- Why `merge` rejects its shards, and how that is reported.
+-- Why `merge` rejects its parts, and the messages.
 use Rattle.std.specs.Prelude.{◌≡◌, ◌⊎◌, ◌++◌, ℕ, List, codes, slice_get}
 use Rattle.std.specs.Borrow.{Bor}
 use Rattle.std.specs.Fmt.{decimal}
@@ -16,20 +16,20 @@ use Rattle.rv_merge.specs.declared.error.MergeError.{MergeError}
 use Rattle.rv_merge.specs.declared.error.MergeError.TheVariants as error
 use Rattle.rv_text.specs.Printable.{printable_text}
 
--- the path of the shard at an index
+-- the path of the part at index `place`
 abbrev pub part_path : List (Bor (List ℕ)) → ℕ → List ℕ
 part_path parts place = option_map_or (λ path. path.now) (slice_get parts place) (codes "a part")
 
--- how one shard conflicts with another
+-- a message about two parts: the path of the rejected one, what is wrong, the path of the other one, and `end`
 abbrev pub two_parts_message : List ℕ → List ℕ → List ℕ → List ℕ → List ℕ
 two_parts_message path what other end =
     codes "rvtest: " ++ printable_text path ++ codes ": " ++ what ++ printable_text other ++ end
 
--- a shard belongs to another run than the first one
+-- the message that the part at the path does not belong to the run of the first part
 abbrev pub other_run_message : List (Bor (List ℕ)) → List ℕ → List ℕ → List ℕ
 other_run_message parts path what = two_parts_message path what (part_path parts 0) (codes "\"\n")
 
--- what is wrong with the shard with this path and text
+-- the message about a part, given its path, its text and what is wrong with it
 abbrev pub flaw_message : List (Bor (List ℕ)) → List ℕ → List ℕ → Flaw → List ℕ
 flaw_message parts path text (flaw.Line number) = refused_line_message (codes "part") path text number
 flaw_message parts path text flaw.CutOff = path_message path (codes "the part is truncated")
@@ -44,7 +44,7 @@ flaw_message parts path text (flaw.OtherText earlier) =
 flaw_message parts path text (flaw.NameTwice number) =
     path_number_message path (codes ": job ") number (codes " has the name of an earlier job\n")
 
--- the shards with these paths and texts are rejected for an error: the message blames the shard that has it
+-- the stop reports this error of the parts, or that memory ran out; `parts` are their paths
 abbrev pub IsMergeErrorStop : List (Bor (List ℕ)) → List (List ℕ) → MergeError → Stop → Type 0
 IsMergeErrorStop parts texts error.OutOfMemory why = why ≡ stop.OutOfMemory
 IsMergeErrorStop parts texts error.NoTexts why = IsStop 2 (codes "rvtest: expected at least one part\n") why
@@ -53,7 +53,7 @@ IsMergeErrorStop parts texts (error.Text place flaw) why =
 IsMergeErrorStop parts texts (error.Missing number) why =
     IsStop 2 (codes "rvtest: no part for shard " ++ decimal number ++ codes "\n") why
 
--- out of memory, or the texts at the paths are rejected for an error that they have
+-- memory ran out, or the stop reports an error that the texts have as parts of one run
 abbrev pub ArePartsRefused : List (Bor (List ℕ)) → List (List ℕ) → Stop → Type 0
 ArePartsRefused parts texts why = (why ≡ stop.OutOfMemory)
     ⊎ ((error : MergeError) × IsRefused texts error × IsMergeErrorStop parts texts error why)

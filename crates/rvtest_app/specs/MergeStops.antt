@@ -1,4 +1,4 @@
--- Why `merge` stopped before its work was done.
+-- Why `merge` stops early.
 use Rattle.std.specs.Prelude.{◌≡◌, ◌⊎◌, ◌++◌, ◌∷◌, ℕ, List, Option}
 use Rattle.std.specs.Borrow.{Bor}
 use Rattle.rv_base.specs.Files.{FileContents}
@@ -14,31 +14,32 @@ use Rattle.rvtest_app.specs.Merges.{AreTextsAt, merged_report_path}
 use Rattle.rvtest_app.specs.Overwrites.{IsMergeOverwriteStop}
 use Rattle.rvtest_app.specs.WriteStops.{IsOutputStop}
 
--- one of the paths was not read, and those before it were
+-- the parts before one of the paths were read, but the part at this path could not be read
 pub record IsPartUnreadStop (known : Option FileContents) (paths : List (Bor (List ℕ))) (why : Stop) : Type 0 where
   pub before : List (Bor (List ℕ))
   pub path : Bor (List ℕ)
+  -- the paths after that of the part
   pub behind : List (Bor (List ℕ))
   pub texts : List (List ℕ)
   pub listed : paths ≡ before ++ path ∷ behind
   pub read : AreTextsAt known before texts
   pub unread : IsResultUnreadStop known path.now why
 
--- out of memory, or one of the shards was not read
+-- memory ran out, or one of the parts could not be read
 abbrev pub ArePartsUnread : Option FileContents → List (Bor (List ℕ)) → Stop → Type 0
 ArePartsUnread known paths why = (why ≡ stop.OutOfMemory) ⊎ IsPartUnreadStop known paths why
 
--- the report of the rows, or another output, was not written
+-- the report, the JUnit XML or the summary line could not be written
 abbrev pub IsMergedPutStop : MergeArgs → Stop → Type 0
 IsMergedPutStop words why = IsOutputStop
     (merged_report_path (optional_text words.report) (optional_text words.junit)) (optional_text words.junit) why
 
--- the texts are rejected as shards of one run, or they are its shards and their rows were not written
+-- the texts are not the parts of one run, or they are, and the merged report was not written
 abbrev pub IsMergeOfStop : MergeArgs → List (List ℕ) → Stop → Type 0
 IsMergeOfStop words texts why = ArePartsRefused words.parts.items texts why
     ⊎ ((rows : List Row) × (AreParts rows texts × IsMergedPutStop words why))
 
--- `merge`: a file would replace a shard, a shard was not read, or all were read and merging them stopped
+-- why `merge` stopped: a file would overwrite a part, a part could not be read, or merging the parts stopped
 abbrev pub IsMergeStop : Option FileContents → MergeArgs → Stop → Type 0
 IsMergeStop known words why = IsMergeOverwriteStop words why ⊎ (ArePartsUnread known words.parts.items why
     ⊎ ((texts : List (List ℕ)) × (AreTextsAt known words.parts.items texts × IsMergeOfStop words texts why)))

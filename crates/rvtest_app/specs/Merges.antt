@@ -1,4 +1,4 @@
--- What `merge` reads, and what it writes where.
+-- What `merge` reads and writes.
 use Rattle.std.specs.Prelude.{◌≡◌, ◌⊎◌, ℕ, List, [], ◌∷◌, Option, Some, None, codes, if◌then◌else◌, unwrap_or, ⊤}
 use Rattle.std.specs.Borrow.{Bor}
 use Rattle.rv_base.specs.Files.{FileContents}
@@ -22,13 +22,13 @@ AreTextsAt known [] [] = ⊤
 AreTextsAt known (path ∷ paths) (text ∷ texts) = IsTextAt known path.now text × AreTextsAt known paths texts
 AreTextsAt known _ _ = ⊥
 
--- the report goes to standard output if nothing else is requested
+-- the path of the merged report: that of `--report`, or else standard output, unless the JUnit XML goes there
 abbrev pub merged_report_path : Option (List ℕ) → Option (List ℕ) → Option (List ℕ)
 merged_report_path (Some path) junit = Some path
 merged_report_path None None = Some (codes "-")
 merged_report_path None (Some junit) = if is_stdout junit then None else Some (codes "-")
 
--- the suite name: the requested one, else one derived from the report's path, if one is given
+-- the name of the JUnit suite: the requested one, or else one derived from the report's path, or `merged` without a report
 abbrev pub merged_suite : Option (List ℕ) → Option (List ℕ) → List ℕ
 merged_suite suite (Some path) = suite_name suite path
 merged_suite suite None = unwrap_or suite (codes "merged")
@@ -38,8 +38,7 @@ abbrev pub merged_junit : MergeArgs → List Row → List ℕ
 merged_junit words rows = failures_junit (merged_suite (optional_text words.suite) (optional_text words.report))
     (report_judging words.lenient) rows
 
--- for the rows of the list whose shards are at the paths in the arguments, the summary line was printed and the report and, if requested,
--- the JUnit document were written; the status follows from these rows
+-- `merge` read the parts at the paths in the arguments, and wrote the summary line, the report and the JUnit XML of their rows
 pub record IsMergedAt (known : Option FileContents) (words : MergeArgs) (status : ℕ) (before after : CommandOutputs)
     : Type 0 where
   pub texts : List (List ℕ)
@@ -51,7 +50,7 @@ pub record IsMergedAt (known : Option FileContents) (words : MergeArgs) (status 
       (optional_text words.junit) (totals_line (report_judging words.lenient) rows) (report_text rows)
       (merged_junit words rows) before after
 
--- only the JUnit document of these rows was committed
+-- of the output files of `merge`, only the JUnit document was committed
 pub record IsMergedJunitAlone (known : Option FileContents) (words : MergeArgs) (before after : Option (List CommittedFile))
     : Type 0 where
   pub texts : List (List ℕ)

@@ -1,4 +1,4 @@
--- What is reported if the image of every job is missing: the directory that paths are resolved against.
+-- The note if the image of every job is missing: against which directory relative paths are resolved.
 use Rattle.std.specs.Prelude.{◌==◌, ◌&&◌, ◌++◌, ℕ, Bool, true, false, List, [], Option, Some, None, codes, if◌then◌else◌, length}
 use Rattle.std.specs.Prelude.{nat_eq, not}
 use Rattle.std.specs.List.{list_all, starts_with}
@@ -11,32 +11,33 @@ use Rattle.rv_lists.specs.declared.job.Job.{Job}
 use Rattle.rv_report.specs.Report.{line}
 use Rattle.rv_text.specs.Printable.{printable_text}
 
--- the system reports that there is no file at the path
+-- whether the reason of a read error is that there is no file at the path
 abbrev pub is_not_found : ErrorKind → Bool
 is_not_found kind.NotFound = true
 is_not_found _ = false
 
+-- whether a path could not be read because there is no file
 abbrev pub is_noted_missing : Option UnreadPath → Bool
 is_noted_missing note = option_map_or (λ one. is_not_found one.reason) note false
 
--- whether the job's image is missing and its path is resolved against a directory
+-- whether the job's image is missing, and its path is relative
 abbrev pub is_image_missing : List UnreadPath → Job → Bool
 is_image_missing unread job = not (starts_with nat_eq job.image (codes "/")) && is_noted_missing (unread_note unread job.image)
 
--- whether the images of all these jobs are missing in this way
+-- whether the images of all jobs are missing, and their paths are relative
 abbrev pub are_images_missing : List Job → List UnreadPath → Bool
 are_images_missing jobs unread = list_all (is_image_missing unread) jobs
 
--- the directory that paths are resolved against, with or without `--root`
+-- the note about missing images: against which directory relative paths are resolved, with or without `--root`
 abbrev pub paths_text : Option (List ℕ) → List ℕ
 paths_text None = codes "no image was found: relative paths are resolved against the current directory; use --root DIR to resolve them against DIR"
 paths_text (Some folder) = codes "no image was found: relative paths are resolved against " ++ printable_text folder ++ codes " (--root)"
 
--- what `run` reports for the jobs of a list, if all of them run
+-- the note of `run` if every image is missing and `count`, the number of jobs that run, is that of all jobs; else empty
 abbrev pub missing_images_note : List Job → List UnreadPath → ℕ → Option (List ℕ) → List ℕ
 missing_images_note jobs unread count root =
     if count == length jobs && are_images_missing jobs unread then codes "rvtest: note: " ++ line (paths_text root) else []
 
--- what `check` reports for them
+-- the line of `check` if every image is missing; else empty
 abbrev pub missing_images_line : List Job → List UnreadPath → Option (List ℕ) → List ℕ
 missing_images_line jobs unread root = if are_images_missing jobs unread then line (paths_text root) else []

@@ -9,28 +9,28 @@ use Rattle.rvtest_app.specs.declared.outlets.Outlet.TheVariants as outlet
 use Rattle.rvtest_app.specs.declared.outlets.Outlets.{Outlets}
 use Rattle.rvtest_app.specs.declared.placing.SyncedFile.{SyncedFile}
 
--- whether the path represents standard output
+-- whether the path is `-`, which is standard output
 abbrev pub is_stdout : List ℕ → Bool
 is_stdout path = bytes_eq path (codes "-")
 
 -- ---- by paths
 
--- the file with a text at a path, if one is given that is not standard output
+-- the file with this text at the path; no file without a path or for standard output
 abbrev pub file_at : Option (List ℕ) → List ℕ → List CommittedFile
 file_at None text = []
 file_at (Some path) text = if is_stdout path then [] else record { path = path; bytes = text } ∷ []
 
--- what of the text goes to standard output
+-- the text, if the path is standard output; else empty
 abbrev pub stdout_at : Option (List ℕ) → List ℕ → List ℕ
 stdout_at None text = []
 stdout_at (Some path) text = if is_stdout path then text else []
 
--- the path of the file, if one is given that is not standard output
+-- the path, if it is given and is not standard output
 abbrev pub file_path_at : Option (List ℕ) → Option (List ℕ)
 file_path_at None = None
 file_path_at (Some path) = if is_stdout path then None else Some path
 
--- whether a path is given that represents standard output
+-- whether a path is given and is standard output
 abbrev pub is_stdout_at : Option (List ℕ) → Bool
 is_stdout_at None = false
 is_stdout_at (Some path) = is_stdout path
@@ -38,11 +38,13 @@ is_stdout_at (Some path) = is_stdout path
 -- ---- outlets
 
 module _ {P W : Type 0} where
+  -- whether the outlet is standard output
   abbrev pub is_out : Outlet P W → Bool
   is_out outlet.Nowhere = false
   is_out outlet.Out = true
   is_out (outlet.File file) = false
 
+  -- whether the report or the JUnit XML goes to standard output
   abbrev pub uses_stdout : Outlets P W → Bool
   uses_stdout outlets = is_out outlets.report || is_out outlets.junit
 
@@ -52,18 +54,19 @@ module _ {P W : Type 0} where
   outlet_path outlet.Out = None
   outlet_path (outlet.File file) = Some file.path.now
 
-  -- the part of a text written to an outlet that goes to standard output
+  -- the text, if the outlet is standard output; else empty
   abbrev pub stdout_part : Outlet P W → List ℕ → List ℕ
   stdout_part outlet.Nowhere text = []
   stdout_part outlet.Out text = text
   stdout_part (outlet.File file) text = []
 
+  -- no write to the outlet's file failed
   abbrev pub has_no_failure : (W → ℕ) → Outlet P W → Type 0
   has_no_failure failed outlet.Nowhere = ⊤
   has_no_failure failed outlet.Out = ⊤
   has_no_failure failed (outlet.File file) = failed file.sink ≡ 0
 
-  -- the outlet is for a path, by which messages name it, and has received this text so far, if committed files are reported
+  -- the outlet is for this path and, if committed files are reported, its file has received this text so far and no write failed
   abbrev pub HasTaken : (P → List ℕ) → (W → Option (List ℕ)) → (W → ℕ) → Option (List CommittedFile)
       → Option (List ℕ) → List ℕ → Outlet P W → Type 0
   HasTaken pending_path taken failed placed path text outlet.Nowhere = path ≡ None
@@ -82,7 +85,7 @@ module _ {P W : Type 0} where
       × (failed after.sink ≡ failed before.sink))
   IsPutInto taken failed _ _ text = ⊥
 
-  -- the files that outlets make, if what they received is reported
+  -- the file that an outlet makes when it is committed; none if the sink does not report what it received
   abbrev pub files_of : (P → List ℕ) → (W → Option (List ℕ)) → Outlet P W → Option (List CommittedFile)
   files_of pending_path taken outlet.Nowhere = Some []
   files_of pending_path taken outlet.Out = Some []
@@ -90,6 +93,7 @@ module _ {P W : Type 0} where
       option_map (λ bytes. record { path = pending_path file.place; bytes = bytes } ∷ []) (taken file.sink)
 
 module _ {P S : Type 0} where
+  -- the file that is synced to disk, with its contents; none if the contents are not reported
   abbrev pub synced_files : (P → List ℕ) → (S → Option (List ℕ)) → Option (SyncedFile P S) → Option (List CommittedFile)
   synced_files pending_path bytes None = Some []
   synced_files pending_path bytes (Some file) =
@@ -99,14 +103,14 @@ module _ {P S : Type 0} where
   abbrev pub synced_path : Option (SyncedFile P S) → Option (List ℕ)
   synced_path synced = option_map (λ file. file.path.now) synced
 
--- files were committed, after those committed before
+-- `files` were committed after those in `before`, as far as committed files are reported
 abbrev pub AreFilesCommitted : Option (List CommittedFile) → Option (List CommittedFile) → Option (List CommittedFile) → Type 0
 AreFilesCommitted before after files = IfSome before (λ earlier. IfSome files (λ files. after ≡ Some (earlier ++ files)))
 
--- what an error leaves: no more committed files, or only the first of two if the second was not committed
+-- after an error, no more files than those of `before` are committed, or only those of `first`, the first of two files
 abbrev pub AreFilesPartlyCommitted : Option (List CommittedFile) → Option (List CommittedFile) → Option (List CommittedFile) → Type 0
 AreFilesPartlyCommitted before after first = (after ≡ before) ⊎ AreFilesCommitted before after first
 
--- the files of the first list followed by those of the second
+-- the files of the first list followed by those of the second; none if one of the lists is not reported
 abbrev pub both_files : Option (List CommittedFile) → Option (List CommittedFile) → Option (List CommittedFile)
 both_files first second = option_and_then (λ first. option_map (λ second. first ++ second) second) first

@@ -30,94 +30,99 @@ use Rattle.rvtest_app.specs.WriteStops.{IsUnopenedStop}
 
 -- ---- one file
 
+-- the paths of the inputs
 abbrev pub read_paths : List ReadPath → List (List ℕ)
 read_paths read = map (λ (one : ReadPath). path_buf_bytes one.path) read
 
--- if the committed files are reported, these are their identities
+-- the identities of the input files are their paths, if committed files are reported
 abbrev pub AreFilesOf : Option (List CommittedFile) → List (List ℕ) → ReadFiles → Type 0
 AreFilesOf placed paths read = IfSome placed (λ _. read.identities.items ≡ paths)
 
--- whether a file is one of some files, by its identity
+-- whether one of the files has this identity
 abbrev pub is_among : List (List ℕ) → List ℕ → Bool
 is_among files identity = list_any (λ (file : List ℕ). bytes_eq file identity) files
 
--- the file at the path is not one of those that are read
+-- the file at the path is not among the inputs
 abbrev pub IsUnread : List (List ℕ) → List ℕ → Type 0
 IsUnread read path = list_any (is_among (path ∷ [])) read ≡ false
 
--- the file of an option, if it has one, is not one of those that are read
+-- the file of an option, if it is given and does not name standard output, is not among the inputs
 abbrev pub IsApart : List (List ℕ) → Option (List ℕ) → Type 0
 IsApart read path = IfSome (file_path_at path) (IsUnread read)
 
--- what an input is to the command: a placeholder of its usage, or a key by which a job names it
+-- the words for an input that a job names: by its key and the job's name
 abbrev pub job_file_text : List ℕ → List ℕ → List ℕ
 job_file_text key job = codes "the \"" ++ key ++ codes "\" of job \"" ++ job ++ codes "\""
 
+-- the words for an input: its placeholder in the usage, such as LIST, or the key by which a job names it
 abbrev pub role_text : ReadRole → List ℕ
 role_text (role.Word word) = word.now
 role_text (role.JobFile key job) = job_file_text key.now job.now
 
--- what a written file is to the command
+-- the words for an output file that a job names: the job's name and its key
 abbrev pub job_writer_text : List ℕ → List ℕ → List ℕ
 job_writer_text key job = codes "job \"" ++ job ++ codes "\": " ++ key
 
+-- the words for an output file: its option, or the job and the key that name it
 abbrev pub writer_text : ReadRole → List ℕ
 writer_text (role.Word word) = word.now
 writer_text (role.JobFile key job) = job_writer_text key.now job.now
 
--- which option, with which path, would overwrite which input at which path
+-- the first half of the message: which option, with which path, would overwrite an input
 abbrev pub overwrite_head : List ℕ → List ℕ → List ℕ
 overwrite_head option path = codes "rvtest: " ++ option ++ codes " \"" ++ printable_text path ++ codes "\" would overwrite "
 
+-- the second half of the message: the path of the input
 abbrev pub read_path_text : List ℕ → List ℕ
 read_path_text path = codes ": \"" ++ printable_text path ++ codes "\"\n"
 
+-- the message that the file of an option would overwrite an input; `role` and `read` are its words and its path
 abbrev pub overwrite_message : List ℕ → List ℕ → List ℕ → List ℕ → List ℕ
 overwrite_message option path role read = overwrite_head option path ++ role ++ read_path_text read
 
--- the message says that the file would overwrite an input
+-- the stop reports that the file of this option would overwrite some input, or that memory ran out
 abbrev pub IsOverwriteReported : List ℕ → List ℕ → Stop → Type 0
 IsOverwriteReported option path why = (role : List ℕ) × (read : List ℕ) × IsStop 2 (overwrite_message option path role read) why
 
--- the file would overwrite an input, or the system would not say which file its path leads to
+-- the file of this option would overwrite an input, or the system does not say which file its path leads to
 abbrev pub IsOverwriteStop : List ℕ → List ℕ → Stop → Type 0
 IsOverwriteStop option path why = IsUnopenedStop path why ⊎ IsOverwriteReported option path why
 
--- the file of an option, if it has one, would overwrite an input
+-- if an option names a file, this file would overwrite an input, or the system does not say where its path leads
 abbrev pub IsOptionStop : List ℕ → Option (List ℕ) → Stop → Type 0
 IsOptionStop option path why = IsSomeAnd (file_path_at path) (λ path. IsOverwriteStop option path why)
 
 -- ---- the files of a run
 
--- the golden files that a job names, each resolved against the root if one is given
+-- the paths of the golden files of a job, resolved against `root`
 abbrev pub golden_paths_of_job : Option (List ℕ) → Job → List (List ℕ)
 golden_paths_of_job root job = map (resolved_path root)
     (option_to_list job.expect_signature ++ option_to_list (console_path job.expect_console))
 
--- all files that the job names
+-- the paths of the image and the golden files of a job, resolved against `root`
 abbrev pub paths_of_job : Option (List ℕ) → Job → List (List ℕ)
 paths_of_job root job = resolved_path root job.image ∷ golden_paths_of_job root job
 
--- what a run reads and never writes: its list, the known failures, and the files of all jobs of the list
+-- the files that a run must not write: its list, the file of `--known`, and the files of all jobs of the list
 abbrev pub inputs_of_run : RunArgs → List Job → List (List ℕ)
 inputs_of_run words jobs = words.list.now ∷ option_to_list (optional_text words.known)
     ++ flat_map (paths_of_job (optional_text words.root)) jobs
 
--- the report whose failed jobs are run again
+-- the path of the report of `--failed`, if it is given
 abbrev pub failed_of_run : RunArgs → List (List ℕ)
 failed_of_run words = option_to_list (optional_text words.failed)
 
--- the reports that the run reads, including the one that `--into` replaces
+-- the paths of the reports that a run reads, of `--failed` and of `--into`
 abbrev pub reports_of_run : RunArgs → List (List ℕ)
 reports_of_run words = failed_of_run words ++ option_to_list (optional_text words.into)
 
--- no file of a run is a report that it reads, except the one of `--into`
+-- no output file of a run is a report that it reads, except that `--into` and `--failed` may name one report
 pub record AreReportsKept (words : RunArgs) : Type 0 where
   pub report : IsApart (failed_of_run words) (optional_text words.report)
   pub junit : IsApart (reports_of_run words) (optional_text words.junit)
   pub counts : IsApart (reports_of_run words) (optional_text words.counts)
 
--- no file of a run is one of its inputs
+-- no output file of a run is one of its inputs
 pub record AreRunFilesApart (words : RunArgs) (jobs : List Job) : Type 0 where
   pub report : IsApart (inputs_of_run words jobs) (optional_text words.report)
   pub junit : IsApart (inputs_of_run words jobs) (optional_text words.junit)
@@ -125,7 +130,7 @@ pub record AreRunFilesApart (words : RunArgs) (jobs : List Job) : Type 0 where
   pub into : IsApart (inputs_of_run words jobs) (optional_text words.into)
   pub reports : AreReportsKept words
 
--- a file of a run would be one of its inputs
+-- memory ran out, or an output file of a run would overwrite an input
 abbrev pub IsRunOverwriteStop : RunArgs → Stop → Type 0
 IsRunOverwriteStop words why = (why ≡ stop.OutOfMemory)
     ⊎ (IsOptionStop (codes "--report") (optional_text words.report) why
@@ -133,11 +138,11 @@ IsRunOverwriteStop words why = (why ≡ stop.OutOfMemory)
     ⊎ (IsOptionStop (codes "--counts") (optional_text words.counts) why
     ⊎ IsOptionStop (codes "--into") (optional_text words.into) why)))
 
--- files were committed only if none of them is an input, as far as committed files are reported
+-- if files were committed and committed files are reported, `Apart` holds
 abbrev pub IsPlacedApart : Type 0 → Option (List CommittedFile) → Option (List CommittedFile) → Type 0
 IsPlacedApart Apart before after = (after ≡ before) ⊎ IfSome before (λ _. Apart)
 
--- a run of a list committed no file that is an input
+-- a run committed no file, or its output files are not among its inputs
 abbrev pub AreRunInputsKept : Option FileContents → RunArgs → Option (List CommittedFile) → Option (List CommittedFile) → Type 0
 AreRunInputsKept known words before after = (after ≡ before)
     ⊎ ((text : List ℕ) × (jobs : List Job) × (IsTextAt known words.list.now text × ((job_list_of text ≡ Ok jobs)
@@ -145,65 +150,74 @@ AreRunInputsKept known words before after = (after ≡ before)
 
 -- ---- the files of accept
 
--- what `accept` reads besides the list and never writes: the report whose failed jobs it chooses, and the images of all jobs
+-- the path of a job's image, resolved against `root`, as a list
 abbrev pub image_paths : Option (List ℕ) → Job → List (List ℕ)
 image_paths root job = resolved_path root job.image ∷ []
 
+-- the files besides the list that `accept` must not write: the report of `--failed`, and the images of all jobs
 abbrev pub inputs_of_accept : AcceptArgs → List Job → List (List ℕ)
 inputs_of_accept words jobs = failed_of_run words.run ++ flat_map (image_paths (optional_text words.run.root)) jobs
 
--- the golden files of the selected jobs
+-- the paths of the golden files of the selected jobs, resolved against `root`
 unfoldable pub golden_paths_of_marked : Option (List ℕ) → List Job → List Bool → List (List ℕ)
 golden_paths_of_marked root [] marks = []
 golden_paths_of_marked root (job ∷ jobs) [] = []
 golden_paths_of_marked root (job ∷ jobs) (marked ∷ marks) =
     (if marked then golden_paths_of_job root job else []) ++ golden_paths_of_marked root jobs marks
 
--- whether the file at the path is one of the inputs, by its identity
+-- whether the file at the path is among the inputs
 abbrev pub is_read : List (List ℕ) → List ℕ → Bool
 is_read read path = list_any (is_among (path ∷ [])) read
 
+-- whether a golden file is among the inputs
 abbrev pub is_golden_read : List (List ℕ) → ReadPath → Bool
 is_golden_read read golden = is_read read (path_buf_bytes golden.path)
 
--- no golden file of the selected jobs is the list or another input, and neither is the list
+-- the list is not among the other inputs of `accept`, and no golden file of a selected job is the list or an input
 pub record AreAcceptFilesApart (words : AcceptArgs) (jobs : List Job) (marks : List Bool) : Type 0 where
   pub list : IsUnread (inputs_of_accept words jobs) words.run.list.now
   pub no_list : list_any (is_read (words.run.list.now ∷ [])) (golden_paths_of_marked (optional_text words.run.root) jobs marks) ≡ false
   pub no_input : list_any (is_read (inputs_of_accept words jobs)) (golden_paths_of_marked (optional_text words.run.root) jobs marks) ≡ false
 
--- a golden file is outside of the directory
+-- the beginning of a message about a golden file outside of the directory: `head` and the words for the file
 abbrev pub outside_head : List ℕ → List ℕ → List ℕ
 outside_head head role = head ++ role
 
+-- the path of a golden file, and that it is outside of the directory
 abbrev pub outside_path : List ℕ → List ℕ
 outside_path path = codes " \"" ++ printable_text path ++ codes "\" is outside the directory "
 
+-- a text in double quotes
 abbrev pub quoted_text : List ℕ → List ℕ
 quoted_text text = codes "\"" ++ printable_text text ++ codes "\""
 
+-- a golden file is outside of the directory: `head`, the words for the file, its path, and the directory
 abbrev pub outside_text : List ℕ → List ℕ → List ℕ → List ℕ → List ℕ
 outside_text head role path directory = outside_head head role ++ outside_path path ++ quoted_text directory
 
+-- the error that a golden file is outside of the directory, which `--outside` allows
 abbrev pub outside_message : List ℕ → List ℕ → List ℕ → List ℕ
 outside_message role path directory = outside_text (codes "rvtest: ") role path directory ++ codes "; use --outside to write it\n"
 
+-- the stop reports that the golden file at the path is outside of the directory, or that memory ran out
 abbrev pub IsOutsideStop : List ℕ → Stop → Type 0
 IsOutsideStop path why = (role : List ℕ) × (directory : List ℕ) × IsStop 2 (outside_message role path directory) why
 
--- a file that `accept` writes would overwrite an input, cannot be written, or is outside of the directory
+-- memory ran out; or the file at the path, which `accept` writes, would overwrite an input, leads to a file that the system does not name,
+-- or is outside of the directory
 abbrev pub IsUnwritableStop : List ℕ → Stop → Type 0
 IsUnwritableStop path why = (why ≡ stop.OutOfMemory)
     ⊎ (((role : List ℕ) × IsOverwriteStop role path why) ⊎ IsOutsideStop path why)
 
--- some file is unwritable in this way
+-- some file that `accept` writes would overwrite an input, or is outside of the directory
 abbrev pub IsAnyUnwritableStop : Stop → Type 0
 IsAnyUnwritableStop why = (path : List ℕ) × IsUnwritableStop path why
 
+-- memory ran out, or a file that `accept` writes would overwrite an input or is outside of the directory
 abbrev pub IsAcceptOverwriteStop : Stop → Type 0
 IsAcceptOverwriteStop why = (why ≡ stop.OutOfMemory) ⊎ IsAnyUnwritableStop why
 
--- `accept` committed files only if none of them is an input, as far as committed files are reported
+-- `accept` committed no file, or none of the files that it writes is among its inputs
 abbrev pub AreAcceptInputsKept : Option FileContents → AcceptArgs → Option (List CommittedFile) → Option (List CommittedFile) → Type 0
 AreAcceptInputsKept known words before after = (after ≡ before)
     ⊎ ((text : List ℕ) × (jobs : List Job) × (chosen : List Bool) × (IsTextAt known words.run.list.now text
@@ -211,29 +225,33 @@ AreAcceptInputsKept known words before after = (after ≡ before)
 
 -- ---- the files of the other commands
 
+-- the paths that these references point to
 abbrev pub paths_of_words : List (Bor (List ℕ)) → List (List ℕ)
 paths_of_words words = map (λ (word : Bor (List ℕ)). word.now) words
 
--- no file of a merge is one of its shards
+-- no output file of `merge` is one of its parts
 abbrev pub AreMergeFilesApart : MergeArgs → Type 0
 AreMergeFilesApart words = IsApart (paths_of_words words.parts.items) (optional_text words.report)
     × IsApart (paths_of_words words.parts.items) (optional_text words.junit)
 
+-- memory ran out, or an output file of `merge` would overwrite a part
 abbrev pub IsMergeOverwriteStop : MergeArgs → Stop → Type 0
 IsMergeOverwriteStop words why = (why ≡ stop.OutOfMemory)
     ⊎ (IsOptionStop (codes "--report") (optional_text words.report) why
     ⊎ IsOptionStop (codes "--junit") (optional_text words.junit) why)
 
--- the JUnit file of a report is not the report
+-- the JUnit file of `show` is not the report
 abbrev pub IsShowFileApart : ShowArgs → Type 0
 IsShowFileApart words = IsApart (words.report.now ∷ []) (optional_text words.junit)
 
+-- memory ran out, or the JUnit file of `show` would overwrite the report
 abbrev pub IsShowOverwriteStop : ShowArgs → Stop → Type 0
 IsShowOverwriteStop words why = (why ≡ stop.OutOfMemory) ⊎ IsOptionStop (codes "--junit") (optional_text words.junit) why
 
--- the file of the sum is not one of the tables
+-- the output file of `counts` is not one of its tables
 abbrev pub IsSumFileApart : CountsArgs → Type 0
 IsSumFileApart words = IsApart (paths_of_words words.tables.items) (optional_text words.out)
 
+-- memory ran out, or the output file of `counts` would overwrite a table
 abbrev pub IsSumOverwriteStop : CountsArgs → Stop → Type 0
 IsSumOverwriteStop words why = (why ≡ stop.OutOfMemory) ⊎ IsOptionStop (codes "--out") (optional_text words.out) why

@@ -1,4 +1,4 @@
--- Why `profile` stopped before its work was done.
+-- Why `profile` stops early.
 use Rattle.std.specs.Prelude.{Option}
 use Rattle.rv_base.specs.Files.{FileContents}
 use Rattle.rvtest_cli.specs.declared.profile.ProfileArgs.{ProfileArgs}
@@ -7,6 +7,6 @@ use Rattle.rvtest_app.specs.Profiles.{profile_format}
 use Rattle.rvtest_app.specs.ViewStops.{IsViewStop}
 use Rattle.rvtest_app.specs.declared.view.View.TheVariants as view
 
--- the requested jobs were not found, or they were and the profile of their steps was not written
+-- why `profile` stopped: the requested jobs could not be found, or their profile not be written
 abbrev pub IsProfileStop : Option FileContents → ProfileArgs → Stop → Type 0
 IsProfileStop known words why = IsViewStop known words.run (view.Profile (profile_format words)) why

@@ -1,4 +1,4 @@
--- What `profile` writes: where in their images the requested jobs spent their steps.
+-- What `profile` writes: in which functions the requested jobs spent their steps.
 use Rattle.std.specs.Prelude.{ℕ, Option}
 use Rattle.rv_base.specs.Files.{FileContents}
 use Rattle.rvtest_cli.specs.declared.profile.ProfileArgs.{ProfileArgs}
@@ -7,9 +7,10 @@ use Rattle.rvtest_app.specs.CommandOutputs.{CommandOutputs}
 use Rattle.rvtest_app.specs.Views.{IsViewWritten}
 use Rattle.rvtest_app.specs.declared.view.View.TheVariants as view
 
+-- the format of a profile: whether it is CSV, and the largest number of functions of each image
 abbrev pub profile_format : ProfileArgs → ProfileFormat
 profile_format words = record { csv = words.csv; top = words.top }
 
--- notes about the choice went to standard error, and then the profile of the requested jobs was written; the status is 0
+-- the notes about the choice went to standard error, and then the profile of the requested jobs was written
 abbrev pub IsProfileWritten : Option FileContents → ProfileArgs → ℕ → CommandOutputs → CommandOutputs → Type 0
 IsProfileWritten known words status before after = IsViewWritten known words.run (view.Profile (profile_format words)) status before after

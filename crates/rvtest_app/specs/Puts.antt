@@ -1,4 +1,4 @@
--- What a command writes.
+-- What a command writes: the text that it shows, the report and the JUnit XML.
 use Rattle.std.specs.Prelude.{◌≡◌, ◌||◌, ◌++◌, ℕ, Bool, true, false, List, Option, Some}
 use Rattle.std.specs.Io.KnownBytes.{Appends}
 use Rattle.rv_expect.specs.Judgement.{judging_of}
@@ -10,17 +10,17 @@ use Rattle.rvtest_app.specs.Outlets.{AreFilesCommitted, file_at, is_stdout_at, s
 use Rattle.rvtest_app.specs.ReportTexts.{report_rows}
 use Rattle.rvtest_app.specs.CommandOutputs.{IsOnlyStandardOutput, IsOnlyErrorOutput, CommandOutputs}
 
--- the text is shown on standard output, or on standard error if a file goes to standard output
+-- the text was written to standard error if the Bool is true, and otherwise to standard output
 abbrev pub IsShown : Bool → List ℕ → CommandOutputs → CommandOutputs → Type 0
 IsShown true text before after = IsOnlyErrorOutput text before after
 IsShown false text before after = IsOnlyStandardOutput text before after
 
--- the JUnit document of the rows of a report, with the lines that are reported for them
+-- the JUnit document of the rows of a report; `line` is the text about a row
 abbrev pub junit_of : {T : Type 0} → (T → ℕ → Row → List ℕ) → FileTexts T → List ℕ
 junit_of line texts = junit_text texts.suite.name.now (judging_of texts.suite.judge)
     (row_text_list (line texts.reporter.now) texts.places.now (report_rows texts.report)) (report_rows texts.report)
 
--- a command's shown text and its files at two paths were written: the shown text to standard error or standard output
+-- the text `shown` was written, to standard error if `is_beside` is true, and then the report and the JUnit XML to their paths
 pub record WentOutBeside (is_beside : Bool) (report_path junit_path : Option (List ℕ)) (shown report junit : List ℕ)
     (before after : CommandOutputs) : Type 0 where
   pub middle : CommandOutputs
@@ -29,7 +29,7 @@ pub record WentOutBeside (is_beside : Bool) (report_path junit_path : Option (Li
   pub quiet : (after.errors ≡ middle.errors) × (after.failures ≡ middle.failures)
   pub placed : AreFilesCommitted middle.placed after.placed (Some (file_at junit_path junit ++ file_at report_path report))
 
--- the shown text goes to standard error if one of the paths represents standard output
+-- the text `shown` was written, to standard error if a path is standard output, and then the report and the JUnit XML to their paths
 abbrev pub WentOut : Option (List ℕ) → Option (List ℕ) → List ℕ → List ℕ → List ℕ → CommandOutputs → CommandOutputs → Type 0
 WentOut report_path junit_path shown report junit before after =
     WentOutBeside (is_stdout_at report_path || is_stdout_at junit_path) report_path junit_path shown report junit before after

@@ -1,4 +1,4 @@
--- What is reported about refused jobs by commands that show what came of the images of jobs.
+-- What `cover` and `profile` report about refused jobs.
 use Rattle.std.specs.Prelude.{◌++◌, ℕ, if◌then◌else◌, List, [], length}
 use Rattle.std.specs.List.{flat_map}
 use Rattle.rvtest_cli.specs.declared.run.RunArgs.{RunArgs}
@@ -13,16 +13,16 @@ use Rattle.rv_rows.specs.Rows.{row_of}
 use Rattle.rvtest_app.specs.Commands.{is_job_refused, report_judging}
 use Rattle.rvtest_app.specs.MissingImages.{missing_images_note}
 
--- the line for a refused job; empty for any other job
+-- the line about a refused job; empty for any other job
 unfoldable pub refused_line : Judging → Planned → List UnreadPath → Job → List ℕ
 refused_line judging plan unread job =
     if is_job_refused plan job then row_line plan unread judging job (row_of plan job) else []
 
--- the lines for the refused jobs among those at some indices
+-- the lines about the refused jobs among those at these indices
 abbrev pub refused_lines : Judging → Planned → List UnreadPath → List ℕ → List ℕ
 refused_lines judging plan unread places = flat_map (refused_line judging plan unread) (jobs_at plan places)
 
--- the directory that paths are resolved against, if every image is missing, and the refused jobs
+-- the note about missing images, and the lines about the refused jobs among those at these indices
 abbrev pub refused_note : RunArgs → Planned → List UnreadPath → List ℕ → List ℕ
 refused_note words plan unread places = missing_images_note plan.jobs unread (length places) (optional_text words.root)
     ++ refused_lines (report_judging words.lenient) plan unread places

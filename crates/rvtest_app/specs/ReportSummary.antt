@@ -1,4 +1,4 @@
--- What a person is shown of a report: its failed rows, the counts, and the jobs with the most steps.
+-- What `show` prints about a report: the failures, the totals, and the rows with the most steps.
 use Rattle.std.specs.Prelude.{◌≡◌, ◌==◌, ◌≤◌, ℕ, List, [], ◌∷◌, ◌++◌, None, codes, filter, if◌then◌else◌, nat_lt, take}
 use Rattle.std.specs.Fmt.{decimal}
 use Rattle.std.specs.List.{AllPairs, flat_map}
@@ -9,44 +9,48 @@ use Rattle.rv_job_text.specs.TotalsLine.{totals_line}
 use Rattle.rv_expect.specs.Judgement.{Judging, fails, judgement}
 use Rattle.rv_job_text.specs.ResultLine.{result_line}
 
--- the line for a row that counts as a failure, as far as a report knows it
+-- the line about a row that is a failure, with what a report knows of it; empty for any other row
 abbrev pub failed_line : Judging → Row → List ℕ
 failed_line judging row = if fails judging row then result_line (judgement judging row) row None None else []
 
 -- ---- the most steps
 
--- the rows with a row inserted after the leading rows that have more steps
+-- the sorted rows, with `row` inserted before the first row that does not have more steps
 abbrev pub inserted_by_steps : Row → List Row → List Row
 inserted_by_steps row [] = row ∷ []
 inserted_by_steps row (first ∷ more) =
     if nat_lt row.steps first.steps then first ∷ inserted_by_steps row more else row ∷ first ∷ more
 
--- the rows with the most steps first, and rows with equal steps in their original order
+-- the rows sorted by descending steps; rows with equal steps keep their order
 unfoldable pub rows_by_steps : List Row → List Row
 rows_by_steps [] = []
 rows_by_steps (row ∷ rows) = inserted_by_steps row (rows_by_steps rows)
 
--- the same rows, sorted by descending steps; rows with equal steps keep their order
+-- `sorted` are the rows, sorted by descending steps; rows with equal steps keep their order
 pub record AreSortedBySteps (rows sorted : List Row) : Type 0 where
   pub same_rows : IsPermutation rows sorted
   pub most_first : AllPairs (λ row behind. behind.steps ≤ row.steps) sorted
   pub stable : (steps : ℕ) → filter (λ row. row.steps == steps) sorted ≡ filter (λ row. row.steps == steps) rows
 
--- the number of rows shown among those with the most steps
+-- how many of the rows with the most steps are shown
 abbrev pub most_rows_shown : ℕ
 most_rows_shown = 10
 
+-- the rows with the most steps, most first, up to the number that is shown
 abbrev pub rows_with_most_steps : List Row → List Row
 rows_with_most_steps rows = take most_rows_shown (rows_by_steps rows)
 
+-- the line with the steps and the name of a row
 unfoldable pub steps_line : Row → List ℕ
 steps_line row = line (codes "  " ++ decimal row.steps ++ codes " " ++ row.name)
 
 -- ---- the text
 
+-- the lines about the rows with the most steps, after a heading
 abbrev pub most_steps_text : List Row → List ℕ
 most_steps_text rows = line (codes "most steps:") ++ flat_map steps_line (rows_with_most_steps rows)
 
+-- what `show` prints about the rows of a report: the failures, the totals, and the rows with the most steps
 unfoldable pub summary_text : Judging → List Row → List ℕ
 summary_text judging rows =
     flat_map (failed_line judging) rows ++ totals_line judging rows ++ most_steps_text rows

@@ -1,4 +1,4 @@
--- How a command ends before its work is done.
+-- What the program reports if a command stops early.
 use Rattle.std.specs.Prelude.{◌≡◌, ◌⊎◌, ℕ, Bool, List, Option, Result, Ok, Err, Vec, codes, string_bytes}
 use Rattle.std.specs.Io.KnownBytes.{Appends}
 use Rattle.std.specs.declared.alloc.Global.{Global}
@@ -20,38 +20,39 @@ use Rattle.rvtest_app.specs.CommandOutputs.{IsOnlyErrorOutput, CommandOutputs}
 
 -- ---- the program
 
--- the program stopped for a reason of some kind, and the reader of standard output had closed it or not: the status follows from both, and
--- the message is the last output on standard error
+-- the program ended with the status and the message of a stop for which `ended` holds; `closed` says whether the reader of standard output
+-- had closed it
 abbrev pub IsStopReported : Bool → (Stop → Type 0) → ℕ → CommandOutputs → Type 0
 IsStopReported closed ended status after = (why : Stop) × ended why × (status ≡ end_status closed why)
     × ((before : CommandOutputs) × IsOnlyErrorOutput (end_message closed why) before after)
 
--- the status and message if the process cannot provide its arguments
+-- the exit status if the process cannot provide its arguments for this reason
 abbrev pub unreadable_words_status : ErrorKind → ℕ
 unreadable_words_status io.OutOfMemory = 3
 unreadable_words_status _ = 2
 
+-- the message if the process cannot provide its arguments for this reason
 abbrev pub unreadable_words_message : ErrorKind → List ℕ
 unreadable_words_message io.OutOfMemory = codes "rvtest: out of memory\n"
 unreadable_words_message _ = codes "rvtest: an argument is not valid UTF-8\n"
 
 -- ---- help
 
--- the help or the version is requested, which `clap` treats as an error in the arguments
+-- the kind of a `clap` error is a request for the help or the version
 abbrev pub IsHelpRequested : WordsFault → Type 0
 IsHelpRequested fault = (fault ≡ words.DisplayHelp) ⊎ (fault ≡ words.DisplayVersion)
 
--- out of memory, or a write failed
+-- memory ran out, or writing the help failed, which raised the number of failed writes by one
 abbrev pub IsHelpStop : ℕ → ℕ → Stop → Type 0
 IsHelpStop failures_before failures_after why = (why ≡ stop.OutOfMemory)
     ⊎ ((why ≡ stop.WriteFailed) × (failures_after ≡ one_more failures_before))
 
--- the help or the version was requested, and its text was written
+-- the help or the version was requested, and its text was written to standard output
 abbrev pub IsHelpWritten : WordsError → Option (List ℕ) → Option (List ℕ) → Type 0
 IsHelpWritten error.OutOfMemory before after = ⊥
 IsHelpWritten (error.Told fault text) before after = IsHelpRequested fault × Appends before after (string_bytes text)
 
--- the arguments stopped the program: the requested help was not written, or they are rejected with the message of their error
+-- the arguments stopped the program: the requested help could not be written, or they are rejected with the message of their error
 abbrev pub IsWordsErrorStop : WordsError → ℕ → ℕ → Stop → Type 0
 IsWordsErrorStop error.OutOfMemory failures_before failures_after why = why ≡ stop.OutOfMemory
 IsWordsErrorStop (error.Told fault text) failures_before failures_after why =
@@ -60,12 +61,12 @@ IsWordsErrorStop (error.Told fault text) failures_before failures_after why =
 
 -- ---- diff
 
--- why the new report was not compared: it was not read, or its text is not a report
+-- why the new report could not be compared: it could not be read, or its text is not a report
 abbrev pub IsNewReportStop : Bool → List ℕ → Result (Vec ℕ Global) Stop → Stop → Type 0
 IsNewReportStop partial path (Ok bytes) why = IsRequestedFaultStop partial path bytes.items why
 IsNewReportStop partial path (Err unread) why = why ≡ unread
 
--- out of memory; or the error in the old report is reported; or the old one is a report, and the error is in the new one
+-- why `diff` stopped: memory ran out, or there is an error in the old report, or else in the new one
 abbrev pub IsDiffStop : DiffArgs → List ℕ → Result (Vec ℕ Global) Stop → Stop → Type 0
 IsDiffStop words old new why = (why ≡ stop.OutOfMemory) ⊎ (IsRequestedFaultStop words.partial words.old.now old why
     ⊎ ((found : PartialReport) × IsReportRead words.partial old found × IsNewReportStop words.partial words.new.now new why))

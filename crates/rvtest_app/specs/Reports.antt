@@ -1,4 +1,4 @@
--- What the commands that run no list find in the files that they read.
+-- The outputs of `diff`, `check` and `explain`.
 use Rattle.std.specs.Prelude.{◌≡◌, ◌+◌, ◌++◌, ◌-◌, if◌then◌else◌, ℕ, Bool, true, false, List, [], ◌∷◌, length, None, Option, Some, Ok, position}
 use Rattle.std.specs.Prelude.{slice_index_or}
 use Rattle.std.specs.Str.{bytes_eq}
@@ -38,42 +38,42 @@ use Rattle.rvtest_app.specs.CheckText.{check_text}
 use Rattle.rvtest_app.specs.CommandOutputs.{IsOnlyStandardOutput, IsOnlyErrorOutput, CommandOutputs}
 use Rattle.rvtest_app.specs.Commands.{check_status, diff_status, passing_status, refused_job_count}
 
--- ---- paths that were not read
+-- ---- unreadable paths
 
--- there is a note for each path that cannot be read
+-- the number of entries in `unread` is the number of unreadable paths in the plan's files
 abbrev pub AreNotesOf : List Answer → List UnreadPath → Type 0
 AreNotesOf answers unread = length unread ≡ one_more_times 0 (unreadable_count answers)
 
 -- ---- diff
 
--- what is compared, with `--steps`, with `--slower`, or by default
+-- what `diff` compares: steps with `--steps`, slower jobs with `--slower`, and outcomes by default
 abbrev pub requested_comparison : Bool → Option ℕ → Compare
 requested_comparison true slower = Steps
 requested_comparison false (Some percent) = Slower percent
 requested_comparison false None = Outcomes
 
--- whether the report of a choice leaves out jobs of a whole report
+-- whether the first report has only chosen jobs of a list, and the second has all of them
 abbrev pub leaves_out : Extent → Extent → Bool
 leaves_out (extent.Choice jobs) extent.Whole = true
 leaves_out _ _ = false
 
--- the rows of a report that are compared with another: if the other leaves out jobs, only those of the jobs that it has
+-- the rows of `report` that are compared with `other`: only those of jobs in `other`, if it has only chosen jobs
 abbrev pub compared_rows : SavedReport → SavedReport → List Row
 compared_rows other report = if leaves_out other.extent report.extent then rows_beside other.rows report.rows
     else report.rows
 
--- the number of rows of two reports that are not compared
+-- the number of rows of both reports that are not compared
 abbrev pub left_out_count : SavedReport → SavedReport → ℕ
 left_out_count old new = (length old.rows - length (compared_rows new old))
     + (length new.rows - length (compared_rows old new))
 
--- the output and the status for the rows of two reports
+-- the output and exit status of `diff` for these two reports
 pub record IsDiffOfReports (compare : Compare) (before after : SavedReport) (output : List ℕ) (status : ℕ) : Type 0 where
   pub text : output ≡ diff_text compare (compared_rows after before) (compared_rows before after)
       (left_out_count before after)
   pub judged : status ≡ diff_status (counts_of_differing compare (compared_rows after before) (compared_rows before after))
 
--- the output and the status for the reports with these texts; the notes say how many rows each truncated report has
+-- the output, notes and exit status of `diff` for two reports with these texts; the notes say how many rows a truncated report has
 pub record IsDiffOf (words : DiffArgs) (old new output notes : List ℕ) (status : ℕ) : Type 0 where
   pub before : PartialReport
   pub before_is : IsReportRead words.partial old before
@@ -82,7 +82,7 @@ pub record IsDiffOf (words : DiffArgs) (old new output notes : List ℕ) (status
   pub diff : IsDiffOfReports (requested_comparison words.steps words.slower) before.report after.report output status
   pub noted : notes ≡ cut_off_note words.old.now before ++ cut_off_note words.new.now after
 
--- the output, notes and status for the files at the two paths in the arguments
+-- the output, notes and exit status of `diff` for the files at the paths in the arguments
 pub record IsDiffAt (known : Option FileContents) (words : DiffArgs) (output notes : List ℕ) (status : ℕ) : Type 0 where
   pub old : List ℕ
   pub old_read : IsTextAt known words.old.now old
@@ -90,7 +90,7 @@ pub record IsDiffAt (known : Option FileContents) (words : DiffArgs) (output not
   pub new_read : IsTextAt known words.new.now new
   pub diff : IsDiffOf words old new output notes status
 
--- the notes went to standard error, and then the output to standard output
+-- the notes of `diff` went to standard error, and then its output to standard output
 pub record IsDiffWritten (known : Option FileContents) (words : DiffArgs) (status : ℕ) (before after : CommandOutputs) : Type 0 where
   pub text : List ℕ
   pub notes : List ℕ
@@ -101,8 +101,7 @@ pub record IsDiffWritten (known : Option FileContents) (words : DiffArgs) (statu
 
 -- ---- check
 
--- the output and the status are those of a plan of the list's jobs, with all their files read from the store, and of the notes about paths
--- that were not read
+-- the output and exit status of `check` for a list without errors, with all files of its jobs read from the store
 pub record IsPlanCheckOf (known : Option FileContents) (root : Option (List ℕ)) (path bytes output : List ℕ) (status : ℕ)
     : Type 0 where
   pub plan : Planned
@@ -114,14 +113,14 @@ pub record IsPlanCheckOf (known : Option FileContents) (root : Option (List ℕ)
   pub text : output ≡ check_text path bytes root plan unread
   pub judged : status ≡ check_status (refused_job_count plan)
 
--- for each invalid job the output has one or more lines, each of which begins with the path, a line and a column of the text, and the job's
--- number and name, and the status is 2; for a list without errors, the output and status are those of its plan
+-- the output and exit status of `check` for a list with these errors: if there are any, the status is 2, and the output has at least one
+-- line for each invalid job, which begins with the list's path, a line and column, and the job's number and name
 abbrev pub IsCheckOf : Option FileContents → Option (List ℕ) → List JobError → List ℕ → List ℕ → List ℕ → ℕ → Type 0
 IsCheckOf known root [] path bytes output status = IsPlanCheckOf known root path bytes output status
 IsCheckOf known root (fault ∷ faults) path bytes output status =
     PutsEachFault (IsToldFault path bytes) (fault ∷ faults) [] output × (status ≡ 2)
 
--- the output and the status for the list at the path in the arguments
+-- the output and exit status of `check` for the list at the path in the arguments
 pub record IsCheckAt (known : Option FileContents) (words : CheckArgs) (output : List ℕ) (status : ℕ) : Type 0 where
   pub bytes : List ℕ
   pub read : IsTextAt known words.list.now bytes
@@ -130,8 +129,8 @@ pub record IsCheckAt (known : Option FileContents) (words : CheckArgs) (output :
 
 -- ---- explain
 
--- the text explains the row of the job at an index of the plan, with this many of its last instructions and with the findings about an
--- exhausted budget
+-- the text explains the row of the job at index `place` of the plan, with its `last` instructions and with the findings about an exhausted
+-- budget
 pub record IsTextExplaining (plan : Planned) (unread : List UnreadPath) (place last : ℕ) (text : List ℕ) : Type 0 where
   pub budget_use : Option BudgetUse
   pub found : (d : Job) → IsUseOfRow plan (slice_index_or plan.jobs place d)
@@ -139,7 +138,7 @@ pub record IsTextExplaining (plan : Planned) (unread : List UnreadPath) (place l
   pub told : (d : Job) → text ≡ explanation_text plan unread (judging_by_rule Strict) (slice_index_or plan.jobs place d)
       (row_of plan (slice_index_or plan.jobs place d)) (record { last = last; budget_use = budget_use })
 
--- the output and the status are those of the explanation of the job at this index, with the files that its row needs read from the store
+-- the output and exit status of `explain` for the job at index `place`, with the files that its row needs read from the store
 pub record IsJobExplained (known : Option FileContents) (jobs : List Job) (place last : ℕ) (output : List ℕ)
     (status : ℕ) : Type 0 where
   pub plan : Planned
@@ -152,11 +151,11 @@ pub record IsJobExplained (known : Option FileContents) (jobs : List Job) (place
   pub judged : (d : Job) → status ≡ passing_status
       (has_passed Strict (row_of plan (slice_index_or plan.jobs place d)))
 
--- the index of the first job of this name
+-- `place` is the index of the first job of this name
 abbrev pub IsFirstNamed : List Job → List ℕ → ℕ → Type 0
 IsFirstNamed jobs name place = position (λ (job : Job). bytes_eq job.name name) jobs ≡ Some place
 
--- the explanation of the first job named by the arguments in the list with this text, with all jobs of the list given the requested budget
+-- the output and exit status of `explain` for the list whose text is `bytes`, with the requested budget for all jobs
 pub record IsExplanationOf (known : Option FileContents) (words : ExplainArgs) (bytes output : List ℕ) (status : ℕ)
     : Type 0 where
   pub jobs : List Job
@@ -166,7 +165,7 @@ pub record IsExplanationOf (known : Option FileContents) (words : ExplainArgs) (
   pub explained : IsJobExplained (contents_below (optional_text words.root) known) (with_budget words.budget jobs) place
       words.last output status
 
--- the explanation for the list at the path in the arguments
+-- the output and exit status of `explain` for the list at the path in the arguments
 pub record IsExplanationAt (known : Option FileContents) (words : ExplainArgs) (output : List ℕ) (status : ℕ)
     : Type 0 where
   pub bytes : List ℕ

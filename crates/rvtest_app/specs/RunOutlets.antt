@@ -8,7 +8,8 @@ use Rattle.rvtest_app.specs.Outlets.{HasTaken, has_no_failure}
 use Rattle.rvtest_app.specs.declared.run_outlets.RunOutlets.{RunOutlets}
 
 module _ {P W : Type 0} where
-  -- they are for the requested paths; the report's has received this text so far, the others have received nothing, and no write failed
+  -- the outlets are for the paths in the arguments; the report's outlet has received this text so far, the others nothing, and no write
+  -- failed
   pub record HaveRunOutletsTaken (pending_path : P → List ℕ) (taken : W → Option (List ℕ)) (failed : W → ℕ)
       (placed : Option (List CommittedFile)) (words : RunArgs) (text : List ℕ) (outlets : RunOutlets P W) : Type 0 where
     pub report : HasTaken pending_path taken failed placed (run_report_path words) text outlets.report

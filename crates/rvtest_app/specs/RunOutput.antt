@@ -13,21 +13,20 @@ use Rattle.rv_report.specs.declared.row.Row.{Row}
 use Rattle.rv_report.specs.Report.{report_text}
 use Rattle.rv_stream.specs.Streams.{joined_row_texts}
 
--- what is reported for the rows of the first of a plan's jobs at some indices, then the summary line, which counts also the jobs without a
--- row
+-- what a run prints: the lines about each row, then the summary line, which counts the jobs without a row, too
 abbrev pub run_output_text : (ℕ → Row → List ℕ) → Judging → Planned → List ℕ → List Row → List ℕ
 run_output_text line judging plan places rows =
     joined_row_texts line places rows ++ run_totals_line judging plan places rows (length places - length rows)
 
--- 1 if some row counts as a failure, else 0
+-- the exit status for these rows: 1 if one of them is a failure, and otherwise 0
 abbrev pub rows_status : Judging → List Row → ℕ
 rows_status judging rows = if list_any (fails judging) rows then 1 else 0
 
--- the numbers of the jobs at some indices, counted from 1
+-- the numbers of the jobs at these indices, counted from 1
 abbrev pub job_numbers : List ℕ → List ℕ
 job_numbers places = map (λ place. place + 1) places
 
--- the text of the rows of some jobs of a list
+-- the report of the jobs at these indices, with these rows; the extent `jobs` says whether they are a shard, all jobs or chosen jobs
 abbrev pub part_text : Extent → List ℕ → List Row → List ℕ
 part_text jobs places rows = saved_text (record {
   extent = jobs;
@@ -35,18 +34,18 @@ part_text jobs places rows = saved_text (record {
   rows = rows;
 })
 
--- the report of a shard, if there is one; else the whole report if these are all jobs of the list, else the report of a choice
+-- the report of a shard, of all jobs, or else of chosen jobs; `jobs` is the number of jobs in the list
 abbrev pub chosen_report_text : ℕ → List ℕ → Option Shard → List Row → List ℕ
 chosen_report_text jobs places (Some shard) rows = part_text (extent.Shard shard) places rows
 chosen_report_text jobs places None rows =
     if length places == jobs then report_text rows
     else part_text (extent.Choice jobs) places rows
 
--- which jobs of a list these are: those of a shard, all, or some
+-- the extent of a report: a shard, all jobs of the list, or else chosen jobs; `jobs` is the number of jobs in the list
 abbrev pub chosen_extent : ℕ → List ℕ → Option Shard → Extent
 chosen_extent jobs places (Some shard) = extent.Shard shard
 chosen_extent jobs places None = if length places == jobs then extent.Whole else extent.Choice jobs
 
--- the last line, after the rows
+-- the last line of the report of these jobs, after its rows
 abbrev pub chosen_last_line : ℕ → List ℕ → Option Shard → List Row → List ℕ
 chosen_last_line jobs places shard rows = extent_line (chosen_extent jobs places shard) (length rows)

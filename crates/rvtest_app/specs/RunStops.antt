@@ -1,4 +1,4 @@
--- Why `run` stopped before its work was done.
+-- Why `run` stops early.
 use Rattle.std.specs.Prelude.{◌≡◌, ◌⊎◌, ℕ, Bool, List, IsSomeAnd, Option, Ok, false, is_some}
 use Rattle.rv_base.specs.Files.{FileContents}
 use Rattle.rv_choice.specs.ChoiceStops.{IsChoiceStop}
@@ -24,23 +24,23 @@ use Rattle.rvtest_app.specs.StackStops.{IsUnstackedStop}
 use Rattle.rvtest_app.specs.declared.run_output.ShowError.{ShowError}
 use Rattle.rvtest_app.specs.declared.run_output.ShowError.TheVariants as show
 
--- the shard is rejected; or no shard is requested, and the arguments choose no jobs
+-- the shard in the arguments is invalid; or there is none, and choosing the jobs stopped
 abbrev pub IsUnmarkedStop : Option FileContents → RunArgs → List Job → Stop → Type 0
 IsUnmarkedStop known words jobs why = IsShardStop words.shard words.stamp why
     ⊎ ((is_some words.shard ≡ false) × IsChoiceStop known words (failure_rule words.lenient) jobs why)
 
--- the text is not a list, the report in the arguments is not the whole report of its jobs, or no jobs are requested
+-- the text is not a list, the report of `--into` cannot be updated, or the requested jobs could not be found
 abbrev pub IsUnlistedStop : Option FileContents → RunArgs → List ℕ → Stop → Type 0
 IsUnlistedStop known words text why = IsListFaultStop words.list.now text why
     ⊎ ((jobs : List Job) × ((job_list_of text ≡ Ok jobs)
     × (IsIntoStop known words jobs why ⊎ IsUnmarkedStop known words jobs why)))
 
--- the list was not read, or the requested jobs were not found in it
+-- the list could not be read, or the requested jobs could not be found in it
 abbrev pub IsUnrequestedStop : Option FileContents → RunArgs → Stop → Type 0
 IsUnrequestedStop known words why = IsListUnreadStop known words.list.now why
     ⊎ ((text : List ℕ) × (IsTextAt known words.list.now text × IsUnlistedStop known words text why))
 
--- the requested jobs of the list were found, but the known failures among them could not be read from the given file
+-- the requested jobs were found, but the file of `--known` could not be used
 pub record IsUnknownStop (known : Option FileContents) (words : RunArgs) (why : Stop) : Type 0 where
   pub jobs : List Job
   pub marks : Option (List Bool)
@@ -50,29 +50,29 @@ pub record IsUnknownStop (known : Option FileContents) (words : RunArgs) (why : 
   pub args : AreRequestedJobs known words jobs marks shard old notes
   pub unknown : IsKnownStop known words jobs why
 
--- why a run that is shown stopped: the last error is that of the file at the path
+-- the stop for an error while a run is shown; `path` is that of the report
 abbrev pub IsShowStop : Option (List ℕ) → ShowError → Stop → Type 0
 IsShowStop path show.OutOfMemory why = why ≡ stop.OutOfMemory
 IsShowStop path show.NoWorker why = why ≡ stop.NoWorker
 IsShowStop path show.StreamFailed why = why ≡ stop.WriteFailed
 IsShowStop path show.ReportFailed why = IsSomeAnd path (λ path. IsUnwrittenStop path why)
 
--- the requested jobs were not run, or the results, the report or the JUnit file were not written
+-- no thread could be started, or the results, the report or the JUnit XML could not be written
 abbrev pub IsRowsPutStop : RunArgs → Stop → Type 0
 IsRowsPutStop words why = (why ≡ stop.NoWorker)
     ⊎ IsOutputStop (run_report_path words) (optional_text words.junit) why
 
--- the rows stopped this way, the table of counts was not written, or its requested stacks have no sum
+-- the rows or the table of counts could not be written, or the requested call stacks have no sum
 abbrev pub IsRunPutStop : RunArgs → Stop → Type 0
 IsRunPutStop words why = IsRowsPutStop words why
     ⊎ (IsFileStop (file_path_at (optional_text words.counts)) why ⊎ IsUnstackedStop words why)
 
--- jobs to run were found, and then the run stopped
+-- there are jobs to run, and then the run stopped
 abbrev pub IsUnfinishedStop : Option FileContents → RunArgs → Stop → Type 0
 IsUnfinishedStop known words why = AreJobsToRun known words × IsRunPutStop words why
 
--- `run`: a file would overwrite an input; the requested jobs were not found; they were, but the known failures were not read; or both were
--- found, and the run did not finish
+-- why `run` stopped: an output file would overwrite an input, the requested jobs or the known failures could not be found, or the run
+-- itself stopped
 abbrev pub IsRunStop : Option FileContents → RunArgs → Stop → Type 0
 IsRunStop known words why = IsRunOverwriteStop words why ⊎ (IsUnrequestedStop known words why
     ⊎ (IsUnknownStop known words why ⊎ IsUnfinishedStop known words why))

@@ -43,7 +43,7 @@ use Rattle.rvtest_app.specs.WrittenTexts.{IsWrittenAt}
 abbrev pub places_of_marks : List Bool → List ℕ
 places_of_marks marks = selected_indices marks (length marks)
 
--- the selection of the requested jobs, if any: those of a shard, else the chosen ones; and the notes about the choice
+-- `marks` selects the requested jobs, those of the shard or else the chosen ones; `notes` are the notes about the choice
 abbrev pub AreRequestedMarks : Option FileContents → Option Shard → RunArgs → List Job → Option (List Bool) → List ℕ
     → Type 0
 AreRequestedMarks known (Some shard) words jobs marks notes =
@@ -51,8 +51,8 @@ AreRequestedMarks known (Some shard) words jobs marks notes =
 AreRequestedMarks known None words jobs marks notes =
     IsChoice known words (failure_rule words.lenient) jobs marks notes
 
--- the jobs of the list at the path in the arguments, the selection of those that run, if any, their shard, the rows of the whole report
--- into which theirs are merged, if one is named, and the notes about the choice
+-- the list in the arguments has these jobs, of which `marks` selects those that run; `shard`, `old` and `notes` are the shard, the rows
+-- that the run updates, and the notes about the choice
 pub record AreRequestedJobs (known : Option FileContents) (words : RunArgs) (jobs : List Job)
     (marks : Option (List Bool)) (shard : Option Shard) (old : Option (List Row)) (notes : List ℕ) : Type 0 where
   pub bytes : List ℕ
@@ -63,7 +63,7 @@ pub record AreRequestedJobs (known : Option FileContents) (words : RunArgs) (job
   pub marked : AreRequestedMarks known shard words jobs marks notes
   pub into : AreOldRows known words jobs old
 
--- the requested jobs of the list were found, with the known failures among them, and some of them run
+-- the requested jobs and the known failures were found, and there are jobs to run
 pub record AreJobsToRun (known : Option FileContents) (words : RunArgs) : Type 0 where
   pub jobs : List Job
   pub marks : List Bool
@@ -74,8 +74,8 @@ pub record AreJobsToRun (known : Option FileContents) (words : RunArgs) : Type 0
   pub failures : Option KnownJobs
   pub known_to_fail : IsKnownAt known (optional_text words.known) jobs failures
 
--- a plan of the jobs, with the files that the rows at these indices need read from the store; there is one note for each path that cannot
--- be read
+-- `plan` is a plan of the jobs with the files that the rows at these indices need, read from the store; `unread` has one entry for each
+-- path that could not be read
 pub record IsPlanFor (known : Option FileContents) (jobs : List Job) (places : List ℕ) (plan : Planned)
     (unread : List UnreadPath) : Type 0 where
   pub listed : plan.jobs ≡ jobs
@@ -83,16 +83,16 @@ pub record IsPlanFor (known : Option FileContents) (jobs : List Job) (places : L
   pub kept : AreKept known plan.answers
   pub noted : length unread ≡ one_more_times 0 (unreadable_count plan.answers)
 
--- the JUnit document of the rows of the jobs at some indices, with the lines that are reported for the failed ones
+-- the JUnit document of the rows of the jobs at these indices, in which each failed row has its lines
 abbrev pub run_junit : RunArgs → RowReporter → List ℕ → List Row → List ℕ
 run_junit words reporter places rows = junit_text (suite_name (optional_text words.suite) words.list.now) reporter.judging
     (row_text_list (row_lines_at (record reporter { verbosity = Failures })) places rows) rows
 
--- how the rows of a run are counted, with the known failures, if there are any
+-- how the rows of a run are judged: by the rule in the arguments, and with the known failures
 abbrev pub run_judging : RunArgs → Option KnownJobs → Judging
 run_judging words failures = record { rule = failure_rule words.lenient; known = failures }
 
--- how the rows of a run are reported
+-- how the rows of a run are shown, by the arguments
 abbrev pub run_reporter : RunArgs → Option KnownJobs → Planned → List UnreadPath → RowReporter
 run_reporter words failures plan unread = record {
   plan = plan;
@@ -102,25 +102,25 @@ run_reporter words failures plan unread = record {
   last = words.last;
 }
 
--- the rows of a run over a plan: those of the jobs at some indices, up to the failure that stops it, if one does
+-- the rows of a run of the jobs at these indices, up to the failure that stops it, if one does
 abbrev pub run_rows : Option ℕ → Judging → Planned → List ℕ → List Row
 run_rows stop_after judging plan places = rows_up_to stop_after (fails judging) (rows_at plan places)
 
--- the indices of the jobs that have one of these rows
+-- the indices of the jobs that have one of these rows: the first ones, as many as there are rows
 abbrev pub shown_indices : List ℕ → List Row → List ℕ
 shown_indices places rows = take (length rows) places
 
--- the files of these rows that the arguments request
+-- the JUnit file of a run with these rows; none without a path
 abbrev pub junit_file : RunArgs → RowReporter → List ℕ → List Row → List CommittedFile
 junit_file words reporter places rows =
     file_at (optional_text words.junit) (run_junit words reporter (shown_indices places rows) rows)
 
+-- the report file of a run with these rows; none without a path
 abbrev pub report_file : RunArgs → RowReporter → List ℕ → Option Shard → Option (List Row) → List Row → List CommittedFile
 report_file words reporter places shard old rows = file_at (run_report_path words)
     (run_report_text old (length reporter.plan.jobs) (shown_indices places rows) shard rows)
 
--- a requested run wrote these rows, those of the first of the jobs at some indices: their lines with the totals, the report, and the JUnit
--- document
+-- a run of the jobs at these indices wrote its rows: the results, the report and the JUnit XML
 abbrev pub IsRunWritten : RunArgs → RowReporter → List ℕ → Option Shard → Option (List Row) → List Row → CommandOutputs → CommandOutputs → Type 0
 IsRunWritten words reporter places shard old rows before after =
     WentOutBeside (uses_run_stdout words) (run_report_path words) (optional_text words.junit)
@@ -128,32 +128,31 @@ IsRunWritten words reporter places shard old rows before after =
     (run_report_text old (length reporter.plan.jobs) (shown_indices places rows) shard rows)
     (run_junit words reporter (shown_indices places rows) rows) before after
 
--- the table of counts of the runs of the jobs at some indices, with their stacks if requested
+-- the table of counts of the runs of the jobs at these indices, with call stacks if the Bool is true
 abbrev pub IsCountsTable : Bool → Planned → List ℕ → CountTable → Type 0
 IsCountsTable false plan places table = IsTableOfPlaces plan places table
 IsCountsTable true plan places table = IsTableWithStacks plan places table
 
--- the text of this table
+-- the text is that of the table of counts of the jobs at these indices, with call stacks if `stacks` is true
 abbrev pub IsCountsText : Bool → Planned → List ℕ → List ℕ → Type 0
 IsCountsText stacks plan places text =
     (table : CountTable) × (IsCountsTable stacks plan places table × (text ≡ table_text table))
 
--- the text of this table was written to the path, if one is given
+-- the table of counts was written to the path, if one is given
 abbrev pub AreCountsWritten : Bool → Option (List ℕ) → Planned → List ℕ → CommandOutputs → CommandOutputs → Type 0
 AreCountsWritten stacks None plan places before after = IsWrittenAt None [] before after
 AreCountsWritten stacks (Some path) plan places before after =
     (text : List ℕ) × (IsCountsText stacks plan places text × IsWrittenAt (Some path) text before after)
 
--- the run wrote these rows, and then the table of its counts
+-- a run wrote its rows, and then its table of counts
 pub record IsCountedRunWritten (words : RunArgs) (reporter : RowReporter) (places : List ℕ) (shard : Option Shard) (old : Option (List Row))
     (rows : List Row) (before after : CommandOutputs) : Type 0 where
   pub middle : CommandOutputs
   pub put : IsRunWritten words reporter places shard old rows before middle
   pub counted : AreCountsWritten words.stacks (optional_text words.counts) reporter.plan (shown_indices places rows) middle after
 
--- with a plan of the jobs, all with the requested budget, the directory that paths are resolved against is reported if every image is
--- missing; and the rows of the jobs at these indices were written as requested: their lines with the totals, the report, and the JUnit
--- document; the status follows from these rows
+-- the jobs at these indices ran, with the requested budget: the note about missing images went to standard error, and then their rows and
+-- counts were written; the status follows from the rows
 pub record IsRunOfPlaces (known : Option FileContents) (words : RunArgs) (failures : Option KnownJobs) (jobs : List Job) (places : List ℕ)
     (shard : Option Shard) (old : Option (List Row)) (status : ℕ) (before after : CommandOutputs) : Type 0 where
   pub plan : Planned
@@ -167,15 +166,14 @@ pub record IsRunOfPlaces (known : Option FileContents) (words : RunArgs) (failur
   pub noted : IsOnlyErrorOutput (missing_images_note plan.jobs unread (length places) (optional_text words.root)) before middle
   pub put : IsCountedRunWritten words (run_reporter words failures plan unread) places shard old rows middle after
 
--- the run of the selected jobs; if none are selected, the status is 0 and nothing more is reported
+-- the selected jobs ran; without a selection, the status is 0 and nothing more is output
 abbrev pub IsRunOfMarked : Option FileContents → RunArgs → Option KnownJobs → List Job → Option (List Bool) → Option Shard
     → Option (List Row) → ℕ → CommandOutputs → CommandOutputs → Type 0
 IsRunOfMarked known words failures jobs None shard old status before after = (status ≡ 0) × (after ≡ before)
 IsRunOfMarked known words failures jobs (Some marks) shard old status before after =
     IsRunOfPlaces known words failures jobs (places_of_marks marks) shard old status before after
 
--- a run of the requested jobs, with the known failures of the given file: notes about the choice go to standard error, and then the jobs
--- run
+-- `run` wrote the notes about the choice to standard error, and then ran the requested jobs, with the known failures
 pub record IsRunAt (known : Option FileContents) (words : RunArgs) (status : ℕ) (before after : CommandOutputs) : Type 0 where
   pub jobs : List Job
   pub marks : Option (List Bool)
@@ -191,8 +189,7 @@ pub record IsRunAt (known : Option FileContents) (words : RunArgs) (status : ℕ
 
 -- ---- runs that an error ended
 
--- the files of the rows of a run that were committed when a later one was not: only the JUnit document or, if counts are requested, the
--- report too
+-- of a run's output files, only the JUnit XML was committed or, if counts are requested, only it and the report
 abbrev pub AreRunFilesPlacedInPart : RunArgs → RowReporter → List ℕ → Option Shard → Option (List Row) → List Row
     → Option (List CommittedFile) → Option (List CommittedFile) → Type 0
 AreRunFilesPlacedInPart words reporter places shard old rows before after =
@@ -200,7 +197,7 @@ AreRunFilesPlacedInPart words reporter places shard old rows before after =
     ⊎ ((is_some words.counts ≡ true) × AreFilesCommitted before after
     (Some (junit_file words reporter places rows ++ report_file words reporter places shard old rows)))
 
--- for a plan of the jobs, all with the requested budget, only these files of the rows at these indices were committed
+-- the jobs at these indices ran, and only a part of the output files was committed
 pub record IsRunInPart (known : Option FileContents) (words : RunArgs) (failures : Option KnownJobs) (jobs : List Job) (places : List ℕ)
     (shard : Option Shard) (old : Option (List Row)) (before after : Option (List CommittedFile)) : Type 0 where
   pub plan : Planned
@@ -211,18 +208,18 @@ pub record IsRunInPart (known : Option FileContents) (words : RunArgs) (failures
   pub shown : rows ≡ run_rows words.stop_after (run_judging words failures) plan places
   pub placed : AreRunFilesPlacedInPart words (run_reporter words failures plan unread) places shard old rows before after
 
--- no file was committed, or only these
+-- a run of the jobs at these indices that ended with an error committed no file, or only a part of its output files
 abbrev pub IsUndoneRunOfPlaces : Option FileContents → RunArgs → Option KnownJobs → List Job → List ℕ → Option Shard
     → Option (List Row) → Option (List CommittedFile) → Option (List CommittedFile) → Type 0
 IsUndoneRunOfPlaces known words failures jobs places shard old before after =
     (after ≡ before) ⊎ IsRunInPart known words failures jobs places shard old before after
 
--- of the requested jobs, only these files were committed
+-- the requested jobs were found, and only a part of the output files of their run was committed
 pub record IsRunInPartAt (known : Option FileContents) (words : RunArgs) (before after : Option (List CommittedFile))
     : Type 0 where
   pub found : AreJobsToRun known words
   pub alone : IsRunInPart known words found.failures found.jobs (places_of_marks found.marks) found.shard found.old before after
 
--- a run that ended with an error committed no file, or only these
+-- a run that ended with an error committed no file, or only a part of its output files
 abbrev pub IsUndoneRunAt : Option FileContents → RunArgs → Option (List CommittedFile) → Option (List CommittedFile) → Type 0
 IsUndoneRunAt known words before after = (after ≡ before) ⊎ IsRunInPartAt known words before after

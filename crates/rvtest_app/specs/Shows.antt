@@ -21,8 +21,7 @@ abbrev pub shown_junit : ShowArgs → List Row → List ℕ
 shown_junit words rows =
     failures_junit (suite_name (optional_text words.suite) words.report.now) (report_judging words.lenient) rows
 
--- for the report at the path in the arguments: if it is truncated, a note with its number of rows went to standard error; then the summary
--- was printed and, if requested, the JUnit document was written; the status follows from its rows
+-- `show` wrote the note about a truncated report to standard error, and then the summary and the JUnit XML of the report
 pub record IsShownAt (known : Option FileContents) (words : ShowArgs) (status : ℕ) (before after : CommandOutputs)
     : Type 0 where
   pub found : PartialReport
@@ -34,12 +33,12 @@ pub record IsShownAt (known : Option FileContents) (words : ShowArgs) (status : 
       (report_text found.report.rows) (shown_junit words found.report.rows)
       middle after
 
--- only the JUnit document of these rows was committed
+-- of the output files of `show`, the JUnit document was committed
 pub record IsShownJunit (known : Option FileContents) (words : ShowArgs) (before after : Option (List CommittedFile)) : Type 0 where
   pub found : PartialReport
   pub read : IsReportReadAt known words.partial words.report.now found
   pub placed : AreFilesCommitted before after (Some (file_at (optional_text words.junit) (shown_junit words found.report.rows)))
 
--- an error left no committed file, or only the JUnit document
+-- a `show` that ended with an error committed no file, or only the JUnit document
 abbrev pub IsUndoneShowAt : Option FileContents → ShowArgs → Option (List CommittedFile) → Option (List CommittedFile) → Type 0
 IsUndoneShowAt known words before after = (after ≡ before) ⊎ IsShownJunit known words before after

@@ -1,4 +1,4 @@
--- Why `cover` or `profile` stopped before its work was done.
+-- Why `cover` or `profile` stops early.
 use Rattle.std.specs.Prelude.{◌≡◌, ◌⊎◌, ◌++◌, ℕ, Bool, false, List, Option, Some, None, codes, unwrap_or}
 use Rattle.rv_base.specs.Files.{FileContents}
 use Rattle.rvtest_cli.specs.declared.run.RunArgs.{RunArgs}
@@ -29,49 +29,50 @@ use Rattle.rvtest_app.specs.Views.{IsTableFor, has_counts_for}
 use Rattle.rvtest_app.specs.declared.view.View.{View}
 use Rattle.rvtest_app.specs.declared.view.View.TheVariants as view
 
--- ---- no table at a path
+-- ---- a table that cannot be used
 
--- the table at the path has no counts of the image at the other path, but of one that was there earlier
+-- the message that the table at `table` has counts of another image than the one that is now at `path`
 abbrev pub other_image_message : List ℕ → List ℕ → List ℕ
 other_image_message table path = codes "rvtest: " ++ printable_text table ++ codes ": " ++ printable_text path
     ++ codes ": counted with a different image than the selected jobs use\n"
 
--- the table at the path has counts of an image other than these
+-- the stop reports that the table at the path has counts of an image other than these, or that memory ran out
 abbrev pub IsOtherImageStop : Option FileContents → List ℕ → List FileImage → Stop → Type 0
 IsOtherImageStop known path images why = (table : CountTable) × (IsTableAt known path table
     × ((other : List ℕ) × ((other_image table images ≡ Some other) × IsStop 2 (other_image_message path other) why)))
 
--- the table at the path was not read, its text is not a table, or it has counts of another image
+-- the table at the path could not be read, is invalid, or has counts of an image other than these
 abbrev pub IsNoTableStop : Option FileContents → List ℕ → List FileImage → Stop → Type 0
 IsNoTableStop known path images why = IsResultUnreadStop known path why
     ⊎ (((text : List ℕ) × (IsTextAt known path text × IsTableFaultStop path text why))
     ⊎ IsOtherImageStop known path images why)
 
+-- the message that the table has no call stacks, and how to write one that has
 abbrev pub no_stacks_message : List ℕ → List ℕ
 no_stacks_message table = path_message table (codes "the table has no stacks: write one with rvtest run LIST --counts FILE --stacks")
 
--- the table at the path lacks the counts that are to be shown
+-- the stop reports that the table at the path has no call stacks, which the view needs, or that memory ran out
 abbrev pub IsStacklessStop : Option FileContents → View → List ℕ → Stop → Type 0
 IsStacklessStop known shown path why = (table : CountTable) × (IsTableAt known path table
     × ((has_counts_for shown table ≡ false) × IsStop 2 (no_stacks_message path) why))
 
--- the table does not fit these images, or it lacks the counts that are to be shown
+-- the table at the path cannot be used for these images, or it has no call stacks, which the view needs
 abbrev pub IsUnfitTableStop : Option FileContents → View → List ℕ → List FileImage → Stop → Type 0
 IsUnfitTableStop known shown path images why = IsNoTableStop known path images why ⊎ IsStacklessStop known shown path why
 
--- ---- no table of a run
+-- ---- runs that cannot be counted
 
--- the runs of the jobs at these indices have no table with stacks, which is reported for a path
+-- the call stacks of the jobs at these indices cannot be summed up, which is reported for the path
 abbrev pub IsUnstackedJobsStop : Planned → List ℕ → List ℕ → Stop → Type 0
 IsUnstackedJobsStop plan places path why =
     (error : SumError) × (HaveNoTableWithStacks plan places error × IsSumErrorStop path error why)
 
--- out of memory while counting the runs, or their stacks have no sum
+-- the runs of the jobs at these indices could not be counted: memory ran out, or the call stacks of a profile cannot be summed up
 abbrev pub IsUncountedStop : View → Planned → List ℕ → List ℕ → Stop → Type 0
 IsUncountedStop (view.Cover csv) plan places path why = why ≡ stop.OutOfMemory
 IsUncountedStop (view.Profile format) plan places path why = IsUnstackedJobsStop plan places path why
 
--- there is no table: neither of a run of the jobs at these indices nor at the path
+-- there is no table for the view: the one at the path cannot be used, or without a path, the runs could not be counted
 abbrev pub IsUntabledStop : Option FileContents → RunArgs → View → Option (List ℕ) → Planned → List ℕ → Stop → Type 0
 IsUntabledStop known words shown None plan places why = IsUncountedStop shown plan places words.list.now why
 IsUntabledStop known words shown (Some path) plan places why =
@@ -79,26 +80,26 @@ IsUntabledStop known words shown (Some path) plan places why =
 
 -- ---- too many steps
 
--- the table in the arguments, else the list
+-- the path that a message about counts names: that of the table, or else that of the list
 abbrev pub counts_source : RunArgs → List ℕ
 counts_source words = unwrap_or (optional_text words.counts) words.list.now
 
--- the message names the table or list, and the path of the image
+-- the message that the sum of an image's call stacks does not fit in 64 bits
 abbrev pub past_64_bits_message : List ℕ → List ℕ → List ℕ
 past_64_bits_message source path = codes "rvtest: " ++ printable_text source ++ codes ": " ++ printable_text path
     ++ codes ": the sum of its stacks does not fit in 64 bits\n"
 
--- an image's stacks have 2^64 or more steps or calls
+-- the stop reports that the call stacks of an image have 2^64 or more steps or calls, or that memory ran out
 abbrev pub IsPast64BitsStop : CountTable → List FileImage → List ℕ → Stop → Type 0
 IsPast64BitsStop table images source why = (path : List ℕ)
     × ((image_past_64_bits table images ≡ Some path) × IsStop 2 (past_64_bits_message source path) why)
 
--- out of memory; or, in a profile, there are too many steps or calls
+-- the view of this table cannot be written: memory ran out, or a profile has too many steps or calls
 abbrev pub IsTextlessStop : View → CountTable → List FileImage → List ℕ → Stop → Type 0
 IsTextlessStop (view.Cover csv) table images source why = why ≡ stop.OutOfMemory
 IsTextlessStop (view.Profile format) table images source why = (why ≡ stop.OutOfMemory) ⊎ IsPast64BitsStop table images source why
 
--- the view of the images of the jobs at these indices has no text
+-- there is a table for the jobs at these indices, but its view cannot be written: memory ran out, or a profile has too many steps or calls
 abbrev pub IsTextlessTableStop : Option FileContents → RunArgs → View → Planned → List ℕ → Stop → Type 0
 IsTextlessTableStop known words shown plan places why = (table : CountTable)
     × (IsTableFor known shown (optional_text words.counts) plan places table
@@ -106,13 +107,13 @@ IsTextlessTableStop known words shown plan places why = (table : CountTable)
 
 -- ---- the command
 
--- out of memory, no table, or no text for one
+-- memory ran out, there is no table for the view, or there is one, but its view cannot be written
 abbrev pub IsUnshownStop : Option FileContents → RunArgs → View → Planned → List ℕ → Stop → Type 0
 IsUnshownStop known words shown plan places why = (why ≡ stop.OutOfMemory)
     ⊎ (IsUntabledStop known words shown (optional_text words.counts) plan places why
     ⊎ IsTextlessTableStop known words shown plan places why)
 
--- the view could not be made, for a plan of the jobs
+-- the view could not be made for a plan of the jobs at these indices
 pub record IsUnshownOfPlaces (known : Option FileContents) (words : RunArgs) (shown : View) (jobs : List Job) (places : List ℕ)
     (why : Stop) : Type 0 where
   pub plan : Planned
@@ -120,12 +121,12 @@ pub record IsUnshownOfPlaces (known : Option FileContents) (words : RunArgs) (sh
   pub planned : IsPlanFor (contents_below (optional_text words.root) known) jobs places plan unread
   pub unshown : IsUnshownStop known words shown plan places why
 
--- the view could not be made, memory ran out, or the text was not written
+-- memory ran out, a write to standard output failed, or the view of the jobs at these indices could not be made
 abbrev pub IsUnviewedStop : Option FileContents → RunArgs → View → List Job → List ℕ → Stop → Type 0
 IsUnviewedStop known words shown jobs places why = (why ≡ stop.OutOfMemory)
     ⊎ ((why ≡ stop.WriteFailed) ⊎ IsUnshownOfPlaces known words shown jobs places why)
 
--- the requested jobs were found, and then their view stopped
+-- the requested jobs were found, but their view was not written
 pub record IsUnviewedAtStop (known : Option FileContents) (words : RunArgs) (shown : View) (why : Stop) : Type 0 where
   pub jobs : List Job
   pub marks : List Bool
@@ -135,6 +136,6 @@ pub record IsUnviewedAtStop (known : Option FileContents) (words : RunArgs) (sho
   pub args : AreRequestedJobs known words jobs (Some marks) shard old notes
   pub unviewed : IsUnviewedStop known words shown jobs (places_of_marks marks) why
 
--- the requested jobs were not found, or they were and the view of their images was not written
+-- the requested jobs could not be found, or their view was not written
 abbrev pub IsViewStop : Option FileContents → RunArgs → View → Stop → Type 0
 IsViewStop known words shown why = IsUnrequestedStop known words why ⊎ IsUnviewedAtStop known words shown why

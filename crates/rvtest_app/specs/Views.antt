@@ -24,38 +24,38 @@ use Rattle.rvtest_app.specs.CommandOutputs.{IsOnlyStandardOutput, IsOnlyErrorOut
 use Rattle.rvtest_app.specs.declared.view.View.{View}
 use Rattle.rvtest_app.specs.declared.view.View.TheVariants as view
 
--- ---- what a view takes and shows
+-- ---- the counts and the text of a view
 
--- a run of the jobs at these indices yields the table: of their counts, or of their counts and stacks
+-- the table is that of a run of the jobs at these indices: of their counts for coverage, with call stacks for a profile
 abbrev pub IsCountedFor : View → Planned → List ℕ → CountTable → Type 0
 IsCountedFor (view.Cover csv) plan places table = IsTableOfPlaces plan places table
 IsCountedFor (view.Profile format) plan places table = IsTableWithStacks plan places table
 
--- any table has counts for coverage; only a table with stacks has counts for a profile
+-- whether the table has the counts that the view needs: a profile needs call stacks
 abbrev pub has_counts_for : View → CountTable → Bool
 has_counts_for (view.Cover csv) table = true
 has_counts_for (view.Profile format) table = has_stacks table
 
--- the text is the view of the images that the table gives
+-- the text is the view of these images by the table: their coverage or their profile
 abbrev pub IsViewText : View → CountTable → List FileImage → List ℕ → Type 0
 IsViewText (view.Cover csv) table images text = IsCoverText csv table images text
 IsViewText (view.Profile format) table images text = IsProfileText format table images text
 
--- ---- what is shown
+-- ---- the table for a view
 
--- the table at the path has the counts to be shown, and no counts of images other than these at their paths
+-- the table at the path has the counts that the view needs, and only counts of these images
 pub record IsFitTableAt (known : Option FileContents) (shown : View) (path : List ℕ) (images : List FileImage) (table : CountTable)
     : Type 0 where
   pub at : IsTableAt known path table
   pub of_images : other_image table images ≡ None
   pub fit : has_counts_for shown table ≡ true
 
--- the table is that of a run of the jobs at these indices, or the one at the path
+-- the table for the view: the one at the path, or without a path, that of a run of the jobs at these indices
 abbrev pub IsTableFor : Option FileContents → View → Option (List ℕ) → Planned → List ℕ → CountTable → Type 0
 IsTableFor known shown None plan places table = IsCountedFor shown plan places table
 IsTableFor known shown (Some path) plan places table = IsFitTableAt known shown path (images_of plan.answers (jobs_at plan places)) table
 
--- the text is the view of the images of the jobs at these indices of a plan
+-- the text is the view of the images of the jobs at these indices of the plan
 abbrev pub IsViewOfPlan : Option FileContents → RunArgs → View → Planned → List ℕ → List ℕ → Type 0
 IsViewOfPlan known words shown plan places text = (table : CountTable)
     × (IsTableFor known shown (optional_text words.counts) plan places table
@@ -63,7 +63,7 @@ IsViewOfPlan known words shown plan places text = (table : CountTable)
 
 -- ---- the command
 
--- for a plan of the jobs at these indices the notes were reported, and then the view was written
+-- the notes about missing images and refused jobs went to standard error, and then the view of the jobs at these indices was written
 pub record IsViewOfPlaces (known : Option FileContents) (words : RunArgs) (shown : View) (jobs : List Job) (places : List ℕ)
     (before after : CommandOutputs) : Type 0 where
   pub plan : Planned
@@ -75,13 +75,13 @@ pub record IsViewOfPlaces (known : Option FileContents) (words : RunArgs) (shown
   pub of_plan : IsViewOfPlan known words shown plan places text
   pub put : IsOnlyStandardOutput text middle after
 
--- the view of the selected jobs; if there are none, nothing is written
+-- the view of the selected jobs was written; without a selection, nothing is written
 abbrev pub IsViewOfMarked : Option FileContents → RunArgs → View → List Job → Option (List Bool) → CommandOutputs → CommandOutputs → Type 0
 IsViewOfMarked known words shown jobs None before after = after ≡ before
 IsViewOfMarked known words shown jobs (Some marks) before after =
     IsViewOfPlaces known words shown jobs (places_of_marks marks) before after
 
--- notes about the choice went to standard error, and then the view of the requested jobs' images was written; the status is 0
+-- the notes about the choice went to standard error, and then the view of the requested jobs was written; the status is 0
 pub record IsViewWritten (known : Option FileContents) (words : RunArgs) (shown : View) (status : ℕ) (before after : CommandOutputs) : Type 0 where
   pub jobs : List Job
   pub marks : Option (List Bool)

@@ -13,50 +13,52 @@ use Rattle.rvtest_app.specs.Outlets.{file_path_at}
 
 -- ---- texts
 
--- why a text was not written to standard output
+-- the stop for a text that could not be written to standard output
 abbrev pub stop_of_write_error : WriteError → Stop
 stop_of_write_error write.OutOfMemory = stop.OutOfMemory
 stop_of_write_error write.Failed = stop.WriteFailed
 
--- out of memory, or the system did not accept all that was written to the file for the path, for this reason
+-- the stop reports that writing the file for the path failed for this reason, or that memory ran out
 abbrev pub IsWriteStop : List ℕ → ErrorKind → Stop → Type 0
 IsWriteStop path reason why = IsStop 3 (path_message path (write_error_text reason)) why
 
+-- the stop reports that writing the file for the path failed, or that memory ran out
 abbrev pub IsUnwrittenStop : List ℕ → Stop → Type 0
 IsUnwrittenStop path why = (reason : ErrorKind) × IsWriteStop path reason why
 
--- why a text was not written to the file for the path
+-- the stop for an error in writing the file for the path
 abbrev pub IsWriteErrorStop : List ℕ → WriteError → Stop → Type 0
 IsWriteErrorStop path write.OutOfMemory why = why ≡ stop.OutOfMemory
 IsWriteErrorStop path write.Failed why = IsUnwrittenStop path why
 
--- why a text was not written to the file for the path, or to standard output if there is no file
+-- the text could not be written to the file for the path, or to standard output if there is no path
 abbrev pub IsTextStop : Option (List ℕ) → Stop → Type 0
 IsTextStop None why = (why ≡ stop.OutOfMemory) ⊎ (why ≡ stop.WriteFailed)
 IsTextStop (Some path) why = IsUnwrittenStop path why
 
 -- ---- files
 
--- the file for the path was not opened
+-- the stop for some error in opening the file for the path
 abbrev pub IsUnopenedStop : List ℕ → Stop → Type 0
 IsUnopenedStop path why = (error : FileError) × IsFileErrorStop path error why
 
--- the file for the path, if there is one, was not synced to disk or not moved to its path
+-- there is a path, and its file could not be synced to disk or not be moved to the path
 abbrev pub IsUnplacedStop : Option (List ℕ) → Stop → Type 0
 IsUnplacedStop path why = IsSomeAnd path (λ path. (reason : ErrorKind) × IsSystemStop path reason why)
 
--- the file for the path, if there is one, was not opened, not written, or not moved to its path
+-- there is a path, and its file could not be opened, written, or moved to the path
 abbrev pub IsFileStop : Option (List ℕ) → Stop → Type 0
 IsFileStop path why = IsSomeAnd path (λ path. IsUnopenedStop path why ⊎ IsUnwrittenStop path why)
 
--- one of two files was not opened, not written, or not moved to its path
+-- one of the two files could not be opened, written, or moved to its path
 abbrev pub IsEitherFileStop : Option (List ℕ) → Option (List ℕ) → Stop → Type 0
 IsEitherFileStop report junit why = IsFileStop report why ⊎ IsFileStop junit why
 
--- out of memory, a failed write to a standard stream, or one of two files that was not created
+-- memory ran out, a write to a standard stream failed, or one of the two files could not be created
 abbrev pub IsPutStop : Option (List ℕ) → Option (List ℕ) → Stop → Type 0
 IsPutStop report junit why = (why ≡ stop.OutOfMemory) ⊎ ((why ≡ stop.WriteFailed) ⊎ IsEitherFileStop report junit why)
 
--- the output stop for the paths in the arguments, each of which may represent standard output
+-- memory ran out, a write to a standard stream failed, or the file of one of the two paths could not be created; a path may be standard
+-- output
 abbrev pub IsOutputStop : Option (List ℕ) → Option (List ℕ) → Stop → Type 0
 IsOutputStop report_path junit_path why = IsPutStop (file_path_at report_path) (file_path_at junit_path) why

@@ -7,22 +7,23 @@ use Rattle.rvtest_app.specs.AcceptStops.{IsFileNotCreatedStop}
 use Rattle.rvtest_app.specs.Outlets.{AreFilesCommitted, file_at, is_stdout, stdout_at}
 use Rattle.rvtest_app.specs.CommandOutputs.{CommandOutputs}
 
--- the given path, or the one that represents standard output
+-- the path, or `-` for standard output if there is none
 abbrev pub written_path : Option (List ℕ) → List ℕ
 written_path (Some path) = path
 written_path None = codes "-"
 
--- the text was written to the file at the path or to standard output, and nothing else was output; without a path it was not written
+-- the text was written to the file at the path or to standard output, and nothing else was output; without a path nothing was written
 pub record IsWrittenAt (path : Option (List ℕ)) (text : List ℕ) (before after : CommandOutputs) : Type 0 where
   pub out : Appends before.out after.out (stdout_at path text)
   pub errors : after.errors ≡ before.errors
   pub failures : after.failures ≡ before.failures
   pub placed : AreFilesCommitted before.placed after.placed (Some (file_at path text))
 
--- why the text was not written
+-- a write to standard output failed if the Bool is true; otherwise the file for the path could not be created
 abbrev pub IsUnwrittenBy : Bool → List ℕ → Stop → Type 0
 IsUnwrittenBy true path why = why ≡ stop.WriteFailed
 IsUnwrittenBy false path why = IsFileNotCreatedStop path why
 
+-- the text could not be written to the file at the path, or to standard output if the path is `-`
 abbrev pub IsUnwrittenAtStop : List ℕ → Stop → Type 0
 IsUnwrittenAtStop path why = IsUnwrittenBy (is_stdout path) path why

@@ -51,7 +51,7 @@ use std::alloc::{AllocError, Global};
 use std::sync::Wait;
 use std::thread::Threads;
 
-// The list at the path in the arguments, and the jobs that they choose.
+// The list at the path in the arguments, and the selection of the chosen jobs.
 #[derive(Drop)]
 struct ChosenList {
     text: Vec<u8>,
@@ -71,7 +71,7 @@ struct BareJobs {
     ghost counted: { length marks.items ≡ length jobs },
 }
 
-// The outcomes of the jobs that ran.
+// What the runs of the jobs change: the texts for golden files, the golden files, and the new list.
 #[derive(Drop)]
 struct Outcomes {
     claims: Vec<GoldenText>,
@@ -79,8 +79,8 @@ struct Outcomes {
     new: NewList,
 }
 
-/// Runs jobs without their expectations, reports what changes if their actual results become the expected ones and, unless this is a check,
-/// writes it. The status is 1 if a job or a file is rejected and, in a check, also if a file would change.
+/// Runs jobs without their expectations, reports what changes if their actual results become the expected ones, and writes it unless
+/// `--check` is given. The status is 1 if a job or file is skipped, or with `--check`, if a file would change; otherwise it is 0.
 pub(crate) fn accept_runs<
     R: Threads + Wait + Sync,
     D: Inputs,
@@ -105,7 +105,7 @@ pub(crate) fn accept_runs<
     }
 }
 
-// Accepts the chosen jobs.
+// Runs the jobs that `accept` needs for the chosen ones, and accepts the results of the chosen ones. Returns the exit status.
 fn accept_chosen<
     R: Threads + Wait + Sync,
     D: Inputs,
@@ -143,7 +143,7 @@ fn accept_chosen<
     put_accepted(host, args, &list, &outcomes, to)
 }
 
-// Returns the jobs to run, once it is certain that no file overwrites another input.
+// Returns the jobs to run, after checking that no written file would overwrite an input.
 fn guarded_jobs<R, D, F: Outputs + Drop, O: Sink + Drop, E: Sink + Drop>(
     host: &Host<'_, R, D>,
     args: &AcceptArgs<'_>,
@@ -170,7 +170,7 @@ fn guarded_jobs<R, D, F: Outputs + Drop, O: Sink + Drop, E: Sink + Drop>(
     Ok(marked)
 }
 
-// Judges the runs of the jobs, some of which are chosen, by the rows of those that ran.
+// Returns the runs of the jobs, each accepted or skipped by the verdict on its row; `None` for a job that did not run.
 fn judge_rows<R, D: Inputs>(
     host: &Host<'_, R, D>,
     args: &AcceptArgs<'_>,
@@ -192,6 +192,7 @@ fn judge_rows<R, D: Inputs>(
     judged_runs(host.alloc, acceptance, jobs, candidates.as_slice(), rows)
 }
 
+// Returns which ends are accepted: with `--ends`, also a different exit code or kind of fault.
 fn acceptance_of(ends: bool) -> Acceptance
     ensures { result ≡ acceptance_of ends }
 {
@@ -232,7 +233,7 @@ fn chosen_list<R, D: Inputs>(
     })
 }
 
-// Returns the jobs of a list without their expectations, with the selection of those that run for the chosen ones.
+// Returns the jobs of a list without their expectations, with the selection of those that run.
 fn marked_jobs(
     alloc: Global,
     args: &AcceptArgs<'_>,
@@ -252,7 +253,7 @@ fn marked_jobs(
     Ok(BareJobs { jobs, marks })
 }
 
-// Runs the selected jobs and returns their rows, each at the index of its job.
+// Runs the selected jobs, and returns their rows, each at the index of its job.
 fn run_marked<
     R: Threads + Wait + Sync,
     D: Inputs,
@@ -287,6 +288,7 @@ fn run_marked<
     }
 }
 
+// Converts an error of the run engine.
 fn stop_of_run(error: RunError) -> Stop
     ensures { (result ≡ Stop.OutOfMemory) ⊎ (result ≡ Stop.NoWorker) }
 {
@@ -296,7 +298,7 @@ fn stop_of_run(error: RunError) -> Stop
     }
 }
 
-// Returns what changes if the runs are accepted, with the current contents of the files that would be written.
+// Returns what changes if the runs are accepted, with the current contents of the golden files.
 fn outcomes_of_runs<R, D: Inputs>(
     host: &Host<'_, R, D>,
     args: &AcceptArgs<'_>,
@@ -326,7 +328,7 @@ fn outcomes_of_runs<R, D: Inputs>(
     Ok(Outcomes { claims, files, new })
 }
 
-// Reports what changes, and writes it.
+// Reports what changes, and writes it unless `--check` is given. Returns the exit status.
 fn put_accepted<'x, R, D: Inputs, F: Outputs + Drop, O: Sink + Drop, E: Sink + Drop>(
     host: &Host<'_, R, D>,
     args: &AcceptArgs<'_>,
@@ -361,6 +363,7 @@ fn put_accepted<'x, R, D: Inputs, F: Outputs + Drop, O: Sink + Drop, E: Sink + D
     Ok(accept_status(accepting.left_count(), 0))
 }
 
+// Writes the lines about jobs and golden files to standard output.
 fn put_lines<O: Sink>(alloc: Global, accepting: &AcceptSummary<'_>, out: &mut O) -> Result<(), Stop>
     ensures put { OnOk result (Appends (O.taken out.old) (O.taken out.new) (told_lines accepting.now)) }
     ensures stopped { IfErr result (λ why. (why ≡ Stop.OutOfMemory) ⊎ (why ≡ Stop.WriteFailed)) }
@@ -370,6 +373,7 @@ fn put_lines<O: Sink>(alloc: Global, accepting: &AcceptSummary<'_>, out: &mut O)
     put_results(out, lines.as_slice())
 }
 
+// Writes the summary line to standard output.
 fn put_count<O: Sink>(
     alloc: Global,
     accepting: &AcceptSummary<'_>,
@@ -385,7 +389,7 @@ fn put_count<O: Sink>(
     put_results(out, line.as_slice())
 }
 
-// Returns the status, given how many jobs and files are rejected and how many files would change.
+// Returns the exit status: 0 if no job or file was skipped (`left`) and no file would change, otherwise 1.
 fn accept_status(left: usize, changed: usize) -> u8
     ensures value { result ≡ accept_status left changed }
     ensures low { result ≤ 1 }

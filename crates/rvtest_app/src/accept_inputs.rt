@@ -22,19 +22,19 @@ use rvtest_cli::AcceptArgs;
 use std::alloc::{AllocError, Global};
 use std::path::Path;
 
-// The inputs of `accept`.
+// The inputs of `accept`: its list, the files that it must not write, and the golden files of all jobs.
 #[derive(Drop)]
 struct AcceptReads<'a> {
     list: ReadFiles<'a>,
-    // The report whose failed jobs are chosen, and the images.
+    // The report of `--failed`, and the images of all jobs.
     inputs: ReadFiles<'a>,
     // The golden files of all jobs.
     golden: ReadFiles<'a>,
 }
 
-/// Rejects the list and the golden files of the jobs that run if writing one would replace or remove another input of the command, if two
-/// paths lead to one of them, if one cannot be written, or if one is outside of the list's directory. Returns the notes about those
-/// outside, if writing them is allowed.
+/// Rejects the list or a golden file of a selected job if writing it would overwrite another input, if two golden files have different
+/// paths that lead to one file, or if it is outside of the directory and `--outside` is not given. Otherwise returns the warnings about
+/// golden files outside of the directory.
 pub(crate) fn refuse_accept_overwrites<F: Outputs>(
     files: &F,
     alloc: Global,
@@ -55,6 +55,7 @@ pub(crate) fn refuse_accept_overwrites<F: Outputs>(
     outside_notes(files, alloc, args, golden.as_slice())
 }
 
+// Returns the inputs of `accept`, with the identity of each file.
 fn look_up_reads<'a, F: Outputs>(
     files: &F,
     alloc: Global,
@@ -74,6 +75,7 @@ fn look_up_reads<'a, F: Outputs>(
     })
 }
 
+// Returns the files besides the list that `accept` must not write: the report of `--failed`, and the images of all jobs.
 fn inputs_of_accept<'a>(
     alloc: Global,
     args: &AcceptArgs<'_>,
@@ -126,7 +128,7 @@ fn push_golden_of_marked<'a>(
     }
 }
 
-// Rejects the list if it would overwrite an input or a golden file.
+// Returns an error if writing the list would overwrite an input or a golden file.
 fn refuse_list_overwrite<F: Outputs>(
     files: &F,
     alloc: Global,
@@ -141,7 +143,7 @@ fn refuse_list_overwrite<F: Outputs>(
     refuse_file(files, alloc, "the updated list", list, &reads.golden)
 }
 
-// Rejects golden files that would overwrite the list, an input, or a golden file with another path.
+// Returns an error if writing a golden file would overwrite the list, an input, or a golden file with another path.
 fn refuse_golden_files<F: Outputs>(
     files: &F,
     alloc: Global,
@@ -185,7 +187,7 @@ fn refuse_golden_file<F: Outputs>(
     refuse_first(alloc, golden, &reads.golden, other)
 }
 
-// Returns the index of the first file that is one of `files` and has another path than `path`.
+// Returns the index of the first input that is one of `files` and has another path than `path`, if there is one.
 fn first_of_another_path(read: &ReadFiles<'_>, files: &[Text], path: &str) -> Option<usize>
     ensures { IfSome result (λ at. at < length read.now.paths.items) }
 {
@@ -197,7 +199,7 @@ fn first_of_another_path(read: &ReadFiles<'_>, files: &[Text], path: &str) -> Op
     None
 }
 
-// Rejects a golden file that would overwrite the input at an index, if there is one.
+// Returns an error if there is an input at index `first` that the golden file would overwrite.
 fn refuse_first(
     alloc: Global,
     golden: &ReadPath<'_>,
@@ -223,6 +225,7 @@ fn golden_overwrite_stop(alloc: Global, golden: &ReadPath<'_>, read: &ReadPath<'
     }
 }
 
+// Returns the words for an output file: its option, or the job and the key that name it.
 fn writer_text(alloc: Global, role: ReadRole<'_>) -> Result<String, AllocError>
     ensures { IfOk result (λ text. string_bytes text ≡ writer_text role.entry) }
 {
@@ -232,6 +235,7 @@ fn writer_text(alloc: Global, role: ReadRole<'_>) -> Result<String, AllocError>
     }
 }
 
+// Returns the words for an output file that a job names: the job's name and its key.
 fn job_writer_text(alloc: Global, key: &str, job: &str) -> Result<String, AllocError>
     ensures { IfOk result (λ text. string_bytes text ≡ job_writer_text key.now job.now) }
 {
@@ -249,7 +253,7 @@ struct Bounds<'a> {
     is_outside_allowed: bool,
 }
 
-// Returns the notes about golden files outside of the list's directory, or outside of the root.
+// Returns the warnings about golden files outside of the `--root` directory, or without one, of the list's directory.
 fn outside_notes<F: Outputs>(
     files: &F,
     alloc: Global,
@@ -271,6 +275,7 @@ fn outside_notes<F: Outputs>(
     Ok(notes)
 }
 
+// Returns the directory of a path; `.` if the path has none.
 fn directory_of(path: &str) -> &str {
     match Path::new(path).parent() {
         Some(parent) if !parent.as_str().is_empty() => parent.as_str(),
@@ -297,7 +302,7 @@ fn push_outside_notes<F: Outputs>(
     }
 }
 
-// Rejects a golden file outside of the directory or, if writing there is allowed, notes it.
+// Rejects a golden file outside of the directory, or appends a warning if writing there is allowed.
 fn check_bounds<F: Outputs>(
     files: &F,
     alloc: Global,
@@ -325,6 +330,7 @@ fn outside_stop(alloc: Global, directory: &str, golden: &ReadPath<'_>) -> Stop
     Stop::of_refusal(outside_message(alloc, directory, golden))
 }
 
+// Returns the error that a golden file is outside of the directory, which `--outside` allows.
 fn outside_message(
     alloc: Global,
     directory: &str,
@@ -339,6 +345,7 @@ fn outside_message(
     Ok(text)
 }
 
+// Appends that a golden file is outside of the directory: `head`, the words for the file, its path, and the directory.
 fn push_outside_text(
     alloc: Global,
     text: &mut Vec<u8>,
@@ -355,12 +362,14 @@ fn push_outside_text(
     push_quoted_text(text, directory)
 }
 
+// Appends the beginning of a message about a golden file outside of the directory: `head` and the words for the file.
 fn push_outside_head(text: &mut Vec<u8>, head: &str, role: &str) -> Result<(), AllocError>
     ensures { OnOk result (text.new.items ≡ text.old.items ++ outside_head head.now role.now) }
 {
     push_spans(text, &[Span::Text(head), Span::Text(role)])
 }
 
+// Appends the path of a golden file, and that it is outside of the directory.
 fn push_outside_path(text: &mut Vec<u8>, path: &str) -> Result<(), AllocError>
     ensures { OnOk result (text.new.items ≡ text.old.items ++ outside_path path.now) }
 {
@@ -374,6 +383,7 @@ fn push_outside_path(text: &mut Vec<u8>, path: &str) -> Result<(), AllocError>
     )
 }
 
+// Appends a text in double quotes.
 fn push_quoted_text(text: &mut Vec<u8>, quoted: &str) -> Result<(), AllocError>
     ensures { OnOk result (text.new.items ≡ text.old.items ++ quoted_text quoted.now) }
 {

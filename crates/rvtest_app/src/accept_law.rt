@@ -12,9 +12,9 @@ ghost use Rattle.rvtest_app.specs.AcceptLaw.{HaveOneTextEach, IsRowIn, IsStoreAf
 ghost use Rattle.rvtest_app.specs.Accepts.{IsAcceptedOfMarks, written_files};
 ghost use Rattle.rvtest_app.specs.CommandOutputs.{CommandOutputs};
 
-/// After `accept`, each chosen job passes in a `run` with the new files, or nothing is expected of it, if it is not rejected, none of its
-/// golden files is rejected, and it names no other job. Golden files whose paths lead to one file are given the same text, and the run
-/// reads the job's files.
+/// After `accept`, a job that it accepted does not fail in a `run` with the new files: its verdict is pass, or none if it has no
+/// expectations. This holds if no golden file of the job was skipped, the job has no `same_as`, golden files whose paths lead to one file
+/// get the same text, and the run can read the job's files.
 pub fn accepted_jobs_pass()
     ensures { (words : Words) (before after : FileContents) (bytes : List ℕ) (jobs : List Job) (chosen : List Bool)
         (status : ℕ) (from to : CommandOutputs) (place : ℕ) (job : Job) (row : Row)

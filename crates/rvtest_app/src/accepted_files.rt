@@ -18,7 +18,7 @@ use rv_jobs::{Bytes, Text};
 use std::alloc::{AllocError, Global};
 use std::io::ErrorKind;
 
-/// Reads the golden files at the paths of the targets, resolved against `folder` if given, with their current contents.
+/// Returns the golden files of the targets, with their current contents. Their paths are resolved against `folder` if given.
 pub(crate) fn read_golden_files<D: Inputs>(
     inputs: &D,
     alloc: Global,
@@ -57,7 +57,7 @@ pub(crate) fn place_of_path(
     Text::copy(alloc, place.as_str())
 }
 
-// Reads the file at a path; returns `None` if it is missing.
+// Reads the file at a path. Returns `None` if there is no file.
 fn read_golden_file<D: Inputs>(inputs: &D, alloc: Global, path: &str) -> Result<Option<Bytes>, Stop>
     ensures old { IfOk result (IsOldAt (D.contents inputs.now) path.now) }
     ensures stopped { IfErr result (IsListUnreadStop (D.contents inputs.now) path.now) }
@@ -79,7 +79,7 @@ fn read_golden_file<D: Inputs>(inputs: &D, alloc: Global, path: &str) -> Result<
     }
 }
 
-/// Rejects overwriting a golden file or a list that changed after it was read.
+/// Returns an error if a golden file or the list, which will be written, has changed since it was read.
 pub(crate) fn check_unchanged_files<D: Inputs>(
     inputs: &D,
     alloc: Global,
@@ -107,6 +107,7 @@ fn old_text(file: &GoldenFile) -> Option<&[u8]> {
     }
 }
 
+// Returns an error if the file at the path no longer has the contents `old`.
 fn check_unchanged<D: Inputs>(
     inputs: &D,
     alloc: Global,
@@ -141,7 +142,7 @@ fn changed_stop(alloc: Global, path: &str) -> Stop
     Stop::of_failure(path_message(alloc, path, what))
 }
 
-/// Writes each golden file that changes, in list order, and then the list. Each is written completely or left unchanged.
+/// Writes each golden file that changes, in list order, and then the list. Each file is written completely or left unchanged.
 pub(crate) fn write_accepted_files<F: Outputs>(
     files: &mut F,
     alloc: Global,
@@ -162,8 +163,8 @@ pub(crate) fn write_accepted_files<F: Outputs>(
     }
 }
 
-/// Reads back each golden file on whose text the jobs agree, and the list if it was written. A file with other bytes was overwritten
-/// through another path that leads to it.
+/// Reads back each golden file on whose text the jobs agree, and the list if it was written. Returns an error if one has other bytes: then
+/// it was overwritten through another path that leads to it.
 pub(crate) fn check_written_files<D: Inputs>(
     inputs: &D,
     alloc: Global,
@@ -183,6 +184,7 @@ pub(crate) fn check_written_files<D: Inputs>(
     }
 }
 
+// Returns an error if the file at the path does not contain `text`.
 fn check_written<D: Inputs>(inputs: &D, alloc: Global, path: &str, text: &[u8]) -> Result<(), Stop>
     ensures { IfErr result (IsUncheckedStop (D.contents inputs.now) path.now) }
 {

@@ -21,7 +21,7 @@ use rv_lists::read_faults;
 use rvtest_cli::CheckArgs;
 use std::alloc::{AllocError, Global};
 
-/// Reports everything that is wrong with a list or with the files of its jobs, without running any. The status is 2 if there is an error.
+/// Returns a report of all errors in a list or in the files of its jobs, without running any job. The status is 2 if there is one.
 pub(crate) fn check_list<D: Inputs>(
     inputs: &D,
     alloc: Global,
@@ -36,7 +36,7 @@ pub(crate) fn check_list<D: Inputs>(
     check_list_text(inputs, alloc, args, text.as_slice())
 }
 
-// Checks the text of the list.
+// Checks the text of the list and, if it has no errors, the files of its jobs.
 fn check_list_text<D: Inputs>(
     inputs: &D,
     alloc: Global,
@@ -61,7 +61,7 @@ fn check_list_text<D: Inputs>(
     })
 }
 
-// Finds the jobs of a list that are refused for their files.
+// Checks which jobs of a list are refused because of their files.
 fn check_files<D: Inputs>(
     inputs: &D,
     alloc: Global,
@@ -80,7 +80,7 @@ fn check_files<D: Inputs>(
     check_plan(alloc, args, text, &plan, store.unread_paths())
 }
 
-// Reports on a list whose files were read.
+// Returns the report about a list without errors, whose files were read.
 #[tactic(auto, unfolding(crate::specs::CheckText::check_text))]
 fn check_plan(
     alloc: Global,
@@ -114,6 +114,7 @@ fn check_plan(
     })
 }
 
+// Returns the exit status of `check` for a list without errors: 0 if no job is refused, and otherwise 2.
 fn check_status(refused: usize) -> u8
     ensures value { result ≡ check_status refused }
     ensures low { result ≤ 2 }
@@ -121,6 +122,7 @@ fn check_status(refused: usize) -> u8
     if refused == 0 { DONE } else { REFUSED }
 }
 
+// Returns the line on which each job begins; none if the text is not UTF-8.
 fn job_begin_lines(alloc: Global, text: &[u8]) -> Result<Vec<usize>, AllocError>
     ensures { IfOk result (λ lines. lines.items ≡ job_begin_lines text.now) }
 {

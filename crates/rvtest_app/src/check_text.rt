@@ -21,7 +21,7 @@ use rv_rows::{Refusal, RowEnd, image_refusal_at, refusal_at};
 use rv_text::{Span, push_spans, push_text};
 use std::alloc::{AllocError, Global};
 
-/// A list whose files were read, with the lines on which its jobs begin.
+/// A list whose files were read, with the line on which each job begins.
 #[derive(Clone, Copy)]
 pub(crate) struct CheckedList<'a> {
     pub(crate) path: &'a str,
@@ -31,7 +31,7 @@ pub(crate) struct CheckedList<'a> {
     ghost few: { length plan.now.jobs ≤ most_jobs },
 }
 
-// An expectation file that a job may name: what is kept of its path, and the path.
+// An expectation file of a job, if it names one: what was kept of its path, and the path.
 #[derive(Clone, Copy)]
 struct Reference<'a> {
     kept: Option<&'a Kept>,
@@ -60,7 +60,7 @@ impl<'a> CheckedList<'a> {
         Ok(refused)
     }
 
-    // Appends the lines for the job at an index if it is refused, and returns whether it is.
+    // Appends the lines for the job at index `place` if it is refused. Returns whether it is.
     #[tactic(auto, unfolding(crate::specs::CheckText::refused_job_text))]
     fn push_job_if_refused(
         &self,
@@ -84,7 +84,7 @@ impl<'a> CheckedList<'a> {
         }
     }
 
-    // Appends the lines for the files that make the job at an index refused.
+    // Appends the lines for the files that make the job at index `place` refused.
     #[tactic(auto, unfolding(crate::specs::CheckText::refused_files_text))]
     fn push_refused_files(
         &self,
@@ -111,7 +111,7 @@ impl<'a> CheckedList<'a> {
         self.push_reference_if_unread(alloc, told, place, console)
     }
 
-    // Appends the line for the image of the job at an index if it makes the job refused.
+    // Appends the line for the image of the job at index `place` if the image makes the job refused.
     #[tactic(auto, unfolding(rv_job_text::specs::RefusalReasons::ending_reason))]
     fn push_image_if_refused(
         &self,
@@ -134,7 +134,7 @@ impl<'a> CheckedList<'a> {
         }
     }
 
-    // Appends the line for an expectation file of the job at an index if the file was not read.
+    // Appends the line for an expectation file of the job at index `place` if the file could not be read.
     fn push_reference_if_unread(
         &self,
         alloc: Global,
@@ -161,7 +161,7 @@ impl<'a> CheckedList<'a> {
         }
     }
 
-    // Appends the line for a file that makes the job at an index refused.
+    // Appends the line for a file that makes the job at index `place` refused.
     #[tactic(auto, unfolding(crate::specs::CheckText::refused_file_line))]
     fn push_refused_file(
         &self,
@@ -180,7 +180,7 @@ impl<'a> CheckedList<'a> {
         push_text(told, "\n")
     }
 
-    /// Appends a line for each job that expects two ends, and returns their number.
+    /// Appends a warning for each job that expects two ends, and returns their number.
     pub(crate) fn push_warned_jobs(&self, told: &mut Vec<u8>) -> Result<usize, AllocError>
         ensures text { OnOk result (told.new.items ≡ told.old.items ++ texts_of_jobs
             (warned_job_text self.now.path.now self.now.lines.now) self.now.plan.now.jobs) }
@@ -197,7 +197,7 @@ impl<'a> CheckedList<'a> {
         Ok(warned)
     }
 
-    // Appends the warning for the job at an index if it expects two ends.
+    // Appends a warning if the job at index `place` expects two ends.
     #[tactic(auto, unfolding(crate::specs::CheckText::warned_job_text))]
     fn push_job_if_warned(
         &self,
@@ -231,7 +231,7 @@ impl<'a> CheckedList<'a> {
         push_text(told, "\n")
     }
 
-    // Appends the location of the job at an index, how severe the problem is, and the job's name.
+    // Appends the location of the job at index `place`, the severity of the problem, and the job's number and name.
     #[tactic(auto, unfolding(crate::specs::CheckText::job_prefix))]
     fn push_job_prefix(
         &self,
@@ -258,7 +258,7 @@ impl<'a> CheckedList<'a> {
         )
     }
 
-    // Appends the path of the list, and the line on which the job begins, if it is known.
+    // Appends the path of the list, and the line on which the job begins if it is known.
     fn push_path_and_line(&self, told: &mut Vec<u8>, place: usize) -> Result<(), AllocError>
         ensures { OnOk result (told.new.items ≡ told.old.items
             ++ path_and_line self.now.path.now (slice_get self.now.lines.now place)) }
@@ -271,7 +271,7 @@ impl<'a> CheckedList<'a> {
     }
 }
 
-// Appends why a job is refused.
+// Appends the reason of a refusal, with details if they are known.
 fn push_refusal(told: &mut Vec<u8>, why: Refusal, reason: Option<Vec<u8>>) -> Result<(), AllocError>
     ensures { OnOk result (told.new.items ≡ told.old.items
         ++ refusal_text why (option_map (λ text. text.items) reason)) }
@@ -292,7 +292,7 @@ fn push_refusal(told: &mut Vec<u8>, why: Refusal, reason: Option<Vec<u8>>) -> Re
     }
 }
 
-// Appends the code and the end that a job expects.
+// Appends the warning that a job expects both an exit code and another end.
 fn push_two_ends(
     told: &mut Vec<u8>,
     code: Option<u32>,
@@ -312,7 +312,7 @@ fn push_two_ends(
     )
 }
 
-// Returns the list's word for the end that a job expects.
+// Returns the name of the end that a job expects, as the list writes it.
 fn expected_end_name(end: Option<ExpectedEnd>) -> &'static str
     ensures { result.now ≡ expected_end_name end }
 {
@@ -345,6 +345,7 @@ pub(crate) fn push_job_counts_line(
     push_text(told, "\n")
 }
 
+// Appends the number of refused jobs, in words.
 fn push_refused_count(told: &mut Vec<u8>, refused: usize) -> Result<(), AllocError>
     ensures { OnOk result (told.new.items ≡ told.old.items ++ refused_count_text refused) }
 {
@@ -357,7 +358,7 @@ fn push_refused_count(told: &mut Vec<u8>, refused: usize) -> Result<(), AllocErr
     )
 }
 
-// Appends the number of warnings, if there are any.
+// Appends the number of warnings; nothing if there are none.
 fn push_warning_count(told: &mut Vec<u8>, warned: usize) -> Result<(), AllocError>
     ensures { OnOk result (told.new.items ≡ told.old.items ++ warning_count_text warned) }
 {

@@ -7,7 +7,7 @@ ghost use Rattle.rv_lists.specs.Limits.{most_jobs};
 
 use rv_fleet::Rows;
 
-/// The rows of the jobs at some indices of a list.
+/// The rows of chosen jobs, with the jobs' indices in the list.
 #[derive(Drop)]
 pub(crate) struct ChosenRows<'a> {
     /// The number of jobs in the list.

@@ -9,7 +9,7 @@ use crate::outlets::is_stdout_at;
 use rv_terminal::Colors;
 use rvtest_cli::Request;
 
-/// Returns the colours for the requested command, given whether standard output is a terminal that supports them.
+/// Returns the colours of a command's results, given whether standard output is a terminal that supports them.
 pub(crate) fn requested_colors(request: &Request<'_>, is_terminal: bool) -> Colors
     ensures { result ≡ requested_colors request.now is_terminal }
 {
@@ -39,13 +39,14 @@ pub(crate) fn requested_colors(request: &Request<'_>, is_terminal: bool) -> Colo
     }
 }
 
-// Returns no colours if a file goes to standard output.
+// Returns `Colors::Without` if an output file goes to standard output, and the given colours otherwise.
 fn beside_file(uses_stdout: bool, colors: Colors) -> Colors
     ensures { result ≡ beside_file uses_stdout colors }
 {
     if uses_stdout { Colors::Without } else { colors }
 }
 
+// Returns the colours for a value of `--color`; the default depends on whether standard output is a terminal.
 fn colors_of_word(word: Option<&str>, is_terminal: bool) -> Colors
     ensures { result ≡ colors_of_word (optional_text word.entry) is_terminal }
 {
@@ -56,6 +57,7 @@ fn colors_of_word(word: Option<&str>, is_terminal: bool) -> Colors
     }
 }
 
+// Returns the default of `--color`: coloured on a terminal, plain otherwise.
 fn terminal_colors(is_terminal: bool) -> Colors
     ensures { result ≡ terminal_colors is_terminal }
 {

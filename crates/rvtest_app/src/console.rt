@@ -26,7 +26,7 @@ use rv_rows::{Row, Sink, row_at};
 use rvtest_cli::ConsoleArgs;
 use std::alloc::Global;
 
-// The row of a job, its line, and the status.
+// The row of a job, the line about it, and the exit status.
 #[derive(Drop)]
 struct ReportedRow {
     row: Row,
@@ -34,7 +34,8 @@ struct ReportedRow {
     status: u8,
 }
 
-/// Runs the job of a name, and writes its console to standard output and its line to standard error. The status is 1 if it failed.
+/// Runs the job with the requested name, and writes its console to standard output and the line about it to standard error. The status is 0
+/// if the job passed, and otherwise 1.
 pub(crate) fn put_job_console<D: Inputs, F: Outputs + Drop, O: Sink + Drop, E: Sink + Drop>(
     inputs: &D,
     alloc: Global,
@@ -53,7 +54,7 @@ pub(crate) fn put_job_console<D: Inputs, F: Outputs + Drop, O: Sink + Drop, E: S
     Ok(status)
 }
 
-// Runs the job of a name, and returns its row with its line.
+// Runs the job with the requested name, and returns its row, the line about it, and the exit status.
 fn run_named_job<D: Inputs>(
     inputs: &D,
     alloc: Global,
@@ -68,7 +69,7 @@ fn run_named_job<D: Inputs>(
     run_job_of_text(inputs, alloc, args, text.as_slice())
 }
 
-// Runs the named job of the list's text.
+// Runs the job with the requested name of the list with this text.
 fn run_job_of_text<D: Inputs>(
     inputs: &D,
     alloc: Global,
@@ -85,7 +86,7 @@ fn run_job_of_text<D: Inputs>(
     run_job_at(inputs, alloc, args, jobs, place)
 }
 
-// Runs the job at an index.
+// Runs the job at index `place` of the list.
 fn run_job_at<D: Inputs>(
     inputs: &D,
     alloc: Global,
@@ -106,7 +107,7 @@ fn run_job_at<D: Inputs>(
     run_planned_job(alloc, &plan, store.unread_paths(), place)
 }
 
-// Runs the job at an index of a plan.
+// Runs the job at index `place` of a plan.
 fn run_planned_job(
     alloc: Global,
     plan: &Plan,

@@ -26,7 +26,7 @@ use rv_text::{Span, text_of_spans};
 use rvtest_cli::CountsArgs;
 use std::alloc::{AllocError, Global};
 
-/// Adds up the tables of counts at some paths, and writes the sum. The status is 0.
+/// Adds up the tables of counts at the paths in the arguments, and writes the sum. The status is 0.
 pub(crate) fn put_sum_of_tables<D: Inputs, F: Outputs + Drop, O: Sink + Drop, E: Sink + Drop>(
     inputs: &D,
     alloc: Global,
@@ -52,7 +52,7 @@ pub(crate) fn put_sum_of_tables<D: Inputs, F: Outputs + Drop, O: Sink + Drop, E:
     Ok(DONE)
 }
 
-// Rejects a file for the sum that would replace or remove a table.
+// Returns an error if the output file would overwrite a table.
 fn refuse_sum_overwrite<F: Outputs>(
     files: &F,
     alloc: Global,
@@ -69,7 +69,7 @@ fn refuse_sum_overwrite<F: Outputs>(
     refuse_overwrite(files, alloc, "--out", args.out, &read)
 }
 
-// Returns the sum of the tables at some paths.
+// Returns the sum of the tables of counts at these paths.
 fn sum_of_paths<D: Inputs>(inputs: &D, alloc: Global, paths: &[&str]) -> Result<CountTable, Stop>
     ensures added { IfOk result (AreAdded (D.contents inputs.now) paths.now no_counts) }
     ensures table { IfOk result IsTable }
@@ -85,7 +85,7 @@ fn sum_of_paths<D: Inputs>(inputs: &D, alloc: Global, paths: &[&str]) -> Result<
     Ok(sum)
 }
 
-// Adds the table at a path to the sum of those before it.
+// Returns the sum of the earlier tables, `before`, and the table at the path.
 fn sum_with_path<D: Inputs>(
     inputs: &D,
     alloc: Global,
@@ -105,7 +105,7 @@ fn sum_with_path<D: Inputs>(
     }
 }
 
-/// Parses the text at a path as a table of counts.
+/// Parses the text of the file at a path as a table of counts.
 pub(crate) fn table_of_text(alloc: Global, path: &str, text: &[u8]) -> Result<CountTable, Stop>
     ensures table { IfOk result (λ table. IsTable table × (table_text table ≡ text.now)) }
     ensures stopped { IfErr result (IsTableFaultStop path.now text.now) }
@@ -131,7 +131,7 @@ fn read_error_stop(alloc: Global, path: &str, error: ReadError) -> Stop
     }
 }
 
-/// Returns the message for a table at a path that cannot be added to others.
+/// Returns the error for a table that cannot be added to the others, by the path of the table.
 pub(crate) fn sum_error_stop(alloc: Global, path: &str, error: SumError) -> Stop
     ensures { IsSumErrorStop path.now error result }
 {
@@ -153,6 +153,7 @@ pub(crate) fn sum_error_stop(alloc: Global, path: &str, error: SumError) -> Stop
     }
 }
 
+// Returns the message that the table at the path gives a function another name than an earlier table does.
 fn two_names_message(alloc: Global, path: &str, function: u32) -> Result<Vec<u8>, AllocError>
     ensures { IfOk result (λ text. text.items ≡ two_names_message path.now function) }
 {
@@ -168,6 +169,7 @@ fn two_names_message(alloc: Global, path: &str, function: u32) -> Result<Vec<u8>
     )
 }
 
+// Returns the message that adding the table at the path makes a count 2^64 or more: `what` says which count of `address`.
 fn count_overflow_message<'a>(
     alloc: Global,
     path: &'a str,

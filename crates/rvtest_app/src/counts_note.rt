@@ -7,7 +7,7 @@ use rv_count_tables::{AddressCounts, CountTable, ImageCounts};
 use rv_text::{Span, text_of_spans};
 use std::alloc::{AllocError, Global};
 
-/// Returns the number of runs, of images and of executed instructions in a table, as a line.
+/// Returns a line with the number of runs, of images and of executed instructions in a table.
 pub(crate) fn sum_note(alloc: Global, table: &CountTable) -> Result<Vec<u8>, AllocError>
     ensures { IfOk result (λ note. note.items ≡ sum_note table.now) }
 {
@@ -28,18 +28,21 @@ pub(crate) fn sum_note(alloc: Global, table: &CountTable) -> Result<Vec<u8>, All
     )
 }
 
+// Returns " run of " or " runs of ", by the number of runs.
 fn run_word(count: u64) -> &'static str
     ensures { result.now ≡ run_word count }
 {
     if count == 1 { " run of " } else { " runs of " }
 }
 
+// Returns " image, " or " images, ", by the number of images.
 fn image_word(count: u64) -> &'static str
     ensures { result.now ≡ image_word count }
 {
     if count == 1 { " image, " } else { " images, " }
 }
 
+// Returns " instruction" or " instructions", by their number, and a line feed.
 fn instruction_word(count: u64) -> &'static str
     ensures { result.now ≡ instruction_word count }
 {
@@ -50,13 +53,14 @@ fn instruction_word(count: u64) -> &'static str
     }
 }
 
+// Returns "at least " before the greatest 64-bit number, and nothing before any other.
 fn number_head(number: u64) -> &'static str
     ensures { result.now ≡ number_head number }
 {
     if number == u64::MAX { "at least " } else { "" }
 }
 
-// Returns the number of executed instructions in some images, or the greatest 64-bit number if there are more.
+// Returns how many instructions were executed in these images, saturating at the greatest 64-bit number.
 fn executed_in_images(images: &[ImageCounts]) -> u64
     ensures { result ≡ shown_number (executed_in_images images.now) }
 {
@@ -67,7 +71,7 @@ fn executed_in_images(images: &[ImageCounts]) -> u64
     total
 }
 
-// Adds the number of executed instructions at some addresses to `before`, saturating.
+// Returns `before` plus how many instructions were executed at these addresses, saturating at the greatest 64-bit number.
 fn add_executed(before: u64, addresses: &[AddressCounts]) -> u64
     ensures { result ≡ shown_number (before + executed_at_addresses addresses.now) }
 {

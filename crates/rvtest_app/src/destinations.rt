@@ -1,6 +1,6 @@
 //! Where the texts of a command go.
 
-/// Where the texts of a command go: files, and standard output and standard error as sinks.
+/// Where a command writes: the files, standard output and standard error.
 #[derive(Drop)]
 pub struct Destinations<F: Drop, O: Drop, E: Drop> {
     pub files: F,

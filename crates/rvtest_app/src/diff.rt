@@ -24,14 +24,14 @@ use rv_rows::{Row, Sink};
 use rvtest_cli::DiffArgs;
 use std::alloc::{AllocError, Global};
 
-// The differences of two reports, the status, and the notes about truncated reports.
+// The differences of two reports with the exit status, and the notes about truncated reports.
 #[derive(Drop)]
 struct NotedDiff {
     found: Found,
     notes: Vec<u8>,
 }
 
-/// Writes the notes about truncated reports, and then which jobs differ between two reports. The status is 1 if any does.
+/// Writes the notes about truncated reports, and then which jobs differ between two reports. The status is 1 if a job differs.
 pub(crate) fn diff_reports<D: Inputs, F: Outputs + Drop, O: Sink + Drop, E: Sink + Drop>(
     inputs: &D,
     alloc: Global,
@@ -50,7 +50,7 @@ pub(crate) fn diff_reports<D: Inputs, F: Outputs + Drop, O: Sink + Drop, E: Sink
     Ok(found.status)
 }
 
-// Compares the files at the two paths.
+// Compares the reports at the two paths in the arguments.
 fn diff_of_files<D: Inputs>(
     inputs: &D,
     alloc: Global,
@@ -66,7 +66,7 @@ fn diff_of_files<D: Inputs>(
     diff_report_texts(alloc, args, old.as_slice(), new)
 }
 
-// Compares two reports by their texts. An error in the old one takes precedence over a failure to read the new one.
+// Compares two reports by their texts. An error in the old report takes precedence over a failure to read the new one.
 fn diff_report_texts(
     alloc: Global,
     args: DiffArgs<'_>,
@@ -95,7 +95,7 @@ fn requested<'a>(path: &'a str, args: DiffArgs<'_>) -> RequestedReport<'a>
     }
 }
 
-// Compares two reports that were read, possibly truncated.
+// Compares two reports that were read, either of which may be truncated.
 fn diff_read_reports(
     alloc: Global,
     args: DiffArgs<'_>,
@@ -118,7 +118,7 @@ fn diff_read_reports(
     Ok(NotedDiff { found, notes })
 }
 
-// Compares two complete reports.
+// Compares the rows of two reports, and returns the differences.
 fn diff_saved_reports(
     alloc: Global,
     compare: Compare,
@@ -144,7 +144,7 @@ fn diff_saved_reports(
     diff_rows(alloc, compare, compared)
 }
 
-// Returns the rows to compare: if one report is whole and the other that of a choice, only the rows of the jobs in the choice.
+// Returns the rows to compare: if one report is whole and the other has only chosen jobs, only the rows of these jobs.
 fn compared_rows(
     alloc: Global,
     old: SavedReport,
@@ -169,7 +169,7 @@ fn compared_rows(
     Ok((old, new))
 }
 
-// Whether `part` is the report of a choice and `other` a whole one.
+// Whether `part` is a report of chosen jobs and `other` a whole report.
 fn leaves_out(part: &Extent, other: &Extent) -> bool
     ensures { result ≡ leaves_out part.now other.now }
 {
@@ -179,7 +179,7 @@ fn leaves_out(part: &Extent, other: &Extent) -> bool
     }
 }
 
-// Returns the comparison that `--steps` or `--slower` requests.
+// Returns what `--steps` or `--slower` compares; outcomes if neither is given.
 fn requested_comparison(steps: bool, slower: Option<u32>) -> Compare
     ensures { result ≡ requested_comparison steps slower }
 {
@@ -190,7 +190,7 @@ fn requested_comparison(steps: bool, slower: Option<u32>) -> Compare
     }
 }
 
-// Compares the rows.
+// Returns the differences between the rows, with the exit status.
 fn diff_rows(alloc: Global, compare: Compare, compared: Compared<'_>) -> Result<Found, Stop>
     requires old { length compared.old.now < 2 ^ 32 }
     requires new { length compared.new.now < 2 ^ 32 }
@@ -209,6 +209,7 @@ fn diff_rows(alloc: Global, compare: Compare, compared: Compared<'_>) -> Result<
     })
 }
 
+// Returns the exit status of `diff`: 0 if no job differs, and otherwise 1.
 fn diff_status(counts: Differing) -> u8
     ensures value { result ≡ diff_status counts }
     ensures low { result ≤ 1 }

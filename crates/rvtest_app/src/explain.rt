@@ -24,7 +24,7 @@ use rv_rows::row_at;
 use rvtest_cli::ExplainArgs;
 use std::alloc::Global;
 
-/// Runs the job of a name, and explains how it ends and how it got there. The status is 1 if it failed.
+/// Runs the job with the requested name, and explains how it ends and how it got there. The status is 0 if the job passed, and otherwise 1.
 pub(crate) fn explain_named_job<D: Inputs>(
     inputs: &D,
     alloc: Global,
@@ -39,7 +39,7 @@ pub(crate) fn explain_named_job<D: Inputs>(
     explain_job_of_text(inputs, alloc, args, text.as_slice())
 }
 
-// Explains the named job of the list's text.
+// Explains the job with the requested name of the list with this text.
 fn explain_job_of_text<D: Inputs>(
     inputs: &D,
     alloc: Global,
@@ -55,7 +55,7 @@ fn explain_job_of_text<D: Inputs>(
     explain_job_at(inputs, alloc, args, jobs, place)
 }
 
-// Explains the job at an index. A requested budget applies to every job.
+// Explains the job at index `place` of the list. A requested budget overrides that of every job.
 fn explain_job_at<D: Inputs>(
     inputs: &D,
     alloc: Global,
@@ -77,7 +77,7 @@ fn explain_job_at<D: Inputs>(
     explain_planned_job(alloc, &plan, store.unread_paths(), place, args.last)
 }
 
-// Explains the job at an index of a plan.
+// Explains the job at index `place` of a plan, with its `last` instructions.
 fn explain_planned_job(
     alloc: Global,
     plan: &Plan,

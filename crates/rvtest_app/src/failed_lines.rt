@@ -10,7 +10,7 @@ use rv_rows::Row;
 use rv_stream::RowReporter;
 use std::alloc::{AllocError, Global};
 
-/// Reports the line of each row that counts as a failure, without symbols or reasons, and nothing for other rows.
+/// Reports a line for each row that is a failure, without symbols or reasons, and nothing for other rows.
 #[derive(Clone, Copy)]
 pub struct FailedLines<'a> {
     pub judge: Judge<'a>,
@@ -33,7 +33,7 @@ impl<'a> RowReporter for FailedLines<'a> {
     }
 }
 
-/// Appends the line of a row that counts as a failure; does nothing for other rows.
+/// Appends the line for a row that is a failure; nothing for other rows.
 pub(crate) fn push_failed_line(
     alloc: Global,
     text: &mut Vec<u8>,

@@ -6,7 +6,7 @@ ghost use Rattle.rvtest_app.specs.ReportTexts.{report_rows};
 use crate::report_texts::ReportText;
 use rv_junit::Suite;
 
-/// What goes to files: a report, and its rows as JUnit XML with the lines that are reported for the jobs at some indices.
+/// What is written to files: a report, and its rows as JUnit XML with the lines about each job.
 #[derive(Drop)]
 pub(crate) struct FileTexts<'s, 't, 'p, T> {
     pub(crate) suite: Suite<'s>,

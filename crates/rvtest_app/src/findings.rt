@@ -8,14 +8,14 @@ ghost use Rattle.rv_base.specs.Sinks.{AppendsBeginning};
 use rv_command::{Stop, put_results};
 use rv_rows::Sink;
 
-/// The findings of a command: the text for standard output, and the status.
+/// The output of a command for standard output, and its exit status.
 #[derive(Drop)]
 pub(crate) struct Found {
     pub(crate) text: Vec<u8>,
     pub(crate) status: u8,
 }
 
-/// Writes the findings of a command, and returns its status.
+/// Writes the output of a command to standard output, and returns its exit status.
 pub(crate) fn put_findings<O: Sink>(out: &mut O, found: Result<Found, Stop>) -> Result<u8, Stop>
     ensures put { IfOk result (λ status. MatchResult found (λ found. (status ≡ found.status)
         × Appends (O.taken out.old) (O.taken out.new) found.text.items) (λ stop. ⊥)) }

@@ -42,9 +42,9 @@ struct Opened {
     ghost same_run: { job_start job.plan job.place ≡ session.history.start } by { Coded-set state_code (job_start job.plan job.place) session.history.start },
 }
 
-/// Debugs the run of the job of a name with gdb, whose packets come from the reader, and writes the responses to standard output, until gdb
-/// ends the session or sends no more. Only Ctrl-C or the end of gdb's input interrupts a move. The status is 0. It is an error if standard
-/// output is a terminal, where nobody would understand the responses.
+/// Debugs the run of the job with the requested name. Reads gdb's packets from `input` and writes the replies to standard output, until gdb
+/// ends the session or its input ends. Only Ctrl-C or the end of the input interrupts a move. The status is 0. It is an error if standard
+/// output is a terminal.
 pub(crate) fn show_job_to_gdb<
     R: Threads,
     D: Inputs,
@@ -94,7 +94,7 @@ fn set_memory(alloc: Global, session: &mut Session, megabytes: Option<u32>)
     }
 }
 
-// Returns the message that shows how gdb starts the command.
+// Returns the error that standard output is a terminal, which shows how gdb starts the command.
 fn no_gdb_stop(alloc: Global) -> Stop
     ensures { IsNoGdbStop result }
 {
@@ -103,7 +103,7 @@ fn no_gdb_stop(alloc: Global) -> Stop
     Stop::of_refusal(path_message(alloc, "standard output", how))
 }
 
-// Returns why the session with gdb ended with an error.
+// Converts an error of the session.
 fn broken_stop(alloc: Global, broken: SessionError) -> Stop
     ensures { IsBrokenStop broken result }
 {
@@ -116,7 +116,7 @@ fn broken_stop(alloc: Global, broken: SessionError) -> Stop
     }
 }
 
-// Opens the session of the named job's run, before gdb sends anything.
+// Opens the session of the job with the requested name, before gdb sends anything.
 fn session_of_named_job<D: Inputs>(
     inputs: &D,
     alloc: Global,
@@ -130,7 +130,7 @@ fn session_of_named_job<D: Inputs>(
     session_of_text(inputs, alloc, args, text.as_slice())
 }
 
-// Opens the session of the named job of the list's text.
+// Opens the session of the job with the requested name of the list with this text.
 fn session_of_text<D: Inputs>(
     inputs: &D,
     alloc: Global,
@@ -146,7 +146,7 @@ fn session_of_text<D: Inputs>(
     session_of_job(inputs, alloc, args, named)
 }
 
-// Opens the session of the job at the index that was found.
+// Opens the session of the job that was found in the list.
 fn session_of_job<D: Inputs>(
     inputs: &D,
     alloc: Global,
@@ -178,8 +178,8 @@ fn session_of_job<D: Inputs>(
     }
 }
 
-// Opens the session of the run of the job at an index of a plan, with its image's path resolved against the root; returns `None` if the job
-// is refused.
+// Opens the session of the job at index `place` of a plan, with its image's path resolved against `root`. Returns `None` if the job is
+// refused.
 fn session_over_plan(
     alloc: Global,
     plan: &Plan,
@@ -196,7 +196,7 @@ fn session_over_plan(
     session_at(alloc, plan, place, path)
 }
 
-// Returns the path of an image, resolved against the root.
+// Returns the path of an image, resolved against `root`.
 fn image_path(alloc: Global, root: Option<&str>, image: &str) -> Result<Bytes, AllocError>
     ensures { IfOk result (λ path. path ≡ resolved_path (optional_text root.entry) image.now) }
 {
@@ -204,7 +204,7 @@ fn image_path(alloc: Global, root: Option<&str>, image: &str) -> Result<Bytes, A
     Ok(Bytes::new(Vec::from_slice(alloc, path.as_str().as_bytes())?))
 }
 
-// Returns the error for the refused job at an index, with its line as the message.
+// Returns the error that the job at index `place` is refused, with the line about it as the message.
 fn refused_job_stop(alloc: Global, plan: &Plan, unread: &[UnreadPath], place: usize) -> Stop
     requires { place < length plan.now.jobs }
     ensures { (d : AJob) → IsStop 2 (row_line plan.now unread.now (judging_by_rule Strict)
@@ -213,7 +213,7 @@ fn refused_job_stop(alloc: Global, plan: &Plan, unread: &[UnreadPath], place: us
     Stop::of_refusal(row_line(alloc, plan, unread, place))
 }
 
-// Returns the line of the job at an index.
+// Runs the job at index `place`, and returns the line about it.
 fn row_line(
     alloc: Global,
     plan: &Plan,

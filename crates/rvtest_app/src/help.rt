@@ -10,7 +10,7 @@ use rv_command::{DONE, Stop, put_results};
 use rv_rows::Sink;
 use rvtest_cli::WordsError;
 
-/// Writes the help or the version, which are errors of the arguments, to standard output. Any other error rejects the arguments.
+/// Writes the help or the version to standard output if the arguments request it. Returns any other error of the arguments.
 pub(crate) fn answer_words_error<O: Sink>(out: &mut O, error: WordsError) -> Result<u8, Stop>
     ensures done { IfOk result (λ status. status ≡ 0) }
     ensures helped { OnOk result (IsHelpWritten error (O.taken out.old) (O.taken out.new)) }
@@ -25,7 +25,7 @@ pub(crate) fn answer_words_error<O: Sink>(out: &mut O, error: WordsError) -> Res
     }
 }
 
-// Writes a text that was requested instead of a command.
+// Writes the help or the version to standard output.
 fn put_help<O: Sink>(out: &mut O, text: &str) -> Result<u8, Stop>
     ensures done { IfOk result (λ status. status ≡ 0) }
     ensures put { OnOk result (Appends (O.taken out.old) (O.taken out.new) text.now) }

@@ -11,7 +11,7 @@ use rv_text::{Span, push_text, text_of_spans};
 use rvtest_cli::HelpArgs;
 use std::alloc::{AllocError, Global};
 
-/// Returns the keys of a list, the only such topic.
+/// Returns the help for the keys of a job list, the only topic that is not a command.
 pub(crate) fn topic_help(alloc: Global, args: HelpArgs<'_>) -> Result<Found, Stop>
     ensures told { IfOk result (λ found. IsTopicPrinted args.entry.topic.now found.text.items found.status) }
     ensures stopped { IfErr result (IsNoTopicStop args.entry.topic.now) }
@@ -30,6 +30,7 @@ fn no_topic_stop(alloc: Global, topic: &str) -> Stop
     Stop::of_refusal(no_topic_message(alloc, topic))
 }
 
+// Returns the message about an unknown topic.
 fn no_topic_message(alloc: Global, topic: &str) -> Result<Vec<u8>, AllocError>
     ensures { IfOk result (λ told. told.items ≡ no_topic_message topic.now) }
 {

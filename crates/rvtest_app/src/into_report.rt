@@ -12,16 +12,16 @@ use rv_report::Shard;
 use rv_rows::Row;
 use rvtest_cli::RunArgs;
 
-/// What the report of a run has besides the run's rows.
+/// What the report of a run has in addition to the run's rows.
 #[derive(Drop)]
 pub(crate) struct ReportFrame {
-    /// The shard whose jobs these are.
+    /// The shard whose jobs the run executes.
     pub(crate) shard: Option<Shard>,
-    /// The rows of the whole report into which these are merged: one for each job of the list.
+    /// The rows of the report that the run updates: one for each job of the list.
     pub(crate) old: Option<Rows>,
 }
 
-/// The rows of chosen jobs, and those of the whole report into which they are merged.
+/// The rows of chosen jobs, and the rows of the report that they update.
 #[derive(Drop)]
 pub(crate) struct IntoRows<'a> {
     pub(crate) chosen: ChosenRows<'a>,
@@ -30,7 +30,7 @@ pub(crate) struct IntoRows<'a> {
 }
 
 impl<'a> IntoRows<'a> {
-    /// Returns all rows, with those of the chosen jobs at their indices. Allocates no memory.
+    /// Returns the old rows, with those of the chosen jobs replaced. Allocates no memory.
     pub(crate) fn into_whole_rows(self) -> Rows
         ensures { result ≡ merged_rows self.entry.chosen.places.now self.entry.chosen.rows self.entry.old }
     {
@@ -55,14 +55,14 @@ fn replace_rows_at(whole: &mut Vec<Row>, places: &[usize], rows: Vec<Row>)
     }
 }
 
-/// Returns the path to which the report of a run is written.
+/// Returns the path of the report to write: that of `--into`, or else that of `--report`.
 pub(crate) fn run_report_path<'a>(args: &RunArgs<'a>) -> Option<&'a str>
     ensures { optional_text result ≡ run_report_path args.now }
 {
     args.into.or(args.report)
 }
 
-/// Whether one of the files of a run goes to standard output.
+/// Whether the report, the JUnit XML or the table of counts goes to standard output.
 pub(crate) fn uses_run_stdout(args: &RunArgs<'_>) -> bool
     ensures { result ≡ uses_run_stdout args.now }
 {

@@ -16,7 +16,7 @@ use rv_rows::{Row, row_at, row_from};
 use rv_session::EndText;
 use std::alloc::{AllocError, Global};
 
-/// The job at an index of a plan, which is not refused, and the notes about the plan's paths.
+/// The job at an index of a plan, which is not refused, and the paths that could not be read.
 #[derive(Drop)]
 pub(crate) struct JobEnd {
     pub(crate) plan: Plan,

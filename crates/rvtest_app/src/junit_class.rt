@@ -6,7 +6,7 @@ ghost use Rattle.rvtest_app.specs.JunitTexts.{junit_class, suite_name};
 
 use std::path::Path;
 
-/// Returns the suite name: the requested one, else one derived from the path of a file.
+/// Returns the name of the JUnit suite: the requested one, or else the file name of the path without its extension.
 pub(crate) fn suite_name<'a>(args: Option<&'a str>, path: &'a str) -> &'a str
     ensures { result.now ≡ suite_name (optional_text args.entry) path.entry.now }
 {
@@ -16,7 +16,7 @@ pub(crate) fn suite_name<'a>(args: Option<&'a str>, path: &'a str) -> &'a str
     }
 }
 
-/// Returns the file name without its directories and its extension, used as the class of its jobs.
+/// Returns the file name of a path without its directories and its extension: the class of its jobs in JUnit XML.
 pub(crate) fn junit_class(path: &str) -> &str
     ensures { result.now ≡ junit_class path.now }
 {

@@ -15,7 +15,7 @@ use rv_text::{Span, push_spans, push_text};
 use rvtest_cli::RunArgs;
 use std::alloc::{AllocError, Global};
 
-/// Reads the known failures among the jobs of a list, if the arguments name a file.
+/// Reads which jobs of the list are known to fail. Returns `None` without `--known`.
 pub(crate) fn requested_known_jobs<D: Inputs>(
     inputs: &D,
     alloc: Global,
@@ -52,6 +52,7 @@ fn read_known_file<D: Inputs>(
     }
 }
 
+// Returns the names of the jobs, in order.
 fn job_names(alloc: Global, jobs: &[Job]) -> Result<Vec<&str>, AllocError>
     ensures { IfOk result (λ names. job_names names.items ≡ names_of_jobs jobs.now) }
 {
@@ -62,6 +63,7 @@ fn job_names(alloc: Global, jobs: &[Job]) -> Result<Vec<&str>, AllocError>
     Ok(names)
 }
 
+// Returns the message about an error in the file of known failures at `path`.
 fn known_fault_message(
     alloc: Global,
     path: &str,
@@ -86,6 +88,7 @@ fn known_fault_message(
     Ok(message)
 }
 
+// Appends what is wrong with a line of the file of known failures; `list` is the path of the job list.
 fn push_known_fault<'a>(
     message: &mut Vec<u8>,
     list: &'a str,

@@ -19,7 +19,7 @@ use rv_text::push_text;
 use rvtest_cli::{ChoosingCommand, RunArgs};
 use std::alloc::{AllocError, Global};
 
-// The names of chosen jobs, one per line, and the notes about the choice.
+// The names of the chosen jobs, one per line, and the notes about the choice.
 #[derive(Drop)]
 struct ListedJobs {
     names: Vec<u8>,
@@ -45,7 +45,7 @@ pub(crate) fn list_chosen_jobs<D: Inputs, F: Outputs + Drop, O: Sink + Drop, E: 
     Ok(DONE)
 }
 
-// Chooses jobs of the list at the path in the arguments.
+// Returns the names of the chosen jobs of the list at the path in the arguments, and the notes about the choice.
 fn chosen_jobs<D: Inputs>(inputs: &D, alloc: Global, args: &RunArgs<'_>) -> Result<ListedJobs, Stop>
     ensures listed { IfOk result (λ listed. AreListedAt (D.contents inputs.now) args.now
         listed.names.items listed.notes.items) }
@@ -55,7 +55,7 @@ fn chosen_jobs<D: Inputs>(inputs: &D, alloc: Global, args: &RunArgs<'_>) -> Resu
     chosen_jobs_of_text(inputs, alloc, args, text.as_slice())
 }
 
-// Chooses jobs of the list's text.
+// Returns the names of the chosen jobs of the list with this text, and the notes about the choice.
 fn chosen_jobs_of_text<D: Inputs>(
     inputs: &D,
     alloc: Global,
@@ -92,7 +92,7 @@ fn marked_name_lines(alloc: Global, jobs: &[Job], marks: &[bool]) -> Result<Vec<
     Ok(names)
 }
 
-// Appends the names of the jobs at some indices, one per line.
+// Appends the names of the jobs at these indices, one per line.
 fn push_name_lines(names: &mut Vec<u8>, jobs: &[Job], places: &[usize]) -> Result<(), AllocError>
     requires { All (λ place. place < length jobs.now) places.now }
     ensures { OnOk result (names.new.items ≡ names.old.items ++ name_lines jobs.now places.now) }
@@ -104,6 +104,7 @@ fn push_name_lines(names: &mut Vec<u8>, jobs: &[Job], places: &[usize]) -> Resul
     Ok(())
 }
 
+// Appends the name of a job, as a line.
 fn push_name_line(names: &mut Vec<u8>, job: &Job) -> Result<(), AllocError>
     ensures { OnOk result (names.new.items ≡ names.old.items ++ name_line job.now) }
 {

@@ -36,7 +36,7 @@ use rv_text::{Span, text_of_spans};
 use rvtest_cli::MergeArgs;
 use std::alloc::{AllocError, Global};
 
-// The rows of a whole list, with their summary line and their status.
+// The rows of a whole list, with the summary line and the exit status.
 #[derive(Drop)]
 struct Merged {
     rows: Rows,
@@ -44,7 +44,7 @@ struct Merged {
     status: u8,
 }
 
-/// Merges the shards of one run into the whole report. The status is 1 if a job of the run failed.
+/// Merges the parts of one run into the report of the whole list. The status is 1 if a job of the run failed.
 pub(crate) fn merge_reports<D: Inputs, F: Outputs + Drop, O: Sink + Drop, E: Sink + Drop>(
     inputs: &D,
     alloc: Global,
@@ -68,7 +68,7 @@ pub(crate) fn merge_reports<D: Inputs, F: Outputs + Drop, O: Sink + Drop, E: Sin
     Ok(status)
 }
 
-// Rejects a file that would replace or remove a shard.
+// Returns an error if an output file would overwrite a part.
 fn refuse_merge_overwrites<F: Outputs>(
     files: &F,
     alloc: Global,
@@ -86,7 +86,7 @@ fn refuse_merge_overwrites<F: Outputs>(
     refuse_overwrite(files, alloc, "--junit", args.junit, &read)
 }
 
-// Returns the path of the merged report, which goes to standard output if nothing else is requested.
+// Returns the path of the merged report: by default standard output, unless the JUnit XML goes there.
 fn merged_report_path<'a>(args: &MergeArgs<'a>) -> Option<&'a str>
     ensures { optional_text result ≡ merged_report_path (optional_text args.now.report)
         (optional_text args.now.junit) }
@@ -98,7 +98,7 @@ fn merged_report_path<'a>(args: &MergeArgs<'a>) -> Option<&'a str>
     }
 }
 
-// Returns the rows of the list whose shards have these texts, with their last line and their status.
+// Returns the rows of the list whose parts have these texts, with the summary line and the exit status.
 fn merge_part_texts(alloc: Global, args: &MergeArgs<'_>, texts: &[Vec<u8>]) -> Result<Merged, Stop>
     ensures parts { IfOk result
         (λ merged. AreParts merged.rows (map (λ text. text.items) texts.now)) }
@@ -117,7 +117,7 @@ fn merge_part_texts(alloc: Global, args: &MergeArgs<'_>, texts: &[Vec<u8>]) -> R
     Ok(Merged { rows, line, status })
 }
 
-// Returns the rows of the list whose shards have these texts.
+// Returns the rows of the list whose parts have these texts.
 fn rows_of_part_texts(alloc: Global, args: &MergeArgs<'_>, texts: &[Vec<u8>]) -> Result<Rows, Stop>
     ensures parts { IfOk result (λ rows. AreParts rows (map (λ text. text.items) texts.now)) }
     ensures few { IfOk result (λ rows. length rows ≤ most_jobs) }
@@ -130,7 +130,7 @@ fn rows_of_part_texts(alloc: Global, args: &MergeArgs<'_>, texts: &[Vec<u8>]) ->
     }
 }
 
-// Reads the files of the shards.
+// Returns the texts of the parts at the paths in the arguments.
 fn read_part_texts<D: Inputs>(
     inputs: &D,
     alloc: Global,
@@ -166,7 +166,7 @@ fn text_slices(alloc: Global, texts: &[Vec<u8>]) -> Result<Vec<&[u8]>, AllocErro
     Ok(slices)
 }
 
-// Writes the last line and the requested files.
+// Writes the summary line and the requested files.
 fn put_merged<F: Outputs + Drop, O: Sink + Drop, E: Sink + Drop>(
     alloc: Global,
     args: &MergeArgs<'_>,
@@ -197,7 +197,7 @@ fn put_merged<F: Outputs + Drop, O: Sink + Drop, E: Sink + Drop>(
     }
 }
 
-// Returns the suite name: the requested one, else one derived from the report's path, if one is given.
+// Returns the name of the JUnit suite: the requested one, or else one derived from the report's path, or `merged` without a report.
 fn merged_suite<'a>(args: &MergeArgs<'a>) -> &'a str
     ensures { result.now ≡ merged_suite (optional_text args.now.suite) (optional_text args.now.report) }
 {
@@ -207,7 +207,7 @@ fn merged_suite<'a>(args: &MergeArgs<'a>) -> &'a str
     }
 }
 
-// Returns why these are not the shards of one run.
+// Returns the error that these texts are not the parts of one run.
 fn merge_error_stop(alloc: Global, args: &MergeArgs<'_>, texts: &[&[u8]], error: MergeError) -> Stop
     ensures { IsMergeErrorStop args.now.parts.items (bytes_of_texts texts.now) error result }
 {
@@ -244,6 +244,7 @@ fn missing_shard_message(alloc: Global, number: usize) -> Result<Vec<u8>, AllocE
     )
 }
 
+// Returns the path of the part at index `at`.
 fn part_path<'a>(args: &MergeArgs<'a>, at: usize) -> &'a str
     ensures { result.now ≡ part_path args.now.parts.items at }
 {
@@ -253,21 +254,21 @@ fn part_path<'a>(args: &MergeArgs<'a>, at: usize) -> &'a str
     }
 }
 
-// Returns the text of a shard.
+// Returns the text of the part at index `at`.
 fn part_text<'a>(texts: &[&'a [u8]], at: usize) -> &'a [u8]
     ensures { result.now ≡ nth_text (bytes_of_texts texts.now) at }
 {
     if at < texts.len() { texts[at] } else { &[] }
 }
 
-// The path and text of a shard.
+// The path and text of a part.
 #[derive(Clone, Copy)]
 struct Part<'a> {
     path: &'a str,
     text: &'a [u8],
 }
 
-// Returns what is wrong with a shard.
+// Returns the message about a part that `merge` rejects.
 fn part_flaw_message(
     alloc: Global,
     args: &MergeArgs<'_>,
@@ -323,7 +324,7 @@ fn part_flaw_message(
     }
 }
 
-// Returns the message that a shard belongs to another run than the first one.
+// Returns the message that a part does not belong to the run of the first part.
 fn other_run_message(
     alloc: Global,
     args: &MergeArgs<'_>,
@@ -335,7 +336,7 @@ fn other_run_message(
     two_parts_message(alloc, path, what, part_path(args, 0), "\"\n")
 }
 
-// Returns the message that one shard conflicts with another.
+// Returns a message about two parts: the path of the rejected one, `what`, the path of the other one, and `end`.
 fn two_parts_message<'a>(
     alloc: Global,
     path: &'a str,

@@ -13,8 +13,8 @@ use rv_text::{Span, push_spans, push_text};
 use std::alloc::{AllocError, Global};
 use std::io::ErrorKind;
 
-/// Returns what `run` reports for a plan of which `count` jobs run and whose paths are resolved against `root` if given: empty if some
-/// image exists or if not all jobs run.
+/// Returns the note of `run` that no image was found, if every image is missing and `count`, the number of jobs that run, is that of all
+/// jobs. Otherwise the result is empty.
 pub(crate) fn missing_images_note(
     alloc: Global,
     plan: &Plan,
@@ -33,7 +33,7 @@ pub(crate) fn missing_images_note(
     Ok(note)
 }
 
-/// Appends what `check` reports for a plan; does nothing if some image exists.
+/// Appends the line of `check` that no image was found, if every image is missing.
 pub(crate) fn push_missing_images_line(
     told: &mut Vec<u8>,
     plan: &Plan,
@@ -49,6 +49,7 @@ pub(crate) fn push_missing_images_line(
     Ok(())
 }
 
+// Appends against which directory relative paths are resolved.
 fn push_paths_line(told: &mut Vec<u8>, root: Option<&str>) -> Result<(), AllocError>
     ensures { OnOk result (told.new.items ≡ told.old.items ++ line (paths_text (optional_text root.entry))) }
 {
@@ -68,6 +69,7 @@ fn push_paths_line(told: &mut Vec<u8>, root: Option<&str>) -> Result<(), AllocEr
     }
 }
 
+// Whether the images of all jobs are missing, and their paths are relative.
 fn are_images_missing(plan: &Plan, unread: &[UnreadPath]) -> bool
     ensures { result ≡ are_images_missing plan.now.jobs unread.now }
 {
@@ -79,7 +81,7 @@ fn are_images_missing(plan: &Plan, unread: &[UnreadPath]) -> bool
     all
 }
 
-// Whether the job's image is missing and its path is resolved against a directory.
+// Whether the job's image is missing, and its path is relative.
 fn is_image_missing(job: &Job, unread: &[UnreadPath]) -> bool
     ensures { result ≡ is_image_missing unread.now job.now }
 {
@@ -87,13 +89,14 @@ fn is_image_missing(job: &Job, unread: &[UnreadPath]) -> bool
     !path.as_bytes().starts_with(b"/") && is_noted_missing(unread_note(unread, path))
 }
 
-// Returns the first note about a path.
+// Returns the first entry for this path in the list of paths that could not be read.
 fn unread_note<'a>(unread: &'a [UnreadPath], path: &str) -> Option<&'a UnreadPath>
     ensures { option_map (λ one. one.now) result ≡ unread_note unread.now path.now }
 {
     unread.iter().find(|one| path == one.path.as_str())
 }
 
+// Whether a path could not be read because there is no file.
 fn is_noted_missing(note: Option<&UnreadPath>) -> bool
     ensures { result ≡ is_noted_missing (option_map (λ one. one.now) note.entry) }
 {
@@ -103,6 +106,7 @@ fn is_noted_missing(note: Option<&UnreadPath>) -> bool
     }
 }
 
+// Whether the reason of a read error is that there is no file at the path.
 fn is_not_found(reason: ErrorKind) -> bool
     ensures { result ≡ is_not_found reason }
 {

@@ -11,14 +11,14 @@ use rv_command::{Stop, parse_list};
 use rv_jobs::{Job, JobList};
 use std::alloc::Global;
 
-/// The jobs of a list, and the index of one of them.
+/// The jobs of a list, and the index of the named one.
 #[derive(Drop)]
 pub(crate) struct NamedJob {
     pub(crate) jobs: JobList,
     pub(crate) place: usize,
 }
 
-/// Parses the text of the list at a path, and finds the first job of a name.
+/// Parses the text of a list, and finds the first job with this name. `list` is the path of the list.
 pub(crate) fn find_named_job(
     alloc: Global,
     list: &str,
@@ -37,6 +37,7 @@ pub(crate) fn find_named_job(
     }
 }
 
+// Returns the index of the first job with this name.
 fn named_job_place(jobs: &[Job], name: &str) -> Option<usize>
     ensures within { IfSome result (λ place. place < length jobs.now) }
     ensures named { result ≡ position (λ job. bytes_eq job.name name.now) jobs.now }

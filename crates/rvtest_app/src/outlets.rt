@@ -23,7 +23,7 @@ use rv_rows::{RowReporter, Sink, WriteError};
 use std::alloc::Global;
 use std::io::ErrorKind;
 
-/// A file that is being written, and the path by which messages name it.
+/// A file that is being written, with the path by which messages name it.
 #[derive(Drop)]
 pub(crate) struct OpenFile<'a, P: Drop, W: Drop> {
     pub(crate) path: &'a str,
@@ -31,7 +31,7 @@ pub(crate) struct OpenFile<'a, P: Drop, W: Drop> {
     pub(crate) sink: W,
 }
 
-/// The destination of a text of rows.
+/// Where a text is written to: nowhere, standard output, or a file.
 #[derive(Drop)]
 pub(crate) enum Outlet<'a, P: Drop, W: Drop> {
     Nowhere,
@@ -40,14 +40,14 @@ pub(crate) enum Outlet<'a, P: Drop, W: Drop> {
     File(OpenFile<'a, P, W>),
 }
 
-/// The destinations of the report and of the JUnit XML.
+/// The outlets of the report and of the JUnit XML.
 #[derive(Drop)]
 pub(crate) struct Outlets<'a, P: Drop, W: Drop> {
     pub(crate) report: Outlet<'a, P, W>,
     pub(crate) junit: Outlet<'a, P, W>,
 }
 
-/// Opens both; after an error, neither is left open.
+/// Opens the outlets of a report and of JUnit XML. After an error, neither is left open.
 pub(crate) fn open_outlets<'a, F: Outputs>(
     files: &mut F,
     alloc: Global,
@@ -74,7 +74,7 @@ pub(crate) fn open_outlets<'a, F: Outputs>(
     }
 }
 
-/// Opens a new file for the path, if there is one; `-` is standard output.
+/// Opens a new file for the path, if one is given; `-` is standard output.
 pub(crate) fn open_outlet<'a, F: Outputs>(
     files: &mut F,
     alloc: Global,
@@ -93,14 +93,14 @@ pub(crate) fn open_outlet<'a, F: Outputs>(
     }
 }
 
-/// Whether the path represents standard output.
+/// Whether the path is `-`, which is standard output.
 pub(crate) fn is_stdout(path: &str) -> bool
     ensures { result ≡ is_stdout path.now }
 {
     path == "-"
 }
 
-/// Whether a path is given that represents standard output.
+/// Whether a path is given and is `-`, which is standard output.
 pub(crate) fn is_stdout_at(path: Option<&str>) -> bool
     ensures { result ≡ is_stdout_at (optional_text path.entry) }
 {
@@ -128,7 +128,7 @@ fn open_file<'a, F: Outputs>(
 }
 
 impl<'a, P: Drop, W: Drop> Outlet<'a, P, W> {
-    /// Takes the sink out of the outlet, if it is a file.
+    /// Takes the sink out of the outlet. Returns `None` for the sink if the outlet is not a file.
     pub(crate) fn take_sink(self) -> (Outlet<'a, P, ()>, Option<W>)
         ensures parts { AreOutletParts result.0 result.1 self.entry }
         ensures there { is_some result.1 ≡ is_file result.0 }
@@ -149,7 +149,7 @@ impl<'a, P: Drop, W: Drop> Outlet<'a, P, W> {
 }
 
 impl<'a, P: Drop> Outlet<'a, P, ()> {
-    /// Puts a sink back into an outlet, if it is a file.
+    /// Returns the outlet with its sink, which it has if it is a file.
     pub(crate) fn with_sink<W: Drop>(self, sink: Option<W>) -> Outlet<'a, P, W>
         requires { is_some sink ≡ is_file self }
         ensures { AreOutletParts self.entry sink result }
@@ -166,7 +166,7 @@ impl<'a, P: Drop> Outlet<'a, P, ()> {
 }
 
 impl<'a, P: Drop, W: Sink + LastError + Drop> Outlets<'a, P, W> {
-    /// Whether one of them goes to standard output.
+    /// Whether one of the outlets is standard output.
     pub(crate) fn use_stdout(&self) -> bool
         ensures { result ≡ uses_stdout self.now }
     {
@@ -181,7 +181,7 @@ impl<'a, P: Drop, W: Sink + LastError + Drop> Outlet<'a, P, W> {
         matches!(self, Outlet::Out)
     }
 
-    /// Returns the reason for the last failed write to the file; it has no meaning if there is no file.
+    /// Returns the reason of the last failed write to the file; an arbitrary one if the outlet is not a file.
     pub(crate) fn last_error(&self) -> ErrorKind {
         match self {
             Outlet::File(file) => file.sink.last_error(),
@@ -189,7 +189,7 @@ impl<'a, P: Drop, W: Sink + LastError + Drop> Outlet<'a, P, W> {
         }
     }
 
-    /// Writes a report. To a file that received the rows as they came, only the rest is written.
+    /// Writes a report to the outlet. A file that has already received the rows gets only the rest.
     pub(crate) fn put_report<O: Sink>(
         &mut self,
         alloc: Global,
@@ -216,7 +216,7 @@ impl<'a, P: Drop, W: Sink + LastError + Drop> Outlet<'a, P, W> {
         }
     }
 
-    /// Writes rows as JUnit XML, each with the lines that are reported for it.
+    /// Writes rows as JUnit XML to the outlet, each with the lines about it.
     pub(crate) fn put_junit<T: RowReporter, O: Sink>(
         &mut self,
         alloc: Global,
@@ -246,7 +246,7 @@ impl<'a, P: Drop, W: Sink + LastError + Drop> Outlet<'a, P, W> {
     }
 }
 
-// Returns the result of writing a text to standard output.
+// Converts the result of writing a text to standard output.
 fn stdout_result(written: Result<(), WriteError>) -> Result<(), Stop>
     ensures went { MatchResult written (λ _. IsOk result) (λ _. IsErr result) }
     ensures stopped { IfErr result (λ why. MatchResult written (λ _. ⊥) (λ error. why ≡ stop_of_write_error error)) }
@@ -258,7 +258,7 @@ fn stdout_result(written: Result<(), WriteError>) -> Result<(), Stop>
     }
 }
 
-// Returns the result of writing a text to a file.
+// Converts the result of writing a text to the file for a path; `reason` is why a write failed.
 fn file_result(
     alloc: Global,
     path: &str,
@@ -276,7 +276,7 @@ fn file_result(
     }
 }
 
-/// Returns the error that the system did not accept all that was written to the file for a path.
+/// Returns the error that the file for a path could not be written completely.
 pub(crate) fn unwritten_stop(alloc: Global, path: &str, reason: ErrorKind) -> Stop
     ensures { IsUnwrittenStop path.now result }
 {
@@ -289,7 +289,7 @@ fn write_stop(alloc: Global, path: &str, reason: ErrorKind) -> Stop
     Stop::of_failure(path_message(alloc, path, write_error_text(reason)))
 }
 
-/// Abandons both files, so that neither is created.
+/// Abandons the files of both outlets, so that neither is created.
 pub(crate) fn abandon_outlets<F: Outputs>(files: &mut F, outlets: Outlets<'_, F::Place, F::File>)
     ensures { F.placed files.new ≡ F.placed files.old }
 {

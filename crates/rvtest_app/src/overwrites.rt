@@ -16,7 +16,7 @@ use rv_files::{Outputs, resolved_path};
 use rv_text::{Span, push_spans, push_text, text_of_spans};
 use std::alloc::{AllocError, Global};
 
-/// Looks up the identities of the files.
+/// Returns the input files at these paths with their identities.
 pub(crate) fn look_up_files<'a, F: Outputs>(
     files: &F,
     alloc: Global,
@@ -43,7 +43,7 @@ fn file_identities<F: Outputs>(
     Ok(found)
 }
 
-/// Rejects the file of an option, if it has one, if it would replace or remove an input.
+/// Returns an error if an option names a file that would overwrite an input.
 pub(crate) fn refuse_overwrite<F: Outputs>(
     files: &F,
     alloc: Global,
@@ -61,7 +61,7 @@ pub(crate) fn refuse_overwrite<F: Outputs>(
     }
 }
 
-/// Rejects the file at a path if it would replace or remove an input.
+/// Returns an error if writing the file at the path would overwrite an input.
 pub(crate) fn refuse_file<F: Outputs>(
     files: &F,
     alloc: Global,
@@ -84,7 +84,7 @@ pub(crate) fn refuse_file<F: Outputs>(
 }
 
 impl<'a> ReadFiles<'a> {
-    /// Returns the index of the first input that is one of `files`.
+    /// Returns the index of the first input that is one of `files`; `None` if there is none.
     pub(crate) fn first_of(&self, files: &[Text]) -> Option<usize>
         ensures within { IfSome result (λ at. at < length self.now.identities.items) }
         ensures none { result ≡ None → list_any (is_among files.now) self.now.identities.items ≡ false }
@@ -98,14 +98,14 @@ impl<'a> ReadFiles<'a> {
     }
 }
 
-/// Whether a file is one of some files, by the identity that the system gives each.
+/// Whether a file is one of `files`, by the identity that the system gives each file.
 pub(crate) fn is_among(files: &[Text], identity: &Text) -> bool
     ensures { result ≡ is_among files.now identity.now }
 {
     files.iter().any(|file| file.as_str() == identity.as_str())
 }
 
-/// Returns the error that a file would overwrite an input.
+/// Returns the error that the file of an option would overwrite the input `read`.
 pub(crate) fn overwrite_stop<'a>(
     alloc: Global,
     option: &'a str,
@@ -117,6 +117,7 @@ pub(crate) fn overwrite_stop<'a>(
     Stop::of_refusal(overwrite_message(alloc, option, path, read))
 }
 
+// Returns the message that the file of an option, with this path, would overwrite the input `read`.
 fn overwrite_message<'a>(
     alloc: Global,
     option: &'a str,
@@ -132,6 +133,7 @@ fn overwrite_message<'a>(
     Ok(text)
 }
 
+// Returns the first half of the message: which option, with which path, would overwrite an input.
 fn overwrite_head<'a>(alloc: Global, option: &'a str, path: &'a str) -> Result<Vec<u8>, AllocError>
     ensures { IfOk result (λ text. text.items ≡ overwrite_head option.entry.now path.entry.now) }
 {
@@ -147,6 +149,7 @@ fn overwrite_head<'a>(alloc: Global, option: &'a str, path: &'a str) -> Result<V
     )
 }
 
+// Appends the words for an input: its placeholder in the usage, such as LIST, or the key by which a job names it.
 fn push_role(text: &mut Vec<u8>, role: ReadRole<'_>) -> Result<(), AllocError>
     ensures { OnOk result (text.new.items ≡ text.old.items ++ role_text role.entry) }
 {
@@ -156,6 +159,7 @@ fn push_role(text: &mut Vec<u8>, role: ReadRole<'_>) -> Result<(), AllocError>
     }
 }
 
+// Appends the words for an input that a job names: by its key and the job's name.
 fn push_job_file<'a>(text: &mut Vec<u8>, key: &'a str, job: &'a str) -> Result<(), AllocError>
     ensures { OnOk result (text.new.items ≡ text.old.items ++ job_file_text key.now job.now) }
 {
@@ -171,6 +175,7 @@ fn push_job_file<'a>(text: &mut Vec<u8>, key: &'a str, job: &'a str) -> Result<(
     )
 }
 
+// Appends the second half of the message: the path of the input.
 fn push_read_path(text: &mut Vec<u8>, path: &str) -> Result<(), AllocError>
     ensures { OnOk result (text.new.items ≡ text.old.items ++ read_path_text path.now) }
 {
@@ -199,7 +204,7 @@ pub(crate) fn push_read<'a>(
     Ok(())
 }
 
-/// Returns the inputs at some paths, each of which a placeholder of the usage represents.
+/// Returns the inputs at these paths; `word` is how messages call them.
 pub(crate) fn read_paths_of_words<'a>(
     alloc: Global,
     paths: &[&str],

@@ -10,7 +10,7 @@ use rv_command::{Stop, file_error_stop};
 use rv_files::Outputs;
 use std::alloc::Global;
 
-/// A file that is synced to disk, and the path by which messages name it.
+/// A file that is synced to disk, with the path by which messages name it.
 #[derive(Drop)]
 pub(crate) struct SyncedFile<'a, P: Drop, S: Drop> {
     path: &'a str,
@@ -18,14 +18,15 @@ pub(crate) struct SyncedFile<'a, P: Drop, S: Drop> {
     file: S,
 }
 
-/// The synced files of outlets, if they have any.
+/// The synced files of the outlets; `None` for an outlet that is not a file.
 #[derive(Drop)]
 struct SyncedFiles<'a, P: Drop, S: Drop> {
     junit: Option<SyncedFile<'a, P, S>>,
     report: Option<SyncedFile<'a, P, S>>,
 }
 
-/// Syncs both files to disk, and then moves both to their paths, the JUnit file first. If either cannot be synced, neither is created.
+/// Syncs the files of both outlets to disk, and then moves both to their paths, the JUnit file first. If either cannot be synced, neither
+/// is created.
 pub(crate) fn commit_outlets<F: Outputs>(
     files: &mut F,
     alloc: Global,
@@ -45,7 +46,7 @@ pub(crate) fn commit_outlets<F: Outputs>(
     place_both(files, alloc, junit, report)
 }
 
-// Syncs both files to disk. If either cannot be synced, neither is created.
+// Syncs the files of both outlets to disk. If either cannot be synced, neither is created.
 fn sync_outlets<'a, F: Outputs>(
     files: &mut F,
     alloc: Global,
@@ -80,6 +81,7 @@ fn sync_outlets<'a, F: Outputs>(
     }
 }
 
+// Syncs the file of an outlet to disk. Returns `None` if the outlet is not a file.
 fn sync_outlet<'a, F: Outputs>(
     files: &mut F,
     alloc: Global,
@@ -105,6 +107,7 @@ fn sync_outlet<'a, F: Outputs>(
     }
 }
 
+// Abandons a synced file, if there is one, so that it is not created.
 fn abandon_synced<F: Outputs>(files: &mut F, synced: Option<SyncedFile<'_, F::Place, F::Synced>>)
     ensures { F.placed files.new ≡ F.placed files.old }
 {
@@ -113,7 +116,7 @@ fn abandon_synced<F: Outputs>(files: &mut F, synced: Option<SyncedFile<'_, F::Pl
     }
 }
 
-// Moves both files to their paths, one after the other; if the first move fails, the second file is abandoned.
+// Moves both files to their paths, one after the other. If the first move fails, the second file is abandoned.
 fn place_both<F: Outputs>(
     files: &mut F,
     alloc: Global,

@@ -23,19 +23,19 @@ pub(crate) struct RequestedJobs {
     ghost whole: { ForSome frame.old (λ rows. length rows ≡ length jobs) },
 }
 
-/// The jobs of a list, and the selection of those to run.
+/// The jobs of a list, the selection of those to run, and which are known to fail.
 #[derive(Drop)]
 pub(crate) struct SelectedJobs {
     pub(crate) jobs: JobList,
     pub(crate) marks: Vec<bool>,
     pub(crate) frame: ReportFrame,
-    /// The known failures, if the arguments name a file of them.
+    /// The jobs that are known to fail, with `--known`.
     pub(crate) known: Option<KnownJobs>,
     ghost counted: { length marks.items ≡ length jobs },
     ghost whole: { ForSome frame.old (λ rows. length rows ≡ length jobs) },
 }
 
-/// The jobs at some indices of a plan, and how they are reported.
+/// The jobs at some indices of a plan, and how their rows are reported.
 #[derive(Drop)]
 pub(crate) struct PlannedRun<'a> {
     pub(crate) reporter: &'a TextReporter<'a>,
@@ -45,7 +45,7 @@ pub(crate) struct PlannedRun<'a> {
 }
 
 impl<'a> PlannedRun<'a> {
-    /// Returns the first `count` of the jobs.
+    /// Returns the run of only the first `count` of these jobs.
     pub(crate) fn first_jobs(&self, count: usize) -> PlannedRun<'a>
         requires { count ≤ length self.now.places.now }
         ensures places { result.places.now ≡ take count self.now.places.now }

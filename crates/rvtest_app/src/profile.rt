@@ -16,7 +16,7 @@ use rvtest_cli::{ChoosingCommand, ProfileArgs};
 use std::sync::Wait;
 use std::thread::Threads;
 
-/// Shows in which functions the requested jobs spent their steps: from a run of them, or from a table of counts. The status is 0.
+/// Shows in which functions the requested jobs spent their steps, from a run of these jobs or from a table of counts. The status is 0.
 pub(crate) fn profile_requested_jobs<
     R: Threads + Wait + Sync,
     D: Inputs,
@@ -38,6 +38,7 @@ pub(crate) fn profile_requested_jobs<
     view.put(ChoosingCommand::Profile, to)
 }
 
+// Returns the format of a profile: whether it is CSV, and the largest number of functions of each image.
 fn profile_format(args: &ProfileArgs<'_>) -> ProfileFormat
     ensures { result ≡ profile_format args.now }
 {

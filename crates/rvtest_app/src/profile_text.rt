@@ -13,7 +13,8 @@ use rv_profile::{ProfileFormat, image_past_64_bits, profile_text};
 use rv_text::{Span, text_of_spans};
 use std::alloc::{AllocError, Global};
 
-/// Returns the profile of the images, from the stacks of a table; if the counts are too great, the error says where the stacks come from.
+/// Returns the profile of the images, by the call stacks of a table. The error for counts that do not fit in 64 bits names `source`, the
+/// path of the table or list.
 pub(crate) fn text_of_profile(
     alloc: Global,
     source: &str,
@@ -32,6 +33,7 @@ pub(crate) fn text_of_profile(
     }
 }
 
+// Returns the message that the sum of an image's call stacks does not fit in 64 bits.
 fn past_64_bits_message<'a>(
     alloc: Global,
     source: &'a str,

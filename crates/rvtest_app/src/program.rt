@@ -42,7 +42,7 @@ use std::sync::Wait;
 use std::thread::Threads;
 use std::time::Clock;
 
-/// Responds to the arguments, the first of which is the program's name, and returns the exit status.
+/// Does what the arguments request, the first of which is the program's name. Returns the destinations and the exit status.
 pub fn run_rvtest<
     'a,
     R: Threads + Wait + Sync + Clock,
@@ -97,7 +97,7 @@ where
     }
 }
 
-// Runs the requested command, with coloured results on standard output.
+// Runs the requested command, with its results on standard output coloured as requested.
 fn run_in_colors<
     J: Results + Send + Sync,
     R: Threads + Wait + Sync + Clock,
@@ -138,7 +138,7 @@ where
     (to, whole_answer(answer, whole))
 }
 
-// Turns a success into an error if the coloured results were not written completely.
+// Returns the result of the command, or an error if it succeeded but its coloured results were not written completely.
 fn whole_answer(answer: Result<u8, Stop>, whole: Result<(), SinkFailed>) -> Result<u8, Stop>
     ensures { MatchResult answer
         (λ status. MatchResult whole (λ _. result ≡ Ok status) (λ _. result ≡ Err Stop.WriteFailed))
@@ -150,7 +150,7 @@ fn whole_answer(answer: Result<u8, Stop>, whole: Result<(), SinkFailed>) -> Resu
     }
 }
 
-// Runs the requested command.
+// Runs the requested command. Returns the destinations and the exit status.
 fn run_subcommand<
     R: Threads + Wait + Sync + Clock,
     D: Inputs,
@@ -203,7 +203,7 @@ where
     (to, answer)
 }
 
-/// Returns the status for arguments that the process cannot provide: arguments that are not UTF-8 are rejected.
+/// Reports that the process cannot provide its arguments: memory ran out, or an argument is not UTF-8. Returns the exit status.
 pub fn refuse_unreadable_words<E: Sink>(error: &io::Error, errors: &mut E) -> u8
     ensures low { result ≤ 3 }
     ensures status { result ≡ unreadable_words_status (error_kind error.now) }

@@ -20,7 +20,7 @@ use rv_junit::Cases;
 use rv_rows::{RowReporter, Sink};
 use std::alloc::Global;
 
-/// Writes what a command shows: to standard output, or to standard error if a file goes to standard output.
+/// Writes what a command shows to standard error if `is_beside` is true, and otherwise to standard output.
 pub(crate) fn put_shown<F: Outputs + Drop, O: Sink + Drop, E: Sink + Drop>(
     to: &mut Destinations<F, O, E>,
     text: &[u8],
@@ -38,8 +38,8 @@ pub(crate) fn put_shown<F: Outputs + Drop, O: Sink + Drop, E: Sink + Drop>(
     put_results(&mut to.out, text)
 }
 
-/// Writes both files, or the rest of the report, and then moves them to their paths, the JUnit file first. After an error neither is
-/// created, unless only the second could not be moved to its path.
+/// Writes the report and the JUnit XML to their outlets, and then moves their files to their paths, the JUnit file first. After an error no
+/// file is created, unless only the second one could not be moved to its path.
 pub(crate) fn put_files<F: Outputs + Drop, O: Sink + Drop, E: Sink + Drop, T: RowReporter>(
     alloc: Global,
     to: &mut Destinations<F, O, E>,
@@ -78,6 +78,7 @@ pub(crate) fn put_files<F: Outputs + Drop, O: Sink + Drop, E: Sink + Drop, T: Ro
     }
 }
 
+// Writes the JUnit XML and then the report to their outlets.
 fn put_texts<P: Drop, W: Sink + LastError + Drop, O: Sink, T: RowReporter>(
     alloc: Global,
     out: &mut O,

@@ -5,23 +5,23 @@ ghost use Rattle.std.specs.Prelude.{◌≡◌, length};
 use rv_base::Text;
 use std::path::PathBuf;
 
-/// A file that a command reads.
+/// The path of a file that a command reads, and how messages call the file.
 #[derive(Drop)]
 pub(crate) struct ReadPath<'a> {
     pub(crate) path: PathBuf,
     pub(crate) role: ReadRole<'a>,
 }
 
-/// What such a file is to the command.
+/// How messages call a file that a command reads.
 #[derive(Clone, Copy)]
 pub(crate) enum ReadRole<'a> {
-    /// The file that a placeholder of the usage represents: `LIST`, `--known`.
+    /// A file that the arguments name: `the job list`, `the file of --known`.
     Word(&'a str),
     /// The file that the key `key` of the job `job` names.
     JobFile { key: &'a str, job: &'a str },
 }
 
-/// The files that a command reads, with the identity that the system gives each.
+/// The files that a command reads, with the identity that the system gives each file.
 #[derive(Drop)]
 pub(crate) struct ReadFiles<'a> {
     pub(crate) paths: Vec<ReadPath<'a>>,

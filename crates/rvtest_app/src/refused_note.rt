@@ -16,8 +16,7 @@ use rv_rows::{refusal_at, row_at};
 use rvtest_cli::RunArgs;
 use std::alloc::{AllocError, Global};
 
-/// Returns a note with the directory that paths are resolved against, if every image is missing, and the lines of the refused jobs among
-/// those at some indices.
+/// Returns the note that no image was found, if every image is missing, and the lines about the refused jobs among those at these indices.
 pub(crate) fn refused_note(
     alloc: Global,
     args: &RunArgs<'_>,
@@ -40,7 +39,7 @@ pub(crate) fn refused_note(
     Ok(note)
 }
 
-// Appends the lines of the refused jobs among those at some indices.
+// Appends the lines about the refused jobs among those at these indices.
 fn push_refused_lines(
     alloc: Global,
     reporter: &TextReporter<'_>,
@@ -57,7 +56,7 @@ fn push_refused_lines(
     Ok(())
 }
 
-// Appends the line of the job at an index, if it is refused.
+// Appends the line about the job at index `place` if it is refused.
 #[tactic(auto, unfolding(crate::specs::RefusedNotes::refused_line))]
 fn push_refused_line(
     alloc: Global,

@@ -6,10 +6,10 @@ use rv_report::push_row;
 use rv_rows::{Row, RowReporter};
 use std::alloc::{AllocError, Global};
 
-/// Reports each row as a report has it.
+/// Reports each row as it is written in a report.
 #[derive(Clone, Copy)]
 pub(crate) struct ReportRowReporter {
-    /// Whether rows are written as they come; if not, its texts are empty.
+    /// Whether rows are written as soon as their jobs have finished. If not, each text is empty.
     pub(crate) is_streaming: bool,
 }
 

@@ -13,8 +13,7 @@ use rv_rows::Row;
 use rv_text::{Span, push_spans, push_text};
 use std::alloc::{AllocError, Global};
 
-/// Appends what is shown of a report's rows: the line of each failed one, the counts of all, and the jobs with the most steps, where jobs
-/// with equal steps keep their order.
+/// Appends what `show` prints about the rows of a report: a line for each failure, the totals, and the rows with the most steps.
 #[tactic(auto, unfolding(crate::specs::ReportSummary::summary_text))]
 pub fn push_summary(
     alloc: Global,
@@ -45,7 +44,7 @@ fn push_failed_lines(
     Ok(())
 }
 
-// Appends the jobs with the most steps.
+// Appends a heading and the rows with the most steps.
 fn push_most_steps(alloc: Global, text: &mut Vec<u8>, rows: &[Row]) -> Result<(), AllocError>
     ensures { OnOk result (text.new.items ≡ text.old.items ++ most_steps_text rows.now) }
 {

@@ -17,19 +17,19 @@ use rv_report::Shard;
 use rv_rows::{Row, Sink, WriteError};
 use std::alloc::Global;
 
-/// What a report covers.
+/// The contents of a report.
 #[derive(Drop)]
 pub(crate) enum ReportText<'a> {
     /// All rows of a list.
     Whole(Rows),
-    /// The rows of chosen jobs, or of a shard if they were chosen by one. They are written to a file as they come.
+    /// The rows of chosen jobs, or of the jobs of a shard. A file receives them as soon as their jobs have finished.
     Chosen(ChosenRows<'a>, Option<Shard>),
-    /// The rows of chosen jobs, merged into those of a whole report.
+    /// The rows of chosen jobs, and the rows of the report that they update.
     Into(IntoRows<'a>),
 }
 
 impl<'a> ReportText<'a> {
-    /// Returns the new rows.
+    /// Returns the rows of the run.
     pub(crate) fn rows(&self) -> &[Row]
         ensures { result.now ≡ report_rows self.now }
     {
@@ -57,7 +57,7 @@ impl<'a> ReportText<'a> {
         }
     }
 
-    /// Writes the rest of the report, after the rows that are written as they come. After an error, a prefix of the rest has been written.
+    /// Writes the part of the report that is written after all jobs have finished. After an error, a prefix of it has been written.
     pub(crate) fn write_rest<W: Sink>(self, alloc: Global, out: &mut W) -> Result<(), WriteError>
         ensures all { OnOk result
             (Appends (W.taken out.old) (W.taken out.new) (report_rest_of self.entry)) }
@@ -75,7 +75,7 @@ impl<'a> ReportText<'a> {
     }
 }
 
-// Writes the whole report into which rows are merged.
+// Writes the report that the rows update.
 fn write_whole_report<W: Sink>(
     alloc: Global,
     into: IntoRows<'_>,
@@ -93,7 +93,7 @@ fn write_whole_report<W: Sink>(
     write_report(alloc, &Report { rows }, out)
 }
 
-/// Returns the report of the rows: the whole one into which they are merged, if there is one, else a report of these rows alone.
+/// Returns the report of the rows: the report that they update, if there is one, or else a report of these rows alone.
 pub(crate) fn framed_report(chosen: ChosenRows<'_>, frame: ReportFrame) -> ReportText<'_>
     requires { ForSome frame.old (λ rows. length rows ≡ chosen.jobs) }
     ensures text { report_text_of result

@@ -26,7 +26,8 @@ use rv_report::Shard;
 use rvtest_cli::ChoosingCommand;
 
 impl<'x, R, D: Inputs> ListRun<'x, R, D> {
-    /// Returns the jobs of the list, and the selection of those to run. If the arguments are rejected, the usage of the command is shown.
+    /// Returns the jobs of the list, and the selection of those to run. If the arguments are rejected, the error shows the usage of
+    /// `command`.
     pub(crate) fn requested_jobs(&self, command: ChoosingCommand) -> Result<RequestedJobs, Stop>
         requires { self.now.rule ≡ failure_rule self.now.args.now.lenient }
         ensures requested { IfOk result (λ requested. AreRequestedJobs (D.contents self.now.host.now.inputs.now)
@@ -45,7 +46,7 @@ impl<'x, R, D: Inputs> ListRun<'x, R, D> {
         }
     }
 
-    // Returns the rows of the whole report into which those of the run are merged, if one is named.
+    // Returns the rows of the report of `--into`, which the run updates; `None` without this option.
     fn old_rows(&self, jobs: &[Job]) -> Result<Option<Rows>, Stop>
         ensures old { IfOk result (AreOldRows (D.contents self.now.host.now.inputs.now) self.now.args.now jobs.now) }
         ensures counted { IfOk result (λ old. ForSome old (λ rows. length rows ≡ length jobs.now)) }
@@ -59,6 +60,7 @@ impl<'x, R, D: Inputs> ListRun<'x, R, D> {
         Ok(Some(rows))
     }
 
+    // Returns the jobs of the list, with those of the shard selected.
     fn jobs_of_shard(
         &self,
         jobs: JobList,
@@ -86,6 +88,7 @@ impl<'x, R, D: Inputs> ListRun<'x, R, D> {
         })
     }
 
+    // Returns the jobs of the list, with those selected that the options choose.
     fn jobs_of_choice(
         &self,
         command: ChoosingCommand,

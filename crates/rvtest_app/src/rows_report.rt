@@ -13,8 +13,8 @@ use rv_fleet::{Report, Sink, WriteError, put_all, write_report};
 use rv_report::{Extent, Numbers, SavedReport, Shard, push_extent_line, write_saved_report};
 use std::alloc::{AllocError, Global};
 
-/// Writes the report of the rows of chosen jobs: that of a shard, if these are its jobs; else the whole report if they are all; else that
-/// of a choice. After an error, a prefix of it has been written.
+/// Writes the report of the rows of chosen jobs: of a shard if one is given, else of the whole list if all jobs are chosen, else of chosen
+/// jobs. After an error, a prefix of it has been written.
 pub(crate) fn write_chosen_report<W: Sink>(
     alloc: Global,
     chosen: ChosenRows<'_>,
@@ -39,7 +39,7 @@ pub(crate) fn write_chosen_report<W: Sink>(
     write_part_report(alloc, extent, chosen, out)
 }
 
-/// Writes the last line of that report. After an error, a prefix of it has been written.
+/// Writes the last line of the report that `write_chosen_report` writes. After an error, a prefix of it has been written.
 pub(crate) fn write_last_line<W: Sink>(
     alloc: Global,
     chosen: ChosenRows<'_>,
@@ -65,7 +65,7 @@ pub(crate) fn write_last_line<W: Sink>(
     Ok(())
 }
 
-// Writes the report of a part of a list.
+// Writes the report of a shard or of chosen jobs.
 fn write_part_report<W: Sink>(
     alloc: Global,
     extent: Extent,
@@ -88,7 +88,7 @@ fn write_part_report<W: Sink>(
     write_saved_report(alloc, &report, out)
 }
 
-// Returns the numbers of the jobs at some indices, counted from 1.
+// Returns the numbers of the jobs at these indices, counted from 1.
 fn job_numbers(alloc: Global, places: &[usize]) -> Result<Vec<u32>, AllocError>
     requires { All (λ place. place < most_jobs) places.now }
     ensures { IfOk result (λ numbers. numbers.items ≡ job_numbers places.now) }

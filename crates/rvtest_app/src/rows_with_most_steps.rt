@@ -7,11 +7,10 @@ ghost use Rattle.rvtest_app.specs.ReportSummary.{rows_with_most_steps, inserted_
 use rv_rows::Row;
 use std::alloc::{AllocError, Global};
 
-/// The number of rows shown among those with the most steps.
+/// How many of the rows with the most steps are shown.
 pub const MOST_SHOWN: usize = 10;
 
-/// Returns the rows with the most steps in descending order, where rows with equal steps keep their order: [`MOST_SHOWN`] of them or, if
-/// there are fewer, all.
+/// Returns the rows with the most steps, at most [`MOST_SHOWN`], by descending steps; rows with equal steps keep their order.
 pub(crate) fn rows_with_most_steps(alloc: Global, rows: &[Row]) -> Result<Vec<&Row>, AllocError>
     ensures { IfOk result (λ most. map (λ row. row.now) most.items ≡ rows_with_most_steps rows.now) }
 {
@@ -24,7 +23,7 @@ pub(crate) fn rows_with_most_steps(alloc: Global, rows: &[Row]) -> Result<Vec<&R
     Ok(most)
 }
 
-// Inserts a row before the first that does not have more steps, and drops the last row if there are then too many.
+// Inserts a row before the first one that does not have more steps, and drops the last row if there are then too many.
 fn insert_by_steps<'a>(most: &mut Vec<&'a Row>, row: &'a Row) -> Result<(), AllocError>
     requires { length most.old.items ≤ MOST_SHOWN }
     ensures rows { OnOk result (map (λ row. row.now) most.new.items
@@ -40,7 +39,7 @@ fn insert_by_steps<'a>(most: &mut Vec<&'a Row>, row: &'a Row) -> Result<(), Allo
     Ok(())
 }
 
-// Returns the number of leading rows that have more steps.
+// Returns how many of the leading rows have more steps than `steps`.
 fn rank_by_steps(most: &[&Row], steps: u32) -> usize
     ensures place { result ≡ prefix_len (λ row. nat_lt steps row.now.steps) most.now }
     ensures within { result ≤ length most.now }

@@ -9,7 +9,7 @@ use rv_command::{DONE, SOME_FAIL};
 use rv_expect::{Judge, Rule};
 use rv_rows::Row;
 
-/// Returns the rule by which jobs fail, with or without `--lenient`.
+/// Returns the rule by which jobs fail: lenient with `--lenient`, and otherwise strict.
 pub(crate) fn failure_rule(is_lenient: bool) -> Rule
     ensures { result ≡ failure_rule is_lenient }
 {
@@ -20,14 +20,14 @@ pub(crate) fn failure_rule(is_lenient: bool) -> Rule
     }
 }
 
-/// Returns how the rows of a report are counted, with or without `--lenient`: no job is known to fail.
+/// Returns how the rows of a report are judged, with or without `--lenient`; no job is known to fail.
 pub(crate) fn report_judge<'a>(is_lenient: bool) -> Judge<'a>
     ensures { judging_of result ≡ report_judging is_lenient }
 {
     Judge::by_rule(failure_rule(is_lenient))
 }
 
-/// Returns [`DONE`] if a job passed, else [`SOME_FAIL`].
+/// Returns the exit status for a single job: [`DONE`] if it passed, and otherwise [`SOME_FAIL`].
 pub(crate) fn passing_status(passed: bool) -> u8
     ensures value { result ≡ passing_status passed }
     ensures low { result ≤ 1 }
@@ -35,7 +35,7 @@ pub(crate) fn passing_status(passed: bool) -> u8
     if passed { DONE } else { SOME_FAIL }
 }
 
-/// Returns [`SOME_FAIL`] if some row counts as a failure, else [`DONE`].
+/// Returns the exit status for these rows: [`SOME_FAIL`] if one of them is a failure, and otherwise [`DONE`].
 pub(crate) fn rows_status(judge: &Judge<'_>, rows: &[Row]) -> u8
     ensures value { result ≡ rows_status (judging_of judge.now) rows.now }
     ensures low { result ≤ 1 }

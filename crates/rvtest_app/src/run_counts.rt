@@ -28,7 +28,7 @@ use std::thread::Threads;
 use std::time::Clock;
 
 impl<'x, R: Threads + Wait + Sync + Clock, D: Inputs> ListRun<'x, R, D> {
-    /// Runs the jobs at some indices once more, and writes how often each of their instructions was executed, if that is requested.
+    /// Runs the jobs at these indices once more, and writes their table of counts to the outlet. Does nothing if no table is requested.
     pub(crate) fn put_counts<F: Outputs + Drop, O: Sink + Drop, E: Sink + Drop>(
         &self,
         plan: &Plan,
@@ -63,7 +63,7 @@ impl<'x, R: Threads + Wait + Sync + Clock, D: Inputs> ListRun<'x, R, D> {
         }
     }
 
-    // Returns the text of the table of their counts, with their stacks if requested.
+    // Returns the text of the table of counts of the jobs at these indices.
     fn counts_text(&self, plan: &Plan, places: &[usize]) -> Result<String, Stop>
         requires within { AreJobIndices plan.now places.now }
         requires rising { IsStrictlyIncreasing places.now }
@@ -74,6 +74,7 @@ impl<'x, R: Threads + Wait + Sync + Clock, D: Inputs> ListRun<'x, R, D> {
         Ok(table_text(self.host.alloc, &table)?)
     }
 
+    // Returns the table of counts of the jobs at these indices, with call stacks if requested.
     fn table_of_counts(&self, plan: &Plan, places: &[usize]) -> Result<CountTable, Stop>
         requires within { AreJobIndices plan.now places.now }
         requires rising { IsStrictlyIncreasing places.now }

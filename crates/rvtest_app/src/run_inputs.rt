@@ -14,8 +14,8 @@ use rv_jobs::Job;
 use rvtest_cli::RunArgs;
 use std::alloc::{AllocError, Global};
 
-/// Rejects files of a run that would replace or remove an input: its list, the known failures, a file of any job of the list, whether it
-/// runs or not, or a report other than the one that `--into` replaces.
+/// Returns an error if an output file of a run would overwrite an input: the list, the file of `--known`, a file of any job of the list, or
+/// a report that the run reads, except the one that `--into` updates.
 pub(crate) fn refuse_run_overwrites<F: Outputs>(
     files: &F,
     alloc: Global,
@@ -33,7 +33,7 @@ pub(crate) fn refuse_run_overwrites<F: Outputs>(
     refuse_report_overwrites(files, alloc, args)
 }
 
-// Rejects files of a run that would overwrite a report that it reads, except the one that `--into` replaces.
+// Returns an error if an output file of a run would overwrite a report that it reads, except the one that `--into` updates.
 fn refuse_report_overwrites<F: Outputs>(
     files: &F,
     alloc: Global,
@@ -49,6 +49,7 @@ fn refuse_report_overwrites<F: Outputs>(
     refuse_overwrite(files, alloc, "--counts", args.counts, &reports)
 }
 
+// Returns the files that a run must not write: its list, the file of `--known`, and the files of all jobs.
 fn inputs_of_run<'a>(
     alloc: Global,
     args: &RunArgs<'_>,
@@ -91,7 +92,7 @@ fn push_job_paths<'a>(
     push_golden_paths(alloc, read, root, job)
 }
 
-/// Appends the image of a job.
+/// Appends the path of a job's image.
 pub(crate) fn push_image_path<'a>(
     alloc: Global,
     read: &mut Vec<ReadPath<'a>>,
@@ -108,7 +109,7 @@ pub(crate) fn push_image_path<'a>(
     push_read(alloc, read, root, job.image.as_str(), role)
 }
 
-/// Appends the golden files of a job: first the signature's, then the console's.
+/// Appends the paths of the golden files of a job: first the signature's, then the console's.
 pub(crate) fn push_golden_paths<'a>(
     alloc: Global,
     read: &mut Vec<ReadPath<'a>>,
@@ -145,7 +146,7 @@ fn console_file(job: &Job) -> Option<&str>
     }
 }
 
-/// Returns the report whose failed jobs are chosen.
+/// Returns the path of the report of `--failed`; none without this option.
 pub(crate) fn failed_of_run<'a>(
     alloc: Global,
     args: &RunArgs<'_>,
@@ -165,6 +166,7 @@ pub(crate) fn failed_of_run<'a>(
     Ok(read)
 }
 
+// Returns the paths of the reports that a run reads, of `--failed` and of `--into`.
 fn reports_of_run<'a>(alloc: Global, args: &RunArgs<'_>) -> Result<Vec<ReadPath<'a>>, AllocError>
     ensures { IfOk result (λ read. read_paths read.items ≡ reports_of_run args.now) }
 {

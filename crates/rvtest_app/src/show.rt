@@ -32,7 +32,7 @@ use rv_rows::{Row, Sink};
 use rvtest_cli::ShowArgs;
 use std::alloc::{AllocError, Global};
 
-// A report that was read, with its summary and its status.
+// A report that was read, with its summary and the exit status.
 #[derive(Drop)]
 struct SummarizedReport {
     report: SavedReport,
@@ -40,7 +40,7 @@ struct SummarizedReport {
     status: u8,
 }
 
-/// Shows what failed in a report, its counts and the jobs with the most steps. The status is 1 if a job failed.
+/// Shows the failures in a report, the totals, and the rows with the most steps. The status is 1 if a job failed.
 pub(crate) fn show_report<D: Inputs, F: Outputs + Drop, O: Sink + Drop, E: Sink + Drop>(
     inputs: &D,
     alloc: Global,
@@ -70,7 +70,7 @@ pub(crate) fn show_report<D: Inputs, F: Outputs + Drop, O: Sink + Drop, E: Sink 
     Ok(status)
 }
 
-// Rejects a JUnit file that would replace or remove the report.
+// Returns an error if the JUnit file would overwrite the report.
 fn refuse_show_overwrite<F: Outputs>(
     files: &F,
     alloc: Global,
@@ -87,7 +87,7 @@ fn refuse_show_overwrite<F: Outputs>(
     refuse_overwrite(files, alloc, "--junit", args.junit, &read)
 }
 
-// Summarizes a report, and returns it with its status.
+// Returns the report with its summary and the exit status.
 fn summarize_report(
     alloc: Global,
     args: ShowArgs<'_>,
@@ -111,7 +111,7 @@ fn summarize_report(
     })
 }
 
-// Writes the summary and, if requested, the rows as JUnit XML.
+// Writes the summary and, if requested, the JUnit XML.
 fn put_summarized_report<F: Outputs + Drop, O: Sink + Drop, E: Sink + Drop>(
     alloc: Global,
     args: ShowArgs<'_>,
@@ -145,6 +145,7 @@ fn put_summarized_report<F: Outputs + Drop, O: Sink + Drop, E: Sink + Drop>(
     }
 }
 
+// Returns what `show` prints about the rows of a report: the failures, the totals, and the rows with the most steps.
 fn summary_text(alloc: Global, judge: &Judge<'_>, rows: &[Row]) -> Result<Vec<u8>, AllocError>
     requires { length rows.now < 2 ^ 32 }
     ensures { IfOk result (λ text. text.items ≡ summary_text (judging_of judge.now) rows.now) }

@@ -20,20 +20,20 @@ use rv_jobs::limits::MOST_BYTES;
 use rv_rows::{Row, did_run};
 use std::alloc::{AllocError, Global};
 
-/// What runs without expectations are compared with.
+/// What the runs without expectations are compared with: the golden files as they are now, and the rows of other jobs.
 #[derive(Drop)]
 pub(crate) struct CurrentFiles<'x, D> {
-    /// The golden files as they are.
+    /// The golden files as they are now.
     pub inputs: &'x D,
     pub alloc: Global,
     /// The directory against which the paths of golden files are resolved.
     pub folder: Option<&'x str>,
-    /// The row of each job of the list that was run.
+    /// The row of each job of the list; `None` for a job that was not run.
     pub rows: &'x [Option<Row>],
 }
 
 impl<'x, D: Inputs> CurrentFiles<'x, D> {
-    /// Returns the jobs of the list, some of which are chosen, with the verdict on each.
+    /// Returns for each job of the list whether it is chosen, and the verdict on it.
     pub(crate) fn candidates(
         &self,
         jobs: &[Job],
@@ -51,7 +51,7 @@ impl<'x, D: Inputs> CurrentFiles<'x, D> {
         Ok(candidates)
     }
 
-    // Returns the job at an index of the list, with the verdict on it; a job that was not run does not pass.
+    // Returns whether the job at index `place` is chosen, and the verdict on it; a job that was not run fails.
     fn candidate_at(
         &self,
         place: usize,
@@ -77,6 +77,7 @@ impl<'x, D: Inputs> CurrentFiles<'x, D> {
         }
     }
 
+    // Returns the verdict on a job with this row, given its golden files as they are now.
     fn standing(&self, job: &Job, row: &Row) -> Result<CurrentVerdict, AllocError>
         ensures { IfOk result (IsStanding (D.contents self.now.inputs.now) (optional_text self.now.folder)
             self.now.rows.now job.now row.now) }
@@ -86,7 +87,7 @@ impl<'x, D: Inputs> CurrentFiles<'x, D> {
         self.verdict_over(job, row, text_of(&console), text_of(&signature))
     }
 
-    // Returns the verdict on a job, given what was read of its golden files.
+    // Returns the verdict on a job, given the contents of its golden files.
     fn verdict_over<'r>(
         &self,
         job: &'r Job,
@@ -108,7 +109,7 @@ impl<'x, D: Inputs> CurrentFiles<'x, D> {
         Ok(standing_by(did_run(row.ending), unmet.as_slice()))
     }
 
-    // Returns the row of the job that `same_as` names, if it names one.
+    // Returns the row of the job that `same_as` names, if it names one and that job was run.
     fn compared_row(&self, job: &Job) -> Option<&Row>
         ensures { option_map (λ row. row.now) result ≡ compared_row self.now.rows.now job.now.same_as }
     {
@@ -118,14 +119,14 @@ impl<'x, D: Inputs> CurrentFiles<'x, D> {
         }
     }
 
-    // Returns the row of the job at an index, if it was run.
+    // Returns the row of the job at index `place`, if it was run.
     fn row_at(&self, place: usize) -> Option<&Row>
         ensures { option_map (λ row. row.now) result ≡ row_or_none (slice_get self.now.rows.now place) }
     {
         row_if_run(self.rows.get(place))
     }
 
-    // Reads a golden file, if one is named.
+    // Returns the contents of a golden file; `None` if none is named, or it cannot be read.
     fn golden_text(&self, path: Option<&str>) -> Result<Option<Vec<u8>>, AllocError>
         ensures { IfOk result (λ text. IsGoldenText (D.contents self.now.inputs.now) (optional_text self.now.folder)
             (option_map (λ path. path.now) path.entry) (option_map (λ bytes. bytes.items) text)) }
@@ -144,7 +145,7 @@ impl<'x, D: Inputs> CurrentFiles<'x, D> {
         self.text_at(place.as_str())
     }
 
-    // Reads the file at a path; returns `None` if it cannot be read, as `run` reads no expectation there.
+    // Reads the file at a path. Returns `None` if it cannot be read or is too long.
     fn text_at(&self, place: &str) -> Result<Option<Vec<u8>>, AllocError>
         ensures { IfOk result (λ text. IsWholeText (D.contents self.now.inputs.now) place.now
             (option_map (λ bytes. bytes.items) text)) }
@@ -165,6 +166,7 @@ fn add_candidate(candidates: &mut Vec<Candidate>, candidate: Candidate) -> Resul
     Ok(())
 }
 
+// Whether the job at index `place` is selected.
 fn is_marked(marks: &[bool], place: usize) -> bool
     ensures { result ≡ is_marked marks.now place }
 {
@@ -174,8 +176,8 @@ fn is_marked(marks: &[bool], place: usize) -> bool
     }
 }
 
-// Returns the path of a golden file if its contents decide whether the job passes: a job that ended as expected is accepted whatever they
-// are.
+// Returns the path of a golden file if its contents decide about the verdict; `None` if the job ended as expected, since it is accepted
+// then.
 fn path_to_read<'a>(job: &Job, row: &Row, path: Option<&'a str>) -> Option<&'a str>
     ensures { option_map (λ path. path.now) result
         ≡ path_to_read job.now row.now (option_map (λ path. path.now) path.entry) }
@@ -227,6 +229,7 @@ fn standing_by(ran: bool, unmet: &[Unmet]) -> CurrentVerdict
     }
 }
 
+// Whether there are no unmet expectations.
 fn is_none_unmet(unmet: &[Unmet]) -> bool
     ensures { result ≡ is_none_unmet unmet.now }
 {
@@ -236,13 +239,14 @@ fn is_none_unmet(unmet: &[Unmet]) -> bool
     }
 }
 
+// Whether `same_as` is among the unmet expectations.
 fn is_any_difference(unmet: &[Unmet]) -> bool
     ensures { result ≡ list_any is_same unmet.now }
 {
     unmet.iter().any(|one| is_difference(*one))
 }
 
-// Whether the expectation is that two jobs have the same result.
+// Whether the unmet expectation is `same_as`.
 fn is_difference(unmet: Unmet) -> bool
     ensures { result ≡ is_same unmet }
 {

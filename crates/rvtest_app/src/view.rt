@@ -31,16 +31,16 @@ use std::thread::Threads;
 /// A view of images, made from a table of counts.
 #[derive(Clone, Copy)]
 pub(crate) enum View {
-    /// The instructions that were executed.
+    /// The coverage: which instructions were executed.
     Cover {
         /// Whether it is CSV, for tools.
         csv: bool,
     },
-    /// The functions in which steps were spent.
+    /// The profile: in which functions the steps were spent.
     Profile(ProfileFormat),
 }
 
-/// A view of the images of the requested jobs.
+/// A requested view of the images of the requested jobs.
 #[derive(Drop)]
 pub(crate) struct JobsView<'x, R, D> {
     pub(crate) host: &'x Host<'x, R, D>,
@@ -49,8 +49,8 @@ pub(crate) struct JobsView<'x, R, D> {
 }
 
 impl<'x, R: Threads + Wait + Sync, D: Inputs> JobsView<'x, R, D> {
-    /// Writes the view, from a run of the jobs or from a table of counts. The status is 0. If the arguments are rejected, the usage of the
-    /// command is shown.
+    /// Writes the view, from a run of the jobs or from a table of counts. The status is 0. If the arguments are rejected, the error shows
+    /// the usage of `command`.
     pub(crate) fn put<F: Outputs + Drop, O: Sink + Drop, E: Sink + Drop>(
         &self,
         command: ChoosingCommand,
@@ -77,7 +77,7 @@ impl<'x, R: Threads + Wait + Sync, D: Inputs> JobsView<'x, R, D> {
         }
     }
 
-    // Writes the view of the selected jobs.
+    // Writes the notes and the view of the selected jobs.
     fn put_of_marked<F: Outputs + Drop, O: Sink + Drop, E: Sink + Drop>(
         &self,
         jobs: JobList,
@@ -103,7 +103,7 @@ impl<'x, R: Threads + Wait + Sync, D: Inputs> JobsView<'x, R, D> {
         Ok(DONE)
     }
 
-    // Returns the view of the images of the jobs at some indices of a plan.
+    // Returns the view of the images of the jobs at these indices of a plan.
     fn text_of_places(&self, plan: &Plan, places: &[usize]) -> Result<Vec<u8>, Stop>
         requires within { AreJobIndices plan.now places.now }
         requires rising { IsStrictlyIncreasing places.now }
@@ -121,7 +121,7 @@ impl<'x, R: Threads + Wait + Sync, D: Inputs> JobsView<'x, R, D> {
 }
 
 impl<'x, R, D> JobsView<'x, R, D> {
-    // Returns the view of images that a table gives.
+    // Returns the view of these images by a table of counts.
     fn text_of_table(&self, table: &CountTable, images: &[ImageFile<'_>]) -> Result<Vec<u8>, Stop>
         requires { IsTable table.now }
         ensures shown { IfOk result (λ text. IsViewText self.now.view table.now (images_of_files images.now) text.items) }
@@ -138,7 +138,7 @@ impl<'x, R, D> JobsView<'x, R, D> {
     }
 }
 
-// Returns where counts come from: the table in the arguments, else the list.
+// Returns the path that a message about counts names: that of the table, or else that of the list.
 fn counts_source<'a>(args: &RunArgs<'a>) -> &'a str
     ensures { result.now ≡ counts_source args.now }
 {

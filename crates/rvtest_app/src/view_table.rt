@@ -32,7 +32,7 @@ use std::sync::Wait;
 use std::thread::Threads;
 
 impl<'x, R: Threads + Wait + Sync, D: Inputs> JobsView<'x, R, D> {
-    /// Returns the counts of a run of the jobs at some indices, whose images are `images`, or those of the table in the arguments.
+    /// Returns the table of counts for the view: the one in the arguments, or else that of a run of the jobs at these indices.
     pub(crate) fn table_for_images(
         &self,
         plan: &Plan,
@@ -53,7 +53,7 @@ impl<'x, R: Threads + Wait + Sync, D: Inputs> JobsView<'x, R, D> {
         }
     }
 
-    // Returns the counts of a run of the jobs at some indices.
+    // Runs the jobs at these indices, and returns the counts that the view needs.
     fn count_jobs(&self, plan: &Plan, places: &[usize]) -> Result<CountTable, Stop>
         requires within { AreJobIndices plan.now places.now }
         requires rising { IsStrictlyIncreasing places.now }
@@ -66,7 +66,7 @@ impl<'x, R: Threads + Wait + Sync, D: Inputs> JobsView<'x, R, D> {
         }
     }
 
-    // Reads the table at a path, which must have the counts to be shown, and no counts of images other than these at their paths.
+    // Reads the table at the path. Returns an error if it lacks the counts that the view needs, or has counts of other images.
     fn read_fit_table(&self, path: &str, images: &[ImageFile<'_>]) -> Result<CountTable, Stop>
         ensures table { IfOk result (IsFitTableAt (D.contents self.now.host.now.inputs.now) self.now.view path.now
             (images_of_files images.now)) }
@@ -83,7 +83,7 @@ impl<'x, R: Threads + Wait + Sync, D: Inputs> JobsView<'x, R, D> {
     }
 }
 
-// Counts how often the instructions of the jobs at some indices were executed.
+// Runs the jobs at these indices, and returns how often each instruction was executed.
 fn counts_of_jobs<R: Threads + Wait + Sync, D>(
     host: &Host<'_, R, D>,
     args: &RunArgs<'_>,
@@ -98,7 +98,7 @@ fn counts_of_jobs<R: Threads + Wait + Sync, D>(
     count_batch(&crew, &Batch::new(plan, places))
 }
 
-// Returns the counts of the jobs at some indices, with their stacks.
+// Runs the jobs at these indices, and returns their counts with the call stacks.
 fn counts_with_stacks_of_jobs<R: Threads + Wait + Sync, D>(
     host: &Host<'_, R, D>,
     args: &RunArgs<'_>,
@@ -117,7 +117,7 @@ fn counts_with_stacks_of_jobs<R: Threads + Wait + Sync, D>(
     }
 }
 
-// Reads the table at a path, which must have no counts of images other than these at their paths.
+// Reads the table at the path. Returns an error if it has counts of an image other than these.
 fn read_table_for_images<D: Inputs>(
     inputs: &D,
     alloc: Global,
@@ -136,7 +136,7 @@ fn read_table_for_images<D: Inputs>(
     }
 }
 
-// Whether a table has the counts that the view shows.
+// Whether the table has the counts that the view needs: a profile needs call stacks.
 fn has_counts_for(view: View, table: &CountTable) -> bool
     ensures { result ≡ has_counts_for view table.now }
 {
@@ -146,6 +146,7 @@ fn has_counts_for(view: View, table: &CountTable) -> bool
     }
 }
 
+// Returns the message that the table at `table` has counts of another image than the one that is now at `path`.
 fn other_image_message<'a>(
     alloc: Global,
     table: &'a str,
@@ -165,6 +166,7 @@ fn other_image_message<'a>(
     )
 }
 
+// Returns the message that the table has no call stacks, and how to write one that has.
 fn no_stacks_message(alloc: Global, path: &str) -> Result<Vec<u8>, AllocError>
     ensures { IfOk result (λ text. text.items ≡ no_stacks_message path.now) }
 {

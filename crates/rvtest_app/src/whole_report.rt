@@ -16,14 +16,14 @@ use rv_rows::Row;
 use rv_text::{Span, text_of_spans};
 use std::alloc::{AllocError, Global};
 
-/// Why a report is not the whole report of a list.
+/// Why a report is not a report of all jobs of a list.
 #[derive(Clone, Copy)]
 pub(crate) enum NotWhole<'a> {
-    /// It has this many rows of a list of this many jobs.
+    /// It has only this many rows, of a list of this many jobs.
     Part(usize, u32),
-    /// It has this many rows, and the list a different number of jobs.
+    /// It has this many rows, but the list has this many jobs.
     Count(usize, usize),
-    /// It has another job.
+    /// A row has another name than the job of the list.
     Name(OtherName<'a>),
 }
 
@@ -37,7 +37,7 @@ pub(crate) struct OtherName<'a> {
 
 const WANTED: &str = ": --into expects a report of the whole list\n";
 
-/// Reads the rows of the report at a path, which must have one for each job of the list at the other path, in list order.
+/// Returns the rows of the report at `path`, which must have one row for each job of the list at `list`, in list order.
 pub(crate) fn read_whole_report<D: Inputs>(
     inputs: &D,
     alloc: Global,
@@ -56,7 +56,7 @@ pub(crate) fn read_whole_report<D: Inputs>(
     }
 }
 
-// Returns why a report is not the whole report of the jobs of a list, if it is not.
+// Returns why a report is not a report of all jobs of a list; `None` if it is one.
 fn not_whole<'a>(report: &'a SavedReport, jobs: &'a [Job]) -> Option<NotWhole<'a>>
     requires few { length report.now.rows ≤ most_jobs }
     ensures whole { result ≡ None → IsWholeReport jobs.now report.now }
@@ -75,7 +75,7 @@ fn not_whole<'a>(report: &'a SavedReport, jobs: &'a [Job]) -> Option<NotWhole<'a
     }
 }
 
-// Returns the number of jobs in the list of which the report covers a part.
+// Returns the number of jobs in the list of a partial report; `None` for a whole report.
 fn jobs_beside_part(extent: &Extent) -> Option<u32>
     ensures { result ≡ jobs_beside_part extent.now }
 {
@@ -86,7 +86,7 @@ fn jobs_beside_part(extent: &Extent) -> Option<u32>
     }
 }
 
-// Returns the first row whose name differs from that of the job at its index.
+// Returns the first row whose name differs from that of the job at the same index.
 fn first_other_name<'a>(rows: &'a [Row], jobs: &'a [Job]) -> Option<OtherName<'a>>
     requires { length rows.now ≡ length jobs.now }
     ensures same { result ≡ None → row_names rows.now ≡ job_names jobs.now }
@@ -105,7 +105,7 @@ fn first_other_name<'a>(rows: &'a [Row], jobs: &'a [Job]) -> Option<OtherName<'a
     None
 }
 
-// Returns the message that the report at a path is not the whole report of the list at the other path.
+// Returns the message that the report at `path` is not a report of all jobs of the list at `list`.
 fn not_whole_refusal<'a>(
     alloc: Global,
     path: &'a str,
@@ -121,6 +121,7 @@ fn not_whole_refusal<'a>(
     }
 }
 
+// Returns the message that the report at the path has only some rows of a list with this many jobs.
 fn part_refusal<'a>(
     alloc: Global,
     path: &'a str,
@@ -144,6 +145,7 @@ fn part_refusal<'a>(
     )
 }
 
+// Returns the message that the report at `path` and the list at `list` have different numbers of rows and jobs.
 fn count_refusal<'a>(
     alloc: Global,
     path: &'a str,
@@ -169,6 +171,7 @@ fn count_refusal<'a>(
     )
 }
 
+// Returns the message that the job with this number has different names in the report at `path` and in the list at `list`.
 fn name_refusal<'a>(
     alloc: Global,
     path: &'a str,

@@ -33,6 +33,7 @@ pub(crate) fn write_text<F: Outputs + Drop, O: Sink + Drop, E: Sink + Drop>(
     write_text_at(alloc, to, path.unwrap_or("-"), bytes)
 }
 
+// Writes a text to the file at a path, or to standard output if the path is `-`.
 fn write_text_at<F: Outputs + Drop, O: Sink + Drop, E: Sink + Drop>(
     alloc: Global,
     to: &mut Destinations<F, O, E>,
@@ -53,7 +54,7 @@ fn write_text_at<F: Outputs + Drop, O: Sink + Drop, E: Sink + Drop>(
     }
 }
 
-/// Writes a file completely: it appears only when all bytes are written, and is unchanged after an error.
+/// Writes a file completely: it appears only when all bytes are written, and after an error the old file is unchanged.
 pub(crate) fn write_file<F: Outputs>(
     files: &mut F,
     alloc: Global,
@@ -71,7 +72,7 @@ pub(crate) fn write_file<F: Outputs>(
     }
 }
 
-/// Writes all bytes to an open file, and moves it to its path; after an error it is not created.
+/// Writes all bytes to an open file, and moves it to its path. After an error the file is not created.
 pub(crate) fn finish_file<F: Outputs>(
     files: &mut F,
     alloc: Global,
@@ -109,7 +110,7 @@ pub(crate) fn finish_file<F: Outputs>(
     }
 }
 
-/// Writes a text to an open, still empty outlet, and moves its file to its path; after an error it is not created.
+/// Writes a text to an open and still empty outlet, and moves its file to its path. After an error the file is not created.
 pub(crate) fn put_into_outlet<F: Outputs + Drop, O: Sink + Drop, E: Sink + Drop>(
     alloc: Global,
     to: &mut Destinations<F, O, E>,

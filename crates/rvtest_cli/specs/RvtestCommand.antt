@@ -13,49 +13,51 @@ use Rattle.rvtest_cli.specs.declared.command.Subcommand.{Subcommand}
 use Rattle.rv_cli.specs.CommandBuilder.{option_rule, word_rule}
 use Rattle.rv_cli.specs.RvfleetCommand.{group_rule}
 
--- the argument, made repeatable: each use adds a value
+-- the rule of an argument, made repeatable: each use adds a value
 abbrev pub repeated_rule : Rule → Rule
 repeated_rule rule = record rule { action = Some Append }
 
--- an option with a number in a range, and its default values
+-- the rule of an option with a number from `least` to `most`, and its default values `usual`
 abbrev pub number_rule : Text → ℤ → ℤ → List (Bor Text) → Rule
 number_rule name least most usual = record (option_rule name) {
   parser = Some (value_parser.Signed least most);
   defaults = map (λ text. text.now) usual;
 }
 
--- an option with the path of a file, which is not empty
+-- the rule of an option with the path of a file, which is not empty
 abbrev pub file_rule : Text → Rule
 file_rule name = record (option_rule name) { parser = Some value_parser.NonEmptyString }
 
--- an option without a value
+-- the rule of an option without a value
 abbrev pub flag_rule : Text → Rule
 flag_rule name = record (new_rule name) { long = Some name; action = Some SetTrue }
 
--- the argument with a short letter, if there is one
+-- the rule of an argument, with a short letter if there is one
 abbrev pub with_letter : Rule → Option ℕ → Rule
 with_letter rule None = rule
 with_letter rule (Some letter) = record rule { short = Some letter }
 
--- the letters j, q and v
+-- the short letter of `--workers`: j
 abbrev pub letter_of_workers : ℕ
 letter_of_workers = 106
 
+-- the short letter of `--quiet`: q
 abbrev pub letter_of_quiet : ℕ
 letter_of_quiet = 113
 
+-- the short letter of `--verbose`: v
 abbrev pub letter_of_verbose : ℕ
 letter_of_verbose = 118
 
--- the greatest number of last instructions that can be shown
+-- the greatest value of `--last`
 abbrev pub most_last_instructions : ℕ
 most_last_instructions = 100000
 
--- an optional positional argument, such as [NAME]
+-- the rule of an optional positional argument, such as [NAME]
 abbrev pub optional_word_rule : Text → Rule
 optional_word_rule name = record (new_rule name) { value_names = 1 }
 
--- the rule of an argument
+-- the rule by which `clap` parses an argument of the table
 abbrev pub argument_rule : Argument → Rule
 argument_rule (argument.Word name value help) = word_rule name.now
 argument_rule (argument.OptionalWord name value help) = optional_word_rule name.now
@@ -68,153 +70,156 @@ argument_rule (argument.Number name letter help bounds usual) =
     with_letter (number_rule name.now bounds.least bounds.most usual.now) letter
 argument_rule argument.Group = group_rule
 
--- <PART>..
+-- the rule of <PART>..
 abbrev pub parts_rule : Rule
 parts_rule = repeated_rule (word_rule (codes "part"))
 
--- --only <NAME>, repeatable
+-- the rule of --only <NAME>, which is repeatable
 abbrev pub only_rule : Rule
 only_rule = repeated_rule (option_rule (codes "only"))
 
--- --workers <N>, -j <N>
+-- the rule of --workers <N>, or -j <N>
 abbrev pub test_workers_rule : Rule
 test_workers_rule = with_letter (number_rule (codes "workers") (pos 1) (pos most_workers) []) (Some letter_of_workers)
 
--- --verbose, -v
+-- the rule of --verbose, or -v
 abbrev pub verbose_rule : Rule
 verbose_rule = with_letter (flag_rule (codes "verbose")) (Some letter_of_verbose)
 
--- --quiet, -q
+-- the rule of --quiet, or -q
 abbrev pub quiet_rule : Rule
 quiet_rule = with_letter (flag_rule (codes "quiet")) (Some letter_of_quiet)
 
--- --last <N>
+-- the rule of --last <N>, without a default
 abbrev pub last_rule : Rule
 last_rule = number_rule (codes "last") (pos 0) (pos most_last_instructions) []
 
--- --last <N>, by default 16
+-- the rule of --last <N>, with the default 16
 abbrev pub explain_last_rule : Rule
 explain_last_rule = record last_rule { defaults = codes "16" ∷ [] }
 
--- --budget <N>, which overrides each job's own
+-- the rule of --budget <N>, which overrides each job's own budget
 abbrev pub job_budget_rule : Rule
 job_budget_rule = number_rule (codes "budget") (pos 1) (pos most_budget) []
 
--- --memory <N>, in megabytes
+-- the rule of --memory <N>, in megabytes
 abbrev pub memory_rule : Rule
 memory_rule = number_rule (codes "memory") (pos 64) (pos 4096) []
 
--- a command with one more argument, and with several in order
+-- the command with one more argument of the table
 abbrev pub with_argument : App → Argument → App
 with_argument app argument = with_rule app (argument_rule argument)
 
+-- the command with more arguments of the table, in order
 abbrev pub with_arguments : App → List Argument → App
 with_arguments = fold with_argument
 
--- the rule of a command in the table
+-- the rules of a command of the table: its name and its arguments
 abbrev pub subcommand_app : Subcommand → App
 subcommand_app stated = with_arguments (new_app stated.name.now) stated.arguments.now
 
--- a command with one of the table's commands as a subcommand, and with several in order
+-- the command with one command of the table as a subcommand
 abbrev pub with_table_command : App → Subcommand → App
 with_table_command app stated = with_subcommand app (subcommand_app stated).top
 
+-- the command with commands of the table as subcommands, in order
 abbrev pub with_subcommands : App → List Subcommand → App
 with_subcommands = fold with_table_command
 
--- [--partial]
+-- the command with [--partial]
 abbrev pub with_partial : App → App
 with_partial app = with_rule app (flag_rule (codes "partial"))
 
--- [--only <NAME>].. [--match <REGEX>] [--exclude <REGEX>] [--failed <REPORT>] [--partial]
+-- the command with [--only <NAME>].. [--match <REGEX>] [--exclude <REGEX>] [--failed <REPORT>] [--partial]
 abbrev pub with_choice : App → App
 with_choice app = with_partial (with_rule (with_rule (with_rule (with_rule app only_rule)
     (option_rule (codes "match"))) (option_rule (codes "exclude"))) (option_rule (codes "failed")))
 
--- [--shard <K/N>] [--stamp <TEXT>]
+-- the command with [--shard <K/N>] [--stamp <TEXT>]
 abbrev pub with_shard : App → App
 with_shard app = with_rule (with_rule app (option_rule (codes "shard")))
     (option_rule (codes "stamp"))
 
--- [--workers <N>] [--group <N>] [--budget <N>] [--root <DIR>]
+-- the command with [--workers <N>] [--group <N>] [--budget <N>] [--root <DIR>]
 abbrev pub with_machine : App → App
 with_machine app = with_rule (with_rule (with_rule (with_rule app test_workers_rule)
     group_rule) job_budget_rule) (option_rule (codes "root"))
 
--- [--junit <FILE>] [--suite <NAME>] [--lenient]
+-- the command with [--junit <FILE>] [--suite <NAME>] [--lenient]
 abbrev pub with_junit : App → App
 with_junit app = with_rule (with_rule (with_rule app (file_rule (codes "junit")))
     (option_rule (codes "suite"))) (flag_rule (codes "lenient"))
 
--- [--report <FILE>] [--junit <FILE>] [--suite <NAME>] [--lenient]
+-- the command with [--report <FILE>] [--junit <FILE>] [--suite <NAME>] [--lenient]
 abbrev pub with_files : App → App
 with_files app = with_junit (with_rule app (file_rule (codes "report")))
 
--- [--counts <FILE>] [--stacks]
+-- the command with [--counts <FILE>] [--stacks]
 abbrev pub with_counts : App → App
 with_counts app = with_rule (with_rule app (file_rule (codes "counts"))) (flag_rule (codes "stacks"))
 
--- [--known <FILE>]
+-- the command with [--known <FILE>]
 abbrev pub with_known : App → App
 with_known app = with_rule app (file_rule (codes "known"))
 
--- [--stop-after <N>]
+-- the command with [--stop-after <N>]
 abbrev pub with_stop_after : App → App
 with_stop_after app = with_rule app (number_rule (codes "stop-after") (pos 1) (pos most_jobs) [])
 
--- [--color <WHEN>]
+-- the command with [--color <WHEN>]
 abbrev pub with_color : App → App
 with_color app = with_rule app (option_rule (codes "color"))
 
--- [--into <FILE>]
+-- the command with [--into <FILE>]
 abbrev pub with_into : App → App
 with_into app = with_rule app (file_rule (codes "into"))
 
--- [--verbose | --quiet] [--last <N>] [--color <WHEN>]
+-- the command with [--verbose] [--quiet] [--last <N>] [--color <WHEN>]
 abbrev pub with_results : App → App
 with_results app = with_color (with_rule (with_rule (with_rule app verbose_rule) quiet_rule) last_rule)
 
--- a command with a list
+-- the rules of a command `name` with the positional argument <LIST>
 abbrev pub app_of_list : Text → App
 app_of_list name = with_rule (new_app name) (word_rule (codes "list"))
 
+-- the rules of `run <LIST>` with its options
 abbrev pub test_run_app : App
 test_run_app =
     with_results (with_stop_after (with_known (with_counts (with_files (with_into (with_machine (with_shard (with_choice
     (app_of_list (codes "run"))))))))))
 
--- list <LIST> [--only <NAME>].. [--match <REGEX>] [--exclude <REGEX>] [--failed <REPORT>] [--partial] [--lenient]
+-- the rules of `list <LIST> [--only <NAME>].. [--match <REGEX>] [--exclude <REGEX>] [--failed <REPORT>] [--partial] [--lenient]`
 abbrev pub list_app : App
 list_app = with_rule (with_choice (app_of_list (codes "list"))) (flag_rule (codes "lenient"))
 
--- [--workers <N>] [--group <N>] [--root <DIR>]
+-- the command with [--workers <N>] [--group <N>] [--root <DIR>]
 abbrev pub with_threads : App → App
 with_threads app = with_rule (with_rule (with_rule app test_workers_rule) group_rule) (option_rule (codes "root"))
 
--- accept <LIST> [--only <NAME>].. [--match <REGEX>] [--exclude <REGEX>] [--failed <REPORT>] [--partial] [--ends] [--check] [--outside]
--- [--workers <N>] [--group <N>] [--root <DIR>]
+-- the rules of `accept <LIST> [--only <NAME>].. [--match <REGEX>] [--exclude <REGEX>] [--failed <REPORT>] [--partial] [--ends] [--check]
+-- [--outside] [--workers <N>] [--group <N>] [--root <DIR>]`
 abbrev pub accept_app : App
 accept_app = with_threads (with_rule (with_rule (with_rule (with_choice (app_of_list (codes "accept"))) (flag_rule (codes "ends")))
     (flag_rule (codes "check"))) (flag_rule (codes "outside")))
 
--- cover <LIST> [--only <NAME>].. [--match <REGEX>] [--exclude <REGEX>] [--failed <REPORT>] [--partial] [--shard <K/N>] [--lenient]
--- [--workers <N>] [--group <N>] [--root <DIR>] [--counts <TABLE>] [--csv]
+-- the rules of `cover <LIST> [--only <NAME>].. [--match <REGEX>] [--exclude <REGEX>] [--failed <REPORT>] [--partial] [--shard <K/N>]
+-- [--lenient] [--workers <N>] [--group <N>] [--root <DIR>] [--counts <TABLE>] [--csv]`
 abbrev pub cover_app : App
 cover_app = with_rule (with_rule (with_threads (with_rule (with_rule (with_choice (app_of_list (codes "cover")))
     (option_rule (codes "shard"))) (flag_rule (codes "lenient")))) (option_rule (codes "counts"))) (flag_rule (codes "csv"))
 
--- the greatest number of functions of an image that can be requested
+-- the greatest value of `--top`, the number of functions shown for each image
 abbrev pub most_functions : ℕ
 most_functions = 1000000
 
--- profile <LIST> [NAME] [--only <NAME>].. [--match <REGEX>] [--exclude <REGEX>] [--failed <REPORT>] [--partial] [--shard <K/N>] [--lenient]
--- [--workers <N>] [--group <N>] [--root <DIR>] [--counts <TABLE>] [--top <N>] [--csv]
+-- the rules of `profile <LIST> [NAME] [--only <NAME>].. [--match <REGEX>] [--exclude <REGEX>] [--failed <REPORT>] [--partial] [--shard
+-- <K/N>] [--lenient] [--workers <N>] [--group <N>] [--root <DIR>] [--counts <TABLE>] [--top <N>] [--csv]`
 abbrev pub profile_app : App
 profile_app = with_rule (with_rule (with_rule (with_threads (with_rule (with_rule (with_choice (with_rule (app_of_list (codes "profile"))
     (optional_word_rule (codes "name")))) (option_rule (codes "shard"))) (flag_rule (codes "lenient")))) (option_rule (codes "counts")))
     (number_rule (codes "top") (pos 1) (pos most_functions) [])) (flag_rule (codes "csv"))
 
--- the commands that choose jobs
+-- the rules of each command that chooses jobs
 abbrev pub choosing_app : ChoosingCommand → App
 choosing_app choosing.Run = test_run_app
 choosing_app choosing.List = list_app
@@ -222,47 +227,47 @@ choosing_app choosing.Accept = accept_app
 choosing_app choosing.Cover = cover_app
 choosing_app choosing.Profile = profile_app
 
--- explain <LIST> <NAME> [--last <N>] [--budget <N>] [--root <DIR>] [--color <WHEN>]
+-- the rules of `explain <LIST> <NAME> [--last <N>] [--budget <N>] [--root <DIR>] [--color <WHEN>]`
 abbrev pub explain_app : App
 explain_app = with_color (with_rule (with_rule (with_rule (with_rule (app_of_list (codes "explain"))
     (word_rule (codes "name"))) explain_last_rule) job_budget_rule) (option_rule (codes "root")))
 
--- console <LIST> <NAME> [--root <DIR>]
+-- the rules of `console <LIST> <NAME> [--root <DIR>]`
 abbrev pub console_app : App
 console_app = with_rule (with_rule (app_of_list (codes "console")) (word_rule (codes "name"))) (option_rule (codes "root"))
 
--- gdb <LIST> <NAME> [--root <DIR>] [--memory <MB>]
+-- the rules of `gdb <LIST> <NAME> [--root <DIR>] [--memory <MB>]`
 abbrev pub gdb_app : App
 gdb_app = with_rule (with_rule (with_rule (app_of_list (codes "gdb")) (word_rule (codes "name"))) (option_rule (codes "root")))
     memory_rule
 
--- check <LIST> [--root <DIR>]
+-- the rules of `check <LIST> [--root <DIR>]`
 abbrev pub check_app : App
 check_app = with_rule (app_of_list (codes "check")) (option_rule (codes "root"))
 
--- merge <PART>.. [--report <FILE>] [--junit <FILE>] [--suite <NAME>] [--lenient]
+-- the rules of `merge <PART>.. [--report <FILE>] [--junit <FILE>] [--suite <NAME>] [--lenient]`
 abbrev pub merge_app : App
 merge_app = with_files (with_rule (new_app (codes "merge")) parts_rule)
 
--- the greatest percentage for `--slower`
+-- the greatest percentage of `--slower`
 abbrev pub most_slower : ℕ
 most_slower = 1000
 
--- diff <OLD> <NEW> [--partial] [--steps | --slower <N>] [--color <WHEN>]
+-- the rules of `diff <OLD> <NEW> [--partial] [--steps | --slower <N>] [--color <WHEN>]`
 abbrev pub diff_app : App
 diff_app = with_color (with_rule (with_rule (with_partial (with_rule (with_rule (new_app (codes "diff"))
     (word_rule (codes "old"))) (word_rule (codes "new")))) (flag_rule (codes "steps")))
     (number_rule (codes "slower") (pos 0) (pos most_slower) []))
 
--- show <REPORT> [--partial] [--junit <FILE>] [--suite <NAME>] [--lenient] [--color <WHEN>]
+-- the rules of `show <REPORT> [--partial] [--junit <FILE>] [--suite <NAME>] [--lenient] [--color <WHEN>]`
 abbrev pub show_app : App
 show_app = with_color (with_junit (with_partial (with_rule (new_app (codes "show")) (word_rule (codes "report")))))
 
--- counts <TABLE>.. [--out <FILE>]
+-- the rules of `counts <TABLE>.. [--out <FILE>]`
 abbrev pub counts_app : App
 counts_app = with_rule (with_rule (new_app (codes "counts")) (repeated_rule (word_rule (codes "table")))) (file_rule (codes "out"))
 
--- a subcommand is required, `clap`'s own `help` is not one of them, and there is a version
+-- the rules of `rvtest` without its subcommands: a subcommand is required, `clap` adds no `help` subcommand, and there is a version
 abbrev pub test_top_app : App
 test_top_app = let app = new_app (codes "rvtest") in
     record app {
@@ -273,23 +278,25 @@ test_top_app = let app = new_app (codes "rvtest") in
       };
     }
 
--- the commands that run lists, and then those that read reports
+-- the command with the subcommands `run`, `list` and `explain`
 abbrev pub with_runs : App → App
 with_runs app = with_subcommand (with_subcommand (with_subcommand app test_run_app.top) list_app.top) explain_app.top
 
+-- the command with the subcommands that read a list, from `run` to `accept`
 abbrev pub with_lists : App → App
 with_lists app = with_subcommand (with_subcommand (with_subcommand (with_subcommand (with_runs app) console_app.top) gdb_app.top)
     check_app.top) accept_app.top
 
+-- the command with the subcommands `merge`, `diff` and `show`, which read reports
 abbrev pub with_reports : App → App
 with_reports app = with_subcommand (with_subcommand (with_subcommand app merge_app.top)
     diff_app.top) show_app.top
 
--- help [TOPIC]
+-- the rules of `help [TOPIC]`
 abbrev pub help_app : App
 help_app = with_rule (new_app (codes "help")) (optional_word_rule (codes "topic"))
 
--- the whole command
+-- the rules of the whole command line of `rvtest`
 abbrev pub test_app : App
 test_app = with_subcommand (with_subcommand (with_subcommand (with_subcommand (with_reports (with_lists test_top_app)) counts_app.top)
     cover_app.top) profile_app.top) help_app.top

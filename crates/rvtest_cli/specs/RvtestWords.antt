@@ -1,4 +1,4 @@
--- What arguments request of rvtest, and which kinds of errors they have.
+-- The requests that the command line of rvtest makes, and the errors in its arguments.
 use Rattle.std.specs.Prelude.{◌≡◌, ◌≤◌, ◌&&◌, ◌||◌, ℕ, Bool, not, List, [], ◌∷◌, Option}
 use Rattle.std.specs.Prelude.{Some, None, IfOk, IfSome, MatchResult, Result, map, false, string_bytes}
 use Rattle.std.specs.Prelude.{codes, option_map, option_and_then}
@@ -29,37 +29,62 @@ use Rattle.rvtest_cli.specs.declared.show.ShowArgs.{ShowArgs}
 use Rattle.rvtest_cli.specs.declared.diff.DiffArgs.{DiffArgs}
 use Rattle.std.specs.Borrow.{Bor}
 
--- ---- what words ask for
+-- ---- the requests
 
--- the jobs of a list to run, and how
+-- the arguments of `run`; the requests of `list`, `accept`, `cover` and `profile` use them, too
 pub record RunWords : Type 0 where
+  -- the path of the job list
   pub list : Text
+  -- the names of the jobs to run, from `--only`
   pub only : List Text
+  -- the regular expression of `--match`
   pub pattern : Option Text
+  -- the regular expression of `--exclude`
   pub exclude : Option Text
+  -- the path of the report whose failed jobs are run
   pub failed : Option Text
+  -- whether the report of `--failed` may be truncated
   pub partial : Bool
+  -- the shard to run, as `K/N`
   pub shard : Option Text
+  -- the text that identifies the run that the shard belongs to
   pub stamp : Option Text
+  -- the largest number of threads; none for one per processor
   pub workers : Option ℕ
+  -- the number of jobs in a chunk
   pub group : ℕ
+  -- the step budget that overrides each job's own
   pub budget : Option ℕ
+  -- the directory against which relative paths in the list are resolved
   pub root : Option Text
+  -- the path of the report of the whole list that the rows update
   pub into : Option Text
+  -- the path of the report to write
   pub report : Option Text
+  -- the path of the JUnit XML to write
   pub junit : Option Text
+  -- the name of the JUnit suite
   pub suite : Option Text
+  -- whether only unmet expectations are failures
   pub lenient : Bool
+  -- the path of the table of counts: to write for `run`, to read for `cover` and `profile`
   pub counts : Option Text
+  -- whether the table of counts has call stacks, too
   pub stacks : Bool
+  -- the path of the file that lists the jobs that are known to fail
   pub known : Option Text
+  -- the number of failures after which the run stops
   pub stop_after : Option ℕ
+  -- whether passing jobs are shown, too
   pub verbose : Bool
+  -- whether only the last line is shown
   pub quiet : Bool
+  -- how many last instructions of each failed job are shown
   pub last : Option ℕ
+  -- the value of `--color`: `always`, `never` or `auto`
   pub color : Option Text
 
--- the job of a list whose end is explained
+-- the arguments of `explain`: a job of a list, and how many of its last instructions are shown
 pub record ExplainWords : Type 0 where
   pub list : Text
   pub name : Text
@@ -68,7 +93,7 @@ pub record ExplainWords : Type 0 where
   pub root : Option Text
   pub color : Option Text
 
--- the shards to merge into a whole report
+-- the arguments of `merge`: the paths of the parts, and where the merged report and the JUnit XML are written
 pub record MergeWords : Type 0 where
   pub parts : List Text
   pub report : Option Text
@@ -76,7 +101,7 @@ pub record MergeWords : Type 0 where
   pub suite : Option Text
   pub lenient : Bool
 
--- a report to show, with the path of a JUnit file, by the lenient or the strict rule
+-- the arguments of `show`: the path of a report, and where the JUnit XML is written
 pub record ShowWords : Type 0 where
   pub report : Text
   pub partial : Bool
@@ -85,52 +110,58 @@ pub record ShowWords : Type 0 where
   pub lenient : Bool
   pub color : Option Text
 
--- two reports to compare
+-- the arguments of `diff`: the paths of two reports, and how their steps are compared
 pub record DiffWords : Type 0 where
   pub old : Text
   pub new : Text
+  -- whether a report may be truncated
   pub partial : Bool
+  -- whether different steps, fault locations and fault values are reported, too
   pub steps : Bool
+  -- if set, jobs that take over this many percent more steps are reported, too
   pub slower : Option ℕ
   pub color : Option Text
 
--- jobs of a list whose runs are accepted: with `ends`, also those with another exit code or another kind of fault; with `check`, changes
--- are only reported; with `outside`, golden files may be anywhere
+-- the arguments of `accept`: the jobs to run, and which changes are written
 pub record AcceptWords : Type 0 where
   pub run : RunWords
+  -- whether a different exit code or kind of fault is accepted, too
   pub ends : Bool
+  -- whether changes are only reported, and nothing is written
   pub check : Bool
+  -- whether golden files outside of the list's directory, or of the `--root` directory, are written, too
   pub outside : Bool
 
--- tables of counts to add up, with the path of the sum
+-- the arguments of `counts`: the paths of the tables to add up, and the path of the sum
 pub record CountsWords : Type 0 where
   pub tables : List Text
   pub out : Option Text
 
--- jobs of a list whose images' coverage is shown, optionally as CSV; the counts path of the run is that of a table that is read instead of
--- running the jobs
+-- the arguments of `cover`; if `run` has a counts path, that table is read instead of running the jobs
 pub record CoverWords : Type 0 where
   pub run : RunWords
+  -- whether the output is CSV
   pub csv : Bool
 
--- jobs of a list whose steps in their images are shown, for a number of functions, optionally as CSV; the counts path of the run is that of
--- a table that is read instead of running the jobs
+-- the arguments of `profile`; if `run` has a counts path, that table is read instead of running the jobs
 pub record ProfileWords : Type 0 where
   pub run : RunWords
+  -- how many functions of each image are shown; none for all
   pub top : Option ℕ
+  -- whether the output is CSV
   pub csv : Bool
 
--- to run jobs; to list which jobs a run with these arguments would run; to explain a job; to print the console of a job, or to debug its
--- run with gdb within some megabytes, with paths resolved against a directory; to check a list, with paths resolved against a directory; to
--- accept the results of runs; to merge shards; to compare two reports, with or without their steps, or by which jobs are slower; to show a
--- report; to add up tables of counts; to show the coverage of images; to show the profile of images; to show the help for a topic that is
--- not a command
+-- the request that the command line makes: a command with its arguments
 pub data Words : Type 0 where
   run : RunWords → Words
+  -- `list` lists the jobs that `run` would run with these arguments
   names : RunWords → Words
   explain : ExplainWords → Words
+  -- `console` of a list, a job's name, and the directory of `--root`
   console : Text → Text → Option Text → Words
+  -- `gdb` of a list, a job's name, the directory of `--root`, and the megabytes of `--memory`
   gdb : Text → Text → Option Text → Option ℕ → Words
+  -- `check` of a list and the directory of `--root`
   check : Text → Option Text → Words
   accept : AcceptWords → Words
   merge : MergeWords → Words
@@ -139,14 +170,14 @@ pub data Words : Type 0 where
   counts : CountsWords → Words
   cover : CoverWords → Words
   profile : ProfileWords → Words
+  -- `help` for a topic that is not a command
   help : Text → Words
 
--- the budget that overrides each job's own
+-- the value of `--budget`, which overrides each job's own budget
 abbrev pub requested_budget : List Row → Option ℕ
 requested_budget rows = number_value (codes "budget") 1 most_budget rows
 
--- the request of `run`, with its values, for a list, in chunks of a number of jobs; those of `list`, `accept`, `cover` and `profile` lack
--- the values that these have no option for
+-- the arguments of a command that runs jobs of `list` in chunks of `group` jobs; an option that the command does not have is unset
 unfoldable pub run_words : Text → ℕ → List Row → RunWords
 run_words list group rows = record {
   list = list;
@@ -176,13 +207,16 @@ run_words list group rows = record {
   color = first_of (codes "color") rows;
 }
 
+-- the request of `run` with these matches of `clap`; none without a list or a valid chunk size
 abbrev pub test_run_request : List Row → Option Words
 test_run_request rows = option_and_then (λ list. option_map (λ group. run (run_words list group rows))
     (number_value (codes "group") 1 most_group rows)) (first_of (codes "list") rows)
 
+-- the request of `list` with these matches of `clap`; none without a list
 abbrev pub list_request : List Row → Option Words
 list_request rows = option_map (λ list. names (run_words list 1 rows)) (first_of (codes "list") rows)
 
+-- the request of `explain` for the job `name` of `list`, with its `last` instructions; its other options are from the matches
 abbrev pub explain_words : Text → Text → List Row → ℕ → Words
 explain_words list name rows last = explain (record {
   list = list;
@@ -193,24 +227,29 @@ explain_words list name rows last = explain (record {
   color = first_of (codes "color") rows;
 })
 
+-- the request of `explain` with these matches of `clap`; none without a list, a job's name or a valid `--last`
 abbrev pub explain_request : List Row → Option Words
 explain_request rows = option_and_then (λ list. option_and_then (λ name.
     option_map (explain_words list name rows) (number_value (codes "last") 0 most_last_instructions rows))
     (first_of (codes "name") rows)) (first_of (codes "list") rows)
 
+-- the request of `console` with these matches of `clap`; none without a list or a job's name
 abbrev pub console_request : List Row → Option Words
 console_request rows = option_and_then (λ list. option_map (λ name. console list name (first_of (codes "root") rows))
     (first_of (codes "name") rows)) (first_of (codes "list") rows)
 
+-- the request of `gdb` with these matches of `clap`; none without a list or a job's name
 abbrev pub gdb_request : List Row → Option Words
 gdb_request rows = option_and_then (λ list. option_map (λ name.
     gdb list name (first_of (codes "root") rows) (number_value (codes "memory") 64 4096 rows))
     (first_of (codes "name") rows)) (first_of (codes "list") rows)
 
+-- the request of `check` with these matches of `clap`; none without a list
 abbrev pub check_request : List Row → Option Words
 check_request rows = option_map (λ list. check list (first_of (codes "root") rows))
     (first_of (codes "list") rows)
 
+-- the request of `accept` for `list`, in chunks of `group` jobs; its options are from the matches
 abbrev pub accept_words : Text → List Row → ℕ → Words
 accept_words list rows group = accept (record {
   run = run_words list group rows;
@@ -219,10 +258,12 @@ accept_words list rows group = accept (record {
   outside = is_flag_set (codes "outside") rows;
 })
 
+-- the request of `accept` with these matches of `clap`; none without a list or a valid chunk size
 abbrev pub accept_request : List Row → Option Words
 accept_request rows = option_and_then (λ list. option_map (accept_words list rows)
     (number_value (codes "group") 1 most_group rows)) (first_of (codes "list") rows)
 
+-- the request of `merge` with these matches of `clap`
 abbrev pub merge_request : List Row → Words
 merge_request rows = merge (record {
   parts = argument_values (codes "part") rows;
@@ -232,6 +273,7 @@ merge_request rows = merge (record {
   lenient = is_flag_set (codes "lenient") rows;
 })
 
+-- the request of `diff` for the reports `old` and `new`; its options are from the matches
 abbrev pub diff_words : List Row → Text → Text → Words
 diff_words rows old new = diff (record {
   old = old;
@@ -242,10 +284,12 @@ diff_words rows old new = diff (record {
   color = first_of (codes "color") rows;
 })
 
+-- the request of `diff` with these matches of `clap`; none without two reports
 abbrev pub diff_request : List Row → Option Words
 diff_request rows = option_and_then (λ old. option_map (diff_words rows old)
     (first_of (codes "new") rows)) (first_of (codes "old") rows)
 
+-- the request of `show` for `report`; its options are from the matches
 abbrev pub show_words : List Row → Text → Words
 show_words rows report = show (record {
   report = report;
@@ -256,29 +300,35 @@ show_words rows report = show (record {
   color = first_of (codes "color") rows;
 })
 
+-- the request of `show` with these matches of `clap`; none without a report
 abbrev pub show_request : List Row → Option Words
 show_request rows = option_map (show_words rows) (first_of (codes "report") rows)
 
+-- the request of `counts` with these matches of `clap`
 abbrev pub counts_request : List Row → Words
 counts_request rows = counts (record {
   tables = argument_values (codes "table") rows;
   out = first_of (codes "out") rows;
 })
 
+-- the request of `cover` for `list`, in chunks of `group` jobs; its options are from the matches
 abbrev pub cover_words : Text → List Row → ℕ → Words
 cover_words list rows group = cover (record { run = run_words list group rows; csv = is_flag_set (codes "csv") rows })
 
+-- the request of `cover` with these matches of `clap`; none without a list or a valid chunk size
 abbrev pub cover_request : List Row → Option Words
 cover_request rows = option_and_then (λ list. option_map (cover_words list rows)
     (number_value (codes "group") 1 most_group rows)) (first_of (codes "list") rows)
 
--- the named job, or the jobs chosen by their exact names
+-- the values of the argument NAME, or of `--only` if NAME is not given
 abbrev pub named_or_only : List Row → List Text
 named_or_only rows = if is_option_given (codes "name") rows then argument_values (codes "name") rows else argument_values (codes "only") rows
 
+-- like `run_words`, but the chosen names are the argument NAME if it is given
 abbrev pub named_run_words : Text → ℕ → List Row → RunWords
 named_run_words list group rows = record (run_words list group rows) { only = named_or_only rows }
 
+-- the request of `profile` for `list`, in chunks of `group` jobs; its options are from the matches
 abbrev pub profile_words : Text → List Row → ℕ → Words
 profile_words list rows group = profile (record {
   run = named_run_words list group rows;
@@ -286,14 +336,16 @@ profile_words list rows group = profile (record {
   csv = is_flag_set (codes "csv") rows;
 })
 
+-- the request of `profile` with these matches of `clap`; none without a list or a valid chunk size
 abbrev pub profile_request : List Row → Option Words
 profile_request rows = option_and_then (λ list. option_map (profile_words list rows)
     (number_value (codes "group") 1 most_group rows)) (first_of (codes "list") rows)
 
+-- the request of `help` with these matches of `clap`; none without a topic
 abbrev pub help_request : List Row → Option Words
 help_request rows = option_map help (first_of (codes "topic") rows)
 
--- the request of a subcommand with these values
+-- the request of the subcommand `name` with these matches of `clap`; none if a required argument is missing
 abbrev pub subcommand_words : Text → List Row → Option Words
 subcommand_words name rows = if bytes_eq name (codes "run") then test_run_request rows
     else if bytes_eq name (codes "list") then list_request rows
@@ -311,136 +363,134 @@ subcommand_words name rows = if bytes_eq name (codes "run") then test_run_reques
     else if bytes_eq name (codes "help") then help_request rows
     else None
 
--- the request of the matched subcommand, with its values
+-- the request of the matched subcommand and its matches; none without a subcommand
 abbrev pub matched_words : Option (Text × List Row) → Option Words
 matched_words = option_and_then (λ found. subcommand_words found.0 found.1)
 
 -- ---- help for a command
 
--- whether a word requests the help for all commands
+-- whether a word is `help`
 abbrev pub is_help : Text → Bool
 is_help word = bytes_eq word (codes "help")
 
--- whether a word and a topic request the help for a command: every topic but `keys` and an option of `help` itself
+-- whether `word` is `help`, and `topic` is not `keys`, `--help` or `-h`
 abbrev pub is_command_help : Text → Text → Bool
 is_command_help word topic = is_help word && (not (bytes_eq topic (codes "keys"))
     && (not (bytes_eq topic (codes "--help")) && not (bytes_eq topic (codes "-h"))))
 
--- `rvtest help` and `rvtest help COMMAND` with the option that requests the same help; nothing for other arguments
+-- the arguments that replace `rvtest help` and `rvtest help COMMAND`: `--help` and `COMMAND --help`; none for other arguments
 unfoldable pub help_words : List Text → Option (List Text)
 help_words (program ∷ word ∷ []) = if is_help word then Some (program ∷ codes "--help" ∷ []) else None
 help_words (program ∷ word ∷ topic ∷ []) =
     if is_command_help word topic then Some (program ∷ topic ∷ codes "--help" ∷ []) else None
 help_words words = None
 
--- the arguments that `clap` parses
+-- the arguments as `clap` gets them: `help COMMAND` is replaced by `COMMAND --help`
 abbrev pub parsed_words : List Text → List Text
 parsed_words words = option_map_or (λ help. help) (help_words words) words
 
--- the matched subcommand, with its values; none if the help for a command is requested
+-- the subcommand that `clap` matches, with its matches; none for `help` and `help COMMAND`
 abbrev pub requested_subcommand : List Text → Option (Text × List Row)
 requested_subcommand words = option_map_or (λ help. None) (help_words words) (subcommand_of test_app words)
 
--- the request of the arguments: the subcommand and the values are the matches that `clap` defines for them
+-- the request that the arguments make, by the matches of `clap`
 abbrev pub words_request : List Text → Option Words
 words_request words = matched_words (requested_subcommand words)
 
--- ---- what is wrong with words
+-- ---- misused options
 
--- whether the word for colours is one of: always, never, or only if standard output is a terminal
+-- whether a value of `--color` is valid: `always`, `never` or `auto`
 abbrev pub is_color_word : Text → Bool
 is_color_word word = bytes_eq word (codes "always") || (bytes_eq word (codes "never") || bytes_eq word (codes "auto"))
 
+-- whether the value of `--color` is given and invalid
 abbrev pub is_color_unknown : List Row → Bool
 is_color_unknown rows = option_map_or (λ word. not (is_color_word word)) (first_of (codes "color") rows) false
 
+-- the error of an invalid value of `--color`, if there is one
 abbrev pub color_misuse : List Row → Option Misuse
 color_misuse rows = if is_color_unknown rows then Some misuse.UnknownColor else None
 
--- whether the report is written to the path
+-- whether the value of `--report` is this path
 abbrev pub is_report_path : Text → List Row → Bool
 is_report_path path rows = option_map_or (bytes_eq path) (first_of (codes "report") rows) false
 
--- whether the rows are merged into the report at the path
+-- whether the value of `--into` is this path
 abbrev pub is_into_path : Text → List Row → Bool
 is_into_path path rows = option_map_or (bytes_eq path) (first_of (codes "into") rows) false
 
--- whether the JUnit XML is written to the path
+-- whether the value of `--junit` is this path
 abbrev pub is_junit_path : Text → List Row → Bool
 is_junit_path path rows = option_map_or (bytes_eq path) (first_of (codes "junit") rows) false
 
--- whether the report that chooses the jobs is at the path
+-- whether the value of `--failed` is this path
 abbrev pub is_failed_path : Text → List Row → Bool
 is_failed_path path rows = option_map_or (bytes_eq path) (first_of (codes "failed") rows) false
 
--- whether the table of counts would be written to the same file or stream as a report or the JUnit XML, or over the report that chooses the
--- jobs
+-- whether the path of `--counts` is also the path of `--report`, `--into`, `--junit` or `--failed`
 abbrev pub are_counts_overwriting : List Row → Bool
 are_counts_overwriting rows = option_map_or (λ path. is_report_path path rows || (is_into_path path rows
     || (is_junit_path path rows || is_failed_path path rows))) (first_of (codes "counts") rows) false
 
--- whether stacks are requested without a table of counts
+-- whether `--stacks` is given without `--counts`
 abbrev pub are_stacks_alone : List Row → Bool
 are_stacks_alone rows = is_flag_set (codes "stacks") rows && not (is_option_given (codes "counts") rows)
 
--- whether jobs are chosen or excluded, by their names or by a report
+-- whether `--only`, `--match`, `--exclude` or `--failed` is given
 abbrev pub is_choice_given : List Row → Bool
 is_choice_given rows = is_option_given (codes "only") rows
     || (is_option_given (codes "match") rows
     || (is_option_given (codes "exclude") rows || is_option_given (codes "failed") rows))
 
--- whether a truncated report is allowed without one that chooses jobs
+-- whether `--partial` is given without `--failed`
 abbrev pub is_partial_alone : List Row → Bool
 is_partial_alone rows = is_flag_set (codes "partial") rows && not (is_option_given (codes "failed") rows)
 
--- whether a report is written: of the rows of the run alone, or of a whole list into which they are merged
+-- whether `--report` or `--into` is given
 abbrev pub is_report_given : List Row → Bool
 is_report_given rows = is_option_given (codes "report") rows || is_option_given (codes "into") rows
 
--- whether rows are written that others take as the list's: in a report, in JUnit XML, or as a shard
+-- whether the rows are saved: by `--report`, `--into`, `--junit` or `--shard`
 abbrev pub are_rows_kept : List Row → Bool
 are_rows_kept rows = is_report_given rows
     || (is_option_given (codes "junit") rows || is_option_given (codes "shard") rows)
 
--- whether rows are merged into a report and also written as a report of their own or as a shard
+-- whether `--into` is combined with `--report` or `--shard`, which would write the rows a second time
 abbrev pub are_rows_written_twice : List Row → Bool
 are_rows_written_twice rows = is_option_given (codes "into") rows
     && (is_option_given (codes "report") rows || is_option_given (codes "shard") rows)
 
--- whether rows are merged into standard output, from which no report can be read
+-- whether `--into` names standard output, from which no report can be read
 abbrev pub is_merged_into_stdout : List Row → Bool
 is_merged_into_stdout rows = is_into_path (codes "-") rows
 
--- whether the report that chooses the jobs would be overwritten by their rows alone
+-- whether `--report` and `--failed` name one path, so that the rows of the other jobs would be lost
 abbrev pub is_choice_overwritten : List Row → Bool
 is_choice_overwritten rows = option_map_or (λ path. is_report_path path rows) (first_of (codes "failed") rows) false
 
--- whether the name of the JUnit suite is empty
+-- whether the value of `--suite` is empty
 abbrev pub is_suite_nameless : List Row → Bool
 is_suite_nameless rows = option_map_or (λ name. bytes_eq name []) (first_of (codes "suite") rows) false
 
--- a suite name requires JUnit XML, and is not empty
+-- the error of a `--suite` without `--junit` or with an empty value, if there is one
 abbrev pub suite_misuse : List Row → Option Misuse
 suite_misuse rows = if is_option_given (codes "suite") rows && not (is_option_given (codes "junit") rows)
     then Some misuse.SuiteAlone
     else if is_suite_nameless rows then Some misuse.NamelessSuite
     else None
 
--- the JUnit XML is written to the same file or stream as a report, or its suite name is invalid
+-- the first error of the output files: `--junit` names the path of `--report` or of `--into`, or `--suite` is misused
 abbrev pub files_misuse : List Row → Option Misuse
 files_misuse rows =
     if option_map_or (λ path. is_report_path path rows) (first_of (codes "junit") rows) false then Some misuse.OneFile
     else if option_map_or (λ path. is_into_path path rows) (first_of (codes "junit") rows) false
     then Some misuse.IntoOneFile else suite_misuse rows
 
--- what is wrong with the options that choose jobs
+-- the error of a `--partial` without `--failed`, if there is one
 abbrev pub choice_misuse : List Row → Option Misuse
 choice_misuse rows = if is_partial_alone rows then Some misuse.PartialAlone else None
 
--- the first rule that options of `run` break: `--verbose` and `--quiet` cannot be combined, nor can a shard and a choice, a budget and an
--- output of rows that represent a list, stopping after a failure and a shard, or a report of the rows and a report into which they are
--- merged, which must be a file; a stamp requires a shard; a report that chooses jobs keeps its other rows, and may be truncated; stacks
--- require a table of counts; the files must differ, and a suite requires JUnit XML
+-- the first error in the options of `run`, in the order below; none if they can be combined
 abbrev pub run_misuse : List Row → Option Misuse
 run_misuse rows = if is_flag_set (codes "verbose") rows && is_flag_set (codes "quiet") rows
     then Some misuse.VerboseAndQuiet
@@ -459,29 +509,29 @@ run_misuse rows = if is_flag_set (codes "verbose") rows && is_flag_set (codes "q
     else if are_counts_overwriting rows then Some misuse.CountsOneFile
     else files_misuse rows
 
--- the first rule that options of `cover` break: a shard and a choice cannot be combined, and allowing a truncated report requires one that
--- chooses jobs
+-- the first error in the options of `cover`: `--shard` with an option that chooses jobs, or `--partial` without `--failed`
 abbrev pub cover_misuse : List Row → Option Misuse
 cover_misuse rows = if is_option_given (codes "shard") rows && is_choice_given rows then Some misuse.ShardAndChoice
     else choice_misuse rows
 
--- whether a job is named and jobs are also chosen by options
+-- whether NAME is given with an option that chooses jobs or with `--shard`
 abbrev pub is_name_beside_choice : List Row → Bool
 is_name_beside_choice rows = is_option_given (codes "name") rows && (is_choice_given rows || is_option_given (codes "shard") rows)
 
--- the first rule that options of `profile` break: a name and a choice cannot be combined, and the rules of `cover`
+-- the first error in the options of `profile`: NAME with a choice of jobs, or an error of `cover_misuse`
 abbrev pub profile_misuse : List Row → Option Misuse
 profile_misuse rows = if is_name_beside_choice rows then Some misuse.NameAndChoice else cover_misuse rows
 
--- steps are compared exactly or by which jobs are slower, not both
+-- the first error in the options of `diff`: `--steps` with `--slower`, or an invalid `--color`
 abbrev pub diff_misuse : List Row → Option Misuse
 diff_misuse rows = if is_flag_set (codes "steps") rows && is_option_given (codes "slower") rows
     then Some misuse.StepsAndSlower else color_misuse rows
 
--- an invalid suite name of the JUnit XML, or an invalid word for colours
+-- the first error in the options of `show`: an invalid `--color`, or a misused `--suite`
 abbrev pub show_misuse : List Row → Option Misuse
 show_misuse rows = if is_color_unknown rows then Some misuse.UnknownColor else suite_misuse rows
 
+-- the kind of `clap` error that reports a misuse; none without a misuse
 abbrev pub misuse_kinds : Option Misuse → Kinds
 misuse_kinds None = []
 misuse_kinds (Some misuse.StampAlone) = kind.MissingRequiredArgument ∷ []
@@ -493,7 +543,7 @@ misuse_kinds (Some misuse.UnknownColor) = kind.InvalidValue ∷ []
 misuse_kinds (Some misuse.IntoStdout) = kind.InvalidValue ∷ []
 misuse_kinds (Some _) = kind.ArgumentConflict ∷ []
 
--- the two options that cannot be combined, as the help writes them
+-- the message about a misuse
 abbrev pub misuse_text : Misuse → Text
 misuse_text misuse.VerboseAndQuiet = codes "the argument '--verbose' cannot be used with '--quiet'"
 misuse_text misuse.ShardAndChoice =
@@ -524,7 +574,7 @@ misuse_text misuse.IntoOneFile =
 misuse_text misuse.CountsOneFile =
     codes "the argument '--counts <FILE>' cannot name the same file as '--report <FILE>', '--into <FILE>', '--junit <FILE>' or '--failed <REPORT>'"
 
--- which options of a subcommand with these values cannot be combined, if any
+-- the first error in the options of the subcommand `name` with these matches, if there is one
 abbrev pub subcommand_misuse : Text → List Row → Option Misuse
 subcommand_misuse name rows = if bytes_eq name (codes "run") then run_misuse rows
     else if bytes_eq name (codes "list") then choice_misuse rows
@@ -537,46 +587,48 @@ subcommand_misuse name rows = if bytes_eq name (codes "run") then run_misuse row
     else if bytes_eq name (codes "explain") then color_misuse rows
     else None
 
--- which options of the matched subcommand cannot be combined, if any
+-- the first error in the options of the matched subcommand, if there is one
 abbrev pub matched_misuse : Option (Text × List Row) → Option Misuse
 matched_misuse = option_and_then (λ met. subcommand_misuse met.0 met.1)
 
--- which options cannot be combined, and the kinds of errors, in arguments that `clap` parses as they are
+-- the first error in the options of arguments that `clap` gets unchanged, if there is one
 abbrev pub plain_misuse : List Text → Option Misuse
 plain_misuse words = matched_misuse (subcommand_of test_app words)
 
+-- the kinds of errors in arguments that `clap` gets unchanged: those that `clap` finds, or else the kind of a misuse
 abbrev pub plain_fault_kinds : List Text → Kinds
 plain_fault_kinds words = or_else (fault_of test_app words) (misuse_kinds (plain_misuse words))
 
--- which options cannot be combined, in arguments in which `clap` finds no error
+-- the first error in the options of the arguments, if there is one; none for `help` and `help COMMAND`
 abbrev pub words_misuse : List Text → Option Misuse
 words_misuse words = matched_misuse (requested_subcommand words)
 
--- the kinds of errors that `clap` finds in arguments
+-- the kinds of errors that `clap` finds in the arguments
 abbrev pub words_faults : List Text → Kinds
 words_faults words = fault_of test_app (parsed_words words)
 
--- the kinds of errors in arguments: those that `clap` finds, else options that cannot be combined
+-- the kinds of errors in the arguments: those that `clap` finds, or else the kind of a misuse
 abbrev pub words_fault_kinds : List Text → Kinds
 words_fault_kinds words = or_else (words_faults words) (misuse_kinds (words_misuse words))
 
--- out of memory, or the error says which options cannot be combined
+-- the error is out of memory, or it reports the misuse: with its kind and its message
 abbrev pub IsMisuseReported : Option Misuse → WordsError → Type 0
 IsMisuseReported misuse error.OutOfMemory = Unit {0}
 IsMisuseReported None (error.Told fault text) = ⊥
 IsMisuseReported (Some misuse) (error.Told fault text) =
     (misuse_kinds (Some misuse) ≡ fault ∷ []) × IsUsageText (misuse_text misuse) (string_bytes text)
 
--- the arguments fail because options cannot be combined or memory runs out; otherwise no options conflict
+-- a result without error means that there is no misuse; an error reports the misuse, or that memory ran out
 abbrev pub FailsByMisuse : {T : Type 0} → Option Misuse → Result T WordsError → Type 0
 FailsByMisuse misuse result = MatchResult result (λ _. misuse ≡ None) (IsMisuseReported misuse)
 
--- ---- the request as the program has it
+-- ---- the Rust values of the requests
 
--- the text that a reference points to, if there is one
+-- the text that an optional reference points to
 abbrev pub borrowed_text : Option (Bor Text) → Option Text
 borrowed_text text = option_map (λ t. t.now) text
 
+-- the Rust value `RunArgs` as the record that contracts use, field by field
 abbrev pub run_words_of_args : RunArgs → RunWords
 run_words_of_args value = record {
   list = value.list.now;
@@ -606,6 +658,7 @@ run_words_of_args value = record {
   color = borrowed_text value.color;
 }
 
+-- the Rust value `ExplainArgs` as the record that contracts use, field by field
 abbrev pub explain_words_of_args : ExplainArgs → ExplainWords
 explain_words_of_args value = record {
   list = value.list.now;
@@ -616,6 +669,7 @@ explain_words_of_args value = record {
   color = borrowed_text value.color;
 }
 
+-- the Rust value `MergeArgs` as the record that contracts use, field by field
 abbrev pub merge_words_of_args : MergeArgs → MergeWords
 merge_words_of_args value = record {
   parts = map (λ path. path.now) value.parts.items;
@@ -625,6 +679,7 @@ merge_words_of_args value = record {
   lenient = value.lenient;
 }
 
+-- the Rust value `ShowArgs` as the record that contracts use, field by field
 abbrev pub show_words_of_args : ShowArgs → ShowWords
 show_words_of_args value = record {
   report = value.report.now;
@@ -635,6 +690,7 @@ show_words_of_args value = record {
   color = borrowed_text value.color;
 }
 
+-- the Rust value `DiffArgs` as the record that contracts use, field by field
 abbrev pub diff_words_of_args : DiffArgs → DiffWords
 diff_words_of_args value = record {
   old = value.old.now;
@@ -645,12 +701,14 @@ diff_words_of_args value = record {
   color = borrowed_text value.color;
 }
 
+-- the Rust value `CountsArgs` as the record that contracts use, field by field
 abbrev pub counts_words_of_args : CountsArgs → CountsWords
 counts_words_of_args value = record {
   tables = map (λ path. path.now) value.tables.items;
   out = borrowed_text value.out;
 }
 
+-- the Rust value `AcceptArgs` as the record that contracts use, field by field
 abbrev pub accept_words_of_args : AcceptArgs → AcceptWords
 accept_words_of_args value = record {
   run = run_words_of_args value.run;
@@ -659,12 +717,15 @@ accept_words_of_args value = record {
   outside = value.outside;
 }
 
+-- the Rust value `CoverArgs` as the record that contracts use, field by field
 abbrev pub cover_words_of_args : CoverArgs → CoverWords
 cover_words_of_args value = record { run = run_words_of_args value.run; csv = value.csv }
 
+-- the Rust value `ProfileArgs` as the record that contracts use, field by field
 abbrev pub profile_words_of_args : ProfileArgs → ProfileWords
 profile_words_of_args value = record { run = run_words_of_args value.run; top = value.top; csv = value.csv }
 
+-- the Rust value `Request` as the request that contracts use
 abbrev pub words_of_request : Request → Words
 words_of_request (request.Run value) = run (run_words_of_args value)
 words_of_request (request.List value) = names (run_words_of_args value)
@@ -681,16 +742,17 @@ words_of_request (request.Cover value) = cover (cover_words_of_args value)
 words_of_request (request.Profile value) = profile (profile_words_of_args value)
 words_of_request (request.Help value) = help value.topic.now
 
--- a job of a list may have this budget
+-- the budget, if it is given, is from 1 to `most_budget` steps
 abbrev pub IsBudgetInRange : Option ℕ → Type 0
 IsBudgetInRange budget = IfSome budget (λ steps. (1 ≤ steps) × (steps ≤ most_budget))
 
--- each number is within the range of its argument
+-- each number in these arguments is within the range that the command line allows
 abbrev pub AreRunArgsInRange : RunArgs → Type 0
 AreRunArgsInRange value = IfSome value.workers (λ number. (1 ≤ number) × (number ≤ most_workers))
     × (1 ≤ value.group) × (value.group ≤ most_group) × IfSome value.last (λ number. number ≤ most_last_instructions)
     × IsBudgetInRange value.budget × IfSome value.stop_after (λ number. (1 ≤ number) × (number ≤ most_jobs))
 
+-- each number in this request is within the range that the command line allows
 abbrev pub IsRequestInRange : Request → Type 0
 IsRequestInRange (request.Run value) = AreRunArgsInRange value
 IsRequestInRange (request.List value) = AreRunArgsInRange value
@@ -701,10 +763,10 @@ IsRequestInRange (request.Explain value) = (value.last ≤ most_last_instruction
 IsRequestInRange (request.Diff value) = IfSome value.slower (λ percent. percent ≤ most_slower)
 IsRequestInRange _ = Unit {0}
 
--- the parsed request matches these words, with numbers in their ranges
+-- the parsed request has the value `words`, and its numbers are in range
 abbrev pub IsRequestFor : Option Words → Option Request → Type 0
 IsRequestFor words request = (option_map words_of_request request ≡ words) × IfSome request IsRequestInRange
 
--- the parsed request matches the words; otherwise the error says which options cannot be combined, or memory ran out
+-- a result without error is the request `words`, and there is no misuse; an error reports the misuse, or that memory ran out
 abbrev pub ReadsRequest : Option Words → Option Misuse → Result (Option Request) WordsError → Type 0
 ReadsRequest words misuse result = IfOk result (IsRequestFor words) × FailsByMisuse misuse result

@@ -1,4 +1,4 @@
--- Why arguments make no request, and what is reported.
+-- The errors of arguments that make no request, and their texts.
 use Rattle.std.specs.Prelude.{◌≡◌, ◌++◌, Result, MatchResult, [], codes, string_bytes}
 use Rattle.clap.specs.Kinds.{IsAmong}
 use Rattle.clap.specs.Words.{Kinds, Text}
@@ -7,30 +7,30 @@ use Rattle.clap.specs.declared.error.kind.ErrorKind.TheVariants as kind
 use Rattle.rvtest_cli.specs.declared.words_error.WordsError.{WordsError}
 use Rattle.rvtest_cli.specs.declared.words_error.WordsError.TheVariants as error
 
--- out of memory, or the error is of one of these kinds
+-- the error is out of memory, or its kind is one of `kinds`
 abbrev pub IsToldOf : Kinds → WordsError → Type 0
 IsToldOf kinds error.OutOfMemory = Unit {0}
 IsToldOf kinds (error.Told fault text) = IsAmong fault kinds
 
--- the arguments fail with an error of one of these kinds or because memory runs out; otherwise they have no error
+-- a result without error means that `kinds` is empty; an error is out of memory, or its kind is one of `kinds`
 abbrev pub FailsByKinds : {T : Type 0} → Kinds → Result T WordsError → Type 0
 FailsByKinds kinds result = MatchResult result (λ _. kinds ≡ []) (IsToldOf kinds)
 
--- out of memory, or the error is of this kind, which is not out of memory
+-- the error is out of memory, or its kind is `met`, and `met` is not the kind out of memory
 abbrev pub IsToldOfKind : ErrorKind → WordsError → Type 0
 IsToldOfKind met error.OutOfMemory = Unit {0}
 IsToldOfKind met (error.Told fault text) = (fault ≡ met) × (met ≡ kind.OutOfMemory → ⊥)
 
--- what is wrong with the arguments, the usage of a command, and where to find help
+-- the text of an error: the message `what`, the usage of a command, and where to find help
 abbrev pub usage_error_text : Text → Text → Text
 usage_error_text what usage =
     codes "error: " ++ (what ++ (codes "\n\n" ++ (usage ++ codes "\n\nFor more information, try '--help'.\n")))
 
--- the text has this form, with some usage
+-- the text is that of an error with the message `what` and some usage
 abbrev pub IsUsageText : Text → Text → Type 0
 IsUsageText what text = (usage : Text) × (text ≡ usage_error_text what usage)
 
--- out of memory, or the error is of this kind and has such a text
+-- the error is out of memory, or it has the kind `met` and a text with the message `what` and some usage
 abbrev pub IsUsageError : ErrorKind → Text → WordsError → Type 0
 IsUsageError met what error.OutOfMemory = Unit {0}
 IsUsageError met what (error.Told fault text) = (fault ≡ met) × IsUsageText what (string_bytes text)

@@ -14,20 +14,20 @@ use rv_base::limits::MOST_GROUP;
 use rv_cli::values::{is_flag_set, number_value, text_value};
 use std::alloc::Global;
 
-/// The jobs of a list whose runs are accepted, and how.
+/// The arguments of `accept`: the jobs to run, and which changes are written.
 #[derive(Drop)]
 pub struct AcceptArgs<'a> {
-    /// The jobs, and how they run. Values that `accept` has no option for are as in a run without options.
+    /// The jobs, and how they run. An option that `accept` does not have is unset.
     pub run: RunArgs<'a>,
-    /// Whether another exit code or another kind of fault is accepted, too.
+    /// Whether a different exit code or kind of fault is accepted, too.
     pub ends: bool,
     /// Whether changes are only reported, and nothing is written.
     pub check: bool,
-    /// Whether golden files outside of the list's directory, or of the root, are written, too.
+    /// Whether golden files outside of the list's directory, or of the `--root` directory, are written, too.
     pub outside: bool,
 }
 
-/// Returns the request of `accept` with these values, or the rule that its options break.
+/// Returns the request of `accept` with these values, or an error if they misuse an option.
 pub(crate) fn accept_request<'a>(
     alloc: Global,
     values: &ArgMatches<'a>,
@@ -41,6 +41,7 @@ pub(crate) fn accept_request<'a>(
     }
 }
 
+// Returns the request of `accept` with these values, which misuse no option.
 fn valid_accept_request<'a>(
     alloc: Global,
     values: &ArgMatches<'a>,

@@ -19,7 +19,7 @@ pub(crate) struct Bounds {
     pub(crate) most: i64,
 }
 
-/// An argument of a command: its name, the name of its value in the usage if it is any text, and its help.
+/// An argument of a command: its name, the placeholder of its value in the usage if the value is any text, and its help.
 #[derive(Clone, Copy)]
 pub(crate) enum Argument<'a> {
     /// A required positional argument.
@@ -34,11 +34,11 @@ pub(crate) enum Argument<'a> {
     File(&'a str, &'a str),
     /// A repeatable option with a value.
     Again(&'a str, &'a str, &'a str),
-    /// An option without a value, and its short letter, if it has one.
+    /// An option without a value, its short letter, if it has one, and its help.
     Flag(&'a str, Option<char>, &'a str),
-    /// An option with a number, its short letter, if it has one, and its default, if it has one.
+    /// An option with a number: its short letter, if it has one, its help, its range, and its default, if it has one.
     Number(&'a str, Option<char>, &'a str, Bounds, &'a [&'a str]),
-    /// The number of jobs in a chunk, which a thread takes at once.
+    /// The option `--group`: the number of jobs in a chunk, which a thread takes at a time.
     Group,
 }
 
@@ -70,7 +70,7 @@ impl<'a> Argument<'a> {
     }
 }
 
-/// Adds the arguments to a command, in order.
+/// Returns the command with these arguments added, in order.
 pub(crate) fn with_arguments<'a>(
     alloc: Global,
     command: Built<'a>,
@@ -86,7 +86,7 @@ pub(crate) fn with_arguments<'a>(
     command
 }
 
-// Adds a short letter to an argument, if there is one.
+// Returns the argument with a short letter, if there is one.
 fn with_letter<'a>(argument: Arg<'a>, letter: Option<char>) -> Arg<'a>
     ensures rule { rule_of result ≡ with_letter (rule_of argument.entry) letter }
     ensures local { result.global ≡ argument.entry.global }

@@ -7,7 +7,7 @@ use crate::requests::Request;
 use clap::ArgMatches;
 use rv_cli::values::text_value;
 
-/// The list to check.
+/// The arguments of `check`: the list to check.
 #[derive(Clone, Copy)]
 pub struct CheckArgs<'a> {
     /// The path of the job list.

@@ -13,7 +13,7 @@ use clap::Command;
 use rv_cli::command_builder::{Built, with_subcommand};
 use std::alloc::{AllocError, Global};
 
-/// A command of `rvtest`, as the table has it.
+/// A command of `rvtest`, as an entry of the table.
 #[derive(Clone, Copy)]
 pub(crate) struct Subcommand<'a> {
     pub(crate) name: &'a str,
@@ -23,7 +23,7 @@ pub(crate) struct Subcommand<'a> {
     pub(crate) arguments: &'a [Argument<'a>],
 }
 
-/// Returns the whole command.
+/// Returns the command line of `rvtest` with all its subcommands.
 pub(crate) fn test_command<'a>(alloc: Global) -> Result<Command<'a>, AllocError>
     ensures { IfOk result (λ command. app_of command ≡ test_app) }
 {
@@ -42,7 +42,7 @@ fn top_command<'a>(alloc: Global) -> Built<'a>
         .bin_name("rvtest")
 }
 
-// Adds the subcommands to a command, in order.
+// Returns the command with these subcommands added, in order.
 fn with_subcommands<'a>(alloc: Global, command: Built<'a>, stated: &[Subcommand<'a>]) -> Built<'a>
     ensures { (app : App) → HasApp app command.entry
         → HasApp (with_subcommands app stated.now) result }
@@ -61,7 +61,7 @@ fn subcommand_of_table<'a>(alloc: Global, stated: &Subcommand<'a>) -> Built<'a>
     with_arguments(alloc, command, stated.arguments)
 }
 
-// Returns the command without arguments; its usage begins with the program's name and its own.
+// Returns the command without arguments. Its usage begins with `rvtest` and its own name.
 fn bare_command<'a>(alloc: Global, stated: &Subcommand<'a>) -> Built<'a>
     ensures app { IsBuilt (new_app stated.now.name.now) result }
     ensures usage { HasUsageOf (codes "rvtest " ++ stated.now.name.now) result }

@@ -10,7 +10,7 @@ use clap::ArgMatches;
 use rv_cli::values::{argument_values, text_value};
 use std::alloc::Global;
 
-/// The tables of counts to add up.
+/// The arguments of `counts`: the tables to add up.
 #[derive(Drop)]
 pub struct CountsArgs<'a> {
     /// The paths of the tables.

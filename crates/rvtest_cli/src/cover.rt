@@ -14,17 +14,17 @@ use rv_base::limits::MOST_GROUP;
 use rv_cli::values::{is_flag_set, is_option_given, number_value, text_value};
 use std::alloc::Global;
 
-/// The jobs of a list whose images' coverage is shown, and how.
+/// The arguments of `cover`: the jobs whose images' coverage is shown, and how.
 #[derive(Drop)]
 pub struct CoverArgs<'a> {
-    /// The jobs, and how they run; if there is a counts path, it is that of a table that is read instead of running the jobs. Values that
-    /// `cover` has no option for are as in a run without options.
+    /// The jobs, and how they run. If a counts path is set, that table is read instead of running the jobs. An option that `cover` does not
+    /// have is unset.
     pub run: RunArgs<'a>,
-    /// Whether the output is CSV, for tools.
+    /// Whether the output is CSV.
     pub csv: bool,
 }
 
-/// Returns the request of `cover` with these values, or the rule that its options break.
+/// Returns the request of `cover` with these values, or an error if they misuse an option.
 pub(crate) fn cover_request<'a>(
     alloc: Global,
     values: &ArgMatches<'a>,
@@ -38,6 +38,7 @@ pub(crate) fn cover_request<'a>(
     }
 }
 
+// Returns the request of `cover` with these values, which misuse no option.
 fn valid_cover_request<'a>(
     alloc: Global,
     values: &ArgMatches<'a>,
@@ -55,7 +56,7 @@ fn valid_cover_request<'a>(
     Ok(Some(Request::Cover(CoverArgs { run, csv })))
 }
 
-/// Returns the first rule that the options of `cover` break.
+/// Returns the first error in the options of `cover`, if there is one.
 pub(crate) fn cover_misuse(values: &ArgMatches<'_>) -> Option<Misuse>
     ensures { result ≡ cover_misuse (rows_of (found_of values.now)) }
 {

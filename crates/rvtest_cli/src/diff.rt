@@ -12,7 +12,7 @@ use clap::ArgMatches;
 use rv_cli::values::{is_flag_set, is_option_given, number_value, text_value};
 use std::alloc::Global;
 
-/// Two reports to compare.
+/// The arguments of `diff`: the two reports to compare, and how.
 #[derive(Clone, Copy)]
 pub struct DiffArgs<'a> {
     /// The path of the old report.
@@ -21,15 +21,15 @@ pub struct DiffArgs<'a> {
     pub new: &'a str,
     /// Whether a report may be truncated.
     pub partial: bool,
-    /// Whether steps count too, and the locations and values of faults.
+    /// Whether different steps, fault locations and fault values are reported, too.
     pub steps: bool,
-    /// Whether a job that takes over this many percent more steps, up to 1,000, counts too.
+    /// If set, jobs that take over this many percent more steps, up to 1,000, are reported, too.
     pub slower: Option<u32>,
     /// When results are coloured: `always`, `never` or `auto`; `None` means `auto`.
     pub color: Option<&'a str>,
 }
 
-/// Returns the request of `diff` with these values, or the rule that its options break.
+/// Returns the request of `diff` with these values, or an error if they misuse an option.
 pub(crate) fn diff_request<'a>(
     alloc: Global,
     values: &ArgMatches<'a>,
@@ -43,6 +43,7 @@ pub(crate) fn diff_request<'a>(
     }
 }
 
+// Returns the request of `diff` with these values, which misuse no option.
 fn valid_diff_request<'a>(values: &ArgMatches<'a>) -> Option<Request<'a>>
     ensures { IsRequestFor (diff_request (rows_of (found_of values.now))) result }
 {
@@ -62,7 +63,7 @@ fn valid_diff_request<'a>(values: &ArgMatches<'a>) -> Option<Request<'a>>
     }))
 }
 
-// Steps are compared exactly or by which jobs are slower, not both.
+// Returns the first error in the options of `diff`: `--steps` with `--slower`, or an invalid `--color`.
 fn diff_misuse(values: &ArgMatches<'_>) -> Option<Misuse>
     ensures { result ≡ diff_misuse (rows_of (found_of values.now)) }
 {

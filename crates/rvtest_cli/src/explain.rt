@@ -12,14 +12,14 @@ use rv_base::limits::MOST_BUDGET;
 use rv_cli::values::{number_value, text_value};
 use std::alloc::Global;
 
-/// The job whose end is explained.
+/// The arguments of `explain`: the job whose end is explained.
 #[derive(Clone, Copy)]
 pub struct ExplainArgs<'a> {
     /// The path of the job list.
     pub list: &'a str,
     /// The job's name.
     pub name: &'a str,
-    /// The number of its last instructions that are shown, up to 100,000.
+    /// The number of the job's last instructions that are shown, up to 100,000.
     pub last: u32,
     /// The budget that overrides that of each job in the list: from 1 to 1,000,000,000 steps.
     pub budget: Option<u32>,
@@ -29,7 +29,7 @@ pub struct ExplainArgs<'a> {
     pub color: Option<&'a str>,
 }
 
-/// Returns the request of `explain` with these values, or the rule that its options break.
+/// Returns the request of `explain` with these values, or an error if they misuse an option.
 pub(crate) fn explain_request<'a>(
     alloc: Global,
     values: &ArgMatches<'a>,
@@ -43,6 +43,7 @@ pub(crate) fn explain_request<'a>(
     }
 }
 
+// Returns the request of `explain` with these values, which misuse no option.
 fn valid_explain_request<'a>(values: &ArgMatches<'a>) -> Option<Request<'a>>
     ensures { IsRequestFor (explain_request (rows_of (found_of values.now))) result }
 {

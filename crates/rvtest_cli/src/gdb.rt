@@ -7,7 +7,7 @@ use crate::requests::Request;
 use clap::ArgMatches;
 use rv_cli::values::{number_value, text_value};
 
-/// The job whose run is debugged with gdb.
+/// The arguments of `gdb`: the job whose run is debugged.
 #[derive(Clone, Copy)]
 pub struct GdbArgs<'a> {
     /// The path of the job list.

@@ -12,10 +12,10 @@ use clap::ArgMatches;
 use rv_cli::values::{argument_values, is_flag_set, text_value};
 use std::alloc::Global;
 
-/// The shards of one run to merge into a whole report.
+/// The arguments of `merge`: the parts of one run, which make the report of the whole list.
 #[derive(Drop)]
 pub struct MergeArgs<'a> {
-    /// The paths of the shards.
+    /// The paths of the parts.
     pub parts: Vec<&'a str>,
     /// The path of the report; `-` is standard output.
     pub report: Option<&'a str>,
@@ -27,7 +27,7 @@ pub struct MergeArgs<'a> {
     pub lenient: bool,
 }
 
-/// Returns the request of `merge` with these values, or the rule that its options break.
+/// Returns the request of `merge` with these values, or an error if they misuse an option.
 pub(crate) fn merge_request<'a>(
     alloc: Global,
     values: &ArgMatches<'a>,
@@ -41,6 +41,7 @@ pub(crate) fn merge_request<'a>(
     }
 }
 
+// Returns the request of `merge` with these values, which misuse no option.
 fn valid_merge_request<'a>(
     alloc: Global,
     values: &ArgMatches<'a>,

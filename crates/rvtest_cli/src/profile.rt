@@ -17,22 +17,22 @@ use rv_base::limits::MOST_GROUP;
 use rv_cli::values::{argument_values, is_flag_set, is_option_given, number_value, text_value};
 use std::alloc::{AllocError, Global};
 
-/// The greatest number of functions of an image that can be requested.
+/// The greatest value of `--top`, the number of functions shown for each image.
 pub(crate) const MOST_FUNCTIONS: u32 = 1_000_000;
 
-/// The jobs of a list whose profile is shown, and how.
+/// The arguments of `profile`: the jobs whose profile is shown, and how.
 #[derive(Drop)]
 pub struct ProfileArgs<'a> {
-    /// The jobs, or the one that is named, and how they run; if there is a counts path, it is that of a table that is read instead of
-    /// running the jobs. Values that `profile` has no option for are as in a run without options.
+    /// The jobs, or the named job, and how they run. If a counts path is set, that table is read instead of running the jobs. An option
+    /// that `profile` does not have is unset.
     pub run: RunArgs<'a>,
     /// The number of functions of each image that are shown, from 1 to 1,000,000; `None` for all.
     pub top: Option<u32>,
-    /// Whether the output is CSV, for tools.
+    /// Whether the output is CSV.
     pub csv: bool,
 }
 
-/// Returns the request of `profile` with these values, or the rule that its options break.
+/// Returns the request of `profile` with these values, or an error if they misuse an option.
 pub(crate) fn profile_request<'a>(
     alloc: Global,
     values: &ArgMatches<'a>,
@@ -46,6 +46,7 @@ pub(crate) fn profile_request<'a>(
     }
 }
 
+// Returns the request of `profile` with these values, which misuse no option.
 fn valid_profile_request<'a>(
     alloc: Global,
     values: &ArgMatches<'a>,
@@ -64,7 +65,7 @@ fn valid_profile_request<'a>(
     Ok(Some(Request::Profile(ProfileArgs { run, top, csv })))
 }
 
-// Returns the request of `run` for a list, with the job that is named.
+// Returns the arguments of a run of the job NAME, or of the chosen jobs if NAME is not given.
 fn named_run<'a>(
     alloc: Global,
     values: &ArgMatches<'a>,
@@ -81,7 +82,7 @@ fn named_run<'a>(
     Ok(run)
 }
 
-// Returns the job that is named, or those that `--only` chooses.
+// Returns the argument NAME, or the values of `--only` if NAME is not given.
 fn named_or_only<'a>(alloc: Global, values: &ArgMatches<'a>) -> Result<Vec<&'a str>, AllocError>
     ensures { IfOk result (λ names. map (λ name. name.now) names.items
         ≡ named_or_only (rows_of (found_of values.now))) }
@@ -93,7 +94,7 @@ fn named_or_only<'a>(alloc: Global, values: &ArgMatches<'a>) -> Result<Vec<&'a s
     }
 }
 
-// Returns the first rule that the options of `profile` break.
+// Returns the first error in the options of `profile`, if there is one.
 fn profile_misuse(values: &ArgMatches<'_>) -> Option<Misuse>
     ensures { result ≡ profile_misuse (rows_of (found_of values.now)) }
 {
@@ -104,7 +105,7 @@ fn profile_misuse(values: &ArgMatches<'_>) -> Option<Misuse>
     }
 }
 
-// Whether a job is named and jobs are also chosen by options.
+// Whether NAME is given with an option that chooses jobs or with `--shard`.
 fn is_name_beside_choice(values: &ArgMatches<'_>) -> bool
     ensures { result ≡ is_name_beside_choice (rows_of (found_of values.now)) }
 {

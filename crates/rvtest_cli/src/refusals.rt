@@ -12,7 +12,7 @@ use clap::{ArgMatches, Command};
 use rv_cli::values::{is_flag_set, is_option_given, text_value};
 use std::alloc::{AllocError, Global};
 
-/// Options that cannot be combined.
+/// An error in arguments that `clap` accepts: options that cannot be combined, or an invalid value.
 #[derive(Clone, Copy)]
 pub(crate) enum Misuse {
     /// `--verbose` with `--quiet`.
@@ -23,19 +23,19 @@ pub(crate) enum Misuse {
     NameAndChoice,
     /// A stamp without a shard.
     StampAlone,
-    /// A budget other than the list's with a report, JUnit XML or a shard.
+    /// A budget that overrides the list's, with a report, JUnit XML or a shard.
     BudgetAndRows,
-    /// Stopping after a failure with a shard, which must have all its rows.
+    /// Stopping after a failure, with a shard, whose part must have a row for each of its jobs.
     StopAfterAndShard,
-    /// Rows that are merged into a report, with a report of their own or a shard.
+    /// Rows that update a report, with a report of their own or a shard.
     IntoAndReport,
-    /// Rows that are merged into standard output.
+    /// Standard output as the report to update.
     IntoStdout,
-    /// A report of the rows at the path of the report that chooses them.
+    /// One path for the report to write and the report that chooses the jobs.
     FailedIsReport,
     /// A truncated report is allowed, but no report chooses jobs.
     PartialAlone,
-    /// Comparing steps exactly, and by which jobs are slower.
+    /// Comparing steps exactly and by a percentage.
     StepsAndSlower,
     /// Stacks without a table of counts.
     StacksAlone,
@@ -45,16 +45,16 @@ pub(crate) enum Misuse {
     NamelessSuite,
     /// An unknown word for colours.
     UnknownColor,
-    /// A report and JUnit XML with the same destination.
+    /// One destination for a report and JUnit XML.
     OneFile,
-    /// A report into which rows are merged and JUnit XML with the same path.
+    /// One path for the report to update and JUnit XML.
     IntoOneFile,
-    /// Counts with the same destination as a report or JUnit XML, or as the report that chooses the jobs.
+    /// One destination for the table of counts and a report or JUnit XML, or the report that chooses the jobs.
     CountsOneFile,
 }
 
 impl Misuse {
-    /// Returns the error that says so, with the usage of the command.
+    /// Returns the error that reports this misuse, with the usage of the command.
     pub(crate) fn misuse_error(
         self,
         alloc: Global,
@@ -65,6 +65,7 @@ impl Misuse {
         usage_error(alloc, command, self.misuse_error_kind(), self.misuse_text())
     }
 
+    // Returns the kind of `clap` error that reports this misuse.
     fn misuse_error_kind(self) -> ErrorKind
         ensures { misuse_kinds (Some self) ≡ result ∷ [] }
     {
@@ -88,6 +89,7 @@ impl Misuse {
         }
     }
 
+    // Returns the message about a misuse.
     fn misuse_text(self) -> &'static str
         ensures { result.now ≡ misuse_text self }
     {
@@ -148,7 +150,7 @@ impl Misuse {
     }
 }
 
-/// Returns what is wrong with the options that choose jobs.
+/// Returns the error of a `--partial` without `--failed`, if there is one.
 pub(crate) fn choice_misuse(values: &ArgMatches<'_>) -> Option<Misuse>
     ensures { result ≡ choice_misuse (rows_of (found_of values.now)) }
 {
@@ -159,14 +161,14 @@ pub(crate) fn choice_misuse(values: &ArgMatches<'_>) -> Option<Misuse>
     }
 }
 
-/// Whether a truncated report is allowed without one that chooses jobs.
+/// Whether `--partial` is given without `--failed`.
 pub(crate) fn is_partial_alone(values: &ArgMatches<'_>) -> bool
     ensures { result ≡ is_partial_alone (rows_of (found_of values.now)) }
 {
     is_flag_set(values, "partial") && !is_option_given(values, "failed")
 }
 
-/// Rejects a report and JUnit XML with the same destination, and a suite without JUnit XML.
+/// Returns the first error of the output files: one path for `--junit` and a report, or a misused `--suite`.
 pub(crate) fn files_misuse(values: &ArgMatches<'_>) -> Option<Misuse>
     ensures { result ≡ files_misuse (rows_of (found_of values.now)) }
 {
@@ -177,7 +179,7 @@ pub(crate) fn files_misuse(values: &ArgMatches<'_>) -> Option<Misuse>
     }
 }
 
-/// Returns what is wrong with the options of `show`.
+/// Returns the first error in the options of `show`: an invalid `--color`, or a misused `--suite`.
 pub(crate) fn show_misuse(values: &ArgMatches<'_>) -> Option<Misuse>
     ensures { result ≡ show_misuse (rows_of (found_of values.now)) }
 {
@@ -188,7 +190,7 @@ pub(crate) fn show_misuse(values: &ArgMatches<'_>) -> Option<Misuse>
     }
 }
 
-/// Rejects a word for colours that is not one of the three.
+/// Returns the error of an invalid `--color`, if there is one.
 pub(crate) fn color_misuse(values: &ArgMatches<'_>) -> Option<Misuse>
     ensures { result ≡ color_misuse (rows_of (found_of values.now)) }
 {
@@ -199,6 +201,7 @@ pub(crate) fn color_misuse(values: &ArgMatches<'_>) -> Option<Misuse>
     }
 }
 
+/// Whether the value of `--color` is given and invalid.
 pub(crate) fn is_color_unknown(values: &ArgMatches<'_>) -> bool
     ensures { result ≡ is_color_unknown (rows_of (found_of values.now)) }
 {
@@ -208,13 +211,14 @@ pub(crate) fn is_color_unknown(values: &ArgMatches<'_>) -> bool
     }
 }
 
+// Whether a value of `--color` is valid: `always`, `never` or `auto`.
 fn is_color_word(word: &str) -> bool
     ensures { result ≡ is_color_word word.now }
 {
     word == "always" || word == "never" || word == "auto"
 }
 
-/// Rejects a suite without JUnit XML or with an empty name.
+/// Returns the error of a `--suite` without `--junit` or with an empty value, if there is one.
 pub(crate) fn suite_misuse(values: &ArgMatches<'_>) -> Option<Misuse>
     ensures { result ≡ suite_misuse (rows_of (found_of values.now)) }
 {
@@ -227,6 +231,7 @@ pub(crate) fn suite_misuse(values: &ArgMatches<'_>) -> Option<Misuse>
     }
 }
 
+// Whether the value of `--suite` is empty.
 fn is_suite_nameless(values: &ArgMatches<'_>) -> bool
     ensures { result ≡ is_suite_nameless (rows_of (found_of values.now)) }
 {
@@ -236,7 +241,7 @@ fn is_suite_nameless(values: &ArgMatches<'_>) -> bool
     }
 }
 
-/// Whether the report is written to the path.
+/// Whether the value of `--report` is this path.
 pub(crate) fn is_report_path(values: &ArgMatches<'_>, path: &str) -> bool
     ensures { result ≡ is_report_path path.now (rows_of (found_of values.now)) }
 {
@@ -246,7 +251,7 @@ pub(crate) fn is_report_path(values: &ArgMatches<'_>, path: &str) -> bool
     }
 }
 
-/// Whether the rows are merged into the report at the path.
+/// Whether the value of `--into` is this path.
 pub(crate) fn is_into_path(values: &ArgMatches<'_>, path: &str) -> bool
     ensures { result ≡ is_into_path path.now (rows_of (found_of values.now)) }
 {
@@ -256,7 +261,7 @@ pub(crate) fn is_into_path(values: &ArgMatches<'_>, path: &str) -> bool
     }
 }
 
-/// Whether the report that chooses the jobs is at the path.
+/// Whether the value of `--failed` is this path.
 pub(crate) fn is_failed_path(values: &ArgMatches<'_>, path: &str) -> bool
     ensures { result ≡ is_failed_path path.now (rows_of (found_of values.now)) }
 {
@@ -266,7 +271,7 @@ pub(crate) fn is_failed_path(values: &ArgMatches<'_>, path: &str) -> bool
     }
 }
 
-/// Whether the JUnit XML is written to the path.
+/// Whether the value of `--junit` is this path.
 pub(crate) fn is_junit_path(values: &ArgMatches<'_>, path: &str) -> bool
     ensures { result ≡ is_junit_path path.now (rows_of (found_of values.now)) }
 {

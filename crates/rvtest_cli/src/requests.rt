@@ -28,12 +28,12 @@ use clap::ArgMatches;
 use std::alloc::Global;
 use std::convert::AsStr;
 
-/// A request that arguments make.
+/// A request that the arguments make: a command with its values.
 #[derive(Drop)]
 pub enum Request<'a> {
     /// Run jobs of a list.
     Run(RunArgs<'a>),
-    /// List which jobs a run with these arguments would run. Values that `list` has no option for are as in a run without options.
+    /// List the jobs that a run with these arguments would run. An option that `list` does not have is unset.
     List(RunArgs<'a>),
     /// Run one job, and show how it ended and how it got there.
     Explain(ExplainArgs<'a>),
@@ -43,9 +43,9 @@ pub enum Request<'a> {
     Gdb(GdbArgs<'a>),
     /// Report everything that is wrong with a list, without running anything.
     Check(CheckArgs<'a>),
-    /// Make the actual results of runs the expected ones.
+    /// Run jobs, and make their actual results the expected ones.
     Accept(AcceptArgs<'a>),
-    /// Merge the shards of one run into a whole report.
+    /// Merge the parts of one run into the report of the whole list.
     Merge(MergeArgs<'a>),
     /// Show which jobs differ between two reports.
     Diff(DiffArgs<'a>),
@@ -61,8 +61,9 @@ pub enum Request<'a> {
     Help(HelpArgs<'a>),
 }
 
-/// Parses the arguments, the first of which is the program's name. Returns `None` if they request nothing. An error is `clap`'s own, except
-/// for options that cannot be combined. Requests for help and the version are errors, too: of the kinds `DisplayHelp` and `DisplayVersion`.
+/// Parses the arguments, the first of which is the program's name. Returns `None` if they request nothing. An error is `clap`'s own, unless
+/// it reports a misuse that `clap` does not find. Requests for help and the version are errors, too: of the kinds `DisplayHelp` and
+/// `DisplayVersion`.
 pub fn read_words<'a, T: AsStr>(
     alloc: Global,
     words: &'a [T],
@@ -89,21 +90,21 @@ pub fn read_words<'a, T: AsStr>(
     }
 }
 
-// Whether help is requested for all commands: `rvtest help`.
+// Whether the word is `help`.
 fn is_help(word: &str) -> bool
     ensures { result ≡ is_help word.now }
 {
     word == "help"
 }
 
-// Whether help is requested for a command: `rvtest help COMMAND`.
+// Whether the words request help for a command: `help`, and a topic that is not `keys`, `--help` or `-h`.
 fn is_command_help(word: &str, topic: &str) -> bool
     ensures { result ≡ is_command_help word.now topic.now }
 {
     is_help(word) && topic != "keys" && topic != "--help" && topic != "-h"
 }
 
-// Returns the help that the words request with an option, as an error; they request nothing else.
+// Parses arguments that request help with `--help`. Returns the help as an error, as `clap` does.
 fn command_help<'a, T: AsStr>(alloc: Global, words: &[T]) -> Result<Option<Request<'a>>, WordsError>
     ensures value { IfOk result (λ request. request ≡ None) }
     ensures kinds { FailsByKinds (fault_of test_app (map T.text words.entry.now)) result }

@@ -18,7 +18,7 @@ use rv_base::limits::{MOST_BUDGET, MOST_GROUP, MOST_JOBS, MOST_WORKERS};
 use rv_cli::values::{argument_values, is_flag_set, is_option_given, number_value, text_value};
 use std::alloc::{AllocError, Global};
 
-/// The jobs of a list to run, and how.
+/// The arguments of `run`. Those of `list`, `accept`, `cover` and `profile` contain them, too.
 #[derive(Drop)]
 pub struct RunArgs<'a> {
     /// The path of the job list.
@@ -31,49 +31,49 @@ pub struct RunArgs<'a> {
     pub exclude: Option<&'a str>,
     /// The path of a report: jobs that failed in it are chosen.
     pub failed: Option<&'a str>,
-    /// Whether that report may be truncated.
+    /// Whether the report of `failed` may be truncated.
     pub partial: bool,
     /// The shard of the list to run, as `K/N`.
     pub shard: Option<&'a str>,
     /// The stamp of the run that the shard belongs to.
     pub stamp: Option<&'a str>,
-    /// The number of threads, from 1 to 64; `None` for the number of processors.
+    /// The largest number of threads, from 1 to 64; `None` for one per processor.
     pub workers: Option<u32>,
-    /// The number of jobs in a chunk, which a thread takes at once, from 1 to 4,096.
+    /// The number of jobs in a chunk, which a thread takes at a time, from 1 to 4,096.
     pub group: u32,
-    /// The budget that overrides that of each job in the list: from 1 to 1,000,000,000 steps.
+    /// The step budget that overrides that of each job in the list, from 1 to 1,000,000,000.
     pub budget: Option<u32>,
     /// The directory against which the paths in the list are resolved.
     pub root: Option<&'a str>,
-    /// The path of a whole report into which the rows are merged.
+    /// The path of the report of the whole list that the rows update.
     pub into: Option<&'a str>,
-    /// The path of the report; `-` is standard output.
+    /// The path of the report to write; `-` is standard output.
     pub report: Option<&'a str>,
-    /// The path of the JUnit file; `-` is standard output.
+    /// The path of the JUnit XML to write; `-` is standard output.
     pub junit: Option<&'a str>,
     /// The name of the JUnit suite; `None` derives it from the path of the list.
     pub suite: Option<&'a str>,
-    /// Whether only a failed verdict is a failure.
+    /// Whether only unmet expectations are failures.
     pub lenient: bool,
-    /// The path of the table of counts; `-` is standard output.
+    /// The path of the table of counts: to write for `run`, where `-` is standard output, and to read for `cover` and `profile`.
     pub counts: Option<&'a str>,
-    /// Whether the table has stacks, too.
+    /// Whether the table of counts has call stacks, too.
     pub stacks: bool,
-    /// The path of the file that names the known failures.
+    /// The path of the file that lists the jobs that are known to fail.
     pub known: Option<&'a str>,
-    /// The number of the failure that stops the run, from 1 to 4,096.
+    /// The number of failures after which the run stops, from 1 to 4,096.
     pub stop_after: Option<u32>,
-    /// Whether passing jobs have a line, too.
+    /// Whether passing jobs are shown, too.
     pub verbose: bool,
     /// Whether only the last line is shown.
     pub quiet: bool,
-    /// The number of last instructions of a failed job that are shown, up to 100,000.
+    /// The number of last instructions of each failed job that are shown, up to 100,000.
     pub last: Option<u32>,
     /// When results are coloured: `always`, `never` or `auto`; `None` means `auto`.
     pub color: Option<&'a str>,
 }
 
-/// Returns the request of `run` with these values, or the rule that its options break.
+/// Returns the request of `run` with these values, or an error if they misuse an option.
 pub(crate) fn test_run_request<'a>(
     alloc: Global,
     values: &ArgMatches<'a>,
@@ -87,6 +87,7 @@ pub(crate) fn test_run_request<'a>(
     }
 }
 
+// Returns the request of `run` with these values, which misuse no option.
 fn valid_run_request<'a>(
     alloc: Global,
     values: &ArgMatches<'a>,
@@ -102,7 +103,7 @@ fn valid_run_request<'a>(
     Ok(Some(Request::Run(run_args(alloc, values, list, group)?)))
 }
 
-/// Returns the request with these values, for a list, in chunks of `group` jobs.
+/// Returns the arguments of a command that runs jobs of `list` in chunks of `group` jobs.
 #[tactic(auto, unfolding(crate::specs::RvtestWords::run_words))]
 pub(crate) fn run_args<'a>(
     alloc: Global,
@@ -143,7 +144,7 @@ pub(crate) fn run_args<'a>(
     })
 }
 
-// Returns the first rule that the options of `run` break.
+// Returns the first error in the options of `run`, if there is one.
 fn run_misuse(values: &ArgMatches<'_>) -> Option<Misuse>
     ensures { result ≡ run_misuse (rows_of (found_of values.now)) }
 {
@@ -176,21 +177,21 @@ fn run_misuse(values: &ArgMatches<'_>) -> Option<Misuse>
     }
 }
 
-// Whether rows are written that others take as the list's.
+// Whether the rows are saved: by `--report`, `--into`, `--junit` or `--shard`.
 fn are_rows_kept(values: &ArgMatches<'_>) -> bool
     ensures { result ≡ are_rows_kept (rows_of (found_of values.now)) }
 {
     is_report_given(values) || is_option_given(values, "junit") || is_option_given(values, "shard")
 }
 
-// Whether a report is written, of the rows alone or of a whole list.
+// Whether `--report` or `--into` is given.
 fn is_report_given(values: &ArgMatches<'_>) -> bool
     ensures { result ≡ is_report_given (rows_of (found_of values.now)) }
 {
     is_option_given(values, "report") || is_option_given(values, "into")
 }
 
-// Whether rows are merged into a report and also written on their own.
+// Whether `--into` is combined with `--report` or `--shard`, which would write the rows a second time.
 fn are_rows_written_twice(values: &ArgMatches<'_>) -> bool
     ensures { result ≡ are_rows_written_twice (rows_of (found_of values.now)) }
 {
@@ -198,14 +199,14 @@ fn are_rows_written_twice(values: &ArgMatches<'_>) -> bool
         && (is_option_given(values, "report") || is_option_given(values, "shard"))
 }
 
-// Whether rows are merged into standard output, from which no report can be read.
+// Whether `--into` names standard output, from which no report can be read.
 fn is_merged_into_stdout(values: &ArgMatches<'_>) -> bool
     ensures { result ≡ is_merged_into_stdout (rows_of (found_of values.now)) }
 {
     is_into_path(values, "-")
 }
 
-// Whether the report that chooses the jobs would be overwritten by their rows alone.
+// Whether `--report` and `--failed` name one path, so that the rows of the other jobs would be lost.
 fn is_choice_overwritten(values: &ArgMatches<'_>) -> bool
     ensures { result ≡ is_choice_overwritten (rows_of (found_of values.now)) }
 {
@@ -215,14 +216,14 @@ fn is_choice_overwritten(values: &ArgMatches<'_>) -> bool
     }
 }
 
-// Whether stacks are requested without a table of counts.
+// Whether `--stacks` is given without `--counts`.
 fn are_stacks_alone(values: &ArgMatches<'_>) -> bool
     ensures { result ≡ are_stacks_alone (rows_of (found_of values.now)) }
 {
     is_flag_set(values, "stacks") && !is_option_given(values, "counts")
 }
 
-// Whether the table of counts has the same destination as a report or the JUnit XML, or would overwrite the report that chooses the jobs.
+// Whether the path of `--counts` is also the path of `--report`, `--into`, `--junit` or `--failed`.
 fn are_counts_overwriting(values: &ArgMatches<'_>) -> bool
     ensures { result ≡ are_counts_overwriting (rows_of (found_of values.now)) }
 {
@@ -237,7 +238,7 @@ fn are_counts_overwriting(values: &ArgMatches<'_>) -> bool
     }
 }
 
-/// Whether jobs are chosen or left out, by their names or by a report.
+/// Whether `--only`, `--match`, `--exclude` or `--failed` is given.
 pub(crate) fn is_choice_given(values: &ArgMatches<'_>) -> bool
     ensures { result ≡ is_choice_given (rows_of (found_of values.now)) }
 {

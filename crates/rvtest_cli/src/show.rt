@@ -11,7 +11,7 @@ use clap::ArgMatches;
 use rv_cli::values::{is_flag_set, text_value};
 use std::alloc::Global;
 
-/// A report to show.
+/// The arguments of `show`: the report to show.
 #[derive(Clone, Copy)]
 pub struct ShowArgs<'a> {
     /// The path of the report.
@@ -22,13 +22,13 @@ pub struct ShowArgs<'a> {
     pub junit: Option<&'a str>,
     /// The name of the JUnit suite; `None` derives it from the report's path.
     pub suite: Option<&'a str>,
-    /// Whether only a failed verdict is a failure.
+    /// Whether only unmet expectations are failures.
     pub lenient: bool,
     /// When results are coloured: `always`, `never` or `auto`; `None` means `auto`.
     pub color: Option<&'a str>,
 }
 
-/// Returns the request of `show` with these values, or the rule that its options break.
+/// Returns the request of `show` with these values, or an error if they misuse an option.
 pub(crate) fn show_request<'a>(
     alloc: Global,
     values: &ArgMatches<'a>,
@@ -42,6 +42,7 @@ pub(crate) fn show_request<'a>(
     }
 }
 
+// Returns the request of `show` with these values, which misuse no option.
 fn valid_show_request<'a>(values: &ArgMatches<'a>) -> Option<Request<'a>>
     ensures { IsRequestFor (show_request (rows_of (found_of values.now))) result }
 {

@@ -8,8 +8,8 @@ use rv_text::push_printable_text;
 use std::alloc::{AllocError, Global};
 use strsim::levenshtein;
 
-/// Returns the text of an error. Only a tip that suggests an option is kept, and only if at most a third of that option's letters differ
-/// from what was written. The help and the version are as `clap` writes them.
+/// Returns the text of an error of `clap`, with at most one kind of tip: a similar option, of whose letters at most a third differ from the
+/// unknown option. The help and the version are as `clap` writes them.
 pub(crate) fn error_text(alloc: Global, error: &Error) -> Result<String, AllocError> {
     let told = error.to_string(alloc)?;
     if error.use_stderr() {
@@ -19,7 +19,7 @@ pub(crate) fn error_text(alloc: Global, error: &Error) -> Result<String, AllocEr
     }
 }
 
-// Returns the text without misleading tips. A word in it may contain any characters, so each line is printed like a text from a file.
+// Returns the text without misleading tips. The arguments in it may contain any characters, so each line is escaped like text from a file.
 fn text_without_tips(alloc: Global, told: &str) -> Result<String, AllocError> {
     let written = refused_option(told);
     let mut text = Vec::new(alloc);
@@ -36,7 +36,7 @@ fn text_without_tips(alloc: Global, told: &str) -> Result<String, AllocError> {
     Ok(String::from_utf8(text).unwrap_or(String::new(alloc)))
 }
 
-// Returns the rejected option without its dashes; empty if there is none.
+// Returns the name of the rejected option without its dashes; empty if no option was rejected.
 fn refused_option(told: &str) -> &str {
     match told.split_once("'--") {
         Some((_, behind)) => match behind.split_once("' found") {
@@ -47,7 +47,7 @@ fn refused_option(told: &str) -> &str {
     }
 }
 
-// Whether a line is a misleading tip.
+// Whether a line is a misleading tip: how to pass an option as a value, or an option that is not similar to `written`.
 fn is_tip_wrong(alloc: Global, written: &str, line: &str) -> Result<bool, AllocError> {
     if line.starts_with("  tip: to pass '") {
         return Ok(true);

@@ -9,7 +9,7 @@ use clap::error::ErrorKind;
 use clap::{Command, Error};
 use std::alloc::{AllocError, Global};
 
-/// Why arguments make no request: what is wrong with them, or that they request the help or the version.
+/// Why the arguments make no request: they have an error, or they request the help or the version.
 #[derive(Drop)]
 pub enum WordsError {
     /// Memory ran out.
@@ -19,7 +19,7 @@ pub enum WordsError {
 }
 
 impl WordsError {
-    /// Converts an error of `clap`: to its own text, without misleading tips. No contract of `clap` describes its texts.
+    /// Converts an error of `clap`. Its text is `clap`'s own, without misleading tips; no contract describes it.
     pub(crate) fn of_clap(alloc: Global, error: &Error) -> WordsError
         ensures { IsToldOfKind (kind_of error.now) result }
     {
@@ -43,8 +43,8 @@ impl From<AllocError> for WordsError {
     }
 }
 
-/// Makes an error for a problem that `clap` does not find, in the form of `clap`'s own: `error: ` and what is wrong, the usage of the
-/// command, and where to find help. `what` does not end with a line feed.
+/// Returns an error that `clap` does not find, in the form of `clap`'s own: `error: ` and `what`, the usage of the command, and where to
+/// find help. `what` does not end with a line feed.
 pub fn usage_error(
     alloc: Global,
     command: Result<Command<'_>, AllocError>,
@@ -70,6 +70,7 @@ fn text_with_usage(
     usage_error_text(alloc, what, usage.as_str())
 }
 
+// Returns the text of an error: the message `what`, the usage of a command, and where to find help.
 fn usage_error_text(alloc: Global, what: &str, usage: &str) -> Result<String, AllocError>
     ensures { IfOk result (λ text. string_bytes text ≡ usage_error_text what.now usage.now) }
 {

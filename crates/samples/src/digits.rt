@@ -4,7 +4,7 @@ use hex::FromHexError;
 use std::alloc::{AllocError, Global};
 use thiserror::Error;
 
-/// Why a text does not represent bytes.
+/// Why a text does not describe bytes or a file.
 #[derive(Clone, Copy, Debug, Error, PartialEq, Eq)]
 pub enum BadSample {
     /// There are no digits, or an odd number of them.
@@ -13,7 +13,7 @@ pub enum BadSample {
     /// An offset or a count is not a number.
     #[error("bad count")]
     Count,
-    /// A change extends beyond the file.
+    /// A change extends past the end of the file.
     #[error("bad place")]
     Place,
     /// No sample has the name.
@@ -39,11 +39,11 @@ impl From<FromHexError> for BadSample {
     }
 }
 
-// Ends a run with the exit call, with the code in x10: 93 into x17, and ECALL.
+// The exit call with the code in x10: 93 into x17, and ECALL.
 const EXIT: [u8; 8] = [0x93, 0x08, 0xd0, 0x05, 0x73, 0x00, 0x00, 0x00];
 
-/// Returns the bytes of numbers that are separated by spaces, each little-endian, as words of eight digits and halfwords of four. `0001*3`
-/// is 0001 three times, and `X` is the two instructions of the exit call.
+/// Returns the bytes of hexadecimal numbers that are separated by spaces, each little-endian, such as words of eight digits and halfwords
+/// of four. `0001*3` is 0001 three times, and `X` is the two instructions of the exit call.
 pub fn numbers(alloc: Global, text: &str) -> Result<Vec<u8>, BadSample> {
     let mut bytes = Vec::new(alloc);
     for number in text.split(' ') {
@@ -56,6 +56,7 @@ pub fn numbers(alloc: Global, text: &str) -> Result<Vec<u8>, BadSample> {
     Ok(bytes)
 }
 
+// Appends the bytes of a number, little-endian; with a count after `*`, that many times.
 fn push_number(alloc: Global, bytes: &mut Vec<u8>, number: &str) -> Result<(), BadSample> {
     let (number, count) = number.split_once('*').unwrap_or((number, "1"));
     let Ok(count) = count.parse::<u32>() else {
@@ -69,7 +70,7 @@ fn push_number(alloc: Global, bytes: &mut Vec<u8>, number: &str) -> Result<(), B
     Ok(())
 }
 
-/// Returns the bytes of a file that is written as groups of digits, in order.
+/// Returns the bytes of groups of hexadecimal digits, separated by spaces, in the order of the digits.
 pub fn file_bytes(alloc: Global, text: &str) -> Result<Vec<u8>, BadSample> {
     let mut bytes = Vec::new(alloc);
     for group in text.split(' ') {

@@ -11,9 +11,11 @@ const FILE_SIZE: usize = 68;
 
 const MEMORY_SIZE: usize = 72;
 
-/// Returns the bytes of a file: `one` or `two` segments, or `sign` for the image with a signature, then changes: `24=90000000` writes the
-/// number at byte 24, little-endian, and `51` keeps the first 51 bytes. After `code` come numbers, which are the file bytes of the only
-/// segment.
+/// Returns the image file that a text describes. Its first word is `one` or `two` (an image with that many segments), `sign` (an image with
+/// a signature) or `code`.
+///
+/// After `code` come numbers, the bytes of the only segment. After the other words come changes: `24=90000000` writes the number at byte
+/// 24, little-endian, and `51` keeps only the first 51 bytes.
 pub fn file(alloc: Global, text: &str) -> Result<Vec<u8>, BadSample> {
     let (name, rest) = text.split_once(' ').unwrap_or((text, ""));
     match name {
@@ -25,7 +27,7 @@ pub fn file(alloc: Global, text: &str) -> Result<Vec<u8>, BadSample> {
     }
 }
 
-// Returns the file of one segment with these numbers as its bytes.
+// Returns the file of an image whose only segment has these numbers as its bytes.
 fn program(alloc: Global, text: &str) -> Result<Vec<u8>, BadSample> {
     let code = numbers(alloc, text)?;
     let Ok(size) = u32::try_from(code.len()) else {
@@ -52,6 +54,7 @@ fn changed(alloc: Global, file: &[u8], changes: &str) -> Result<Vec<u8>, BadSamp
     Ok(bytes)
 }
 
+// Parses an offset or a count, in decimal digits.
 fn count(text: &str) -> Result<usize, BadSample> {
     match text.parse::<usize>() {
         Ok(count) => Ok(count),
@@ -59,7 +62,7 @@ fn count(text: &str) -> Result<usize, BadSample> {
     }
 }
 
-// Overwrites the bytes from `at` on with a field.
+// Overwrites the bytes from `at` on with a field; an error if it extends past the end.
 fn set(bytes: &mut Vec<u8>, at: usize, field: &[u8]) -> Result<(), BadSample> {
     for (place, byte) in field.iter().enumerate() {
         match bytes.get_mut(at.saturating_add(place)) {

@@ -1,6 +1,6 @@
 //! Images: the small ones as bytes, the others as groups of hexadecimal digits separated by spaces.
 
-/// One segment of three instructions at `0x8000_0000`.
+/// An image with one segment of three instructions at `0x8000_0000`, which exits with code 5.
 pub const ONE_SEGMENT: [u8; 96] = [
     0x7f, 0x45, 0x4c, 0x46, 0x01, 0x01, 0x01, 0x00, 0x00, 0x00, 0x00, 0x00, 0x00, 0x00, 0x00, 0x00,
     0x02, 0x00, 0xf3, 0x00, 0x01, 0x00, 0x00, 0x00, 0x00, 0x00, 0x00, 0x80, 0x34, 0x00, 0x00, 0x00,
@@ -10,7 +10,7 @@ pub const ONE_SEGMENT: [u8; 96] = [
     0x04, 0x00, 0x00, 0x00, 0x13, 0x05, 0x50, 0x00, 0x93, 0x08, 0xd0, 0x05, 0x73, 0x00, 0x00, 0x00,
 ];
 
-/// Two segments: the second has a word, with vaddr `0x8000_0100` and paddr `0x8000_0200`.
+/// An image with two segments: the second is a word with the vaddr `0x8000_0100` and the paddr `0x8000_0200`.
 pub(crate) const TWO_SEGMENTS: [u8; 136] = [
     0x7f, 0x45, 0x4c, 0x46, 0x01, 0x01, 0x01, 0x00, 0x00, 0x00, 0x00, 0x00, 0x00, 0x00, 0x00, 0x00,
     0x02, 0x00, 0xf3, 0x00, 0x01, 0x00, 0x00, 0x00, 0x00, 0x00, 0x00, 0x80, 0x34, 0x00, 0x00, 0x00,
@@ -23,7 +23,7 @@ pub(crate) const TWO_SEGMENTS: [u8; 136] = [
     0x73, 0x00, 0x00, 0x00, 0x2a, 0x00, 0x00, 0x00,
 ];
 
-/// Code that stores two words, between the symbols `begin_signature` and `end_signature`.
+/// An image that stores two words between its symbols `begin_signature` and `end_signature`.
 pub(crate) const SIGNATURE: &str = "\
 7f454c46 01010100 00000000 00000000 0200f300 01000000 00000080 34000000 d4000000 00000000 \
 34002000 01002800 03000000 01000000 54000000 00000080 00000080 30000000 30000000 07000000 \
@@ -108,7 +108,7 @@ c8000000 00000000 00000000 04000000 00000000 21000000 01000000 03000000 00000880
 7d000000 00000000 00000000 01000000 00000000 11000000 03000000 00000000 00000000 65030000 \
 47000000 00000000 00000000 01000000 00000000";
 
-/// The same file after `riscv64-unknown-elf-strip`; checks/images.py reads it.
+/// The file `upper.elf` after `riscv64-unknown-elf-strip`; `checks/images.py` reads it.
 pub const UPPER_STRIPPED: &str = "\
 7f454c46 01010100 00000000 00000000 0200f300 01000000 00000080 34000000 ec010000 01000000 \
 34002000 03002800 07000600 03000070 60010000 00000000 00000000 2f000000 00000000 04000000 \

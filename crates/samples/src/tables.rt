@@ -13,7 +13,7 @@ pub fn hex_of(text: &str) -> Result<u32, ParseIntError> {
     u32::from_str_radix(text, 16)
 }
 
-/// Fails if the actual result is not the expected one, and names the row.
+/// Checks that the actual result `answer` is the expected one, `wanted`; if not, the error names the row and both.
 pub fn agree(row: &str, answer: &str, wanted: &str) -> Result<(), Fail> {
     if answer == wanted {
         Ok(())
@@ -22,7 +22,7 @@ pub fn agree(row: &str, answer: &str, wanted: &str) -> Result<(), Fail> {
     }
 }
 
-/// Fails if a table does not have this many lines.
+/// Checks that a table has this many lines.
 pub fn has_lines(rows: &str, count: usize) -> Result<(), Fail> {
     if rows.lines().count() == count {
         Ok(())

@@ -9,7 +9,7 @@ use std::test::Fail;
 use std::thread;
 use std::thread::Threads;
 
-// Splits a pass in two, if a slot is free.
+// Splits a pass in two; `None` if no pass index is free.
 pub(super) fn halves(claims: &Claims, pass: Pass) -> Option<(Pass, Pass)>
     requires { pass.draw ≡ claims.now }
     ensures first { IfSome result (λ passes. passes.0.draw ≡ claims.now) }
@@ -21,7 +21,7 @@ pub(super) fn halves(claims: &Claims, pass: Pass) -> Option<(Pass, Pass)>
     }
 }
 
-// Appends the response of a pass: whether it has ended, if the request has a question mark, else its next draw.
+// Appends the response of a pass: whether it has ended if the request ends with a question mark, else the number that it draws, or `none`.
 fn push_answer(
     text: &mut String,
     claims: &Claims,
@@ -44,6 +44,7 @@ fn push_answer(
     }
 }
 
+// Appends the responses of a pass to requests that are separated by spaces.
 fn push_answers(
     text: &mut String,
     claims: &Claims,
@@ -59,7 +60,7 @@ fn push_answers(
     Ok(())
 }
 
-// Appends the responses of two passes, the second of which is asked by `q`.
+// Appends the responses of two passes to requests that are separated by spaces: those to the second pass begin with `q`.
 fn push_answers_of_both(
     text: &mut String,
     claims: &Claims,
@@ -82,7 +83,7 @@ fn push_answers_of_both(
     Ok(())
 }
 
-// Makes one pass of two: they are joined, meet and are joined, or meet and the second is dropped.
+// Makes one pass of two, as `end` says: they are joined (`join`), meet and are joined (`meet, join`), or meet and the second is dropped.
 fn one_of(claims: &Claims, first: Pass, second: Pass, end: &str) -> Pass
     requires first { first.draw ≡ claims.now }
     requires second { second.draw ≡ claims.now }
@@ -98,6 +99,7 @@ fn one_of(claims: &Claims, first: Pass, second: Pass, end: &str) -> Pass
     first
 }
 
+// Splits a pass in two, appends the responses of both, and makes one pass of them, as `end` says.
 fn split(
     text: &mut String,
     claims: &Claims,
@@ -115,7 +117,7 @@ fn split(
     Ok(one_of(claims, first, second, end))
 }
 
-// Splits and joins a pass until no slot is free.
+// Splits a pass and joins the two until no pass index is free. Appends how often, and returns the pass.
 fn fill(text: &mut String, claims: &Claims, mut pass: Pass) -> Result<Pass, AllocError>
     requires { pass.draw ≡ claims.now }
     ensures { IfOk result (λ pass. pass.draw ≡ claims.now) }
@@ -132,6 +134,8 @@ fn fill(text: &mut String, claims: &Claims, mut pass: Pass) -> Result<Pass, Allo
     Ok(pass)
 }
 
+// Treats a pass as the fifth cell of a line says: `alone` leaves it, `fill` splits and joins it until no pass index is free, and anything
+// else splits it once.
 fn between(text: &mut String, claims: &Claims, pass: Pass, line: &str) -> Result<Pass, Fail>
     requires { pass.draw ≡ claims.now }
     ensures { IfOk result (λ pass. pass.draw ≡ claims.now) }
@@ -154,7 +158,7 @@ fn push_all(text: &mut String, claims: &Claims, mut pass: Pass, line: &str) -> R
     Ok(pass)
 }
 
-// Returns the responses of the passes of a shared draw of at most 4,096 chunks.
+// Returns the responses of the passes of a shared draw of at most 4,096 chunks, and whether the last pass holds every pass index.
 pub(super) fn told(alloc: Global, line: &str) -> Result<String, Fail> {
     let (claims, pass) = Claims::new(alloc, number_in(line, 1).min(4096))?;
     let mut text = String::new(alloc);
@@ -165,9 +169,9 @@ pub(super) fn told(alloc: Global, line: &str) -> Result<String, Fail> {
 }
 
 // label | chunks | requests to the first pass | to the two that it is split into, p and q | how they become one | requests to that one |
-// the responses, and whether it holds every slot at the end. `p?` asks whether a pass has ended. A pass that has ended can be split like
-// any other: the new one has a slot of its own and no draws, and ends with its own draw. There are 64 slots, and a further split returns
-// the pass.
+// the responses, and whether it holds every pass index at the end. `p?` asks whether a pass has ended. A pass that has ended can be split
+// like any other: the new one has an index of its own and no draws, and ends with its own draw. There are 64 pass indices, and a further
+// split returns the pass.
 pub(super) const DRAWS: &str = "\
 two passes draw three pieces | 3 | | p q p p? q p | join | p? p | 0 1 2 false none none true none true
 no piece ends the first pass | 0 | p p? | | alone | | none true true
@@ -176,9 +180,11 @@ an ended pass is split | 1 | p p | p? q? q q? | meet, join | | 0 none true false
 one of an ended pass is dropped | 1 | p p | p? q? q q? | meet, drop | | 0 none true false none true false
 places run out | 1 | p | | fill | p? p | 0 63 splits false none true";
 
+/// The number of chunks that the threads draw.
 const PIECES: u64 = 1000;
 
-/// Draws until none is left, and returns the pass and what was drawn. Here and below, the result is `None` if memory or a slot is missing.
+/// Draws until no chunk is left, and returns the pass and the numbers drawn. Here and below, the result is `None` if memory or a pass index
+/// is missing.
 fn take_all(alloc: Global, claims: &Claims, mut pass: Pass) -> Option<(Pass, Vec<u64>)>
     requires { pass.draw ≡ claims.now }
     ensures { IfSome result (λ taken. taken.0.draw ≡ claims.now) }
@@ -195,7 +201,7 @@ fn take_all(alloc: Global, claims: &Claims, mut pass: Pass) -> Option<(Pass, Vec
     Some((pass, numbers))
 }
 
-// Makes one pass of two, and returns it with what both drew.
+// Joins two passes, and returns the pass with the numbers that both drew.
 fn both_taken(
     claims: &Claims,
     one: Option<(Pass, Vec<u64>)>,
@@ -213,7 +219,7 @@ fn both_taken(
     Some((claims.join(first, second), numbers))
 }
 
-/// Draws in two threads, which are joined.
+/// Draws in two threads until no chunk is left, and returns the joined pass and the numbers drawn.
 fn take_all_in_two<R: Threads + Sync>(
     rt: &R,
     alloc: Global,
@@ -238,7 +244,7 @@ fn take_all_in_two<R: Threads + Sync>(
     both_taken(claims, one, other)
 }
 
-// Draws in four threads.
+// Draws in four threads until no chunk is left, and returns the joined pass and the numbers drawn.
 fn take_all_in_four<R: Threads + Sync>(
     rt: &R,
     alloc: Global,
@@ -263,7 +269,7 @@ fn take_all_in_four<R: Threads + Sync>(
     both_taken(claims, one, other)
 }
 
-// Whether each number below their count occurs once.
+// Whether the numbers are exactly those below their count, each once.
 fn are_each_once(mut numbers: Vec<u64>) -> bool {
     if numbers.sort().is_err() {
         return false;
@@ -276,9 +282,11 @@ fn are_each_once(mut numbers: Vec<u64>) -> bool {
     true
 }
 
-// label | how many numbers four threads draw; whether each occurs once, the passes ended, and they hold every slot
+// label | how many numbers four threads draw, whether each occurs once, whether the joined pass has ended, and whether it holds every pass
+// index
 pub(super) const FOUR_THREADS: &str = "four threads | 1000 true true true";
 
+/// Returns the result of draws by four threads, as text.
 pub(super) fn told_of_four<R: Threads + Sync>(rt: &R, alloc: Global) -> Result<String, Fail> {
     let (claims, pass) = Claims::new(alloc, PIECES)?;
     let Some((pass, numbers)) = take_all_in_four(rt, alloc, &claims, pass) else {

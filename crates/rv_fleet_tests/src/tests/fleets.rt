@@ -12,8 +12,9 @@ use std::sync::Wait;
 use std::test::Fail;
 use std::thread::Threads;
 
-// label | budgets | a choice of the jobs | workers | group | what runs them: a fleet runs all, a batch the choice, without a gate | the
-// chunks that are held | and how many are awaited | the rows, how often each chunk entered, and whether one waited in vain
+// label | budgets | the selected jobs | workers | group | `fleet` runs all jobs with a gate, `batch` the selected jobs without one | how
+// many of the first chunks wait at the gate | for how many chunks to enter | the rows, how often each chunk entered, and whether one waited
+// in vain
 pub(super) const RUNS: &str = "\
 the first waits for the second | 3 3 | xx | 2 | 1 | fleet | 1 | 2 | \
     j0 Exit(5) 2, j1 Exit(5) 2, entered 11, late false
@@ -29,6 +30,7 @@ pieces of two | 3 3 3 3 | xx.x | 64 | 2 | batch | | | j0 Exit(5) 2, j1 Exit(5) 2
 the last job | 3 3 3 3 | ...x | 1 | 4096 | batch | | | j3 Exit(5) 2, entered 0, late false
 none | 3 3 3 3 | .... | 4 | 1 | batch | | | entered 0, late false";
 
+// Runs the plan of a line, all of it by a fleet or the selected jobs by a batch, and returns the rows.
 fn ran<R: Threads + Wait + Sync>(
     rt: &R,
     alloc: Global,
@@ -49,6 +51,7 @@ fn ran<R: Threads + Wait + Sync>(
     Ok(run_batch(&crew, &Batch::new(plan, places))?)
 }
 
+/// Returns the rows of a line's run, and what its gate recorded.
 pub(super) fn told<R: Threads + Wait + Sync>(
     rt: &R,
     alloc: Global,

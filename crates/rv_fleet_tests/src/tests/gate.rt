@@ -1,17 +1,18 @@
-//! A gate that records what passes it.
+//! A gate that counts the chunks that enter it.
 use super::number_in;
 use rv_fleet::Gate;
 use std::alloc::AllocError;
 use std::sync::atomic::{AtomicBool, AtomicU64, Ordering};
 use std::thread;
 
+/// How often a chunk yields at the gate before it has waited in vain.
 const TURNS: u64 = 100_000_000;
 
-// What an entry of each of the first chunks counts: each chunk has its own decimal digit, the first chunk the last one.
+// What an entry of each of the first chunks adds to the count: each chunk has its own decimal digit, the first chunk the last one.
 const DIGITS: [u64; 4] = [1, 10, 100, 1000];
 
-/// Counts the entries of each of four chunks. The first `held` chunks wait until as many have entered as are `awaited`, and `late` is set
-/// if one waits in vain.
+/// A gate that counts the entries of each of four chunks. The first `held` chunks wait until as many have entered as are `awaited`, and
+/// `late` is set if one waits in vain.
 #[derive(Drop)]
 pub(super) struct NotingGate {
     held: u64,
@@ -23,7 +24,7 @@ pub(super) struct NotingGate {
 }
 
 impl NotingGate {
-    /// Returns the gate of a line: how many chunks are held, and how many are awaited.
+    /// Returns the gate of a line: how many chunks wait, and for how many.
     pub(super) fn of(line: &str) -> NotingGate {
         NotingGate {
             held: number_in(line, 6),
@@ -42,7 +43,7 @@ impl NotingGate {
         write!(text, " entered {entries}, late {late}")
     }
 
-    /// Returns the numbers of the chunks, counted from 1, in the order in which they entered.
+    /// Returns the numbers of the chunks, counted from 1, as decimal digits in the order in which they entered.
     pub(super) fn order(&self) -> u64 {
         self.order.load(Ordering::SeqCst)
     }

@@ -1,4 +1,4 @@
-//! Which outcomes a worker keeps of its last jobs, by the sizes of their consoles and signatures.
+//! Which outcomes of its last jobs a worker caches, by the sizes of their consoles and signatures.
 ghost use Rattle.std.specs.Prelude.{◌<◌, length};
 
 use super::{number_in, plan_in};
@@ -9,6 +9,7 @@ use samples::cell_of;
 use std::alloc::{AllocError, Global};
 use std::test::Fail;
 
+// Returns a signature of this many zero words.
 fn words_of(alloc: Global, count: usize) -> Result<Words, AllocError> {
     Ok(Words::new(vec![in alloc; 0u32; count]?))
 }
@@ -27,7 +28,7 @@ fn outcome_of(alloc: Global, size: &str) -> Result<Outcome, Fail> {
     })
 }
 
-// Keeps an outcome of a size if there is room for it.
+// Caches an outcome of a size for the job at an index, if it is small enough.
 fn keep(alloc: Global, recent: &mut Recent, place: usize, size: &str) -> Result<(), Fail> {
     let outcome = outcome_of(alloc, size)?;
     if recent.make_room(outcome.size()) {
@@ -36,7 +37,7 @@ fn keep(alloc: Global, recent: &mut Recent, place: usize, size: &str) -> Result<
     Ok(())
 }
 
-// Returns the indices below a number whose outcomes are kept.
+// Returns the indices below `places` whose outcomes are cached.
 fn kept(alloc: Global, recent: &Recent, places: usize) -> Result<String, Fail> {
     let mut found = String::new(alloc);
     for place in 0..places {
@@ -47,7 +48,7 @@ fn kept(alloc: Global, recent: &Recent, places: usize) -> Result<String, Fail> {
     Ok(found)
 }
 
-// Returns which outcomes of some sizes are kept, the first for the job at index 0 and so on.
+// Returns the indices whose outcomes are cached after outcomes of the sizes of a line, the first one for index 0 and so on.
 pub(super) fn told(alloc: Global, line: &str) -> Result<String, Fail> {
     let sizes = cell_of(line, 1);
     let mut recent = Recent::new(alloc);
@@ -57,7 +58,7 @@ pub(super) fn told(alloc: Global, line: &str) -> Result<String, Fail> {
     kept(alloc, &recent, sizes.split(' ').count())
 }
 
-// label | sizes | indices
+// label | the sizes of outcomes | the indices that are cached
 pub(super) const KEPT: &str = "\
 few | 1 2 3 | 0 1 2
 one more than the most | 1 1 1 1 1 1 1 1 1 | 1 2 3 4 5 6 7 8
@@ -93,7 +94,7 @@ budget = 100
 same_as = 'j2'
 ";
 
-// Makes the row of the job at an index, and returns whether the outcome of the job before it, which is run for the comparison, is kept.
+// Makes the row of the job at an index, and returns whether the outcome of the job before it, which is run for the comparison, is cached.
 fn keeps_named(alloc: Global, plan: &Plan, place: usize) -> Result<bool, Fail>
     requires { place < length plan.now.jobs }
 {
@@ -102,6 +103,7 @@ fn keeps_named(alloc: Global, plan: &Plan, place: usize) -> Result<bool, Fail>
     Ok(recent.find(place.saturating_sub(1)).is_some())
 }
 
+// Whether the outcome of the job before this index is cached after the row at the index is made, in the plan of `NAMING`.
 fn is_named_kept(alloc: Global, place: usize) -> Result<bool, Fail> {
     let plan = plan_in(alloc, NAMING)?;
     if plan.jobs() <= place {
@@ -110,12 +112,13 @@ fn is_named_kept(alloc: Global, place: usize) -> Result<bool, Fail> {
     keeps_named(alloc, &plan, place)
 }
 
-// label | the index of a job of `NAMING` | whether the outcome of the job that it names is kept: the signature of a run counts before its
+// label | the index of a job of `NAMING` | whether the outcome of the job that it names is cached: the signature of a run counts before its
 // words are copied
 pub(super) const NAMED: &str = "\
 16,000 words | 1 | true
 one more | 3 | false";
 
+/// Returns whether the outcome of the job that the job of a line names is cached, as text.
 pub(super) fn told_of_named(alloc: Global, line: &str) -> Result<String, Fail> {
     let kept = is_named_kept(alloc, number_in(line, 1) as usize)?;
     Ok(format!(in alloc; "{kept}")?)

@@ -64,7 +64,7 @@ impl Observer<ReportedRow> for Unobserved {
 }
 
 /// A sink over memory that accepts a limited number of bytes per write, fails at one write, counted from 1, and records at each write how
-/// many rows had been requested.
+/// many rows had been reported.
 #[derive(Drop)]
 struct NotingSink<'a> {
     bytes: Vec<u8>,
@@ -77,6 +77,7 @@ struct NotingSink<'a> {
 }
 
 impl<'a> NotingSink<'a> {
+    // Creates a sink that accepts at most `most` bytes per write and fails at the write with the number `fails_at`, or never for 0.
     fn new(alloc: Global, most: usize, fails_at: u64, asked: &'a AtomicU64) -> NotingSink<'a> {
         NotingSink {
             bytes: Vec::new(alloc),
@@ -112,7 +113,7 @@ impl<'a> Sink for NotingSink<'a> {
     }
 }
 
-// label | the jobs' budgets | a choice of them | workers | group | the output
+// label | the jobs' budgets | the selected jobs | workers | group | the output
 const STREAMS: &str = "\
 a worker | 3 3 1 3 | xx.x | 1 | 1 | j0;j1;j3;
 four | 3 3 1 3 | xx.x | 4 | 1 | j0;j1;j3;
@@ -126,8 +127,8 @@ no job | 3 3 | .. | 4 | 1 |
 the last job | 3 3 1 3 | ...x | 4 | 1 | j3;
 one behind the other | 3 3 3 3 3 3 3 3 | xxxxxxxx | 4 | 1 | j0;j1;j2;j3;j4;j5;j6;j7;";
 
-// label | budgets | choice | workers | group | the write that fails, or 0 | the output; how many rows were requested at each write, and in
-// all; and how the call ended
+// label | budgets | the selected jobs | workers | group | the write that fails, or 0 | the output; how many rows were reported before each
+// write, and in all; and how the call ended
 pub(super) const PUTS: &str = "\
 each text at once | 3 3 3 | xxx | 1 | 1 | 0 | j0;j1;j2; at 1 2 3 of 3: 3 rows
 pieces of two | 3 3 3 | xxx | 1 | 2 | 0 | j0;j1;j2; at 2 3 of 3: 3 rows
@@ -139,14 +140,14 @@ the second, and no job is run behind it | 3 3 3 3 | xxxx | 1 | 1 | 2 | j0; at 1 
 the last | 3 3 | xx | 1 | 1 | 2 | j0; at 1 2 of 2: write failed
 the only one | 3 3 | xx | 1 | 2 | 1 | at 2 of 2: write failed";
 
-// Appends the output, and how many rows were requested at each write, and in all.
+// Appends the output, how many rows were reported before each write, and in all.
 fn push_out(text: &mut String, out: &NotingSink<'_>) -> Result<(), AllocError> {
     let sent = std::str::from_utf8(out.bytes.as_slice()).unwrap_or("no text");
     let (notes, asked) = (out.notes.as_str(), out.asked.load(Ordering::SeqCst));
     write!(text, "{sent} at{notes} of {asked}: ")
 }
 
-// Appends how the call ended.
+// Appends how the call ended: the number of rows, or the error.
 fn push_end(text: &mut String, ran: &Result<Rows, StreamError>) -> Result<(), AllocError> {
     match ran {
         Ok(rows) => {
@@ -157,6 +158,7 @@ fn push_end(text: &mut String, ran: &Result<Rows, StreamError>) -> Result<(), Al
     }
 }
 
+// Returns the output of a stream, and how the call ended.
 fn text_of(
     alloc: Global,
     out: &NotingSink<'_>,
@@ -168,7 +170,7 @@ fn text_of(
     Ok(text)
 }
 
-// Returns the result of streaming the jobs of a line into writes of at most `most` bytes, one of which may fail.
+// Returns the result of streaming the jobs of a line into writes of at most `most` bytes; the write with the number `fails_at` fails.
 fn told<R: Threads + Wait + Sync>(
     rt: &R,
     alloc: Global,
@@ -197,7 +199,7 @@ fn told<R: Threads + Wait + Sync>(
     text_of(alloc, &out, &ran)
 }
 
-// Returns the result for a line that names the write that fails.
+// Returns the result of streaming the jobs of a line, which gives the number of the write that fails.
 pub(super) fn told_of_put<R: Threads + Wait + Sync>(
     rt: &R,
     alloc: Global,
@@ -206,7 +208,7 @@ pub(super) fn told_of_put<R: Threads + Wait + Sync>(
     told(rt, alloc, line, usize::MAX, number_in(line, 5))
 }
 
-// Whether `sent` bytes of the whole output were written, and the call failed if these are not all.
+// Whether the first `sent` bytes of the whole output were written, and the call failed exactly if these are not all.
 fn is_cut(told: &str, whole: &str, sent: usize) -> bool {
     let (out, notes) = told.split_once(" at").unwrap_or(("", ""));
     whole.get(..sent) == Some(out) && notes.ends_with("write failed") == (sent < whole.len())
@@ -224,6 +226,7 @@ fn check_puts<R: Threads + Wait + Sync>(rt: &R, alloc: Global, line: &str) -> Re
     Ok(())
 }
 
+// If a write fails, the output is a prefix of the whole output.
 #[test]
 fn beginnings_go_out(rt: HostRuntime) -> Result<(), Fail> {
     has_lines(STREAMS, 11)?;

@@ -21,7 +21,7 @@ fn piece_count(plan: &Plan, group: u32) -> u64
     plan.jobs().div_ceil(group as usize) as u64
 }
 
-/// Returns the pass, and the chunks that it draws.
+/// Makes chunks until none is left, and returns the pass and the chunks in the order in which it drew them.
 fn work_alone(
     alloc: Global,
     claims: &Claims,
@@ -39,7 +39,7 @@ fn work_alone(
     Ok((pass, pieces))
 }
 
-/// Returns the chunks that two passes draw in two threads, and the passes joined.
+/// Makes chunks in two threads until none is left, and returns the joined pass and the chunks of both.
 fn work_in_two<R: Threads>(
     rt: &R,
     alloc: Global,
@@ -76,6 +76,7 @@ fn work_in_two<R: Threads>(
     Ok((claims.join(first, second), pieces))
 }
 
+// Makes the chunks of a plan by one worker or by two, and returns the pass and the chunks.
 fn worked<R: Threads>(
     rt: &R,
     alloc: Global,
@@ -97,7 +98,7 @@ fn worked<R: Threads>(
     work_in_two(rt, alloc, claims, pass, plan, group, gate)
 }
 
-/// The chunks that the workers made, and whether they ended and held all slots.
+/// The chunks that the workers made, and whether the joined pass has ended and holds every pass index.
 #[derive(Drop)]
 struct PiecesMade {
     pieces: Vec<Piece>,
@@ -105,6 +106,7 @@ struct PiecesMade {
     finished: bool,
 }
 
+// Makes the chunks of a plan by the workers of a line.
 fn made<R: Threads>(
     rt: &R,
     alloc: Global,
@@ -128,7 +130,7 @@ fn made<R: Threads>(
     })
 }
 
-// Appends the chunk at an index, in the order in which one worker drew them, or by number if two did.
+// Appends the number and the rows of a chunk: of the one at the index `wanted` if one worker drew them, else of the one with that number.
 fn push_piece(
     text: &mut String,
     pieces: &[Piece],
@@ -155,6 +157,8 @@ fn push_pieces(text: &mut String, pieces: &[Piece], alone: bool) -> Result<(), A
     Ok(())
 }
 
+// Returns the chunks that were made, whether the pass ended and holds every pass index, the order of one worker's chunks, and what the gate
+// recorded.
 fn text_of(
     alloc: Global,
     made: &PiecesMade,
@@ -170,6 +174,7 @@ fn text_of(
     Ok(text)
 }
 
+/// Returns the chunks that the workers of a line make, and what the gate recorded.
 pub(super) fn told<R: Threads>(rt: &R, alloc: Global, line: &str) -> Result<String, Fail> {
     let plan = plan_of(alloc, cell_of(line, 1))?;
     let gate = NotingGate::of(line);
@@ -177,8 +182,8 @@ pub(super) fn told<R: Threads>(rt: &R, alloc: Global, line: &str) -> Result<Stri
     text_of(alloc, &made, crew_of(line).0 == 1, &gate)
 }
 
-// label | budgets | | workers, one or two | group | | the chunks that are held | and how many are awaited | the chunks, whether the workers
-// ended and held all slots at the end, in which order one worker's chunks entered, and what the gate records: each chunk's number once
+// label | budgets | | workers, one or two | group | | how many of the first chunks wait at the gate | for how many chunks to enter | the
+// chunks, whether the joined pass ended and holds every pass index, in which order one worker's chunks entered, and what the gate recorded
 pub(super) const WORKERS: &str = "\
 two workers | 3 3 3 3 | | 2 | 1 | | 1 | 2 | 4 pieces 0: j0 Exit(5) 2, 1: j1 Exit(5) 2, \
     2: j2 Exit(5) 2, 3: j3 Exit(5) 2, true true 0 entered 1111, late false
