@@ -1,4 +1,4 @@
-//! An observer that need not be there.
+//! An optional observer.
 
 use crate::listener::{Flow, Observer};
 

@@ -1,4 +1,4 @@
-//! Threads that draw chunks, each with its own pass.
+//! Threads that draw chunks, each with a pass of its own.
 
 ghost use Rattle.std.specs.Prelude.{◌≡◌, ◌≤◌, IfOk};
 ghost use Rattle.std.specs.List.{All};
@@ -75,7 +75,7 @@ pub(crate) fn run_workers<R: Threads + Wait, S: Worker>(
     )
 }
 
-// Returns a pass for each thread: `count` of them, or as many as there are free pass indices. The last is the first pass itself.
+// Returns a pass for each thread: `count` of them, or as many as there are free pass indices.
 fn split_passes(
     alloc: Global,
     claims: &Claims,

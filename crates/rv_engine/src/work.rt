@@ -1,9 +1,9 @@
-//! What a run makes of its jobs.
+//! What a run computes for its jobs.
 
 use crate::worker_state::WorkerState;
 use std::alloc::{AllocError, Global};
 
-/// Makes a result of each job; jobs are numbered from 0.
+/// Computes a result for each job; jobs are numbered from 0.
 pub trait Work<H> {
     ghost use Rattle.std.specs.Prelude.{◌≡◌, ◌<◌, ◌≤◌, ℕ, IfOk, OnOk};
     ghost use Rattle.rv_jobs.specs.Limits.{most_jobs};
