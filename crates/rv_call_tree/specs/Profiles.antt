@@ -26,8 +26,6 @@ pub record IsStepsOf (function : ℕ) (spots : List Spot) (found : FunctionSteps
   pub inclusive : found.inclusive ≡ inclusive_after function [] spots
   pub arrivals : found.arrivals ≡ arrivals_in function spots
 
--- ---- the functions of spots
-
 -- ---- the functions of nodes
 
 -- how often a function occurs in a list

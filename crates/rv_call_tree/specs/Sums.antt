@@ -26,8 +26,6 @@ Overflows OutOfMemory a b = Unit {0}
 Overflows (Count function) a b = (path : List ℕ) × (ends_with function path ≡ true)
     × ((2 ^ 64 ≤ arrivals_at path a + arrivals_at path b) ⊎ (2 ^ 64 ≤ steps_at path a + steps_at path b))
 
--- ---- spots from the front
-
 -- ---- the sum from the front
 
 -- whether the node `s` comes before `t` in a sum: it is deeper, or as deep and its function address is lower

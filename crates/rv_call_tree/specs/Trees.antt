@@ -4,8 +4,6 @@ use Rattle.std.specs.Coded.{×_prop, Unit-prop, le_prop}
 use Rattle.std.specs.Str.{bytes_eq}
 use Rattle.rv_call_tree.specs.declared.spot.Spot.{Spot}
 
--- ---- of which functions a spot is
-
 -- ---- the path of a node
 
 -- the path of the node `s`: the first functions of the preceding node's path `front`, as many as the node is deep, then its own function
@@ -20,8 +18,6 @@ last_path front (s ∷ ss) = last_path (path_after front s) ss
 -- the path of the last of the first `count` nodes
 abbrev pub path_of_first : ℕ → List Spot → List ℕ
 path_of_first count spots = last_path [] (take count spots)
-
--- ---- what is counted
 
 -- ---- the counts
 
@@ -77,8 +73,6 @@ abbrev pub ends_with : ℕ → List ℕ → Bool
 ends_with function [] = false
 ends_with function (f ∷ []) = f == function
 ends_with function (f ∷ g ∷ gs) = ends_with function (g ∷ gs)
-
--- ---- spots that are a tree
 
 -- ---- nodes that form a tree
 

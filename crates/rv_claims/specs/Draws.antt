@@ -65,7 +65,7 @@ is_past_last_piece pieces e = nat_le pieces e.number
 abbrev pub past_count : ℕ → List Entry → ℕ
 past_count pieces draws = count (is_past_last_piece pieces) draws
 
--- ---- what seats hold
+-- ---- held numbers
 
 -- what a seat holds: the number of chunks, its pass indices, its draws, and the draws of other seats that it has noted
 abbrev pub view : ℕ → List ℕ → List Entry → List Entry → View
@@ -118,9 +118,7 @@ pub record Runs (pieces : ℕ) (s : State (Unit {0}) View) : Type 0 where
   pub single : (p : ℕ) → p < 64 → slice_index s.words (p + 1) ≤ 1
   pub each : (i : ℕ) (v : View) → get_elem? s.views i ≡ some v → Fits pieces history v
 
--- ---- what a step tells the seat that takes it
-
--- ---- what a step adds to what a seat knows
+-- ---- what a seat learns from a step
 
 -- what a seat knows: what it holds, and the slots that it took
 abbrev pub Sitting : Type 0

@@ -39,8 +39,6 @@ abbrev pub AgreesWith : List ℕ → Option (List ℕ) → Type 0
 AgreesWith name None = Unit {0}
 AgreesWith name (Some other) = name ≡ other
 
--- ---- what an image has behind its line
-
 -- ---- the lines of an image after its first line
 
 -- the content of a line of an image: the counts of an address, or a call-tree node
@@ -65,8 +63,6 @@ entry_of_spot names s = OfSpot (named names s)
 -- the contents of all lines of an image after its first line, in order
 abbrev pub entries_of : ImageCounts → List Entry
 entries_of i = map OfAddress i.addresses ++ map (entry_of_spot i.functions) i.spots
-
--- ---- which of them may stand at a place
 
 -- ---- which lines can come next
 

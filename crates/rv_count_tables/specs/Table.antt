@@ -13,8 +13,6 @@ use Rattle.rv_call_tree.specs.declared.spot.Spot.{Spot}
 use Rattle.rv_call_tree.specs.Profiles.{is_last_of_some}
 use Rattle.rv_call_tree.specs.Trees.{arrivals_at, steps_at, IsTree}
 
--- ---- what a table says
-
 -- ---- the counts in a table
 
 -- how often the instruction at an address was executed
@@ -83,8 +81,6 @@ abbrev pub steps_in : List ℕ → List ℕ → List ImageCounts → ℕ
 steps_in digest path [] = 0
 steps_in digest path (i ∷ is) =
     (if bytes_eq i.digest digest then steps_at path i.spots else 0) + steps_in digest path is
-
--- ---- tables that can be
 
 -- ---- valid tables
 

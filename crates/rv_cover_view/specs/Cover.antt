@@ -21,8 +21,6 @@ has_run counts f = list_any (λ c. nat_le (address_of f) c.address && nat_lt c.a
 abbrev pub never_run : List AddressCounts → List Named → List Named
 never_run counts fs = filter (λ f. not (has_run counts f)) fs
 
--- ---- a code at its address
-
 -- ---- an encoding with its address
 
 -- whether RV32IMC has an instruction for the encoding
@@ -73,7 +71,7 @@ amounts_of counts fs = record {
   code = amounts_of_codes counts (flat_map codes_of fs);
 }
 
--- ---- the theorem
+-- ---- counts and lines agree
 
 -- no instruction was executed at the function's addresses
 abbrev pub HasNotBegun : List AddressCounts → Named → Type 0

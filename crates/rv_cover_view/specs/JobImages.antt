@@ -39,8 +39,6 @@ images_of answers jobs = fold (with_image_of answers) [] jobs
 abbrev pub AreSmall : List Answer → Type 0
 AreSmall answers = (job : Job) → IfSome (image_bytes answers job) (λ bytes. length bytes ≤ most_bytes)
 
--- ---- as the program has them
-
 -- ---- images as the code has them
 
 -- an image file of the code as contracts see it

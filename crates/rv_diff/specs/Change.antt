@@ -55,8 +55,6 @@ rows_agree compare old new = are_same_endings compare old.ending new.ending && a
     && have_same_console old new && are_same_signatures old.signature new.signature
     && are_same_verdicts old.verdict new.verdict
 
--- ---- what became of a job
-
 -- ---- how a job changed
 
 -- how a job changed, given its rows in the old and in the new report, if it has them; a job in neither counts as unchanged

@@ -14,8 +14,6 @@ use Rattle.rv_diff.specs.ByName.{row_named}
 use Rattle.rv_diff.specs.Change.{rows_agree}
 use Rattle.rv_diff.specs.Differences.{change_lines}
 
--- ---- a row, beside the one of its name in the other report, if there is one
-
 -- ---- a row, and the row with its name in the other report, if there is one
 
 -- whether the other report has no row with this row's name

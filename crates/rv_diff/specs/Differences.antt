@@ -16,8 +16,6 @@ use Rattle.rv_diff.specs.declared.change.Compare.{Compare}
 use Rattle.rv_diff.specs.declared.change.Compare.TheVariants.{Outcomes, Slower, Steps}
 use Rattle.rv_diff.specs.Change.{have_same_console, are_same_endings, agree_in_steps, are_same_verdicts}
 
--- ---- what changed
-
 -- ---- the words for a change
 
 -- how a job ended, as reports say it

@@ -17,8 +17,6 @@ abbrev pub unsimulated_text : Option Row → List ℕ
 unsimulated_text None = codes "not an instruction"
 unsimulated_text (Some r) = name_and_reason r.mnemonic r.extension (codes "not simulated")
 
--- ---- of a code that has none in the set of a job
-
 -- ---- encodings that are not an instruction of a job's set
 
 -- the description of an instruction of RV32IMC that the job's instruction set lacks, given its mnemonic and its extension

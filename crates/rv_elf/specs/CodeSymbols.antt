@@ -46,8 +46,6 @@ pub record AreCodeSymbols (table strings : List ℕ) (n : ℕ) (symbols : List C
 
 -- ---- symbols in the order of their values
 
--- ---- symbols in the order of their values
-
 -- the name of the symbol `s`, and the offset of the address `addr` from its value
 abbrev pub name_and_offset_of : List ℕ → ℕ → CodeSymbol → Option (List ℕ × ℕ)
 name_and_offset_of strings addr s = option_map (λ name. (name, addr - s.value)) (text_before_zero (drop s.name strings))

@@ -18,8 +18,6 @@ use Rattle.rv_elf.specs.declared.program_headers.ProgramHeader.{ProgramHeader}
 use Rattle.rv_elf.specs.Fields.{byte_at, half_at, word_at}
 use Rattle.rv_elf.specs.Rows.{RefusalRow, first_refusal}
 
--- ---- the ELF header's fields ("ELF Header")
-
 -- ---- the fields of the ELF header ("ELF Header")
 
 -- e_type: the type of the file
@@ -49,8 +47,6 @@ e_phentsize file = half_at file 42
 -- e_phnum: the number of program headers
 abbrev pub e_phnum : List ℕ → ℕ
 e_phnum file = half_at file 44
-
--- ---- the program header table ("Program Header"), and the fields of the entry at a place
 
 -- ---- the program header table ("Program Header"), and the fields of the program header at an offset `at`
 
@@ -101,7 +97,7 @@ program_entry_at file at = record { p_type = p_type file at; segment = segment_a
 unfoldable pub program_entries : List ℕ → List ProgramHeader
 program_entries file = map (λ k. program_entry_at file (e_phoff file + 32 * k)) (range_with_len 0 (e_phnum file))
 
--- ---- the conditions of the refusals
+-- ---- when a file is refused
 
 -- whether the file begins with 0x7f 'E' 'L' 'F'
 abbrev pub has_magic : List ℕ → Bool
@@ -147,7 +143,7 @@ loaded_segments found = map (λ e. e.segment) (filter is_loaded_entry found)
 unfoldable pub segments : List ℕ → List Segment
 segments file = loaded_segments (program_entries file)
 
--- ---- the refusals, and the image
+-- ---- the image, or the first reason to refuse the file
 
 -- the errors of an image, in order, each with its condition: those of the ELF header, of the location of the program header table, of the
 -- program headers (each condition is checked for all of them before the next one), and of the entry; only instruction sets without

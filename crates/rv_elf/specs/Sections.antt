@@ -11,8 +11,6 @@ use Rattle.rv_elf.specs.declared.sections.Section.{Section}
 use Rattle.rv_elf.specs.declared.symbols.Symbol.{Symbol}
 use Rattle.rv_elf.specs.Fields.{byte_at, half_at, word_at}
 
--- ---- the ELF header's fields of the table
-
 -- ---- the fields of the ELF header that locate the section header table
 
 -- e_shoff: the offset of the section header table
@@ -26,8 +24,6 @@ e_shentsize file = half_at file 46
 -- e_shnum: the number of section headers
 abbrev pub e_shnum : List ℕ → ℕ
 e_shnum file = half_at file 48
-
--- ---- the section header table, and the fields of the header at a place
 
 -- ---- the section header table, and the fields of the section header at an offset `at`
 
@@ -82,8 +78,6 @@ is_section_past_file n s = nat_lt n (s.offset + s.size)
 abbrev pub section_bytes : List ℕ → Section → List ℕ
 section_bytes file s = take s.size (drop s.offset file)
 
--- ---- the symbol table, and the fields of the symbol at a place of its bytes
-
 -- ---- the symbol table, and the fields of the symbol at an offset `at` of its bytes
 
 -- whether the section `s` is a symbol table (SHT_SYMTAB)
@@ -132,8 +126,6 @@ symbol_entry table at = record {
 -- the symbols in the bytes of a symbol table, 16 bytes each
 abbrev pub symbols_of : List ℕ → List Symbol
 symbols_of table = map (λ k. symbol_entry table (16 * k)) (range_with_len 0 (length table / 16))
-
--- ---- its string table
 
 -- ---- the string table of a symbol table
 

@@ -14,8 +14,6 @@ use Rattle.rv_elf.specs.declared.symbols.Symbol.{Symbol}
 use Rattle.rv_elf.specs.Sections.{text_before_zero, symbols_of}
 use Rattle.rv_elf.specs.Symbols.{table_check, symbol_and_string_bytes}
 
--- ---- which symbols stand for a place
-
 -- ---- which symbols may name an address
 
 -- whether the symbol is a function (STT_FUNC)
@@ -78,8 +76,6 @@ abbrev pub candidates : LookupKind → List Segment → List ℕ → ℕ → Lis
 candidates sought segments strings addr table =
     filter (is_candidate sought segments strings addr) (symbols_of table)
 
--- ---- which of them is taken
-
 -- ---- which of them is chosen
 
 -- the precedence of a symbol: functions come before objects, and objects before other symbols
@@ -119,7 +115,7 @@ symbol_at = nearest_symbol Code
 abbrev pub symbol_of_value : Image → List ℕ → ℕ → Option (List ℕ × ℕ)
 symbol_of_value = nearest_symbol Value
 
--- ---- where names end
+-- ---- the ends of names
 
 -- `end` is the index after the last zero byte of a string table: a name begins at each index before it, and at no other
 pub record IsNamesEnd (strings : List ℕ) (end : ℕ) : Type 0 where

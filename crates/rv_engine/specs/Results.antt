@@ -13,8 +13,6 @@ use Rattle.rv_engine.specs.declared.listener.Flow.TheVariants.{GoOn, Stop}
 abbrev pub AreResults : {H : Type 0} → (ℕ → H → Type 0) → List H → Type 0
 AreResults {H} is_result results = (k : ℕ) (any : H) → k < length results → is_result k (slice_index_or results k any)
 
--- ---- heard in order
-
 -- ---- delivered in order
 
 -- a listener has received the results of the first `count` jobs, each once and in order
@@ -36,8 +34,6 @@ abbrev pub IsRunDelivered : {H : Type 0} → (ℕ → H → Type 0) → ℕ → 
 IsRunDelivered is_result jobs has_received stops (Ok GoOn) = HasReceived is_result jobs has_received jobs × (stops → ⊥)
 IsRunDelivered is_result jobs has_received stops (Ok Stop) = HasReceivedSome is_result jobs has_received × stops
 IsRunDelivered is_result jobs has_received stops (Err error) = HasReceivedSome is_result jobs has_received
-
--- ---- made in pieces
 
 -- ---- computed in chunks
 

@@ -64,7 +64,7 @@ IsReferenceOf (Words words) text =
     AllByRecursion IsWord words × (text ≡ flat_map word_line words)
 IsReferenceOf (BadLine line) text = IsFirstBadLine line text
 
--- ---- compared with a signature
+-- ---- a signature and its reference
 
 -- the words of a signature, or none if there is no signature
 abbrev pub signature_words_or_empty : Option (List ℕ) → List ℕ

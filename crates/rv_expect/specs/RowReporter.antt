@@ -15,8 +15,6 @@ use Rattle.rv_expect.specs.declared.unmet.Unmet.{Unmet}
 use Rattle.rv_expect.specs.declared.unmet.Unmet.TheVariants.{Exit, End, Console, Signature}
 use Rattle.rv_expect.specs.declared.unmet.Unmet.TheVariants.{Same, Nothing}
 
--- ---- what an unmet expectation is of
-
 -- ---- the kind of an unmet expectation
 
 -- whether an unmet expectation is that of the exit code
@@ -48,8 +46,6 @@ is_same _ = false
 abbrev pub is_nothing : Unmet → Bool
 is_nothing Nothing = true
 is_nothing _ = false
-
--- ---- what they say of a row
 
 -- ---- which expectations are unmet
 

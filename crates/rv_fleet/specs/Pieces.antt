@@ -17,7 +17,7 @@ piece_count_of_rows rows group = div_ceil (length rows) group
 abbrev pub piece_for : List Row → ℕ → ℕ → Piece
 piece_for rows group k = record { number = k; rows = slice_chunk rows group k }
 
--- ---- of a plan
+-- ---- the chunks of a plan
 
 -- the number of chunks of `group` jobs that the jobs of a plan are divided into
 abbrev pub pieces_of : Planned → ℕ → ℕ
@@ -27,7 +27,7 @@ pieces_of plan group = div_ceil (length plan.jobs) group
 abbrev pub piece_at : Planned → ℕ → ℕ → Piece
 piece_at plan group k = piece_for (rows_of plan) group k
 
--- ---- of a batch
+-- ---- the chunks of a batch
 
 -- the number of chunks of a batch
 abbrev pub count_of_pieces : Pieces → ℕ

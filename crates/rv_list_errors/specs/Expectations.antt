@@ -79,8 +79,6 @@ abbrev pub IsExpectationTold : Members → Option (List ℕ) × List ℕ → Typ
 IsExpectationTold ms told =
     ((is_some (get_member (codes "expect_exit") ms) ≡ true) × (told ≡ exit_told)) ⊎ (told ≡ reference_told_of ms)
 
--- ---- sets of instructions
-
 -- ---- instruction sets
 
 -- the explanation of an unknown instruction set: which part of it is not simulated, if it is a common one, and the known sets

@@ -22,16 +22,12 @@ use Rattle.rv_list_errors.specs.declared.keys.Owner.{Owner}
 use Rattle.rv_list_errors.specs.declared.keys.Owner.TheVariants as owner
 use Rattle.rv_list_errors.specs.declared.message.Message.{Message}
 
--- ---- a message that grows by a text of which only some things are known
-
 -- ---- a message that grows by a text that is only partly known
 
 -- unless an allocation failed, the message went from `before` to `after` by appending a text that satisfies the predicate
 abbrev pub AddsSome : Message → Message → (List ℕ → Type 0) → Type 0
 AddsSome before after IsSo = OnOk after.grown
     (IsOk before.grown × ((text : List ℕ) × IsSo text × (after.bytes.items ≡ before.bytes.items ++ text)))
-
--- ---- values that were met
 
 -- ---- actual values
 
@@ -53,8 +49,6 @@ IsKeyAndValue key (Some value) told = (shown : List ℕ) × IsShownValue value s
 abbrev pub IsExpectedValue : List ℕ → Option Data → List ℕ → List ℕ → Type 0
 IsExpectedValue key value wanted told =
     (met : List ℕ) × IsKeyAndValue key value met × (told ≡ met ++ (codes ": " ++ wanted))
-
--- ---- faults of the whole list
 
 -- ---- errors of the whole list
 
@@ -103,8 +97,6 @@ abbrev pub IsNearestJob : List (Option (List ℕ)) → List ℕ → List ℕ →
 IsNearestJob names wanted told =
     (near : Option (List ℕ)) × IsNearName names wanted near × (told ≡ nearest_job_text names near)
 
--- ---- what is wanted
-
 -- ---- expected values
 
 -- the name of the fault kind at an index, in quotes, with the separator before it
@@ -141,7 +133,7 @@ key_words what.Signature =
 key_words what.Misaligned = Some (codes "expected \"fault\" or \"allow\"")
 key_words _ = None
 
--- ---- sets of instructions
+-- ---- instruction sets
 
 -- the known instruction sets
 abbrev pub sets_words : List ℕ

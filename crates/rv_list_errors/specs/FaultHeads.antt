@@ -33,8 +33,6 @@ elements_of_job ms = unwrap_or (array_at_key (codes "job") ms) no_items
 abbrev pub job_names : Members → List (Option (List ℕ))
 job_names ms = element_names (elements_of_job ms)
 
--- ---- where a job stands
-
 -- ---- where a job begins
 
 -- the text `:NUMBER` of a line number, or nothing if there is none
@@ -68,8 +66,6 @@ place_in_document text (Some ms) number = fault_place (job_lines text) (job_name
 -- the beginning of the line that reports this error of the list with this path and text
 abbrev pub fault_head : List ℕ → List ℕ → JobError → List ℕ
 fault_head path text fault = path ++ place_in_document text (document_of text) fault.job
-
--- ---- the program's own values
 
 -- ---- values of the code
 

@@ -136,8 +136,6 @@ script_told None None = (None, codes "input")
 abbrev pub script_told_of : Members → Option (List ℕ) × List ℕ
 script_told_of ms = script_told (text_at_key (codes "input") ms) (text_at_key (codes "input_hex") ms)
 
--- ---- what is told of one key
-
 -- ---- the explanation of one key
 
 -- the key whose value an explanation shows, or `None` if it shows none
@@ -185,8 +183,6 @@ key_of what.Load = Some (codes "load")
 key_of what.Signature = Some (codes "signature")
 key_of what.Misaligned = Some (codes "misaligned")
 key_of _ = None
-
--- ---- values of another kind than their key has
 
 -- ---- values of the wrong type
 
@@ -251,8 +247,6 @@ TellsWrongKey ms (Some known) told = TellsOtherKind known.0 known.1 ms told
 -- `told` explains the first key of the job, in the order of the format, whose value has the wrong type
 abbrev pub TellsWrongKind : Members → List ℕ → Type 0
 TellsWrongKind ms told = TellsWrongKey ms (find (is_of_other_kind ms) kinds_of_keys) told
-
--- ---- faults of a job
 
 -- ---- errors of a job
 

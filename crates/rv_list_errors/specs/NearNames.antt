@@ -52,8 +52,6 @@ IsNearName names text None = (place : ℕ) → IsNearestName names text place �
 IsNearName names text (Some name) = (place : ℕ) × IsNearestName names text place × IsNearAt names text place
     × (slice_index_or names place None ≡ Some name)
 
--- ---- names that are told
-
 -- ---- lists of names
 
 -- the names that exist, in order

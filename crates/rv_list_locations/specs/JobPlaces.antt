@@ -17,8 +17,6 @@ infixl 10 ◌>>=◌
 abbrev ◌>>=◌ : {A B : Type 0} → Option A → (A → Option B) → Option B
 o >>= f = option_and_then f o
 
--- ---- behind a value
-
 -- ---- after a value
 
 -- whether a byte is in a word, given the next byte: a space may separate a date from a time
@@ -70,8 +68,6 @@ unfoldable pub after_value : List ℕ → Option (List ℕ)
 after_value text =
     if is_opening (first text) then after_brackets (suc (length text)) 0 text else after_string_or_word text
 
--- ---- behind a line
-
 -- ---- after a line
 
 -- the text from the next header or entry on, after the rest of a line; empty if the rest of the line is not a comment
@@ -86,8 +82,6 @@ after_comma text = let rest = skip_blank text in if first rest == comma then ski
 -- the text from the value of an entry on, given the text after its key; empty if no equals sign follows the key
 unfoldable pub after_equals : List ℕ → List ℕ
 after_equals text = if first text == equals then skip_ws (drop 1 text) else []
-
--- ---- a header, an entry or an element
 
 -- ---- a header, an entry or an element
 

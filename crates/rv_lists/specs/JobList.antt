@@ -164,7 +164,7 @@ symbols_from_names ds = do
 unfoldable pub signature_from_table : Members → Result (Option Symbols) What
 signature_from_table ms = reading_or_default symbols_from_names None (array_at_key (codes "signature") ms)
 
--- ---- what is expected
+-- ---- the expected result
 
 -- the expected exit code from the value of `expect_exit`, or an error if it is not a 32-bit number
 abbrev pub exit_from_number : ℤ → Result (Option ℕ) What

@@ -40,8 +40,6 @@ boolean_at_key k ms = option_and_then as_bool (get_member k ms)
 abbrev pub array_at_key : List ℕ → Members → Option Items
 array_at_key k ms = option_and_then as_array (get_member k ms)
 
--- ---- keys, each with its kind
-
 -- ---- keys, each with its type
 
 -- a key, and whether a value has the type that the key requires

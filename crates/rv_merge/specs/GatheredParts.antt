@@ -58,7 +58,7 @@ rows_from_slots [] = []
 rows_from_slots (None ∷ slots) = rows_from_slots slots
 rows_from_slots (Some row ∷ slots) = row ∷ rows_from_slots slots
 
--- ---- what is gathered
+-- ---- the gathered parts
 
 -- the bytes are the text of a shard of the run, which has a source, and each of its rows is in the slot of its job
 pub record IsTaken (run : Run) (sources : List (Option ℕ)) (slots : List (Option Row))

@@ -18,8 +18,6 @@ spots_of table bytes = option_map_or (λ counted. counted.spots) (counted_image 
 abbrev pub names_of : CountTable → List ℕ → List FunctionName
 names_of table bytes = option_map_or (λ counted. counted.functions) (counted_image table bytes) []
 
--- ---- tables with stacks
-
 -- ---- tables with call trees
 
 -- whether there is a node

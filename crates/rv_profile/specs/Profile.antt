@@ -50,8 +50,6 @@ IsWithin steps p = (p.own ≤ steps) × (p.inclusive ≤ steps)
 abbrev pub AreWithin : ℕ → List Profiled → Type 0
 AreWithin steps ps = All (IsWithin steps) ps
 
--- ---- as the program has it
-
 -- ---- profiles as the code has them
 
 -- the counts of a function in the code as contracts see them

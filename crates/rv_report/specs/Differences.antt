@@ -12,8 +12,6 @@ abbrev pub count_of_line_feeds : List ℕ → ℕ
 count_of_line_feeds [] = 0
 count_of_line_feeds (b ∷ bs) = if b == 10 then count_of_line_feeds bs + 1 else count_of_line_feeds bs
 
--- ---- how far the first word of a line was met
-
 -- ---- how much of the first word of a line has been read
 
 -- how much of the first word of a line has been read after one more letter of the line

@@ -47,8 +47,6 @@ text_before_byte byte text = take (place_of_byte byte text) text
 abbrev pub text_after_byte : ℕ → List ℕ → List ℕ
 text_after_byte byte text = drop (place_of_byte byte text + 1) text
 
--- ---- numbers and words; what is too large is the greatest
-
 -- ---- numbers and words; numbers saturate at 2^32 - 1
 
 -- the greatest number that is read
@@ -125,8 +123,6 @@ abbrev pub refusal_or_first : Option Refusal → Refusal
 refusal_or_first (Some why) = why
 refusal_or_first None = refusal.ImageUnreadable
 
--- ---- what each line says; the byte that tells it from others is enough
-
 -- ---- the values of single lines; the byte that distinguishes a line from others decides how it is read
 
 -- the job number in a line `job NUMBER NAME`
@@ -179,8 +175,6 @@ part_extent_of_line line =
     let shard = drop 6 (text_after_byte 32 jobs) in
     if length shard == 0 then extent.Choice (decimal_number (text_before_byte 32 jobs))
     else shard_of_text (decimal_number (text_before_byte 32 jobs)) shard
-
--- ---- what lines say together
 
 -- ---- the values of all lines
 
@@ -323,9 +317,7 @@ with_unfinished_row g =
 unfoldable pub gather_rows : List ℕ → Gathered
 gather_rows text = with_unfinished_row (with_lines (lines text) (gathering_between_rows [] [] extent.Whole))
 
--- ---- and up to the first row that can't stand there
-
--- ---- and up to the first row that no report has there
+-- ---- the rows before the first row that no report has at its index
 
 -- the number of leading job numbers that increase from above `text_before_byte`, and are at most `most_jobs`
 unfoldable pub rising_count : ℕ → List ℕ → ℕ

@@ -70,8 +70,6 @@ extent_line (extent.Shard s) count = line (part_words count s.jobs ++ shard_word
 unfoldable pub saved_text : SavedReport → List ℕ
 saved_text r = numbered_text r.numbers r.rows ++ extent_line r.extent (length r.rows)
 
--- ---- good reports
-
 -- ---- valid reports
 
 -- the number has 32 bits

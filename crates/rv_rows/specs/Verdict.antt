@@ -76,7 +76,7 @@ has_expected_console (Some (Text text)) bytes outcome = ran_with_console text ou
 has_expected_console (Some (File path)) None outcome = false
 has_expected_console (Some (File path)) (Some bytes) outcome = ran_with_console bytes outcome
 
--- ---- the reference
+-- ---- the reference signature
 
 -- the lines of a signature's words, one for each; none if there is no signature
 abbrev pub lines_of_signature : Option (List ℕ) → List ℕ
@@ -116,8 +116,6 @@ abbrev pub is_same_as_named : Option ℕ → Option Outcome → Outcome → Bool
 is_same_as_named None other outcome = true
 is_same_as_named (Some place) None outcome = false
 is_same_as_named (Some place) (Some other) outcome = are_same_outcomes outcome other
-
--- ---- all of them
 
 -- ---- all expectations
 

@@ -94,8 +94,6 @@ most_characters_of_name = 256
 abbrev pub printable_name : List ℕ → List ℕ
 printable_name text = printable_within most_characters_of_name 0 text
 
--- ---- the piece in front: a character that is shown as it is, or one byte
-
 -- ---- the beginning of a text: a character that is shown as it is, or one byte
 
 -- how the beginning of a text is shown: its first character as it is, or the escape of its first byte
@@ -106,8 +104,6 @@ printable_front text =
 -- the text after its beginning: without its first character if that is shown as it is, else without its first byte
 abbrev pub behind_printable_front : List ℕ → List ℕ
 behind_printable_front text = if plain_front_len text == 0 then drop 1 text else drop (plain_front_len text) text
-
--- ---- what a terminal takes as text
 
 -- ---- text that is safe to show on a terminal
 

@@ -40,8 +40,6 @@ reference_or_character None c = encode_utf8 c
 abbrev pub character_text : Within → ℕ → List ℕ
 character_text within c = reference_or_character (character_reference within c) c
 
--- ---- the character in front
-
 -- ---- the first character
 
 -- the bytes of the character that the first byte begins, or all bytes if there are fewer
@@ -86,8 +84,6 @@ xml_text_from within (suc left) (byte ∷ rest) = xml_text_from within left rest
 abbrev pub xml_text : Within → List ℕ → List ℕ
 xml_text within bytes = xml_text_from within 0 bytes
 
--- ---- the piece in front: a character or one byte
-
 -- ---- the beginning of the bytes: a character or one byte
 
 -- the text of the first XML character of these bytes, or the escape of the first byte if they begin with none
@@ -97,8 +93,6 @@ xml_front_text within bytes = character_or_escape within (slice_index bytes 0) (
 -- the bytes after their first XML character, or after the first byte if they begin with none
 abbrev pub behind_xml_front : List ℕ → List ℕ
 behind_xml_front bytes = drop (more_front_bytes (front_xml_character bytes) + 1) bytes
-
--- ---- what can stand in a document
 
 -- ---- text of XML documents
 

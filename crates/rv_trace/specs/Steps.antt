@@ -19,8 +19,6 @@ use Rattle.rv_trace.specs.declared.step.WriteEffect.{WriteEffect}
 use Rattle.rv_trace.specs.declared.step.WriteEffect.TheVariants as wrote
 use Rattle.rv_trace.specs.Code.{code_at, instr_of}
 
--- ---- what an instruction is about to write, and where
-
 -- ---- the target of an instruction's write
 
 -- how an instruction accesses memory (ISA manual, 2.6)
@@ -54,8 +52,6 @@ HasRegister (aim.Register number) = number < 32
 HasRegister (aim.Load number address) = number < 32
 HasRegister _ = Unit {0}
 
--- ---- what it wrote
-
 -- ---- what an instruction wrote
 
 -- what was written, given the target and the state `t` after the instruction
@@ -76,8 +72,6 @@ traced_step s t = record {
   code = code_at s.bus s.pc;
   wrote = completed_write (write_target (instr_at s) s) t;
 }
-
--- ---- one after another
 
 -- ---- several instructions
 

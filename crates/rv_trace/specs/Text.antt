@@ -177,8 +177,6 @@ register_lines image file number [] = []
 register_lines image file number (value ∷ values) =
     register_line image file number value ++ register_lines image file (number + 1) values
 
--- ---- all of it
-
 -- ---- the whole text
 
 -- the text of a trace of a run that ended so
