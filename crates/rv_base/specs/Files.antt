@@ -4,11 +4,11 @@ use Rattle.rv_base.specs.Counts.{one_more}
 use Rattle.rv_base.specs.declared.store.ReadError.{ReadError}
 use Rattle.rv_base.specs.declared.store.ReadError.TheVariants as error
 
--- the bytes of the file at each path, if there is one
+-- the contents of files: the bytes of the file at each path, or `None` if there is no file
 abbrev pub FileContents : Type 0
 FileContents = List ℕ → Option (List ℕ)
 
--- the fault count after a failed read: only an unreadable file counts
+-- the number of unreadable files after a read failed with this error, if it was `n` before; only an unreadable file counts
 abbrev pub faults_after : ReadError → ℕ → ℕ
 faults_after error.Unreadable n = one_more n
 faults_after error.TooLong n = n

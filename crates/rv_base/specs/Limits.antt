@@ -1,7 +1,7 @@
 -- Limits on job lists and files.
 use Rattle.std.specs.Prelude.{ℕ, Bool, ◌&&◌, nat_le}
 
--- whether n is from low to high, inclusive
+-- whether `n` is from `low` to `high`, both included
 abbrev pub is_within : ℕ → ℕ → ℕ → Bool
 is_within low high n = nat_le low n && nat_le n high
 
@@ -9,10 +9,11 @@ is_within low high n = nat_le low n && nat_le n high
 abbrev pub most_jobs : ℕ
 most_jobs = 4096
 
--- the maximum length, in bytes, of a job's name and of a signature symbol's name
+-- the maximum length of a job's name, in bytes
 abbrev pub most_name : ℕ
 most_name = 64
 
+-- the maximum length of a signature symbol's name, in bytes
 abbrev pub most_symbol : ℕ
 most_symbol = 255
 
@@ -24,17 +25,19 @@ most_path = 4096
 abbrev pub most_budget : ℕ
 most_budget = 1000000000
 
--- the maximum length, in bytes, of a script and of an expected console text
+-- the maximum length of a script, in bytes
 abbrev pub most_script : ℕ
 most_script = 65536
 
+-- the maximum length of an expected console text, in bytes
 abbrev pub most_console : ℕ
 most_console = 65536
 
--- the maximum number of threads of a run, and of jobs that a thread takes at a time
+-- the maximum number of threads of a run
 abbrev pub most_workers : ℕ
 most_workers = 64
 
+-- the maximum number of jobs in a chunk, which a thread takes at a time
 abbrev pub most_group : ℕ
 most_group = 4096
 

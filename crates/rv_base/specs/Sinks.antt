@@ -1,15 +1,16 @@
--- What a sink has accepted.
+-- What a sink has accepted. Its bytes are `None` if it does not reveal them.
 use Rattle.std.specs.Prelude.{◌≡◌, ℕ, List, ◌++◌, Option}
 use Rattle.std.specs.Io.KnownBytes.{Appends}
 
--- a prefix of the text was appended to the known bytes
+-- the bytes of a sink went from `old` to `new`: a prefix `part` of the text was appended
 pub record AppendsBeginning (old new : Option (List ℕ)) (text : List ℕ) : Type 0 where
   pub part : List ℕ
   pub rest : List ℕ
   pub whole : text ≡ part ++ rest
   pub appended : Appends old new part
 
--- the first part of the text was sent, and the rest is buffered
+-- the bytes of a sink went from `old` to `new`: the beginning of the text was sent to it, and the rest of the text is `gathered`, in a
+-- buffer
 pub record IsPartlySent (old new : Option (List ℕ)) (gathered text : List ℕ) : Type 0 where
   pub sent : List ℕ
   pub appended : Appends old new sent

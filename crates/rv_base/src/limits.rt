@@ -12,7 +12,7 @@ pub const MOST_PATH: usize = 4_096;
 /// The maximum number of steps of a job.
 pub const MOST_BUDGET: u32 = 1_000_000_000;
 
-/// The maximum number of bytes that the console feeds to a job.
+/// The maximum length of a job's script, in bytes.
 pub const MOST_SCRIPT: usize = 0x1_0000;
 
 /// The maximum length of a job's expected console text, in bytes.
@@ -24,7 +24,7 @@ pub const MOST_SYMBOL: usize = 255;
 /// The maximum number of threads of a run.
 pub const MOST_WORKERS: u32 = 64;
 
-/// The maximum number of jobs that a thread takes at a time.
+/// The maximum number of jobs in a chunk, which a thread takes at a time.
 pub const MOST_GROUP: u32 = 4_096;
 
 /// The maximum size of a file that is read, in bytes.

@@ -14,12 +14,14 @@ pub fn is_name(text: &[u8]) -> bool
     1 <= text.len() && text.len() <= MOST_NAME && has_name_bytes(text)
 }
 
+// Whether each byte may be in a name.
 fn has_name_bytes(text: &[u8]) -> bool
     ensures { result ≡ list_all is_name_byte text.now }
 {
     text.iter().all(|byte| is_name_byte(*byte))
 }
 
+// Whether a byte may be in a name: an ASCII letter or digit, or one of `.`, `_` and `-`.
 #[tactic(auto, unfolding(crate::specs::Names::is_name_byte))]
 fn is_name_byte(byte: u8) -> bool
     ensures { result ≡ is_name_byte byte }

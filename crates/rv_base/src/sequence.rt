@@ -19,20 +19,21 @@ impl<T> Model for Sequence<T> {
 }
 
 impl<T> Sequence<T> {
-    /// Wraps a vector without allocating.
+    /// Returns the sequence of a vector's values. Does not allocate.
     pub fn new(items: Vec<T>) -> Sequence<T>
         ensures { result ≡ items.items }
     {
         Sequence { items }
     }
 
+    /// Returns the values as a slice.
     pub fn as_slice(&self) -> &[T]
         ensures { result.now ≡ self.now }
     {
         &self.items
     }
 
-    /// Returns the underlying vector without allocating.
+    /// Returns the underlying vector. Does not allocate.
     pub fn into_vec(self) -> Vec<T>
         ensures { result.items ≡ self }
     {

@@ -5,11 +5,11 @@ ghost use Rattle.std.specs.Io.KnownBytes.{Appends, Keeps};
 ghost use Rattle.rv_base.specs.Sinks.{AppendsBeginning};
 ghost use Rattle.rv_base.specs.Counts.{one_more};
 
-/// The sink accepted no bytes.
+/// The error of a sink that failed, and accepted no bytes of the failed call.
 #[derive(Clone, Copy, Debug, PartialEq, Eq)]
 pub struct SinkFailed;
 
-/// A destination for bytes that counts its failures.
+/// A destination for bytes, which counts its failures.
 pub trait Sink {
     // The bytes accepted so far, if the sink reveals them.
     ghost taken: { Self → Option (List ℕ) };
@@ -32,7 +32,7 @@ pub trait Sink {
         ensures { result ≡ failed self.now };
 }
 
-/// Writes all of `bytes`. If a write fails, the bytes of the earlier writes have gone out and no further write is tried.
+/// Writes all of `bytes` to a sink. If a write fails, the bytes of the earlier writes have been accepted, and no further write is tried.
 pub fn put_all<W: Sink>(out: &mut W, bytes: &[u8]) -> Result<(), SinkFailed>
     ensures appended { OnOk result (Appends (W.taken out.old) (W.taken out.new) bytes.now) }
     ensures counted { OnOk result (W.failed out.new ≡ W.failed out.old) }

@@ -18,7 +18,7 @@ pub enum ReadError {
     OutOfMemory,
 }
 
-/// A source of files, read by path, that counts how often a file was unreadable.
+/// A source of files by path, which counts how often a file was unreadable.
 pub trait Store {
     // The contents of each path, if the store reveals them. Reading does not change them.
     ghost contents: { Self → Option FileContents };

@@ -21,27 +21,28 @@ impl Model for Text {
 }
 
 impl Text {
-    /// Wraps a string without allocating.
+    /// Returns the text of a string. Does not allocate.
     pub fn new(text: String) -> Text
         ensures { result ≡ string_bytes text }
     {
         Text { text }
     }
 
+    /// Returns the text as a string slice.
     pub fn as_str(&self) -> &str
         ensures { result.now ≡ self.now }
     {
         self.text.as_str()
     }
 
-    /// Returns the underlying string without allocating.
+    /// Returns the underlying string. Does not allocate.
     pub fn into_string(self) -> String
         ensures { string_bytes result ≡ self }
     {
         self.text
     }
 
-    /// Copies a text.
+    /// Returns a copy of a text.
     pub fn copy(alloc: Global, text: &str) -> Result<Text, AllocError>
         ensures { IfOk result (λ t. t ≡ text.now) }
     {

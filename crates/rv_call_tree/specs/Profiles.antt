@@ -1,49 +1,51 @@
--- Counts per function, from the nodes of a call tree.
+-- Counts for each function, from the nodes of a call tree.
 use Rattle.std.specs.Prelude.{◌≡◌, ◌==◌, ◌+◌, ℕ, Bool, if◌then◌else◌, List, [], ◌∷◌, ◌++◌}
 use Rattle.std.specs.List.{list_any}
 use Rattle.rv_call_tree.specs.declared.profile.FunctionSteps.{FunctionSteps}
 use Rattle.rv_call_tree.specs.declared.spot.Spot.{Spot}
 use Rattle.rv_call_tree.specs.Trees.{counted_in_all, once_if, own_in, path_after, steps_if}
 
--- the function is in the list
+-- whether a path has the function
 abbrev pub has_function : ℕ → List ℕ → Bool
 has_function function path = list_any (λ f. f == function) path
 
--- the number of entries into a function: the sum over the nodes that end in it
+-- the number of calls of a function: the sum over the nodes that end in it
 abbrev pub arrivals_in : ℕ → List Spot → ℕ
 arrivals_in function spots = counted_in_all (λ s. steps_if (s.function == function) s.arrivals) spots
 
--- steps in the function and in everything it called: the sum over the nodes whose path has the function, each node counted once even if the
--- function occurs in its path several times
+-- the inclusive steps of a function: the sum over the nodes whose path has the function, each counted once even if the function occurs in
+-- its path several times; `front` is the path of the node before these nodes
 abbrev pub inclusive_after : ℕ → List ℕ → List Spot → ℕ
 inclusive_after function front [] = 0
 inclusive_after function front (s ∷ ss) = steps_if (has_function function (path_after front s)) s.steps
     + inclusive_after function (path_after front s) ss
 
+-- `found` has the own steps, the inclusive steps and the calls of the function in the call tree
 pub record IsStepsOf (function : ℕ) (spots : List Spot) (found : FunctionSteps) : Type 0 where
   pub own : found.own ≡ own_in function spots
   pub inclusive : found.inclusive ≡ inclusive_after function [] spots
   pub arrivals : found.arrivals ≡ arrivals_in function spots
 
--- ---- the functions of spots
+-- ---- the functions of nodes
 
 -- how often a function occurs in a list
 abbrev pub times : ℕ → List ℕ → ℕ
 times function [] = 0
 times function (f ∷ fs) = once_if (f == function) + times function fs
 
--- some node ends in the function
+-- whether some node ends in the function
 abbrev pub is_last_of_some : ℕ → List Spot → Bool
 is_last_of_some function spots = list_any (λ s. s.function == function) spots
 
--- each function that a node ends in occurs once, and no other occurs
+-- the list has each function that a node ends in exactly once, and no other function
 pub record AreFunctionsOf (spots : List Spot) (functions : List ℕ) : Type 0 where
   pub once : (function : ℕ) → times function functions ≡ once_if (is_last_of_some function spots)
 
+-- the list with the function appended, unless it has the function already
 abbrev pub with_function : ℕ → List ℕ → List ℕ
 with_function function functions = if has_function function functions then functions else functions ++ function ∷ []
 
--- the total of the functions' own steps
+-- the sum of the own steps of these functions
 abbrev pub own_of_all : List ℕ → List Spot → ℕ
 own_of_all [] spots = 0
 own_of_all (f ∷ fs) spots = own_in f spots + own_of_all fs spots

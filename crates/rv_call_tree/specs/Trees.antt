@@ -1,16 +1,16 @@
--- Nodes in preorder: the path of functions that leads to each, and what is counted per path.
+-- The nodes of a call tree in preorder: the path of functions that leads to each, and the counts of each path.
 use Rattle.std.specs.Prelude.{◌==◌, ◌+◌, ◌<◌, ◌≤◌, ℕ, Bool, false, if◌then◌else◌, List, [], ◌∷◌, ◌++◌, length, take, slice_index_or}
 use Rattle.std.specs.Coded.{×_prop, Unit-prop, le_prop}
 use Rattle.std.specs.Str.{bytes_eq}
 use Rattle.rv_call_tree.specs.declared.spot.Spot.{Spot}
 
--- ---- of which functions a spot is
+-- ---- the path of a node
 
--- the first functions of the preceding node's path, as many as the node is deep, then its own
+-- the path of the node `s`: the first functions of the preceding node's path `front`, as many as the node is deep, then its own function
 abbrev pub path_after : List ℕ → Spot → List ℕ
 path_after front s = take s.depth front ++ s.function ∷ []
 
--- the path of the last of some nodes
+-- the path of the last of these nodes; `front` is the path of the node before them
 abbrev pub last_path : List ℕ → List Spot → List ℕ
 last_path front [] = front
 last_path front (s ∷ ss) = last_path (path_after front s) ss
@@ -19,81 +19,92 @@ last_path front (s ∷ ss) = last_path (path_after front s) ss
 abbrev pub path_of_first : ℕ → List Spot → List ℕ
 path_of_first count spots = last_path [] (take count spots)
 
--- ---- what is counted
+-- ---- the counts
 
+-- 1 if the condition holds, else 0
 abbrev pub once_if : Bool → ℕ
 once_if test = if test then 1 else 0
 
--- the sum over the nodes with this path
+-- the sum of `count` over the nodes with this path; `front` is the path of the node before these nodes
 abbrev pub counted_after : (Spot → ℕ) → List ℕ → List ℕ → List Spot → ℕ
 counted_after count path front [] = 0
 counted_after count path front (s ∷ ss) =
     (if bytes_eq (path_after front s) path then count s else 0) + counted_after count path (path_after front s) ss
 
+-- the number of calls that led to the node
 abbrev pub arrivals_of : Spot → ℕ
 arrivals_of s = s.arrivals
 
+-- the number of instructions executed in the node
 abbrev pub steps_of : Spot → ℕ
 steps_of s = s.steps
 
--- how often a run entered a path, and how many instructions it executed there
+-- how often a run entered this path
 abbrev pub arrivals_at : List ℕ → List Spot → ℕ
 arrivals_at path spots = counted_after arrivals_of path [] spots
 
+-- how many instructions a run executed in this path
 abbrev pub steps_at : List ℕ → List Spot → ℕ
 steps_at path spots = counted_after steps_of path [] spots
 
--- the sum over all nodes
+-- the sum of `count` over all nodes
 abbrev pub counted_in_all : (Spot → ℕ) → List Spot → ℕ
 counted_in_all count [] = 0
 counted_in_all count (s ∷ ss) = count s + counted_in_all count ss
 
+-- the number of calls in all nodes
 abbrev pub all_arrivals : List Spot → ℕ
 all_arrivals spots = counted_in_all arrivals_of spots
 
+-- the number of instructions executed in all nodes
 abbrev pub all_steps : List Spot → ℕ
 all_steps spots = counted_in_all steps_of spots
 
+-- the steps if the condition holds, else 0
 abbrev pub steps_if : Bool → ℕ → ℕ
 steps_if test steps = if test then steps else 0
 
--- the instructions executed in a function itself: those of the nodes that end in it
+-- the own steps of a function: those of the nodes that end in it
 abbrev pub own_in : ℕ → List Spot → ℕ
 own_in function spots = counted_in_all (λ s. steps_if (s.function == function) s.steps) spots
 
+-- whether the path ends in the function
 abbrev pub ends_with : ℕ → List ℕ → Bool
 ends_with function [] = false
 ends_with function (f ∷ []) = f == function
 ends_with function (f ∷ g ∷ gs) = ends_with function (g ∷ gs)
 
--- ---- spots that are a tree
+-- ---- nodes that form a tree
 
--- a node is at most one deeper than the preceding one; if that one's path has a function at the node's depth, the node's own function
--- address is higher
+-- a node may follow one whose path is `front`: it is at most one deeper, and if it is not deeper, its function address is greater than that
+-- of the path's function at its depth, its preceding sibling
 pub record FollowsInPreorder (front : List ℕ) (s : Spot) : Type 0 where
   pub within : s.depth ≤ length front
   pub rising : s.depth < length front → slice_index_or front s.depth 0 < s.function
 
+-- each node may follow the one before it; `front` is the path of the node before the first
 abbrev pub FollowInPreorder : List ℕ → List Spot → Type 0
 FollowInPreorder front [] = Unit {0}
 FollowInPreorder front (s ∷ ss) = FollowsInPreorder front s × FollowInPreorder (path_after front s) ss
 
--- each path occurs once, siblings are sorted by function address, and each node comes after its parent
+-- the nodes are a call tree in preorder: each path occurs once, siblings are sorted by function address, and each node comes after its
+-- parent
 abbrev pub IsTree : List Spot → Type 0
 IsTree spots = FollowInPreorder [] spots
 
--- any two proofs of this are equal
+-- any two proofs of `FollowsInPreorder` are equal
 FollowsInPreorder-prop : (front : List ℕ) (s : Spot) → IsProp (FollowsInPreorder front s)
 FollowsInPreorder-prop front s h k = λ i. record {
   within = le_prop h.within k.within i;
   rising = λ low. le_prop (h.rising low) (k.rising low) i;
 }
 
+-- any two proofs of `FollowInPreorder` are equal
 pub FollowInPreorder-prop : (front : List ℕ) (spots : List Spot) → IsProp (FollowInPreorder front spots)
 FollowInPreorder-prop front [] = Unit-prop
 FollowInPreorder-prop front (s ∷ ss) = ×_prop (FollowsInPreorder-prop front s) (FollowInPreorder-prop (path_after front s) ss)
 
--- a run entered each of them
+-- a run entered each of the nodes
 abbrev pub HasArrivals : List Spot → Type 0
 HasArrivals [] = Unit {0}
 HasArrivals (s ∷ ss) = (0 < s.arrivals) × HasArrivals ss

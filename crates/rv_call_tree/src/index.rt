@@ -1,4 +1,4 @@
-//! Call-tree nodes indexed by function.
+//! The nodes of a call tree, indexed by function.
 
 ghost use Rattle.std.specs.Prelude.{◌≡◌, ◌^◌, ◌<◌, [], IfOk};
 ghost use Rattle.std.specs.List.Sorted.{IsNonDecreasingBy};
@@ -11,7 +11,7 @@ use crate::spot::Spot;
 use crate::subtree::{Subtree, subtrees_of};
 use std::alloc::{AllocError, Global};
 
-/// Nodes sorted by function, so that a function's counts are found without a pass over all nodes.
+/// The nodes of a call tree with an index by function, so that the counts of a function are found without a pass over all nodes.
 #[derive(Drop)]
 pub struct SpotIndex<'s> {
     pub spots: &'s [Spot],
@@ -25,7 +25,7 @@ pub struct SpotIndex<'s> {
 }
 
 impl<'s> SpotIndex<'s> {
-    /// Builds the index. Takes the time of a sort of the nodes, and 48 bytes of memory for each.
+    /// Returns the index of a call tree. Takes the time of a sort of the nodes, and 48 bytes of memory for each.
     pub fn new(alloc: Global, spots: &'s [Spot]) -> Result<SpotIndex<'s>, AllocError>
         requires tree { IsTree spots.now }
         requires steps { all_steps spots.now < 2 ^ 64 }
@@ -37,7 +37,8 @@ impl<'s> SpotIndex<'s> {
         Ok(SpotIndex { spots, subtrees })
     }
 
-    /// Returns a function's counts. Takes time logarithmic in the number of all nodes and linear in the number of the function's nodes.
+    /// Returns the counts of a function. Takes time logarithmic in the number of all nodes and linear in the number of nodes that end in
+    /// the function.
     pub fn steps_of(&self, function: u32) -> FunctionSteps
         ensures { IsStepsOf function self.now.spots.now result }
     {
@@ -59,7 +60,7 @@ impl<'s> SpotIndex<'s> {
         found
     }
 
-    // Returns the function's subtrees, in node order.
+    // Returns the subtrees whose node ends in the function, in node order.
     fn subtrees_of_function(&self, function: u32) -> &[Subtree]
         ensures { result.now ≡ subtrees_of_function function self.now.spots.now }
     {

@@ -1,18 +1,18 @@
-//! Laws about call-tree nodes; none of them is executed.
+//! Laws on call trees, with no code to run.
 
 ghost use Rattle.std.specs.Prelude.{◌≡◌, ℕ, List};
 ghost use Rattle.rv_call_tree.specs.declared.spot.Spot.{Spot};
 ghost use Rattle.rv_call_tree.specs.Profiles.{own_of_all, AreFunctionsOf};
 ghost use Rattle.rv_call_tree.specs.Trees.{all_steps, arrivals_at, steps_at, HasArrivals, IsTree};
 
-/// Two trees that have equal counts for each path are equal if a run entered each of their nodes.
+/// Proves that two call trees which have equal counts for each path are equal, if a run entered each of their nodes.
 pub fn one_tree_has_these_counts()
     ensures { (a b : List Spot) → IsTree a → IsTree b → HasArrivals a → HasArrivals b
         → ((path : List ℕ) → arrivals_at path a ≡ arrivals_at path b)
         → ((path : List ℕ) → steps_at path a ≡ steps_at path b) → a ≡ b }
 {}
 
-/// The own steps of the nodes' functions add up to all steps.
+/// Proves that the own steps of the functions of a call tree add up to the steps of all nodes.
 pub fn own_steps_sum_to_all()
     ensures { (spots : List Spot) (functions : List ℕ) → AreFunctionsOf spots functions
         → own_of_all functions spots ≡ all_steps spots }

@@ -1,4 +1,4 @@
-//! What a run did in each function.
+//! The counts of each function.
 
 ghost use Rattle.std.specs.Prelude.{◌≡◌, IfOk, OnOk};
 ghost use Rattle.rv_call_tree.specs.Profiles.{with_function, AreFunctionsOf};
@@ -6,19 +6,19 @@ ghost use Rattle.rv_call_tree.specs.Profiles.{with_function, AreFunctionsOf};
 use crate::spot::Spot;
 use std::alloc::{AllocError, Global};
 
-/// How often a run entered a function, and how many instructions it executed there.
+/// How often a run called a function, and how many instructions it executed there.
 #[derive(Clone, Copy, Debug, PartialEq, Eq)]
 pub struct FunctionSteps {
-    /// Steps in the function itself.
+    /// The number of instructions executed in the function itself.
     pub own: u64,
-    /// Steps in the function and in what it called. Each path that has the function counts once, even if the function occurs in it several
-    /// times.
+    /// The number of instructions executed in the function and in the functions that it called. Each path that has the function counts
+    /// once, even if the function occurs in it several times.
     pub inclusive: u64,
-    /// The number of entries, by calls and by jumps.
+    /// The number of entries into the function, by calls and by jumps.
     pub arrivals: u64,
 }
 
-/// Returns the functions of nodes, each once, in order of first occurrence.
+/// Returns the functions that nodes end in, each once, in order of first occurrence.
 pub fn functions_of(alloc: Global, spots: &[Spot]) -> Result<Vec<u32>, AllocError>
     ensures { IfOk result (λ functions. AreFunctionsOf spots.now functions.items) }
 {
@@ -29,7 +29,7 @@ pub fn functions_of(alloc: Global, spots: &[Spot]) -> Result<Vec<u32>, AllocErro
     Ok(functions)
 }
 
-// Appends a function unless it is in the list.
+// Appends a function unless the list has it already.
 fn add_function(functions: &mut Vec<u32>, function: u32) -> Result<(), AllocError>
     ensures { OnOk result (functions.new.items ≡ with_function function functions.old.items) }
 {

@@ -2,13 +2,14 @@
 
 use rv_base::Sequence;
 
-/// Nodes in preorder; contracts see them as a list.
+/// The nodes of a call tree in preorder; contracts see them as a list.
 pub type Spots = Sequence<Spot>;
 
-/// A path of functions, each of which called the next: the first functions of the preceding node's path, as many as the node is deep, then
-/// its own function.
+/// A node of a call tree, which represents a path of functions, each of which called the next one: the first functions of the preceding
+/// node's path, as many as the node is deep, then its own function.
 #[derive(Clone, Copy, Debug, PartialEq, Eq)]
 pub struct Spot {
+    /// The number of functions before the node's own function in its path.
     pub depth: usize,
     /// The address of the node's own function.
     pub function: u32,

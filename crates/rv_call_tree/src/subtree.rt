@@ -1,4 +1,4 @@
-//! Nodes with all their descendants.
+//! The nodes of a call tree with all their descendants.
 
 ghost use Rattle.std.specs.Prelude.{◌≡◌, ◌+◌, ◌^◌, ◌<◌, ◌∷◌, IfOk, drop, length, reverse};
 ghost use Rattle.rv_call_tree.specs.Subtrees.{subtrees_from};
@@ -20,7 +20,7 @@ pub(crate) struct Subtree {
     pub(crate) own: u64,
     /// The steps of the node and of all its descendants.
     pub(crate) inclusive: u64,
-    /// The number of entries into the node.
+    /// The number of calls that led to the node.
     pub(crate) arrivals: u64,
 }
 
@@ -38,8 +38,8 @@ pub(crate) fn subtrees_of(alloc: Global, spots: &[Spot]) -> Result<Vec<Subtree>,
     Ok(subtrees)
 }
 
-// Returns the subtree of the node at an index, given those of the nodes after it, last first. It goes from child to child, so that each
-// subtree is read for one node only.
+// Returns the subtree of the node at an index, given the subtrees of the nodes after it, last first. It goes from child to child, so that
+// each subtree is read for one node only.
 fn subtree_at(spots: &[Spot], place: usize, behind: &[Subtree]) -> Subtree
     requires within { place < length spots.now }
     requires steps { all_steps spots.now < 2 ^ 64 }

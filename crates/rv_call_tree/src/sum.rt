@@ -9,7 +9,7 @@ ghost use Rattle.rv_call_tree.specs.declared.sum.SpotSumError.TheVariants.{OutOf
 use crate::spot::{Spot, Spots};
 use std::alloc::{AllocError, Global};
 
-/// Why trees could not be added.
+/// Why two call trees could not be added.
 #[derive(Clone, Copy, Debug, PartialEq, Eq)]
 pub enum SpotSumError {
     /// An allocation failed.
@@ -26,7 +26,7 @@ impl From<AllocError> for SpotSumError {
     }
 }
 
-/// Returns the nodes of both trees, each path once. Allocates only the sum.
+/// Returns the sum of two call trees, in which each path has the counts of both. Allocates only the sum.
 pub fn sum_of_spots(alloc: Global, a: &[Spot], b: &[Spot]) -> Result<Spots, SpotSumError>
     requires a { IsTree a.now }
     requires b { IsTree b.now }
@@ -54,6 +54,7 @@ pub(crate) struct NextSpot {
     pub(crate) of_b: usize,
 }
 
+// Appends a node.
 fn push_spot(spots: &mut Vec<Spot>, spot: Spot) -> Result<(), AllocError>
     ensures { OnOk result (spots.new.items ≡ spots.old.items ++ spot ∷ []) }
 {
@@ -61,7 +62,8 @@ fn push_spot(spots: &mut Vec<Spot>, spot: Spot) -> Result<(), AllocError>
     Ok(())
 }
 
-// Returns the deeper of both lists' first nodes; of nodes with equal depth, the one with the lower function address.
+// Returns the first node of the sum of two lists of nodes: the deeper of their first nodes, or, if they are equally deep, the one with the
+// lower function address, or the sum of both if these are equal, too.
 fn next_spot(a: &[Spot], b: &[Spot]) -> Result<NextSpot, SpotSumError>
     requires { 0 < length a.now + length b.now }
     ensures value { IfOk result (λ next. next ≡ next_of a.now b.now) }
@@ -84,12 +86,14 @@ fn next_spot(a: &[Spot], b: &[Spot]) -> Result<NextSpot, SpotSumError>
     both_of(first, second)
 }
 
+// Whether a node comes before another in a sum: it is deeper, or as deep and its function address is lower.
 fn goes_first(spot: Spot, other: Spot) -> bool
     ensures { result ≡ goes_first spot other }
 {
     other.depth < spot.depth || (spot.depth == other.depth && spot.function < other.function)
 }
 
+// Returns the first node of a sum, if it is the first node of the first list alone.
 fn of_first(spot: Spot) -> NextSpot
     ensures value { result ≡ of_first spot }
     ensures fits { FitsSpot result.spot }
@@ -101,6 +105,7 @@ fn of_first(spot: Spot) -> NextSpot
     }
 }
 
+// Returns the first node of a sum, if it is the first node of the second list alone.
 fn of_second(spot: Spot) -> NextSpot
     ensures value { result ≡ of_second spot }
     ensures fits { FitsSpot result.spot }
@@ -112,7 +117,7 @@ fn of_second(spot: Spot) -> NextSpot
     }
 }
 
-// Returns the sum of two nodes with equal depth and function.
+// Returns the first node of a sum, if it adds up two nodes with one depth and function.
 fn both_of(spot: Spot, other: Spot) -> Result<NextSpot, SpotSumError>
     ensures value { IfOk result (λ next. next ≡ both_of spot other) }
     ensures fits { IfOk result (λ next. FitsSpot next.spot) }

@@ -1,4 +1,5 @@
--- The invariant of a shared draw: one history of draws, the pass indices that seats hold, and what each seat knows.
+-- The invariant of a shared counter: one history of draws, the pass indices that seats hold, and what each seat knows. A seat is a thread's
+-- access to the counter's table of atomic words.
 use Rattle.std.specs.Prelude.{◌≡◌, ◌≢◌, ℕ, ◌+◌, ◌-◌, ◌<◌, ◌≤◌, ◌==◌, ◌&&◌, Bool, nat_le, cond, List}
 use Rattle.std.specs.Prelude.{[], ◌∷◌, ◌++◌, map, length, slice_index}
 use mathlib.Core.Option.{some}
@@ -9,46 +10,46 @@ use Rattle.rv_claims.specs.declared.view.View.{View}
 
 -- ---- counts
 
--- the sum of `f` over a list
+-- the sum of `f` over the elements of a list
 abbrev pub total : {A : Type 0} → (A → ℕ) → List A → ℕ
 total f [] = 0
 total f (x ∷ xs) = f x + total f xs
 
--- the number of items that pass the test
+-- the number of elements that satisfy the test
 abbrev pub count : {A : Type 0} → (A → Bool) → List A → ℕ
 count test xs = total (λ x. cond (test x) 1 0) xs
 
--- how often `n` occurs in the list
+-- how often `n` occurs in a list
 abbrev pub times : ℕ → List ℕ → ℕ
 times n xs = count (λ k. k == n) xs
 
--- the item occurs in the list
+-- `x` is an element of the list
 abbrev pub IsIn : {A : Type 0} → A → List A → Type 0
 IsIn x xs = (k : ℕ) × (get_elem? xs k ≡ some x)
 
--- every item occurs in the other list
+-- each element of the first list is an element of the second
 abbrev pub Within : {A : Type 0} → List A → List A → Type 0
 Within {A} xs ys = (x : A) → IsIn x xs → IsIn x ys
 
 -- ---- draws
 
--- a draw under a pass index
+-- the draw of a number under the pass index `place`
 abbrev pub entry : ℕ → ℕ → Entry
 entry place number = record { place = place; number = number }
 
--- the entries have equal indices and equal numbers
+-- whether two draws have one pass index and one number
 abbrev pub is_entry : Entry → Entry → Bool
 is_entry e x = (x.place == e.place) && (x.number == e.number)
 
--- how often the entry occurs in the list
+-- how often a draw occurs in a list
 abbrev pub entry_count : Entry → List Entry → ℕ
 entry_count e draws = count (is_entry e) draws
 
--- each entry occurs equally often in both lists
+-- each draw occurs equally often in both lists
 abbrev pub Same : List Entry → List Entry → Type 0
 Same xs ys = (e : Entry) → entry_count e xs ≡ entry_count e ys
 
--- a history of draws: the j-th number, counted from 0, is j
+-- the draws are a history: the draw at each index of the list, counted from 0, has this index as its number
 abbrev pub IsHistory : List Entry → Type 0
 IsHistory h = (j : ℕ) (e : Entry) → get_elem? h j ≡ some e → e.number ≡ j
 
@@ -56,52 +57,53 @@ IsHistory h = (j : ℕ) (e : Entry) → get_elem? h j ≡ some e → e.number �
 abbrev pub numbers : List Entry → List ℕ
 numbers draws = map (λ (e : Entry). e.number) draws
 
--- a draw past the last chunk
+-- whether a draw is past the last of `pieces` chunks
 abbrev pub is_past_last_piece : ℕ → Entry → Bool
 is_past_last_piece pieces e = nat_le pieces e.number
 
--- the number of draws past the last chunk
+-- the number of draws past the last of `pieces` chunks
 abbrev pub past_count : ℕ → List Entry → ℕ
 past_count pieces draws = count (is_past_last_piece pieces) draws
 
--- ---- what seats hold
+-- ---- held numbers
 
--- a view with these fields
+-- what a seat holds: the number of chunks, its pass indices, its draws, and the draws of other seats that it has noted
 abbrev pub view : ℕ → List ℕ → List Entry → List Entry → View
 view pieces places draws noted =
     record { pieces = pieces; places = places; draws = draws; noted = noted }
 
--- what the first seat holds: index 0
+-- what the first seat of a counter holds: the pass index 0
 abbrev pub first_view : ℕ → View
 first_view pieces = view pieces (0 ∷ []) [] []
 
--- what a new seat holds: nothing yet
+-- what a new seat holds: no pass index and no draws
 abbrev pub new_seat_view : View → View
 new_seat_view v = view v.pieces [] [] []
 
--- what a seat holds that carries a copy of another seat's draws
+-- what a seat holds that carries a copy of another seat's draws: these as noted draws
 abbrev pub note_of : View → View
 note_of v = view v.pieces [] [] v.draws
 
--- what two seats hold together
+-- what two seats hold together, as one seat
 abbrev pub joined_view : View → View → View
 joined_view v w = view v.pieces (v.places ++ w.places) (v.draws ++ w.draws) (v.noted ++ w.noted)
 
--- what a seat holds after it was joined into another
+-- what a seat holds after it was joined into another: nothing
 abbrev pub empty_view : View
 empty_view = view 0 [] [] []
 
 -- ---- the rule
 
--- one view obeys the rule: its indices are below 64, each of its draws was made under one of them, it has at most one draw past the end per
--- index, and the draws that it noted are in the history
+-- what a seat holds obeys the rule: its pass indices are below 64, each of its draws was made under one of them, it has at most one draw
+-- past the last chunk per index, and the draws that it noted are in the history
 pub record Fits (pieces : ℕ) (history : List Entry) (v : View) : Type 0 where
   pub places : (p : ℕ) → IsIn p v.places → p < 64
   pub own : (e : Entry) → IsIn e v.draws → IsIn e.place v.places
   pub few : past_count pieces v.draws ≤ length v.places
   pub noted : Within v.noted history
 
--- the words and views obey the rule: the views together hold one history, and the words count it
+-- the invariant of a counter's words and of what all seats hold: the seats together hold the draws of one history, which word 0 counts, and
+-- each pass index is held by at most one seat, whose word is 1
 pub record Runs (pieces : ℕ) (s : State (Unit {0}) View) : Type 0 where
   pub history : List Entry
   pub numbered : IsHistory history
@@ -116,46 +118,47 @@ pub record Runs (pieces : ℕ) (s : State (Unit {0}) View) : Type 0 where
   pub single : (p : ℕ) → p < 64 → slice_index s.words (p + 1) ≤ 1
   pub each : (i : ℕ) (v : View) → get_elem? s.views i ≡ some v → Fits pieces history v
 
--- ---- what a step tells the seat that takes it
+-- ---- what a seat learns from a step
 
--- what a seat knows of itself: its view, and the slots that it took
+-- what a seat knows: what it holds, and the slots that it took
 abbrev pub Sitting : Type 0
 Sitting = Me (Unit {0}) View
 
+-- what a seat holds
 abbrev pub view_of : Sitting → View
 view_of me = me.0
 
--- a shared draw has no slots, so this list is always empty
+-- the slots that a seat took; the table of a counter has no slots, so this list is always empty
 abbrev pub slots_of : Sitting → List (ℕ × Unit {0})
 slots_of me = me.1
 
--- the index that a seat draws under, its first; a seat that draws has one
+-- the first of a seat's pass indices, under which it draws; a seat that draws has one
 abbrev pub first_place_of : List ℕ → ℕ
 first_place_of [] = 0
 first_place_of (p ∷ ps) = p
 
--- the view with one more draw, under its first index
+-- what a seat holds after the draw of the number `n`, under its first pass index
 abbrev pub view_drawn : View → ℕ → View
 view_drawn v n = view v.pieces v.places (v.draws ++ entry (first_place_of v.places) n ∷ []) v.noted
 
--- the view with one more index, added in front
+-- what a seat holds after it got one more pass index, added in front
 abbrev pub view_seated : View → ℕ → View
 view_seated v place = view v.pieces (place ∷ v.places) v.draws v.noted
 
--- a draw: the seat gets the number found, which is greater than every number that it had
+-- the step is a draw: afterwards the seat also holds the drawn number `n`, which is greater than every number that it held
 pub record Drew (st : Step (Unit {0})) (me : Sitting) (n : ℕ) (after : Sitting) : Type 0 where
   pub drawn : view_of after ≡ view_drawn (view_of me) n
   pub slots : slots_of after ≡ slots_of me
   pub above : (e : Entry) → IsIn e (view_of me).draws → e.number < n
 
--- sitting down at the word of an index, whose number is one higher: if the word was 0, the seat gets the index; otherwise another seat or
--- the seat itself has it already
+-- the step asks for the pass index whose word, one above the index, is `st.word`: if the word was 0, the seat gets the index; otherwise it
+-- is assigned already
 pub record Sat (st : Step (Unit {0})) (me : Sitting) (n : ℕ) (after : Sitting) : Type 0 where
   pub slots : slots_of after ≡ slots_of me
   pub free : n ≡ 0 → view_of after ≡ view_seated (view_of me) (st.word - 1)
   pub taken : n ≢ 0 → view_of after ≡ view_of me
 
--- a look: the draws that the seat made and noted are in one history, and it holds each index once
+-- the step reads word 0: the draws that the seat made and those that it noted are in one history, and it holds each pass index at most once
 pub record Looked (st : Step (Unit {0})) (me : Sitting) (n : ℕ) (after : Sitting) : Type 0 where
   pub same : after ≡ me
   pub history : List Entry

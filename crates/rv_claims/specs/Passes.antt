@@ -1,4 +1,4 @@
--- The contract-level view of a shared draw and of a pass.
+-- A shared counter and a pass, as contracts see them.
 use Rattle.std.specs.Prelude.{◌≡◌, ℕ, ◌<◌, Bool, nat_lt, cond, List, [], ◌∷◌, ◌++◌, length}
 use Rattle.std.specs.Prelude.{replicate, Option, Some, None}
 use Rattle.std.specs.Int.{bit_at}
@@ -7,38 +7,38 @@ use Rattle.rv_claims.specs.declared.view.Entry.{Entry}
 use Rattle.rv_claims.specs.Draws.{IsIn, past_count, entry, first_place_of, Sitting, view_of, slots_of}
 use Rattle.rv_claims.specs.Draws.{IsHistory, Within, Same}
 
--- the identity of a shared draw, and the number of its chunks
+-- a shared counter: its identity, and the number of its chunks
 pub record SharedDraw : Type 0 where
   pub table : TableId
   pub pieces : ℕ
 
--- what a pass holds: its indices, and its draws in order
+-- a pass: the counter that it belongs to, its pass indices, and its draws in order
 pub record PassView : Type 0 where
   pub draw : SharedDraw
   pub places : List ℕ
   pub draws : List Entry
 
--- a pass with these fields
+-- the pass of this counter with these pass indices and draws
 abbrev pub pass_of : SharedDraw → List ℕ → List Entry → PassView
 pass_of d places draws = record { draw = d; places = places; draws = draws }
 
--- a pass has ended if it holds a number at or above the number of chunks
+-- whether a pass has ended: it drew a number past the last chunk
 abbrev pub has_ended : PassView → Bool
 has_ended p = nat_lt 0 (past_count p.draw.pieces p.draws)
 
--- the pass with one more draw, under its first index
+-- the pass after the draw of the number `n`, under its first pass index
 abbrev pub with_draw : PassView → ℕ → PassView
 with_draw p n = pass_of p.draw p.places (p.draws ++ entry (first_place_of p.places) n ∷ [])
 
--- each drawn number is below n
+-- each drawn number is below `n`
 abbrev pub AllBelow : ℕ → List Entry → Type 0
 AllBelow n draws = (e : Entry) → IsIn e draws → e.number < n
 
--- the number if it is that of a chunk, else none
+-- the number if it is that of one of `pieces` chunks, else `None`
 abbrev pub piece_of : ℕ → ℕ → Option ℕ
 piece_of pieces n = cond (nat_lt n pieces) (Some n) None
 
--- the draws of both are in one history
+-- both lists of draws are in one history
 abbrev pub InOneHistory : List Entry → List Entry → Type 0
 InOneHistory xs ys = (history : List Entry) × IsHistory history
     × Within xs history × Within ys history
@@ -47,11 +47,12 @@ InOneHistory xs ys = (history : List Entry) × IsHistory history
 abbrev pub NoneInBoth : List ℕ → List ℕ → Type 0
 NoneInBoth xs ys = (n : ℕ) → IsIn n xs → IsIn n ys → ⊥
 
--- the draws are a complete history
+-- the draws are all draws of a history
 abbrev pub AreAll : List Entry → Type 0
 AreAll draws = (history : List Entry) × IsHistory history × Same draws history
 
--- how the fields of a pass represent its view: a bit for each of its indices, and whether it holds a number past the last chunk
+-- what always holds for the fields of a pass: a bit is set for each of its pass indices, of which there is at least one, and `ended` is
+-- whether it drew a number past the last chunk
 pub record IsPass (me : Sitting) (bits : ℕ) (ended : Bool) : Type 0 where
   pub no_slot : slots_of me ≡ []
   pub sits : 0 < length (view_of me).places
@@ -61,16 +62,16 @@ pub record IsPass (me : Sitting) (bits : ℕ) (ended : Bool) : Type 0 where
   pub own : (e : Entry) → IsIn e (view_of me).draws → IsIn e.place (view_of me).places
   pub stopped : ended ≡ nat_lt 0 (past_count (view_of me).pieces (view_of me).draws)
 
--- the view of the pass that a seat holds
+-- the pass that a seat of the table `table` represents, as contracts see it
 abbrev pub pass_view : TableId → Sitting → PassView
 pass_view table me = let v = view_of me in
     pass_of (record { table = table; pieces = v.pieces }) v.places v.draws
 
--- the initial words: no draws, and index 0 in use
+-- the words of a new counter: no draws, and pass index 0 assigned
 abbrev pub opening_row : List ℕ
 opening_row = 0 ∷ 1 ∷ replicate 63 0
 
--- a pass without draws and with one index, which is not among these bits
+-- `p` is a pass of this counter without draws, whose only pass index is not among the bits `taken`
 abbrev pub IsNew : SharedDraw → ℕ → PassView → Type 0
 IsNew d taken p = (place : ℕ) × (place < 64) × (bit_at taken place ≡ 0)
     × (p ≡ pass_of d (place ∷ []) [])

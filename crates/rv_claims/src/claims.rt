@@ -16,10 +16,10 @@ use atomic_table::{Closed, Seat, Table};
 use std::alloc::{AllocError, Global};
 use std::marker::Model;
 
-/// A shared draw of chunk numbers, counted from 0. Up to 64 passes draw from it concurrently, each by one atomic addition, and no number is
-/// drawn twice.
+/// A shared counter from which workers draw the numbers of chunks, counted from 0. Up to 64 passes draw from it concurrently, each by one
+/// atomic addition, and no number is drawn twice.
 ///
-/// Contracts see its identity and its number of chunks. A pass belongs to the shared draw whose value it names.
+/// Contracts see its identity and its number of chunks. A pass belongs to the counter that its value names.
 #[derive(Drop)]
 pub struct Claims {
     // Word 0 counts the draws; word p + 1 is 1 if pass index p was assigned.
@@ -40,11 +40,11 @@ impl Model for Claims {
         × (c.pieces ≤ 4096) };
 }
 
-/// The number of pass indices. An index is never reused.
+/// The number of pass indices. An index is never assigned again.
 const PLACES: usize = 64;
 
 impl Claims {
-    /// Creates a shared draw of at most 4,096 chunks, and its first pass, which has index 0.
+    /// Returns a counter for at most 4,096 chunks, and its first pass, which has index 0.
     pub fn new(alloc: Global, pieces: u64) -> Result<(Claims, Pass), AllocError>
         requires { pieces ≤ 4096 }
         ensures { IfOk result (λ t. (t.0.pieces ≡ pieces) × (t.1 ≡ pass_of t.0 (0 ∷ []) [])) }
@@ -59,7 +59,7 @@ impl Claims {
         Ok((Claims { table, pieces }, pass))
     }
 
-    /// Draws a number and returns it if it is that of a chunk. A number past the last chunk ends the pass; a pass that has ended draws no
+    /// Draws a number, and returns it if it is that of a chunk. A number past the last chunk ends the pass; a pass that has ended draws no
     /// more.
     pub fn take(&self, pass: &mut Pass) -> Option<u64>
         requires { pass.old.draw ≡ self.now }
@@ -80,7 +80,7 @@ impl Claims {
         }
     }
 
-    /// Returns the pass unchanged, and a second one with an index of its own and no draws.
+    /// Returns the pass unchanged, and a second one with an index of its own and no draws. Fails if all indices are assigned.
     pub fn split(&self, mut pass: Pass) -> Result<(Pass, Pass), SplitError>
         requires { pass.draw ≡ self.now }
         ensures ok { IfOk result (λ t. (t.0 ≡ pass)
@@ -110,7 +110,7 @@ impl Claims {
         first
     }
 
-    /// Returns both passes unchanged and shows that their draws are in one history and that no number is in both.
+    /// Returns both passes unchanged, and proves that their draws are in one history and that no number is in both.
     pub fn meet(&self, mut first: Pass, mut second: Pass) -> (Pass, Pass)
         requires first { first.draw ≡ self.now }
         requires second { second.draw ≡ self.now }
@@ -131,8 +131,8 @@ impl Claims {
         (first, second)
     }
 
-    /// Closes the shared draw and returns whether the pass holds every assigned index. If so, its draws are all draws; if it has ended as
-    /// well, it holds each chunk once.
+    /// Closes the counter, and returns whether the pass holds every assigned index. If so, its draws are all draws; if it has ended as
+    /// well, it holds each chunk exactly once.
     pub fn finish(self, pass: Pass) -> bool
         requires { pass.draw ≡ self }
         ensures all { result ≡ true → AreAll pass.draws }
@@ -152,7 +152,8 @@ impl Claims {
         all
     }
 
-    /// Returns a pass with an index that is not in `taken`, for a seat that has no index yet.
+    /// Returns a pass with an index that is not among the bits `taken`, for a seat that has no index yet, or `None` if all other indices
+    /// are assigned.
     fn take_seat(&self, mut seat: Seat<(), View>, taken: u64) -> Option<Pass>
         requires table { seat.table_id ≡ self.now.table }
         requires blank { seat.me ≡ (view self.now.pieces [] [] [], []) }
@@ -173,7 +174,7 @@ impl Claims {
     }
 }
 
-/// Returns the words of a new shared draw: no draws, and index 0 assigned.
+/// Returns the words of a new counter: no draws, and index 0 assigned.
 fn opening_words() -> [u64; 65]
     ensures { result ≡ opening_row }
 {
@@ -182,7 +183,7 @@ fn opening_words() -> [u64; 65]
     words
 }
 
-/// Whether each index whose word is 1 is among the bits.
+/// Whether each assigned index, whose word is 1, is among the bits.
 fn has_all_seats(closed: &Closed<(), Global>, bits: u64) -> bool
     requires { (slots_len closed.now.words ≡ 65) × IsFull closed.now.words }
     ensures held { result ≡ true → (p : ℕ) → p < 64

@@ -1,4 +1,4 @@
-//! A shared draw, from which workers take the chunks of a list: an atomic counter and the passes that draw from it.
+//! A shared counter, from which workers draw the chunks of a list: an atomic counter and the passes that draw from it.
 //!
 //! A [`Claims`] has a fixed number of chunks, numbered from 0. Each worker holds a [`Pass`], and [`Claims::take`] returns the number of the
 //! next chunk. Under every interleaving of up to 64 passes no number is drawn twice, and a pass that holds every assigned index and has

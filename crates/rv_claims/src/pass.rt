@@ -1,4 +1,4 @@
-//! The handle by which a worker draws.
+//! The token with which a worker draws.
 ghost use Rattle.std.specs.Prelude.{◌≡◌};
 ghost use Rattle.rv_claims.specs.Passes.{has_ended};
 
@@ -6,9 +6,9 @@ use crate::view::View;
 use atomic_table::Seat;
 use std::marker::Model;
 
-/// The right to draw, under one or more of the 64 pass indices of a [`Claims`](crate::Claims).
+/// The token with which a worker draws, under one or more of the 64 pass indices of a [`Claims`](crate::Claims).
 ///
-/// Contracts see which shared draw it belongs to, its indices, and its draws in order, including those past the last chunk. Dropping a pass
+/// Contracts see which counter it belongs to, its indices, and its draws in order, including those past the last chunk. Dropping a pass
 /// loses its indices and draws.
 #[derive(Drop)]
 pub struct Pass {

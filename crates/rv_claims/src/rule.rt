@@ -1,11 +1,11 @@
-//! The rule that every step at the table of a shared draw obeys, and what a seat learns from each kind of step.
+//! The rule that every step at the table of a shared counter obeys, and what a seat learns from each kind of step.
 //!
 //! Word 0 of the table counts the draws; word p + 1 is 1 if pass index p was assigned.
 
 use crate::view::View;
 use atomic_table::{Join, Play, Split, TableRule};
 
-/// The invariant: words and views agree on one history of draws, whose j-th number is j.
+/// The invariant: the words and what the seats hold agree on one history of draws, whose j-th number is j.
 pub(crate) struct Running;
 
 impl TableRule<(), View, u64> for Running {
@@ -16,7 +16,7 @@ impl TableRule<(), View, u64> for Running {
     ghost first = { first_view };
 }
 
-/// A draw: adds 1 to word 0; the number found there is the one drawn.
+/// A draw: adds 1 to word 0. The number found there is the drawn one.
 pub(crate) struct Draw;
 
 impl Play<(), View> for Draw {
@@ -25,7 +25,7 @@ impl Play<(), View> for Draw {
     ghost then = { Drew };
 }
 
-/// Sitting down: writes 1 to the word of an index. The seat gets the index if it found 0.
+/// Asking for an index: writes 1 to its word. The seat gets the index if it found 0.
 pub(crate) struct Sit;
 
 impl Play<(), View> for Sit {
@@ -34,7 +34,7 @@ impl Play<(), View> for Sit {
     ghost then = { Sat };
 }
 
-/// A look: reads word 0; the seat learns what the rule states about its view.
+/// A look: reads word 0. The seat learns what the rule says about what it holds.
 pub(crate) struct Look;
 
 impl Play<(), View> for Look {
@@ -65,7 +65,7 @@ impl Split<View> for Note {
     ghost right = { note_of };
 }
 
-/// One seat with what both hold; the other is left empty.
+/// One seat with what two seats hold; the other is left empty.
 pub(crate) struct Both;
 
 impl Join<View> for Both {

@@ -1,13 +1,14 @@
-//! The ghost state of a shared draw: what each seat at its table holds. No value of these types exists at run time.
+//! The ghost state of a shared counter: what each seat at its table holds. No value of these types exists at run time.
 use std::collections::LinkedList;
 
-/// One draw: the index it was made under, and the number.
+/// A draw: the pass index that it was made under, and the number.
 pub struct Entry {
     pub place: u64,
     pub number: u64,
 }
 
-/// What a seat holds: its pass indices, the latest first; its draws in order; and the draws of other seats that it has noted.
+/// What a seat holds: the number of chunks; its pass indices, the latest first; its draws in order; and the draws of other seats that it
+/// has noted.
 pub struct View {
     pub pieces: u64,
     pub places: LinkedList<u64>,

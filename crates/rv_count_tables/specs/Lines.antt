@@ -8,18 +8,20 @@ abbrev pub lacks : ℕ → List ℕ → Bool
 lacks byte [] = true
 lacks byte (b ∷ bs) = not (b == byte) && lacks byte bs
 
--- the index of a byte's first occurrence, or the length if there is none
+-- the index of the first occurrence of a byte in a text, or the length of the text if the byte does not occur
 unfoldable pub place_of_byte : ℕ → List ℕ → ℕ
 place_of_byte byte [] = 0
 place_of_byte byte (b ∷ bs) = if b == byte then 0 else place_of_byte byte bs + 1
 
+-- the text before the first occurrence of a byte, or the whole text if the byte does not occur
 abbrev pub text_before_byte : ℕ → List ℕ → List ℕ
 text_before_byte byte text = take (place_of_byte byte text) text
 
+-- the text after the first occurrence of a byte, or an empty text if the byte does not occur
 abbrev pub text_after_byte : ℕ → List ℕ → List ℕ
 text_after_byte byte text = drop (place_of_byte byte text + 1) text
 
--- the first line with its line feed, or nothing if there is no line feed
+-- the first line of a text with its line feed, or nothing if the text has no line feed
 unfoldable pub whole_line : List ℕ → List ℕ
 whole_line text = if place_of_byte 10 text == length text then [] else take (place_of_byte 10 text + 1) text
 
@@ -28,7 +30,7 @@ abbrev pub count_of_line_feeds : List ℕ → ℕ
 count_of_line_feeds [] = 0
 count_of_line_feeds (b ∷ bs) = if b == 10 then count_of_line_feeds bs + 1 else count_of_line_feeds bs
 
--- the first lines of a text, as many as given, each with its line feed if it has one
+-- the first `count` lines of a text, each with its line feed if it has one
 unfoldable pub first_lines : ℕ → List ℕ → List ℕ
 first_lines count [] = []
 first_lines count (b ∷ bs) =
@@ -38,10 +40,11 @@ first_lines count (b ∷ bs) =
 abbrev pub hex_digit_value : ℕ → ℕ
 hex_digit_value b = if nat_lt b 97 then b - 48 else b - 87
 
+-- the decoded bytes, or no bytes if the digits were invalid
 abbrev pub bytes_if_decoded : Result (List ℕ) FromHexError → List ℕ
 bytes_if_decoded (Ok bytes) = bytes
 bytes_if_decoded (Err error) = []
 
--- the bytes that hexadecimal digits encode; none if the text has other characters
+-- the bytes that hexadecimal digits encode, or no bytes if the text has other characters
 unfoldable pub hex_bytes : List ℕ → List ℕ
 hex_bytes text = bytes_if_decoded (decode_of text)

@@ -1,9 +1,11 @@
--- The entries of a map as a list of function names.
+-- The entries of a map from functions to names, as a list of function names.
 use Rattle.std.specs.Prelude.{ℕ, List, map}
 use Rattle.rv_count_tables.specs.declared.table.FunctionName.{FunctionName}
 
+-- an entry of the map as a function name
 abbrev pub named_entry : ℕ × List ℕ → FunctionName
 named_entry e = record { function = e.0; name = e.1 }
 
+-- the entries of the map as function names, in order
 abbrev pub names_of_entries : List (ℕ × List ℕ) → List FunctionName
 names_of_entries es = map named_entry es

@@ -1,4 +1,4 @@
--- The first line of a text at which no table has that line.
+-- The first line of a text that no table has there.
 use Rattle.std.specs.Prelude.{◌≡◌, ◌==◌, ◌+◌, ◌-◌, if◌then◌else◌, ℕ, List, ◌++◌, length, take, drop, Result, Ok, Err}
 use Rattle.rv_count_tables.specs.declared.table.CountTable.{CountTable}
 use Rattle.rv_count_tables.specs.declared.read.ReadError.{ReadError}
@@ -7,28 +7,28 @@ use Rattle.rv_count_tables.specs.Lines.{count_of_line_feeds, first_lines, whole_
 use Rattle.rv_count_tables.specs.Table.{IsTable}
 use Rattle.rv_count_tables.specs.Text.{table_text}
 
--- some table's text begins with these bytes
+-- the text of some table begins with these bytes
 abbrev pub BeginsTable : List ℕ → Type 0
 BeginsTable bytes = (table : CountTable) × (rest : List ℕ) × IsTable table × (table_text table ≡ bytes ++ rest)
 
--- some table begins with the lines before this one, and none with those lines and this one
+-- some table begins with the lines of the bytes before this one, and no table begins with these lines and this line
 pub record IsLeastRefusedLine (line : ℕ) (bytes : List ℕ) : Type 0 where
   pub before : BeginsTable (first_lines (line - 1) bytes)
   pub refused : BeginsTable (first_lines line bytes) → ⊥
 
--- the error names the first line that is rejected; if the text is truncated, its complete lines begin some table, but the text is not a
--- table
+-- the line in the error is the first that no table has there; if the bytes are cut off, some table begins with their lines that end with a
+-- line feed
 abbrev pub IsLeast : ReadError → List ℕ → Type 0
 IsLeast OutOfMemory bytes = Unit {0}
 IsLeast (Line line) bytes = IsLeastRefusedLine line bytes
 IsLeast CutOff bytes = BeginsTable (first_lines (count_of_line_feeds bytes) bytes)
 
--- the result is this value, unless memory ran out
+-- the result is `x`, unless memory ran out
 abbrev pub AnswersUnlessMemory : {X : Type 0} → X → Result X ReadError → Type 0
 AnswersUnlessMemory x (Ok y) = y ≡ x
 AnswersUnlessMemory x (Err e) = e ≡ OutOfMemory
 
--- the error for the line at an offset: the text is truncated, or the line's number, from 1
+-- the error for the line that begins at the index `place`: `CutOff` if it has no line feed, or its number, counted from 1
 abbrev pub read_error_at : ℕ → List ℕ → ReadError
 read_error_at place bytes =
     if length (whole_line (drop place bytes)) == 0 then CutOff else Line (count_of_line_feeds (take place bytes) + 1)

@@ -1,4 +1,4 @@
--- The lines of nodes, made with an index of what the lines of one function have in common.
+-- The lines of nodes, made with an index of the words that all lines of one function have.
 use Rattle.std.specs.Prelude.{◌≡◌, ◌++◌, ℕ, List, [], Option, Some, None, option_map, codes}
 use Rattle.std.specs.BTreeMap.{BTreeMap, get}
 use Rattle.std.specs.Fmt.{decimal}
@@ -10,26 +10,29 @@ use Rattle.rv_count_tables.specs.Table.{name_of}
 use Rattle.rv_count_tables.specs.Text.{line, spot_line}
 use Rattle.rv_call_tree.specs.declared.spot.Spot.{Spot}
 
+-- the words that all lines of a function have: the digits of its address, and its name
 abbrev pub words_of_function : ℕ → List ℕ → FunctionWords
 words_of_function function name = record { digits = word_digits function; name = name }
 
--- the index has each function of a list, with the first name that the list gives it
+-- the index has each function in the list of names, with the first name that the list gives it
 abbrev pub IsIndexOf : List FunctionName → BTreeMap ℕ FunctionWords → Type 0
 IsIndexOf names index = (function : ℕ)
     → get nat_cmp index function ≡ option_map (words_of_function function) (name_of function names)
 
--- the text of a node's line whose function address is written with these digits
+-- the words of a node's line, where the address of the function is written with these digits
 unfoldable pub words_with_digits : List ℕ → Spot → List ℕ
 words_with_digits digits s = codes "spot " ++ decimal s.depth ++ codes " " ++ digits ++ codes " "
     ++ decimal s.arrivals ++ codes " " ++ decimal s.steps
 
+-- the line of a node with this name, where the address of the function is written with these digits
 unfoldable pub line_with_digits : List ℕ → Spot → List ℕ → List ℕ
 line_with_digits digits s name = line (words_with_digits digits s ++ codes " " ++ name)
 
--- the line made with the function's words from the index, or with an empty name if the function is not in it
+-- the line of a node with the words of its function, or with an empty name if there are none
 abbrev pub line_by_words : Option FunctionWords → Spot → List ℕ
 line_by_words None s = spot_line (record { spot = s; name = [] })
 line_by_words (Some words) s = line_with_digits words.digits s words.name
 
+-- the line of a node with the words of its function from the index
 unfoldable pub line_by_index : BTreeMap ℕ FunctionWords → Spot → List ℕ
 line_by_index index s = line_by_words (get nat_cmp index s.function) s

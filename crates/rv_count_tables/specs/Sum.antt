@@ -12,7 +12,7 @@ use Rattle.rv_call_tree.specs.Trees.{ends_with}
 use Rattle.rv_call_tree.specs.declared.sum.SpotSumError.{SpotSumError}
 use Rattle.rv_call_tree.specs.declared.sum.SpotSumError.TheVariants as spots
 
--- the count at each address is the sum of both counts
+-- `sum` are valid counts, and those at each address are the sums of both counts
 pub record IsSumOfCounts (a b sum : List AddressCounts) : Type 0 where
   pub counts : AreCounts sum
   pub begun : (address : ℕ) → begun_at address sum ≡ begun_at address a + begun_at address b
@@ -24,14 +24,14 @@ Agree None other = Unit {0}
 Agree (Some name) None = Unit {0}
 Agree (Some name) (Some other) = name ≡ other
 
--- each function has the name that either list gives it; the lists agree
+-- the names `a` and `b` agree, and `sum` has each function with the name that one of them gives it
 pub record IsSumOfNames (a b sum : List FunctionName) : Type 0 where
   pub names : AreNames sum
   pub agree : (function : ℕ) → Agree (name_at function a) (name_at function b)
   pub each : (function : ℕ) → name_at function sum ≡ least_path_of (name_at function a) (name_at function b)
 
--- for the image of each digest: both counts at each address and both numbers of each call path are added, the path is the first of both in
--- byte order, and each function has the name on which both tables agree; the runs are added, too
+-- `sum` is a table in which, for the image with each digest, the counts at each address and of each call path are the sums of both counts,
+-- the path is the first of both in byte order, and each function has the name on which both tables agree; its runs are those of both tables
 pub record IsSum (a b sum : CountTable) : Type 0 where
   pub table : IsTable sum
   pub begun : (digest : List ℕ) → (address : ℕ)
@@ -50,23 +50,23 @@ pub record IsSum (a b sum : CountTable) : Type 0 where
       → steps_in digest path sum.images ≡ steps_in digest path a.images + steps_in digest path b.images
   pub runs : sum.runs ≡ a.runs + b.runs
 
--- the error reported if call trees cannot be added
+-- the error of a sum of tables, given why the call trees could not be added
 abbrev pub sum_error_of : SpotSumError → SumError
 sum_error_of spots.OutOfMemory = OutOfMemory
 sum_error_of (spots.Count function) = Spot function
 
--- a list gives a function this name
+-- the list gives the function this name
 abbrev pub HasName : ℕ → List ℕ → List FunctionName → Type 0
 HasName function name [] = ⊥
 HasName function name (n ∷ ns) = ((n.function ≡ function) × (n.name ≡ name)) ⊎ HasName function name ns
 
--- the image with a digest gives a function this name
+-- the image with this digest gives the function this name
 abbrev pub HasNameIn : List ℕ → ℕ → List ℕ → List ImageCounts → Type 0
 HasNameIn digest function name [] = ⊥
 HasNameIn digest function name (i ∷ is) =
     ((i.digest ≡ digest) × HasName function name i.functions) ⊎ HasNameIn digest function name is
 
--- the reported number would be 2^64 or more, or the tables give the reported function different names
+-- the error is true of the two tables: the reported count is 2^64 or more, or they give the reported function different names
 abbrev pub HaveNoSum : SumError → CountTable → CountTable → Type 0
 HaveNoSum OutOfMemory a b = Unit {0}
 HaveNoSum (Count address) a b = (digest : List ℕ)
@@ -78,7 +78,7 @@ HaveNoSum (Names function) a b = (digest : List ℕ) × (name : List ℕ) × (ot
     × HasNameIn digest function name a.images × HasNameIn digest function other b.images × (name ≡ other → ⊥)
 HaveNoSum Runs a b = 2 ^ 64 ≤ a.runs + b.runs
 
--- the addresses of one image have no sum, for the reported reason
+-- the error is true of the counts of one image in the two tables
 abbrev pub CountsHaveNoSum : SumError → List AddressCounts → List AddressCounts → Type 0
 CountsHaveNoSum OutOfMemory a b = Unit {0}
 CountsHaveNoSum (Count address) a b = 2 ^ 64 ≤ begun_at address a + begun_at address b
@@ -86,7 +86,7 @@ CountsHaveNoSum (Spot function) a b = ⊥
 CountsHaveNoSum (Names function) a b = ⊥
 CountsHaveNoSum Runs a b = ⊥
 
--- the names of one image have no sum, for the reported reason
+-- the error is true of the names of one image in the two tables
 abbrev pub NamesHaveNoSum : SumError → List FunctionName → List FunctionName → Type 0
 NamesHaveNoSum OutOfMemory a b = Unit {0}
 NamesHaveNoSum (Count address) a b = ⊥

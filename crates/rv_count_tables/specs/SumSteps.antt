@@ -1,4 +1,4 @@
--- Sums built from the front: the first element of a sum, followed by the sum of the remaining lists.
+-- Sums built from the front: the first element of a sum, and then the sum of the remaining lists.
 use Rattle.std.specs.Prelude.{◌≡◌, ◌+◌, ◌≤◌, ◌<◌, ◌^◌, ◌⊎◌, ℕ, true, List, ◌∷◌, Option, length, drop}
 use Rattle.std.specs.List.{AllByRecursion}
 use Rattle.rv_count_tables.specs.declared.table.AddressCounts.{AddressCounts}
@@ -14,14 +14,15 @@ use Rattle.rv_count_tables.specs.Table.{begun_at, taken_at, name_at, begun_in, t
 use Rattle.rv_count_tables.specs.Table.{rise_from, names_rise, digests_rise, IsCounted, IsImage, IsName}
 use Rattle.rv_call_tree.specs.Trees.{arrivals_at, ends_with, steps_at}
 
--- the count at each address is the sum of both counts; the addresses increase if those of both lists do
+-- the counts at each address in `sum` are the sums of both counts; its addresses increase if those of both lists do
 pub record AddsUp (a b sum : List AddressCounts) : Type 0 where
   pub each : AllByRecursion IsCounted sum
   pub rising : (lowest : ℕ) → rise_from lowest a ≡ true → rise_from lowest b ≡ true → rise_from lowest sum ≡ true
   pub begun : (address : ℕ) → begun_at address sum ≡ begun_at address a + begun_at address b
   pub taken : (address : ℕ) → taken_at address sum ≡ taken_at address a + taken_at address b
 
--- an entry, and how many entries of each list it adds up: followed by the sum of the rest, it is the sum of both lists
+-- `next` has the first counts of a sum, and how many counts of each list they add up: followed by the sum of the rest, they are the sum of
+-- both lists
 pub record IsNextCount (a b : List AddressCounts) (next : NextCount) : Type 0 where
   pub of_a : next.of_a ≤ length a
   pub of_b : next.of_b ≤ length b
@@ -29,7 +30,7 @@ pub record IsNextCount (a b : List AddressCounts) (next : NextCount) : Type 0 wh
   pub ahead : (others : List AddressCounts) → AddsUp (drop next.of_a a) (drop next.of_b b) others
       → AddsUp a b (next.sum ∷ others)
 
--- as `AddsUp`, for names: each function has the name that either list gives it; the lists agree
+-- each function has the name in `sum` that one of the lists gives it, and the lists agree; its functions increase if those of both lists do
 pub record NamesAddUp (a b sum : List FunctionName) : Type 0 where
   pub each : AllByRecursion IsName sum
   pub rising : (lowest : ℕ) → names_rise lowest a ≡ true → names_rise lowest b ≡ true → names_rise lowest sum ≡ true
@@ -37,6 +38,8 @@ pub record NamesAddUp (a b sum : List FunctionName) : Type 0 where
       → (function : ℕ) → Agree (name_at function a) (name_at function b)
   pub names : (function : ℕ) → name_at function sum ≡ least_path_of (name_at function a) (name_at function b)
 
+-- `next` has the first name of a sum, and how many names of each list it is from: followed by the sum of the rest, it is the sum of both
+-- lists
 pub record IsNextName (a b : List FunctionName) (next : NextName) : Type 0 where
   pub of_a : next.of_a ≤ length a
   pub of_b : next.of_b ≤ length b
@@ -44,8 +47,8 @@ pub record IsNextName (a b : List FunctionName) (next : NextName) : Type 0 where
   pub ahead : (others : List FunctionName) → NamesAddUp (drop next.of_a a) (drop next.of_b b) others
       → NamesAddUp a b (next.name ∷ others)
 
--- as `AddsUp`, for images: for the image of each digest, both counts at each address and of each call path are added; the path is the first
--- of both; each function has the name on which both lists agree
+-- for the image with each digest, the counts in `sum` at each address and of each call path are the sums of both counts, its path is the
+-- first of both in byte order, and each function has the name on which both lists agree; its digests increase if those of both lists do
 pub record ImagesAddUp (a b sum : List ImageCounts) : Type 0 where
   pub each : AllByRecursion IsImage sum
   pub rising : (last : Option (List ℕ)) → digests_rise last a ≡ true → digests_rise last b ≡ true
@@ -63,6 +66,8 @@ pub record ImagesAddUp (a b sum : List ImageCounts) : Type 0 where
       → arrivals_in digest path sum ≡ arrivals_in digest path a + arrivals_in digest path b
   pub steps : (digest path : List ℕ) → steps_in digest path sum ≡ steps_in digest path a + steps_in digest path b
 
+-- `next` has the first image of a sum, and how many images of each list it adds up: followed by the sum of the rest, it is the sum of both
+-- lists
 pub record IsNextImage (a b : List ImageCounts) (next : NextImage) : Type 0 where
   pub of_a : next.of_a ≤ length a
   pub of_b : next.of_b ≤ length b
@@ -70,7 +75,7 @@ pub record IsNextImage (a b : List ImageCounts) (next : NextImage) : Type 0 wher
   pub ahead : (others : List ImageCounts) → ImagesAddUp (drop next.of_a a) (drop next.of_b b) others
       → ImagesAddUp a b (next.image ∷ others)
 
--- some image of both lists has no sum, for the reported reason
+-- the error is true of the image with some digest in the two lists
 abbrev pub ImagesHaveNoSum : SumError → List ImageCounts → List ImageCounts → Type 0
 ImagesHaveNoSum OutOfMemory a b = Unit {0}
 ImagesHaveNoSum (Count address) a b = (digest : List ℕ)
@@ -82,7 +87,7 @@ ImagesHaveNoSum (Names function) a b = (digest : List ℕ) × (name : List ℕ) 
     × HasNameIn digest function name a × HasNameIn digest function other b × (name ≡ other → ⊥)
 ImagesHaveNoSum Runs a b = ⊥
 
--- two images have no sum, for the reported reason
+-- the error is true of the two images
 abbrev pub ImageHasNoSum : SumError → ImageCounts → ImageCounts → Type 0
 ImageHasNoSum OutOfMemory a b = Unit {0}
 ImageHasNoSum (Count address) a b = CountsHaveNoSum (Count address) a.addresses b.addresses

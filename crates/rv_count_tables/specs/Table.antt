@@ -13,7 +13,7 @@ use Rattle.rv_call_tree.specs.declared.spot.Spot.{Spot}
 use Rattle.rv_call_tree.specs.Profiles.{is_last_of_some}
 use Rattle.rv_call_tree.specs.Trees.{arrivals_at, steps_at, IsTree}
 
--- ---- what a table says
+-- ---- the counts in a table
 
 -- how often the instruction at an address was executed
 abbrev pub begun_at : ℕ → List AddressCounts → ℕ
@@ -31,57 +31,60 @@ begun_in digest address [] = 0
 begun_in digest address (i ∷ is) =
     (if bytes_eq i.digest digest then begun_at address i.addresses else 0) + begun_in digest address is
 
+-- how often the instruction at an address was a taken conditional branch, in the image with a digest
 abbrev pub taken_in : List ℕ → ℕ → List ImageCounts → ℕ
 taken_in digest address [] = 0
 taken_in digest address (i ∷ is) =
     (if bytes_eq i.digest digest then taken_at address i.addresses else 0) + taken_in digest address is
 
--- the lexicographic order of bytes
+-- whether the first bytes precede the second in lexicographic order
 unfoldable pub is_before : List ℕ → List ℕ → Bool
 is_before xs [] = false
 is_before [] (y ∷ ys) = true
 is_before (x ∷ xs) (y ∷ ys) = nat_lt x y || ((x == y) && is_before xs ys)
 
--- the path that comes first in byte order
+-- the one of two paths that comes first in byte order
 abbrev pub least_path : List ℕ → List ℕ → List ℕ
 least_path path other = if is_before other path then other else path
 
+-- the one of two paths that comes first in byte order, or the only one if one is missing
 abbrev pub least_path_of : Option (List ℕ) → Option (List ℕ) → Option (List ℕ)
 least_path_of None other = other
 least_path_of (Some path) None = Some path
 least_path_of (Some path) (Some other) = Some (least_path path other)
 
--- the path of the image with a digest, if there is one
+-- the path of the image with a digest, or `None` if there is none
 abbrev pub path_in : List ℕ → List ImageCounts → Option (List ℕ)
 path_in digest [] = None
 path_in digest (i ∷ is) =
     least_path_of (if bytes_eq i.digest digest then Some i.path else None) (path_in digest is)
 
--- the name of a function, if it has one
+-- the name of a function, or `None` if it has none
 abbrev pub name_at : ℕ → List FunctionName → Option (List ℕ)
 name_at function [] = None
 name_at function (n ∷ ns) = least_path_of (if n.function == function then Some n.name else None) (name_at function ns)
 
--- the name of a function in the image with a digest, if it has one
+-- the name of a function in the image with a digest, or `None` if it has none
 abbrev pub name_in : List ℕ → ℕ → List ImageCounts → Option (List ℕ)
 name_in digest function [] = None
 name_in digest function (i ∷ is) =
     least_path_of (if bytes_eq i.digest digest then name_at function i.functions else None) (name_in digest function is)
 
--- in the image with a digest: how often runs entered a call path, and how many instructions they executed there
+-- how often runs entered a call path, in the image with a digest
 abbrev pub arrivals_in : List ℕ → List ℕ → List ImageCounts → ℕ
 arrivals_in digest path [] = 0
 arrivals_in digest path (i ∷ is) =
     (if bytes_eq i.digest digest then arrivals_at path i.spots else 0) + arrivals_in digest path is
 
+-- how many instructions runs executed in a call path, in the image with a digest
 abbrev pub steps_in : List ℕ → List ℕ → List ImageCounts → ℕ
 steps_in digest path [] = 0
 steps_in digest path (i ∷ is) =
     (if bytes_eq i.digest digest then steps_at path i.spots else 0) + steps_in digest path is
 
--- ---- tables that can be
+-- ---- valid tables
 
--- an instruction at an even address that was executed at least once, and taken at most as often
+-- the counts of an address are valid: it is even, its instruction was executed at least once, and was taken at most as often
 pub record IsCounted (c : AddressCounts) : Type 0 where
   pub address : c.address < 2 ^ 32
   pub even : c.address % 2 ≡ 0
@@ -89,33 +92,33 @@ pub record IsCounted (c : AddressCounts) : Type 0 where
   pub fits : c.begun < 2 ^ 64
   pub taken : c.taken ≤ c.begun
 
--- addresses are strictly increasing and at least the lowest
+-- whether the addresses increase strictly, from `lowest` on
 unfoldable pub rise_from : ℕ → List AddressCounts → Bool
 rise_from lowest [] = true
 rise_from lowest (c ∷ cs) = nat_le lowest c.address && rise_from (c.address + 1) cs
 
--- each address occurs once, in increasing order
+-- the counts are valid, and each address occurs once, in increasing order
 pub record AreCounts (cs : List AddressCounts) : Type 0 where
   pub each : AllByRecursion IsCounted cs
   pub rising : rise_from 0 cs ≡ true
 
--- the name of a function; it has no line feed, since the line ends there
+-- the name of a function is valid: it is UTF-8 without line feeds, since the line ends there
 pub record IsName (n : FunctionName) : Type 0 where
   pub function : n.function < 2 ^ 32
   pub name : lacks 10 n.name ≡ true
   pub text : IsUtf8 n.name
 
--- functions are strictly increasing and at least the lowest
+-- whether the functions increase strictly, from `lowest` on
 unfoldable pub names_rise : ℕ → List FunctionName → Bool
 names_rise lowest [] = true
 names_rise lowest (n ∷ ns) = nat_le lowest n.function && names_rise (n.function + 1) ns
 
--- each function occurs once, in increasing order
+-- the names are valid, and each function occurs once, in increasing order
 pub record AreNames (ns : List FunctionName) : Type 0 where
   pub each : AllByRecursion IsName ns
   pub rising : names_rise 0 ns ≡ true
 
--- a call path that a run entered
+-- the node is valid: its numbers fit their fields, and a run entered it
 pub record IsSpot (s : Spot) : Type 0 where
   pub depth : s.depth < 2 ^ 64
   pub function : s.function < 2 ^ 32
@@ -123,31 +126,32 @@ pub record IsSpot (s : Spot) : Type 0 where
   pub arrivals : s.arrivals < 2 ^ 64
   pub steps : s.steps < 2 ^ 64
 
--- a node with the name of its function
+-- the node and the name of its function are valid
 pub record IsNamedSpot (n : NamedSpot) : Type 0 where
   pub spot : IsSpot n.spot
   pub name : lacks 10 n.name ≡ true
   pub text : IsUtf8 n.name
 
+-- whether there is a name
 abbrev pub has_name : Option (List ℕ) → Bool
 has_name None = false
 has_name (Some name) = true
 
--- the name that a list gives a function, if it has one
+-- the first name that a list gives a function, or `None` if it gives none
 abbrev pub name_of : ℕ → List FunctionName → Option (List ℕ)
 name_of function [] = None
 name_of function (n ∷ ns) = if n.function == function then Some n.name else name_of function ns
 
--- exactly the functions of the nodes have names
+-- exactly the functions that the nodes end in have names
 abbrev pub AreNamesOf : List Spot → List FunctionName → Type 0
 AreNamesOf spots names = (function : ℕ) → has_name (name_of function names) ≡ is_last_of_some function spots
 
--- each call path occurs once, in preorder
+-- the nodes are valid and a call tree in preorder
 pub record AreSpots (ss : List Spot) : Type 0 where
   pub each : AllByRecursion IsSpot ss
   pub tree : IsTree ss
 
--- a valid image; its path has no line feed, since the line ends there
+-- the image is valid: its digest has 32 bytes, its path is UTF-8 without line feeds, and its counts, names and nodes are valid
 pub record IsImage (i : ImageCounts) : Type 0 where
   pub digest : length i.digest ≡ 32
   pub bytes : AllByRecursion (λ b. b < 256) i.digest
@@ -158,17 +162,17 @@ pub record IsImage (i : ImageCounts) : Type 0 where
   pub spots : AreSpots i.spots
   pub of_spots : AreNamesOf i.spots i.functions
 
--- a digest is greater than the previous one, if there is one
+-- whether a digest is greater than the last one, if there is one
 abbrev pub is_behind : Option (List ℕ) → List ℕ → Bool
 is_behind None digest = true
 is_behind (Some last) digest = is_before last digest
 
--- digests are strictly increasing and greater than the previous one
+-- whether the digests of images increase strictly and are greater than the last one, if there is one
 unfoldable pub digests_rise : Option (List ℕ) → List ImageCounts → Bool
 digests_rise last [] = true
 digests_rise last (i ∷ is) = is_behind last i.digest && digests_rise (Some i.digest) is
 
--- a valid table
+-- the table is valid: its images are valid and sorted by digest, and its numbers have 64 bits
 pub record IsTable (t : CountTable) : Type 0 where
   pub images : AllByRecursion IsImage t.images
   pub rising : digests_rise None t.images ≡ true

@@ -12,26 +12,28 @@ use Rattle.rv_count_tables.specs.declared.table.CountTable.{CountTable}
 use Rattle.rv_count_tables.specs.Table.{name_of}
 use Rattle.rv_call_tree.specs.declared.spot.Spot.{Spot}
 
--- a line ends with a line feed
+-- the text as a line, which ends with a line feed
 abbrev pub line : List ℕ → List ℕ
 line text = text ++ 10 ∷ []
 
--- the format and its version
+-- the first line of a table: the format and its version
 abbrev pub first_line : List ℕ
 first_line = line (codes "rvcounts 1")
 
--- ADDRESS BEGUN TAKEN
+-- the line `ADDRESS BEGUN TAKEN` of an address
 unfoldable pub address_line : AddressCounts → List ℕ
 address_line c = line (word_digits c.address ++ codes " " ++ decimal c.begun ++ codes " " ++ decimal c.taken)
 
--- spot DEPTH FUNCTION ARRIVALS STEPS NAME
+-- the words `spot DEPTH FUNCTION ARRIVALS STEPS` of a node
 unfoldable pub words_of_spot : Spot → List ℕ
 words_of_spot s = codes "spot " ++ decimal s.depth ++ codes " " ++ word_digits s.function ++ codes " "
     ++ decimal s.arrivals ++ codes " " ++ decimal s.steps
 
+-- the line `spot DEPTH FUNCTION ARRIVALS STEPS NAME` of a node
 unfoldable pub spot_line : NamedSpot → List ℕ
 spot_line n = line (words_of_spot n.spot ++ codes " " ++ n.name)
 
+-- the name, or an empty text if there is none
 abbrev pub name_or_nothing : Option (List ℕ) → List ℕ
 name_or_nothing None = []
 name_or_nothing (Some name) = name
@@ -40,19 +42,22 @@ name_or_nothing (Some name) = name
 abbrev pub named : List FunctionName → Spot → NamedSpot
 named names s = record { spot = s; name = name_or_nothing (name_of s.function names) }
 
+-- the line of a node, whose function has its name from the list
 abbrev pub line_of_spot : List FunctionName → Spot → List ℕ
 line_of_spot names s = spot_line (named names s)
 
--- image DIGEST PATH
+-- the line `image DIGEST PATH` of an image
 unfoldable pub image_line : ImageCounts → List ℕ
 image_line i = line (codes "image " ++ encode_lower i.digest ++ codes " " ++ i.path)
 
+-- the lines of an image: its own line, those of its addresses, and those of its nodes
 unfoldable pub image_text : ImageCounts → List ℕ
 image_text i = image_line i ++ flat_map address_line i.addresses ++ flat_map (line_of_spot i.functions) i.spots
 
--- done IMAGES RUNS
+-- the last line `done IMAGES RUNS` of a table with these numbers of images and runs
 unfoldable pub last_line : ℕ → ℕ → List ℕ
 last_line images runs = line (codes "done " ++ decimal images ++ codes " " ++ decimal runs)
 
+-- the text of a table
 unfoldable pub table_text : CountTable → List ℕ
 table_text t = first_line ++ flat_map image_text t.images ++ last_line (length t.images) t.runs

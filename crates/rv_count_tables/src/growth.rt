@@ -1,10 +1,10 @@
-//! Vectors that grow by one item.
+//! Vectors that grow by one element.
 
 ghost use Rattle.std.specs.Prelude.{◌≡◌, ◌++◌, ◌∷◌, [], OnOk};
 
 use std::alloc::AllocError;
 
-/// Appends an item. Drops it if memory runs out.
+/// Appends an element. Drops it if memory runs out.
 pub(crate) fn push_item<T: Drop>(items: &mut Vec<T>, item: T) -> Result<(), AllocError>
     ensures { OnOk result (items.new.items ≡ items.old.items ++ item ∷ []) }
 {

@@ -1,4 +1,4 @@
-//! Laws about tables and sums; none of them is executed.
+//! Laws on tables and sums, with no code to run.
 
 ghost use Rattle.std.specs.Prelude.{◌≡◌, ℕ, List};
 ghost use Rattle.rv_count_tables.specs.declared.table.AddressCounts.{AddressCounts};
@@ -7,26 +7,26 @@ ghost use Rattle.rv_count_tables.specs.Table.{AreCounts, IsTable, begun_at, take
 ghost use Rattle.rv_count_tables.specs.Text.{table_text};
 ghost use Rattle.rv_count_tables.specs.Sum.{IsSumOfCounts, IsSum, no_counts};
 
-/// Two lists that have equal counts at each address are equal.
+/// Proves that two lists of counts which have equal counts at each address are equal.
 pub fn one_list_has_these_counts()
     ensures { (a b : List AddressCounts) → AreCounts a → AreCounts b
         → ((address : ℕ) → begun_at address a ≡ begun_at address b)
         → ((address : ℕ) → taken_at address a ≡ taken_at address b) → a ≡ b }
 {}
 
-/// The sum of one image's counts does not depend on their order.
+/// Proves that the sum of two lists of counts does not depend on their order.
 pub fn sums_of_counts_commute()
     ensures { (a b ab ba : List AddressCounts) → IsSumOfCounts a b ab → IsSumOfCounts b a ba → ab ≡ ba }
 {}
 
-/// The sum of three lists of counts does not depend on which two are added first.
+/// Proves that the sum of three lists of counts does not depend on which two are added first.
 pub fn sums_of_counts_associate()
     ensures { (a b c ab bc first last : List AddressCounts) → IsSumOfCounts a b ab → IsSumOfCounts ab c first
         → IsSumOfCounts b c bc → IsSumOfCounts a bc last → first ≡ last }
 {}
 
-/// Tables are equal if they have equal counts at each address and on each call path of each image, equal paths and names, and equally many
-/// runs.
+/// Proves that two tables are equal if they have equal counts at each address and of each call path of each image, equal paths and names,
+/// and equally many runs.
 pub fn one_table_has_these_counts()
     ensures { (t u : CountTable) → IsTable t → IsTable u
         → ((digest : List ℕ) (address : ℕ) → begun_in digest address t.images ≡ begun_in digest address u.images)
@@ -38,19 +38,20 @@ pub fn one_table_has_these_counts()
         → t.runs ≡ u.runs → t ≡ u }
 {}
 
-/// The sum of two tables does not depend on their order, nor that of three on which two are added first.
+/// Proves that the sum of two tables does not depend on their order, and that the sum of three does not depend on which two are added
+/// first.
 pub fn sums_of_tables_are_sums()
     ensures commute { (a b ab ba : CountTable) → IsSum a b ab → IsSum b a ba → ab ≡ ba }
     ensures associate { (a b c ab bc first last : CountTable) → IsSum a b ab → IsSum ab c first
         → IsSum b c bc → IsSum a bc last → first ≡ last }
 {}
 
-/// A text is that of at most one table: two tables with equal texts are equal.
+/// Proves that two tables with equal texts are equal.
 pub fn one_table_has_this_text()
     ensures { (t u : CountTable) → IsTable t → IsTable u → table_text t ≡ table_text u → t ≡ u }
 {}
 
-/// Adding the table of no runs changes nothing.
+/// Proves that adding the table of no runs changes nothing.
 pub fn empty_table_adds_nothing()
     ensures { (t : CountTable) → IsTable t → IsSum no_counts t t }
 {}

@@ -1,4 +1,4 @@
-//! The values of the parts of a line. Any text has values; whether a table can have the line is checked by formatting them again.
+//! The values of the parts of a line. Any text has values; whether a table can have the line is checked by formatting the values again.
 
 ghost use Rattle.std.specs.Prelude.{◌≡◌, ◌≤◌, ◌<◌, ◌^◌, ℕ, IfOk, take, length};
 ghost use Rattle.std.specs.Fmt.{decimal};
@@ -20,7 +20,7 @@ pub(crate) fn leading_bytes(text: &[u8], count: usize) -> &[u8]
     }
 }
 
-/// Returns the index of a byte's first occurrence, or the length if there is none.
+/// Returns the index of the first occurrence of a byte, or the length of the text if it does not occur.
 pub(crate) fn place_of_byte(byte: u8, text: &[u8]) -> usize
     ensures place { result ≡ place_of_byte byte text.now }
     ensures within { result ≤ length text.now }
@@ -33,19 +33,21 @@ pub(crate) fn place_of_byte(byte: u8, text: &[u8]) -> usize
     text.len()
 }
 
+/// Returns the text before the first occurrence of a byte, or the whole text if it does not occur.
 pub(crate) fn text_before_byte(byte: u8, text: &[u8]) -> &[u8]
     ensures { result.now ≡ text_before_byte byte text.now }
 {
     leading_bytes(text, place_of_byte(byte, text))
 }
 
+/// Returns the text after the first occurrence of a byte, or an empty text if it does not occur.
 pub(crate) fn text_after_byte(byte: u8, text: &[u8]) -> &[u8]
     ensures { result.now ≡ text_after_byte byte text.now }
 {
     tail_from(text, place_of_byte(byte, text) + 1)
 }
 
-/// Returns the first line with its line feed, or nothing if there is no line feed.
+/// Returns the first line with its line feed, or nothing if the text has no line feed.
 #[tactic(auto, unfolding(crate::specs::Lines::whole_line))]
 pub(crate) fn whole_line(text: &[u8]) -> &[u8]
     ensures { result.now ≡ whole_line text.now }
@@ -84,13 +86,14 @@ pub(crate) fn hex_word(digits: &[u8]) -> u32
     value
 }
 
+// Returns the value of a lower-case hexadecimal digit.
 fn hex_digit_value(b: u8) -> u8
     ensures { result ≡ hex_digit_value b }
 {
     if b < 97 { b.saturating_sub(48) } else { b - 87 }
 }
 
-/// Returns the bytes that hexadecimal digits encode, or none if the text is not of that form.
+/// Returns the bytes that hexadecimal digits encode, or no bytes if the text has other characters.
 #[tactic(auto, unfolding(crate::specs::Lines::hex_bytes))]
 pub(crate) fn hex_bytes(alloc: Global, text: &[u8]) -> Result<Vec<u8>, AllocError>
     ensures { IfOk result (λ bytes. bytes.items ≡ hex_bytes text.now) }

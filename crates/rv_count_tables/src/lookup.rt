@@ -7,7 +7,7 @@ ghost use Rattle.rv_count_tables.specs.Table.{begun_at, rise_from, taken_at};
 
 use crate::table::AddressCounts;
 
-/// Returns how often the instruction at an address was executed, and how often it was a taken branch.
+/// Returns the counts of the instruction at an address, which are 0 if it was never executed.
 pub fn counts_at(counts: &[AddressCounts], address: u32) -> AddressCounts
     requires { rise_from 0 counts.now ≡ true }
     ensures { result ≡ record { address = address; begun = begun_at address counts.now; taken = taken_at address counts.now } }
@@ -32,7 +32,7 @@ pub fn has_begun_within(counts: &[AddressCounts], from: u32, behind: u64) -> boo
     place < counts.len() && u64::from(counts[place].address) < behind
 }
 
-/// Returns the number of entries with lower addresses, which come first.
+/// Returns how many counts have lower addresses. They come first.
 pub fn index_of_address(counts: &[AddressCounts], address: u32) -> usize
     requires { rise_from 0 counts.now ≡ true }
     ensures within { result ≤ length counts.now }

@@ -8,7 +8,7 @@ ghost use Rattle.rv_count_tables.specs.Table.{name_of};
 use crate::table::FunctionName;
 use std::alloc::AllocError;
 
-/// Returns the name of a function, if it has one. Takes time linear in the number of names.
+/// Returns the name of a function, or `None` if it has none. Takes time linear in the number of names.
 pub fn name_of(names: &[FunctionName], function: u32) -> Option<&str>
     ensures { option_map (λ name. name.now) result ≡ name_of function names.now }
 {
@@ -18,13 +18,14 @@ pub fn name_of(names: &[FunctionName], function: u32) -> Option<&str>
     }
 }
 
+// Returns the first entry of a function, or `None` if it has none.
 fn first_of(names: &[FunctionName], function: u32) -> Option<&FunctionName>
     ensures { option_map (λ found. found.now) result ≡ find (λ name. name.function == function) names.now }
 {
     names.iter().find(|name| name.function == function)
 }
 
-/// Inserts a name after those of lower functions, unless its function has one already.
+/// Inserts a name after those of lower functions, unless its function has a name already.
 pub fn add_name(names: &mut Vec<FunctionName>, name: FunctionName) -> Result<(), AllocError>
     ensures { OnOk result (names.new.items ≡ with_name name names.old.items) }
 {
@@ -36,7 +37,7 @@ pub fn add_name(names: &mut Vec<FunctionName>, name: FunctionName) -> Result<(),
     Ok(())
 }
 
-// Returns the number of names of lower functions, which come first.
+// Returns how many names are those of lower functions. They come first.
 fn lower_functions(names: &[FunctionName], function: u32) -> usize
     ensures { result ≡ prefix_len (λ m. nat_lt m.function function) names.now }
 {

@@ -11,7 +11,7 @@ use std::alloc::{AllocError, Global};
 use std::collections::BTreeMap;
 use std::marker::Model;
 
-/// The names of functions, found and added in logarithmic time. Contracts see them as a list sorted by function.
+/// The names of functions, which are found and added in logarithmic time. Contracts see them as a list sorted by function.
 #[derive(Drop)]
 pub(crate) struct NamesByFunction {
     names: BTreeMap<u32, Text>,
@@ -28,6 +28,7 @@ impl Model for NamesByFunction {
 }
 
 impl NamesByFunction {
+    /// Returns no names. Does not allocate.
     pub(crate) fn new(alloc: Global) -> NamesByFunction
         ensures { result ≡ [] }
     {
@@ -36,7 +37,7 @@ impl NamesByFunction {
         }
     }
 
-    /// Returns the name of a function, if it has one.
+    /// Returns the name of a function, or `None` if it has none.
     pub(crate) fn find(&self, function: u32) -> Option<&str>
         ensures { option_map (λ name. name.now) result ≡ name_of function self.now }
     {
@@ -46,7 +47,7 @@ impl NamesByFunction {
         }
     }
 
-    /// Adds a name unless its function has one already.
+    /// Adds a name, unless its function has a name already.
     pub(crate) fn add(&mut self, name: FunctionName) -> Result<(), AllocError>
         ensures { OnOk result (self.new ≡ with_name name self.old) }
     {

@@ -18,7 +18,7 @@ pub(crate) fn is_before(a: &[u8], b: &[u8]) -> bool
     false
 }
 
-/// Returns the path that comes first in byte order.
+/// Returns the one of two paths that comes first in byte order.
 pub(crate) fn least_path<'a>(path: &'a str, other: &'a str) -> &'a str
     ensures { result.now ≡ least_path path.now other.now }
 {

@@ -21,7 +21,7 @@ pub enum ReadError {
     /// An allocation failed.
     #[error("out of memory")]
     OutOfMemory,
-    /// The first line, from 1, that no table has there.
+    /// The first line, counted from 1, that no table has there.
     #[error("invalid line {0}")]
     Line(usize),
     /// The text is truncated: its complete lines begin some table.
@@ -37,7 +37,7 @@ impl From<AllocError> for ReadError {
     }
 }
 
-/// Parses a table. Allocates the table, and one line.
+/// Parses a table. Allocates the table, and one line at a time.
 pub fn read_table(alloc: Global, bytes: &[u8]) -> Result<CountTable, ReadError>
     // The result is a valid table with this text.
     ensures found { IfOk result (λ table. IsTable table) }
@@ -70,7 +70,7 @@ pub fn read_table(alloc: Global, bytes: &[u8]) -> Result<CountTable, ReadError>
     }
 }
 
-// Returns the error for a rejected line that begins at an offset.
+// Returns the error for the rejected line that begins at an index.
 fn refused_at(bytes: &[u8], place: usize) -> ReadError
     ensures { result ≡ read_error_at place bytes.now }
 {
@@ -81,7 +81,7 @@ fn refused_at(bytes: &[u8], place: usize) -> ReadError
     }
 }
 
-// Returns the number, from 1, of the line that begins at an offset.
+// Returns the number, counted from 1, of the line that begins at an index.
 fn number_of_line(bytes: &[u8], place: usize) -> usize
     ensures { result ≡ count_of_line_feeds (take place bytes.now) + 1 }
 {

@@ -25,28 +25,28 @@ use rv_call_tree::Spots;
 use rv_text::tail_from;
 use std::alloc::{AllocError, Global};
 
-/// Parsed addresses, and the number of bytes in their lines.
+/// Parsed addresses, and the length of their lines in bytes.
 #[derive(Drop)]
 pub(crate) struct AddressLines {
     pub(crate) addresses: Addresses,
     pub(crate) length: usize,
 }
 
-/// A parsed image, and the number of bytes in its lines.
+/// A parsed image, and the length of its lines in bytes.
 #[derive(Drop)]
 pub(crate) struct OneImage {
     pub(crate) image: ImageCounts,
     pub(crate) length: usize,
 }
 
-/// Parsed images, and the number of bytes in their lines.
+/// Parsed images, and the length of their lines in bytes.
 #[derive(Drop)]
 pub(crate) struct ImageLines {
     pub(crate) images: Images,
     pub(crate) length: usize,
 }
 
-/// Parses the images of the first lines, as many as there are.
+/// Parses images at the start of a text, as many as there are.
 pub(crate) fn read_images(alloc: Global, text: &[u8]) -> Result<ImageLines, AllocError>
     ensures { IfOk result (λ read. AreImageLines text.now read) }
 {
@@ -68,7 +68,7 @@ pub(crate) fn read_images(alloc: Global, text: &[u8]) -> Result<ImageLines, Allo
     }
 }
 
-// Parses the image at the start of a text, if it can follow the earlier ones.
+// Parses the image at the start of a text, or returns `None` if there is none that can follow the earlier ones.
 fn read_image(
     alloc: Global,
     text: &[u8],
@@ -95,7 +95,7 @@ fn read_image(
     Ok(Some(OneImage { image, length }))
 }
 
-// Whether this is a digest, and greater than the earlier ones.
+// Whether this is a digest that is greater than the earlier ones.
 fn can_follow(digest: &[u8], earlier: &[ImageCounts]) -> bool
     ensures value { result ≡ ((length digest.now == 32) && is_behind (last_digest None earlier.now) digest.now) }
     ensures bytes { AllByRecursion (λ b. b < 256) digest.now }
@@ -107,7 +107,7 @@ fn can_follow(digest: &[u8], earlier: &[ImageCounts]) -> bool
         }
 }
 
-// Parses the addresses of the first lines, as many as there are.
+// Parses lines of addresses at the start of a text, as many as there are.
 fn read_addresses(alloc: Global, text: &[u8]) -> Result<AddressLines, AllocError>
     ensures { IfOk result (λ read. AreAddressLines text.now read) }
 {
@@ -132,7 +132,7 @@ fn read_addresses(alloc: Global, text: &[u8]) -> Result<AddressLines, AllocError
     }
 }
 
-// Returns the counts of a line if it is that of an address at or above `lowest`.
+// Returns the counts of a line, or `None` if it is not that of an address at or above `lowest`.
 fn parse_address_line(
     alloc: Global,
     line: &[u8],
@@ -151,7 +151,7 @@ fn parse_address_line(
     }
 }
 
-// Whether a table can have these counts after those of lower addresses.
+// Whether a table can have these counts after those of addresses below `lowest`.
 fn can_stand(counts: AddressCounts, lowest: u64) -> bool
     ensures { IsTrue result ↔ (IsCounted counts × (lowest ≤ counts.address)) }
 {
@@ -161,7 +161,7 @@ fn can_stand(counts: AddressCounts, lowest: u64) -> bool
         && lowest <= u64::from(counts.address)
 }
 
-// ADDRESS BEGUN TAKEN
+// Returns the counts that a line `ADDRESS BEGUN TAKEN` is read as.
 fn counts_of_line(line: &[u8]) -> AddressCounts
     ensures { (c : Counts) → IsCounted c → line.now ≡ address_line c → result ≡ c }
 {
@@ -173,6 +173,7 @@ fn counts_of_line(line: &[u8]) -> AddressCounts
     }
 }
 
+// Whether the line of these counts is this line.
 fn has_address_line(alloc: Global, counts: AddressCounts, line: &[u8]) -> Result<bool, AllocError>
     ensures { IfOk result (λ same. same ≡ bytes_eq line.now (address_line counts)) }
 {
@@ -181,7 +182,7 @@ fn has_address_line(alloc: Global, counts: AddressCounts, line: &[u8]) -> Result
     Ok(line == text.as_bytes())
 }
 
-// image DIGEST PATH
+// Returns the image, without counts, that a line `image DIGEST PATH` is read as.
 fn image_of_line(alloc: Global, line: &[u8]) -> Result<ImageCounts, AllocError>
     ensures digest { (i : Image) → IsImage i → line.now ≡ image_line i
         → IfOk result (λ read. read.digest ≡ i.digest) }
@@ -204,6 +205,7 @@ fn image_of_line(alloc: Global, line: &[u8]) -> Result<ImageCounts, AllocError>
     })
 }
 
+// Whether the line of this image is this line.
 fn has_image_line(alloc: Global, image: &ImageCounts, line: &[u8]) -> Result<bool, AllocError>
     ensures { IfOk result (λ same. same ≡ bytes_eq line.now (image_line image.now)) }
 {
@@ -212,7 +214,7 @@ fn has_image_line(alloc: Global, image: &ImageCounts, line: &[u8]) -> Result<boo
     Ok(line == text.as_bytes())
 }
 
-/// Returns the number of runs if the line is the last one of a table with this many images.
+/// Returns the number of runs in the last line of a table with this many images, or `None` if the line is another one.
 pub(crate) fn runs_of_last_line(
     alloc: Global,
     line: &[u8],

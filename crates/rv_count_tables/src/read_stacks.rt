@@ -1,4 +1,4 @@
-//! Parses the lines of call-tree nodes as far as they are valid, in the manner of address lines.
+//! Parses the lines of call-tree nodes as far as they are valid, as those of addresses are parsed.
 
 ghost use Rattle.std.specs.Prelude.{◌≡◌, ◌≤◌, ◌<◌, ◌^◌, ℕ, List, IfOk, IfSome, IfNone, IsTrue, ◌↔◌};
 ghost use Rattle.std.specs.Str.{bytes_eq, IsUtf8};
@@ -21,7 +21,7 @@ use rv_call_tree::{Spot, Spots};
 use rv_text::tail_from;
 use std::alloc::{AllocError, Global};
 
-/// Parsed nodes, the names of their functions, and the number of bytes in their lines.
+/// Parsed nodes, the names of their functions, and the length of their lines in bytes.
 #[derive(Drop)]
 pub(crate) struct SpotLines {
     pub(crate) spots: Spots,
@@ -29,7 +29,7 @@ pub(crate) struct SpotLines {
     pub(crate) length: usize,
 }
 
-/// Parses the nodes of the first lines, as many as there are.
+/// Parses lines of nodes at the start of a text, as many as there are.
 pub(crate) fn read_spots(alloc: Global, text: &[u8]) -> Result<SpotLines, AllocError>
     ensures { IfOk result (λ read. AreSpotLines text.now read) }
 {
@@ -58,6 +58,7 @@ pub(crate) fn read_spots(alloc: Global, text: &[u8]) -> Result<SpotLines, AllocE
     }
 }
 
+// Returns the name of a node's function.
 fn function_name(named: NamedSpot) -> FunctionName
     ensures { result ≡ function_name named }
 {
@@ -67,7 +68,8 @@ fn function_name(named: NamedSpot) -> FunctionName
     }
 }
 
-// Returns the node of a line if it can follow the path `front` and its name agrees with `names`.
+// Returns the node of a line, or `None` if the line is not that of a node which can follow the path `front` and whose name agrees with
+// `names`.
 fn next_spot(
     alloc: Global,
     line: &[u8],
@@ -88,7 +90,7 @@ fn next_spot(
     }
 }
 
-// Whether a table can have the node after this path.
+// Whether a table can have the node after one with this path.
 fn can_stand(spot: Spot, front: &[u32]) -> bool
     ensures { IsTrue result ↔ (IsSpot spot × FollowsInPreorder front.now spot) }
 {
@@ -97,7 +99,7 @@ fn can_stand(spot: Spot, front: &[u32]) -> bool
         && (spot.depth == front.len() || front[spot.depth] < spot.function)
 }
 
-// Whether its function has no other name.
+// Whether the node's function has no other name.
 fn agrees(read: &NamedSpot, names: &NamesByFunction) -> bool
     ensures { IsTrue result ↔ AgreesWith read.now.name (name_of read.now.spot.function names.now) }
 {
@@ -107,7 +109,7 @@ fn agrees(read: &NamedSpot, names: &NamesByFunction) -> bool
     }
 }
 
-// spot DEPTH FUNCTION ARRIVALS STEPS NAME
+// Returns the node that a line `spot DEPTH FUNCTION ARRIVALS STEPS NAME` is read as.
 fn spot_of_line(alloc: Global, line: &[u8]) -> Result<NamedSpot, AllocError>
     ensures spot { (n : ANamedSpot) → IsNamedSpot n → line.now ≡ spot_line n → IfOk result (λ read. read.spot ≡ n.spot) }
     ensures name { (n : ANamedSpot) → IsNamedSpot n → line.now ≡ spot_line n → IfOk result (λ read. read.name ≡ n.name) }
@@ -132,6 +134,7 @@ fn spot_of_line(alloc: Global, line: &[u8]) -> Result<NamedSpot, AllocError>
     })
 }
 
+// Whether the line of this node is this line.
 fn has_spot_line(alloc: Global, read: &NamedSpot, line: &[u8]) -> Result<bool, AllocError>
     ensures { IfOk result (λ same. same ≡ bytes_eq line.now (spot_line read.now)) }
 {

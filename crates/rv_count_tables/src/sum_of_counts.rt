@@ -12,7 +12,7 @@ use crate::sum::SumError;
 use crate::table::{AddressCounts, Addresses};
 use std::alloc::Global;
 
-/// Returns the sum at each address. Allocates only the sum.
+/// Returns the sum of the counts at each address. Allocates only the sum.
 pub(crate) fn sum_of_counts(
     alloc: Global,
     a: &[AddressCounts],
@@ -35,7 +35,7 @@ pub(crate) fn sum_of_counts(
     Ok(Addresses::new(sums))
 }
 
-/// The first entry of a sum, and how many entries of each list it adds up.
+/// The first counts of a sum, and how many counts of each list they add up.
 #[derive(Clone, Copy)]
 pub(crate) struct NextCount {
     pub(crate) sum: AddressCounts,
@@ -43,7 +43,7 @@ pub(crate) struct NextCount {
     pub(crate) of_b: usize,
 }
 
-// Returns the entry for the lowest address in both lists.
+// Returns the first counts of the sum of two lists: those of the lowest address.
 fn next_count(a: &[AddressCounts], b: &[AddressCounts]) -> Result<NextCount, SumError>
     requires a { AllByRecursion IsCounted a.now }
     requires b { AllByRecursion IsCounted b.now }
@@ -71,6 +71,7 @@ fn next_count(a: &[AddressCounts], b: &[AddressCounts]) -> Result<NextCount, Sum
     })
 }
 
+// Returns the first counts of a sum, if they are from the first list alone.
 fn count_of_first(sum: AddressCounts) -> NextCount
     ensures { result ≡ record { sum = sum; of_a = 1; of_b = 0 } }
 {
@@ -81,6 +82,7 @@ fn count_of_first(sum: AddressCounts) -> NextCount
     }
 }
 
+// Returns the first counts of a sum, if they are from the second list alone.
 fn count_of_second(sum: AddressCounts) -> NextCount
     ensures { result ≡ record { sum = sum; of_a = 0; of_b = 1 } }
 {

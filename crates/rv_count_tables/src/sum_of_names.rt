@@ -13,7 +13,7 @@ use crate::table::{FunctionName, FunctionNames};
 use rv_base::Text;
 use std::alloc::{AllocError, Global};
 
-/// Returns the functions of both lists with their names. Allocates only the sum.
+/// Returns the functions of both lists with their names. Allocates only the result.
 pub(crate) fn sum_of_names(
     alloc: Global,
     a: &[FunctionName],
@@ -36,7 +36,7 @@ pub(crate) fn sum_of_names(
     Ok(FunctionNames::new(sums))
 }
 
-/// The first name of a sum, and how many names of each list it adds up.
+/// The first name of a sum, and how many names of each list it is from.
 #[derive(Drop)]
 pub(crate) struct NextName {
     pub(crate) name: FunctionName,
@@ -44,7 +44,7 @@ pub(crate) struct NextName {
     pub(crate) of_b: usize,
 }
 
-// Returns the name of the lowest function in both lists.
+// Returns the first name of the sum of two lists: that of the lowest function.
 fn next_name(alloc: Global, a: &[FunctionName], b: &[FunctionName]) -> Result<NextName, SumError>
     requires a { AllByRecursion IsName a.now }
     requires b { AllByRecursion IsName b.now }
@@ -77,12 +77,14 @@ fn next_name(alloc: Global, a: &[FunctionName], b: &[FunctionName]) -> Result<Ne
     })
 }
 
+// Whether both names are equal.
 fn have_one_name(a: &FunctionName, b: &FunctionName) -> bool
     ensures { IsTrue result ↔ (a.now.name ≡ b.now.name) }
 {
     a.name.as_str() == b.name.as_str()
 }
 
+// Returns the first name of a sum, if it is from the first list alone.
 fn name_of_first(alloc: Global, name: &FunctionName) -> Result<NextName, SumError>
     ensures value { IfOk result (λ next. next ≡ record { name = name.now; of_a = 1; of_b = 0 }) }
     ensures refused { IfErr result (λ error. error ≡ OutOfMemory) }
@@ -95,6 +97,7 @@ fn name_of_first(alloc: Global, name: &FunctionName) -> Result<NextName, SumErro
     })
 }
 
+// Returns the first name of a sum, if it is from the second list alone.
 fn name_of_second(alloc: Global, name: &FunctionName) -> Result<NextName, SumError>
     ensures value { IfOk result (λ next. next ≡ record { name = name.now; of_a = 0; of_b = 1 }) }
     ensures refused { IfErr result (λ error. error ≡ OutOfMemory) }
@@ -107,6 +110,7 @@ fn name_of_second(alloc: Global, name: &FunctionName) -> Result<NextName, SumErr
     })
 }
 
+// Returns a copy of the name of a function.
 fn copy_of_name(alloc: Global, name: &FunctionName) -> Result<FunctionName, AllocError>
     ensures { IfOk result (λ copy. copy ≡ name.now) }
 {

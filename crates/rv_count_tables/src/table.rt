@@ -1,12 +1,12 @@
-//! The table of counts as a value.
+//! The table of counts.
 
 use rv_base::{Bytes, Sequence, Text};
 use rv_call_tree::{Spot, Spots};
 
-/// Counts of one image's addresses; contracts see them as a list.
+/// The counts of one image's addresses; contracts see them as a list.
 pub type Addresses = Sequence<AddressCounts>;
 
-/// Names of one image's functions; contracts see them as a list.
+/// The names of one image's functions; contracts see them as a list.
 pub type FunctionNames = Sequence<FunctionName>;
 
 /// Images with their counts; contracts see them as a list.
@@ -34,7 +34,7 @@ pub struct FunctionName {
     pub name: Text,
 }
 
-/// A node with the name of its function, as in a line of the text.
+/// A call-tree node with the name of its function, as in a line of the text.
 #[derive(Debug, Drop)]
 pub struct NamedSpot {
     pub spot: Spot,
@@ -44,14 +44,15 @@ pub struct NamedSpot {
 /// The counts of one image.
 #[derive(Debug, Drop)]
 pub struct ImageCounts {
+    /// The digest of the image's file.
     pub digest: Digest,
-    /// The path by which lists name the image, the first in byte order if there are several. It has no line feed.
+    /// The path by which lists name the image, or the first in byte order if there are several. It has no line feed.
     pub path: Text,
-    /// Sorted by address.
+    /// The counts, sorted by address.
     pub addresses: Addresses,
-    /// The functions of the nodes, each once, sorted by function address.
+    /// The functions that the nodes end in, each once, sorted by address.
     pub functions: FunctionNames,
-    /// The call paths on which the instructions were executed; empty if they were not counted.
+    /// The call tree; empty if call paths were not counted.
     pub spots: Spots,
 }
 

@@ -13,7 +13,7 @@ use rv_call_tree::Spot;
 use std::alloc::{AllocError, Global};
 use std::collections::BTreeMap;
 
-/// Formats a table.
+/// Returns the text of a table.
 #[tactic(auto, unfolding(crate::specs::Text::table_text))]
 pub fn table_text(alloc: Global, table: &CountTable) -> Result<String, AllocError>
     ensures { IfOk result (λ text. string_bytes text ≡ table_text table.now) }
@@ -25,6 +25,7 @@ pub fn table_text(alloc: Global, table: &CountTable) -> Result<String, AllocErro
     Ok(text)
 }
 
+// Appends the lines of images.
 fn push_images(alloc: Global, text: &mut String, images: &[ImageCounts]) -> Result<(), AllocError>
     ensures { OnOk result (string_bytes text.new ≡ string_bytes text.old ++ flat_map image_text images.now) }
 {
@@ -34,6 +35,7 @@ fn push_images(alloc: Global, text: &mut String, images: &[ImageCounts]) -> Resu
     Ok(())
 }
 
+// Appends the lines of an image: its own line, those of its addresses, and those of its nodes.
 #[tactic(auto, unfolding(crate::specs::Text::image_text))]
 fn push_image(alloc: Global, text: &mut String, image: &ImageCounts) -> Result<(), AllocError>
     ensures { OnOk result (string_bytes text.new ≡ string_bytes text.old ++ image_text image.now) }
@@ -48,6 +50,7 @@ fn push_image(alloc: Global, text: &mut String, image: &ImageCounts) -> Result<(
     )
 }
 
+// Appends the lines of addresses.
 fn push_addresses(
     alloc: Global,
     text: &mut String,
@@ -61,6 +64,7 @@ fn push_addresses(
     Ok(())
 }
 
+// Appends the lines of nodes, whose functions have these names.
 fn push_spots(
     alloc: Global,
     text: &mut String,
@@ -76,7 +80,7 @@ fn push_spots(
     Ok(())
 }
 
-/// What the lines of one function's nodes have in common.
+/// The words that the lines of all nodes of one function have.
 #[derive(Drop)]
 pub(crate) struct FunctionWords {
     pub(crate) digits: Text,
@@ -100,6 +104,7 @@ fn index_of_functions(
     Ok(index)
 }
 
+// Returns the words of a function: the digits of its address, and its name.
 #[tactic(auto, unfolding(rv_text::specs::Words::word_digits))]
 fn words_of_function(alloc: Global, name: &FunctionName) -> Result<FunctionWords, AllocError>
     ensures { IfOk result (λ words. words ≡ words_of_function name.now.function name.now.name) }
@@ -111,7 +116,8 @@ fn words_of_function(alloc: Global, name: &FunctionName) -> Result<FunctionWords
     })
 }
 
-// Every function of a table's nodes has a name; one without is written with an empty name.
+// Appends the line of a node with the words of its function from the index. In a valid table each function has a name; a function without
+// one gets an empty name.
 #[tactic(auto, unfolding(crate::specs::SpotLines::line_by_index))]
 fn push_indexed_line(
     alloc: Global,
@@ -129,7 +135,7 @@ fn push_indexed_line(
     }
 }
 
-/// Appends an image's line, without its counts.
+/// Appends the line of an image, without its counts.
 #[tactic(auto, unfolding(crate::specs::Text::image_line))]
 pub(crate) fn push_image_line(
     alloc: Global,
@@ -144,7 +150,7 @@ pub(crate) fn push_image_line(
     write!(text, "image {digest} {path}\n")
 }
 
-/// Appends an address's line.
+/// Appends the line of an address.
 #[tactic(auto, unfolding(crate::specs::Text::address_line, rv_text::specs::Words::word_digits))]
 pub(crate) fn push_address_line(
     alloc: Global,
@@ -160,7 +166,7 @@ pub(crate) fn push_address_line(
     write!(text, "{address} {begun} {taken}\n")
 }
 
-/// Appends a node's line.
+/// Appends the line of a node, whose function has this name.
 #[tactic(auto, unfolding(crate::specs::SpotLines::line_with_digits, crate::specs::SpotLines::words_with_digits, crate::specs::Text::spot_line, crate::specs::Text::words_of_spot, rv_text::specs::Words::word_digits))]
 pub(crate) fn push_spot_line(
     alloc: Global,
@@ -174,7 +180,7 @@ pub(crate) fn push_spot_line(
     push_line_with_digits(text, spot, digits.as_str(), name)
 }
 
-// Appends a node's line, with these digits for its function.
+// Appends the line of a node, with these digits for the address of its function.
 #[tactic(auto, unfolding(crate::specs::SpotLines::line_with_digits))]
 fn push_line_with_digits(
     text: &mut String,
@@ -189,6 +195,7 @@ fn push_line_with_digits(
     text.push_str("\n")
 }
 
+// Appends the words of a node's line before the name, with these digits for the address of its function.
 #[tactic(auto, unfolding(crate::specs::SpotLines::words_with_digits))]
 fn push_words_with_digits(text: &mut String, spot: Spot, digits: &str) -> Result<(), AllocError>
     ensures { OnOk result (string_bytes text.new ≡ string_bytes text.old ++ words_with_digits digits.now spot) }
@@ -200,6 +207,7 @@ fn push_words_with_digits(text: &mut String, spot: Spot, digits: &str) -> Result
     push_number(text, spot.steps)
 }
 
+// Appends a space and a word.
 fn push_word(text: &mut String, word: &str) -> Result<(), AllocError>
     ensures { OnOk result (string_bytes text.new ≡ string_bytes text.old ++ codes " " ++ word.now) }
 {
@@ -207,7 +215,7 @@ fn push_word(text: &mut String, word: &str) -> Result<(), AllocError>
     text.push_str(word)
 }
 
-// With `write!` a line takes about a third longer, and a table can have hundreds of thousands of lines.
+// Appends a space and a number. With `write!` a line takes about a third longer, and a table can have hundreds of thousands of lines.
 fn push_number(text: &mut String, number: u64) -> Result<(), AllocError>
     ensures { OnOk result (string_bytes text.new ≡ string_bytes text.old ++ codes " " ++ decimal number) }
 {

@@ -1,4 +1,4 @@
--- The table of a plan's jobs: how often each instruction of their images was executed and taken.
+-- The table of jobs: how often each instruction of their images was executed and taken.
 use Rattle.std.specs.Prelude.{◌≡◌, ◌==◌, ◌*◌, ◌%◌, ◌^◌, ◌<◌, ◌≤◌, ℕ, Bool, false, if◌then◌else◌, is_ok, List, [], ◌∷◌}
 use Rattle.std.specs.Prelude.{Option, Some, None, option_map, map, length, slice_index_or}
 use Rattle.std.specs.List.{filter, sum_by}
@@ -19,34 +19,35 @@ use Rattle.rv_text.specs.Printable.{printable_text}
 use Rattle.rv_trace.specs.Trace.{image_bytes}
 use Rattle.rv_counting.specs.Coverage.{once_if, begun_in_run, taken_in_run}
 
--- the bytes have this SHA-256 digest
+-- whether there are bytes, and they have this SHA-256 digest
 abbrev pub has_digest : List ℕ → Option (List ℕ) → Bool
 has_digest digest None = false
 has_digest digest (Some bytes) = bytes_eq (sha256 bytes) digest
 
--- the state in which a job's run begins, if the job is not refused and its image has the digest
+-- the state in which a job's run begins, if the job is not refused and its image has this digest
 unfoldable pub start_over : List Answer → List ℕ → Job → Option State
 start_over answers digest job =
     if has_digest digest (image_bytes answers job) then result_ok (start_in answers job) else None
 
--- the count in an optional run within a budget of n steps
+-- how often the instruction at an address is executed in a run from this state, if there is one, within a budget of steps
 abbrev pub begun_from : ℕ → ℕ → Option State → ℕ
 begun_from address n None = 0
 begun_from address n (Some s) = begun_in_run address n s
 
+-- how often the instruction at an address is a taken branch in a run from this state, if there is one, within a budget of steps
 abbrev pub taken_from : ℕ → ℕ → Option State → ℕ
 taken_from address n None = 0
 taken_from address n (Some s) = taken_in_run address n s
 
--- how often a job's run executes the instruction at an address, if its image has the digest
+-- how often a job's run executes the instruction at an address, or 0 if its image does not have this digest
 abbrev pub begun_by : List Answer → List ℕ → ℕ → Job → ℕ
 begun_by answers digest address job = begun_from address job.budget (start_over answers digest job)
 
--- how often a job's run takes the branch at an address, if its image has the digest
+-- how often a job's run takes the branch at an address, or 0 if its image does not have this digest
 abbrev pub taken_by : List Answer → List ℕ → ℕ → Job → ℕ
 taken_by answers digest address job = taken_from address job.budget (start_over answers digest job)
 
--- the image's path as shown, if the job runs and its image has the digest
+-- the path of a job's image, as it is shown, if the job runs and its image has this digest
 abbrev pub path_by : List Answer → List ℕ → Job → Option (List ℕ)
 path_by answers digest job = option_map (λ s. printable_text job.image) (start_over answers digest job)
 
@@ -54,12 +55,12 @@ path_by answers digest job = option_map (λ s. printable_text job.image) (start_
 abbrev pub runs_by : List Answer → Job → ℕ
 runs_by answers job = once_if (is_ok (start_in answers job))
 
--- the first path, in byte order, of the image with the digest
+-- the first path, in byte order, by which the jobs name the image with this digest, if one of them runs it
 abbrev pub first_path : List Answer → List ℕ → List Job → Option (List ℕ)
 first_path answers digest [] = None
 first_path answers digest (j ∷ js) = least_path_of (path_by answers digest j) (first_path answers digest js)
 
--- the table of one run, for the image with this path and these bytes
+-- the table of one run of the image with this path and these bytes
 abbrev pub table_of_run : List ℕ → List ℕ → List AddressCounts → CountTable
 table_of_run path bytes addresses = record {
   images = record {
@@ -72,13 +73,13 @@ table_of_run path bytes addresses = record {
   runs = 1;
 }
 
--- no call paths were counted
+-- the table has no call trees
 pub record HasNoStacks (t : CountTable) : Type 0 where
   pub names : (digest : List ℕ) (function : ℕ) → name_in digest function t.images ≡ None
   pub arrivals : (digest path : List ℕ) → arrivals_in digest path t.images ≡ 0
   pub steps : (digest path : List ℕ) → steps_in digest path t.images ≡ 0
 
--- the table of jobs: each of its numbers is the sum over the jobs
+-- `t` is the table of the jobs: each of its numbers is the sum over the jobs
 pub record IsTableOfJobs (answers : List Answer) (jobs : List Job) (t : CountTable) : Type 0 where
   pub table : IsTable t
   pub begun : (digest : List ℕ) (address : ℕ)
@@ -89,41 +90,42 @@ pub record IsTableOfJobs (answers : List Answer) (jobs : List Job) (t : CountTab
   pub runs : t.runs ≡ sum_by (runs_by answers) jobs
   pub stacks : HasNoStacks t
 
--- the jobs at some indices of a plan, each of which is that of a job
+-- the jobs at these indices of a plan
 abbrev pub jobs_at : Planned → List ℕ → List Job
 jobs_at plan places = map (λ place. slice_index_or plan.jobs place (single_job [] 0 [])) places
 
--- the table of the jobs at some indices
+-- `t` is the table of the jobs at these indices of a plan
 abbrev pub IsTableOfPlaces : Planned → List ℕ → CountTable → Type 0
 IsTableOfPlaces plan places t = IsTableOfJobs plan.answers (jobs_at plan places) t
 
 -- ---- sums that fit
 
--- upper bounds on the numbers of a table of this many jobs
+-- the numbers of the table are small enough for this many jobs, and it has no call trees
 pub record IsTableOfFew (jobs : ℕ) (t : CountTable) : Type 0 where
   pub begun : (digest : List ℕ) (address : ℕ) → begun_in digest address t.images ≤ jobs * 2 ^ 32
   pub runs : t.runs ≤ jobs
   pub stacks : HasNoStacks t
 
--- the table of one job
+-- `t` is the table of this job alone
 pub record IsTableOfOne (answers : List Answer) (job : Job) (t : CountTable) : Type 0 where
   pub table : IsTableOfJobs answers (job ∷ []) t
   pub few : IsTableOfFew 1 t
 
 -- ---- parts
 
--- a table for each part of the jobs
+-- there is one table for each part of the jobs, which is the table of its jobs
 abbrev pub AreTablesOfParts : List Answer → List (List Job) → List CountTable → Type 0
 AreTablesOfParts answers [] [] = Unit {0}
 AreTablesOfParts answers (p ∷ ps) (t ∷ ts) = IsTableOfJobs answers p t × AreTablesOfParts answers ps ts
 AreTablesOfParts answers _ _ = ⊥
 
--- a table to which tables are added one after another, and the sum
+-- `t` is the sum of `sum` and the tables in the list, added one after another
 abbrev pub SumsTo : CountTable → List CountTable → CountTable → Type 0
 SumsTo sum [] t = sum ≡ t
 SumsTo sum (u ∷ us) t = (next : CountTable) × IsSum sum u next × SumsTo next us t
 
--- a table for each shard; a shard has the indices with one remainder modulo `shards`
+-- there is one table for each shard of the jobs at these indices; a shard has the indices that leave the same remainder when divided by the
+-- number of shards
 pub record AreTablesOfShards (plan : Planned) (shards : ℕ) (places : List ℕ) (ts : List CountTable) : Type 0 where
   pub count : length ts ≡ shards
   pub each : (k : ℕ) (d : CountTable) → k < shards

@@ -8,22 +8,23 @@ use Rattle.rv_counting.specs.JobTables.{SumsTo}
 use Rattle.rv_engine.specs.declared.engine.RunError.{RunError}
 use Rattle.rv_engine.specs.declared.listener.Flow.{Flow}
 
--- the sum of the tables added so far, and why the next one was not added
+-- the sum of the tables that were added so far, and the error if the last one could not be added
 pub record Added : Type 0 where
   pub sum : CountTable
   pub failed : Option SumError
 
--- the sum, or why the last table was not added
+-- the sum, or the error if there is one
 abbrev pub sum_or_error : CountTable → Option SumError → Result CountTable SumError
 sum_or_error sum None = Ok sum
 sum_or_error sum (Some error) = Err error
 
--- the result after a run; a run that ended early ran out of memory
+-- the sum after a run, or why there is none; if the run failed, memory ran out or a thread could not be started, which both count as
+-- `OutOfMemory`
 abbrev pub sum_of_run : Added → Result Flow RunError → Result CountTable SumError
 sum_of_run added (Ok flow) = sum_or_error added.sum added.failed
 sum_of_run added (Err error) = Err OutOfMemory
 
--- the last table has no sum with those before it
+-- `sum` is the sum of all tables but the last, with which it has no sum for this reason
 pub record EndAdded (sum : CountTable) (error : SumError) (ts : List CountTable) : Type 0 where
   pub before : List CountTable
   pub last : CountTable
@@ -31,7 +32,7 @@ pub record EndAdded (sum : CountTable) (error : SumError) (ts : List CountTable)
   pub sums : SumsTo no_counts before sum
   pub refused : HaveNoSum error sum last
 
--- all tables were added, or all but the last, which has no sum with the others
+-- `sum` is the sum of all tables, or, if there is an error, of all but the last, with which it has no sum for this reason
 abbrev pub AreAdded : CountTable → Option SumError → List CountTable → Type 0
 AreAdded sum None ts = SumsTo no_counts ts sum
 AreAdded sum (Some error) ts = EndAdded sum error ts

@@ -16,9 +16,9 @@ use rv_rows::{Spare, machine_at_reusing};
 use rv_trace::JobImage;
 use std::alloc::{AllocError, Global};
 
-/// Counts a machine's run within a budget of steps. Takes longer than the run alone, and a lookup among the addresses so far for each
-/// instruction that does not run as part of a cached block. From time to time it sorts the counts by address. Takes 256 KiB of memory for
-/// the decode cache, and for each executed address its counts and an index entry.
+/// Runs a machine within a budget of steps, and returns the counts of the run. Takes longer than the run alone, and a lookup among the
+/// addresses so far for each instruction that does not run as part of a cached block. From time to time it sorts the counts by address.
+/// Takes 256 KiB of memory for the decode cache, and for each executed address its counts and an index entry.
 pub fn count_run(alloc: Global, machine: Machine, budget: u32) -> Result<Addresses, AllocError>
     ensures { IfOk result (λ counts. AreCountsOf budget (state_of machine) counts) }
 {
@@ -26,7 +26,7 @@ pub fn count_run(alloc: Global, machine: Machine, budget: u32) -> Result<Address
     Ok(counts)
 }
 
-// Counts a machine's run, and returns the machine, too.
+// Runs a machine within a budget of steps, and returns the counts of the run and the machine.
 fn count_run_of(
     alloc: Global,
     machine: Machine,
@@ -38,7 +38,7 @@ fn count_run_of(
     Ok((counter.into_addresses(), machine))
 }
 
-// Runs the machine and returns the counter of the run.
+// Runs a machine within a budget of steps, and returns the counter of the run and the machine.
 fn counter_of_run(
     alloc: Global,
     machine: Machine,
@@ -66,8 +66,8 @@ fn counter_of_run(
     Ok((counter, machine))
 }
 
-/// Counts the run of a job within its budget; `None` if the job is refused. A table can hold the counts. Reuses the memory of the last run,
-/// and keeps that of this one.
+/// Runs a job within its budget, and returns the counts of the run, or `None` if the job is refused. A table can hold the counts. Reuses
+/// the memory of the last run, and keeps that of this run.
 pub fn count_job(
     alloc: Global,
     job: &JobImage<'_>,

@@ -1,4 +1,4 @@
-//! The table of each job of a batch.
+//! The tables of the jobs of a batch.
 
 ghost use Rattle.std.specs.Prelude.{◌≡◌};
 ghost use Rattle.rv_count_tables.specs.Table.{IsTable};
@@ -11,7 +11,7 @@ use rv_fleet::Batch;
 use std::alloc::{AllocError, Global};
 use std::marker::Model;
 
-/// The table of a job.
+/// The table of one job.
 #[derive(Drop)]
 pub struct JobTable {
     table: CountTable,
@@ -29,7 +29,7 @@ impl Model for JobTable {
 }
 
 impl JobTable {
-    /// Wraps the table of a run.
+    /// Returns the result with this table.
     pub fn new(table: CountTable) -> JobTable
         requires { IsTable table }
         ensures { result ≡ table }
@@ -46,7 +46,7 @@ impl HasTable for JobTable {
     }
 }
 
-/// Counts the jobs of a batch.
+/// Computes the table of each job of a batch.
 #[derive(Drop)]
 pub(crate) struct CountWork<'a> {
     pub(crate) batch: &'a Batch<'a>,

@@ -1,4 +1,4 @@
-//! Laws about counts; none of them is executed.
+//! Laws on counts, with no code to run.
 
 ghost use Rattle.std.specs.Prelude.{◌≡◌, ◌+◌, ◌%◌, ◌<◌, ℕ, List, Ok, Err, true};
 ghost use Rattle.std.specs.List.{All, flat_map};
@@ -18,34 +18,35 @@ ghost use Rattle.rv_rows.specs.Wholes.{HaveSameResults};
 ghost use Rattle.rv_counting.specs.Coverage.{fetch_at, is_begun, once_if, begins_at_end, begun_total, AreCountsOf};
 ghost use Rattle.rv_counting.specs.JobTables.{AreTablesOfParts, AreTablesOfShards, IsTableOfJobs, IsTableOfPlaces, SumsTo};
 
-/// A completed instruction counts as executed.
+/// Proves that a completed step counts as an execution.
 pub fn run_begins_its_steps()
     ensures { (s t : State) → step_of s ≡ Ok t → is_begun (fetch_at s) ≡ true }
 {}
 
-/// A step that ends a run executed an instruction if the end says so.
+/// Proves that a step which ends a run counts as an execution if and only if `begins_at_end` says so.
 pub fn run_begins_its_end()
     ensures { (s : State) (e : Ending) → step_of s ≡ Err e → is_begun (fetch_at s) ≡ begins_at_end e }
 {}
 
-/// The counts of a run add up to its completed steps, plus one if it ended with an exit or with a fault other than one of the fetch.
+/// Proves that the counts of a run add up to its completed steps, plus one if it ended with an exit or with a fault other than one of the
+/// fetch.
 pub fn counts_sum_to_the_steps()
     ensures { (n : ℕ) (s : State) (cs : List AddressCounts) → AreCountsOf n s cs
         → begun_total cs ≡ (run_of n s).steps + once_if (begins_at_end (run_of n s).ending) }
 {}
 
-/// The counts of a run that begins at an even address can be in a table: each address is even.
+/// Proves that the counts of a run that begins at an even address can be in a table, since each address is even.
 pub fn counts_stand_at_even_addresses()
     ensures { (n : ℕ) (s : State) (cs : List AddressCounts) → AreCountsOf n s cs → s.pc % 2 ≡ 0 → AreCounts cs }
 {}
 
-/// The table of jobs does not depend on their order.
+/// Proves that the table of jobs does not depend on their order.
 pub fn jobs_have_one_table()
     ensures { (answers : List Answer) (jobs others : List Job) (t u : CountTable) → IsPermutation jobs others
         → IsTableOfJobs answers jobs t → IsTableOfJobs answers others u → t ≡ u }
 {}
 
-/// The tables of the parts of a list add up to the table of the list, however the jobs are divided, and so have its text.
+/// Proves that the tables of the parts of a list add up to the table of the list, however the jobs are divided, and so have its text.
 pub fn tables_of_parts_sum_to_that_of_the_list()
     ensures { (answers : List Answer) (jobs : List Job) (parts : List (List Job)) (ts : List CountTable)
         (sum whole : CountTable) → IsPermutation (flat_map (λ part. part) parts) jobs
@@ -53,15 +54,16 @@ pub fn tables_of_parts_sum_to_that_of_the_list()
         → table_text sum ≡ table_text whole }
 {}
 
-/// The tables of the shards of some indices, where a shard has the indices with one remainder modulo the number of shards, add up to the
-/// table of all, and so have its text.
+/// Proves that the tables of all shards add up to the table of the whole list, in any order, and that the sum has the same text. A shard
+/// has the jobs whose indices leave the same remainder when divided by the number of shards.
 pub fn tables_of_shards_sum_to_that_of_all()
     ensures { (plan : Planned) (shards : ℕ) (places : List ℕ) (ts : List CountTable) (sum whole : CountTable)
         → 0 < shards → AreTablesOfShards plan shards places ts → SumsTo no_counts ts sum
         → IsTableOfPlaces plan places whole → table_text sum ≡ table_text whole }
 {}
 
-/// Jobs have one table for all sets of file contents that agree on the jobs' paths, for example for those gathered for these jobs alone.
+/// Proves that jobs have one table for all file contents that agree on the jobs' paths, for example for those that were gathered for these
+/// jobs alone.
 pub fn jobs_have_one_table_over_the_same_files()
     ensures { (some others : List Answer) (jobs : List Job) (t : CountTable) → All (HaveSameResults some others) jobs
         → IsTableOfJobs some jobs t → IsTableOfJobs others jobs t }

@@ -3,8 +3,8 @@
 //! [`count_run`] runs a machine within a budget, cached straight-line code as a unit, and returns its counts: for each address exactly how
 //! often an instruction was executed there, and how often it was a taken conditional branch. [`count_job`] does so for a job of a plan, in
 //! an additional run. [`count_batch`] returns the table of a batch's jobs, which is the sum of their tables: [`jobs_have_one_table`]
-//! whatever their order, and [`tables_of_shards_sum_to_that_of_all`]. [`TableSum`] adds the tables that a run of the engine makes, each as
-//! soon as those of all earlier jobs are added.
+//! whatever their order, and [`tables_of_shards_sum_to_that_of_all`]. [`TableSum`] adds the tables that a run of the engine computes, each
+//! as soon as those of all earlier jobs are added.
 #![tactic(auto)]
 
 mod block;

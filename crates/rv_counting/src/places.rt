@@ -1,4 +1,4 @@
-//! The table of the jobs at some indices of a plan.
+//! The table of the jobs of a batch.
 
 ghost use Rattle.std.specs.Prelude.{◌≡◌, IfOk};
 ghost use Rattle.rv_count_tables.specs.declared.sum.SumError.TheVariants.{OutOfMemory};
@@ -14,9 +14,9 @@ use std::marker::Brand;
 use std::sync::Wait;
 use std::thread::Threads;
 
-/// Returns the table of a batch's jobs: the sum of their runs' tables, identical for every crew. Each job is run once more, by the threads
-/// of the crew. Takes memory for the tables that wait to be added, for two sums, and 256 KiB for each thread's decode cache. With so few
-/// jobs no number reaches 2^64.
+/// Runs each job of a batch once more, on the threads of the crew, and returns the sum of the runs' tables, which is identical for every
+/// crew. Takes memory for the tables that wait to be added, for two sums, and 256 KiB for each thread's decode cache. With so few jobs no
+/// number reaches 2^64.
 pub fn count_batch<R: Threads + Wait + Sync>(
     crew: &Crew<'_, R>,
     batch: &Batch<'_>,
@@ -35,7 +35,7 @@ pub fn count_batch<R: Threads + Wait + Sync>(
     }
 }
 
-// Converts the error of a sum. Jobs' tables have no call trees, and for so few of them a sum fails only if memory runs out.
+// Converts the error of a sum of jobs' tables. These have no call trees, and with so few of them a sum fails only if memory runs out.
 fn alloc_error_of(error: SumError) -> AllocError
     requires { error ≡ OutOfMemory }
 {

@@ -10,7 +10,8 @@ use rv_isa::Op;
 use rv_machine::{Ending, FaultKind, Machine};
 use rv_trace::{Code, code_length, instr_of};
 
-/// The count of a step: whether an instruction was executed, whether it completed, and whether it was a taken conditional branch.
+/// What a step adds to the counts: whether an instruction was executed, whether it completed, and whether it was a taken conditional
+/// branch.
 #[derive(Clone, Copy)]
 pub(crate) struct StepCount {
     pub(crate) begun: bool,
@@ -18,7 +19,7 @@ pub(crate) struct StepCount {
     pub(crate) taken: bool,
 }
 
-/// Executes a machine's next instruction, whose encoding is `code`, if it completes.
+/// Executes a machine's next instruction, whose encoding is `code`, and returns what the step adds to the counts.
 pub(crate) fn count_step(machine: &mut Machine, code: Option<Code>) -> StepCount
     requires { code ≡ code_at (state_of machine.old).bus (state_of machine.old).pc }
     ensures { IsStepCount (state_of machine.old) result (state_of machine.new) }
@@ -39,7 +40,7 @@ pub(crate) fn count_step(machine: &mut Machine, code: Option<Code>) -> StepCount
     }
 }
 
-// Whether the encoding at a pc is a conditional branch that did not continue at the next address.
+// Whether the encoding at `pc` is a conditional branch, and the run did not continue at the next address but at another one, `next`.
 fn is_taken_code(code: Option<Code>, pc: u32, next: u32) -> bool
     ensures { result ≡ is_taken_code code pc next }
 {
@@ -49,6 +50,7 @@ fn is_taken_code(code: Option<Code>, pc: u32, next: u32) -> bool
     }
 }
 
+// Whether the instruction of an encoding is a conditional branch.
 fn is_branch_code(code: Code) -> bool
     ensures { result ≡ is_branch_code code }
 {
@@ -68,7 +70,7 @@ pub fn is_branch(op: Op) -> bool
     }
 }
 
-/// Whether stored code can be executed after an instruction.
+/// Whether an instruction is FENCE.I, after which stored code can be executed.
 pub(crate) fn is_fence(op: Op) -> bool
     ensures { result ≡ is_fence op }
 {
@@ -87,7 +89,7 @@ pub(crate) fn is_straight(op: Op) -> bool
     }
 }
 
-/// Whether a run with this end executed an instruction at its end: not after a fault of the fetch or a used-up budget.
+/// Whether the step that ended a run so executed an instruction: not if the fetch faulted or the budget was used up.
 pub fn begins_at_end(ending: Ending) -> bool
     ensures { result ≡ begins_at_end ending }
 {
@@ -98,6 +100,7 @@ pub fn begins_at_end(ending: Ending) -> bool
     }
 }
 
+// Whether an instruction with a fault of this kind was executed: not if the fault is one of the fetch.
 fn begins_at_fault(kind: FaultKind) -> bool
     ensures { result ≡ begins_at_fault kind }
 {

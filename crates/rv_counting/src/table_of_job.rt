@@ -22,8 +22,8 @@ use rv_trace::{JobImage, image_bytes, image_of_bytes};
 use sha2::{Digest, Sha256};
 use std::alloc::{AllocError, Global};
 
-/// Returns the table of the job at an index: the counts of its run, or the table of no runs if the job is refused. Takes longer than one
-/// run of the job, and memory for each executed address. Reuses the memory of the last run.
+/// Runs the job at an index once more, and returns the table of the run, or the table of no runs if the job is refused. Takes longer than
+/// one run of the job, and memory for each executed address. Reuses the memory of the last run.
 pub(crate) fn count_place(
     alloc: Global,
     plan: &Plan,
@@ -61,7 +61,7 @@ pub fn empty_table(alloc: Global) -> CountTable
     }
 }
 
-// Returns the table of one run of the image with these bytes.
+// Returns the table of one run of the image with this path and these bytes.
 fn table_of_run(
     alloc: Global,
     path: &str,
@@ -87,7 +87,7 @@ fn table_of_run(
     Ok(CountTable { images, runs: 1 })
 }
 
-/// Returns a list of one image.
+/// Returns the list of this image alone.
 pub fn images_of_one(alloc: Global, image: ImageCounts) -> Result<Images, AllocError>
     ensures { IfOk result (λ images. images ≡ image ∷ []) }
 {
@@ -96,7 +96,7 @@ pub fn images_of_one(alloc: Global, image: ImageCounts) -> Result<Images, AllocE
     Ok(Images::new(images))
 }
 
-/// Returns the digest by which a table identifies the image with these bytes.
+/// Returns the SHA-256 digest of the bytes of a file, by which a table identifies the image.
 pub fn digest_of(alloc: Global, bytes: &[u8]) -> Result<Bytes, AllocError>
     ensures value { IfOk result (λ digest. digest ≡ sha256 bytes.now) }
     ensures long { IfOk result (λ digest. length digest ≡ 32) }
@@ -106,6 +106,7 @@ pub fn digest_of(alloc: Global, bytes: &[u8]) -> Result<Bytes, AllocError>
     copy_of(alloc, &digest)
 }
 
+// Returns a copy of the bytes.
 fn copy_of(alloc: Global, bytes: &[u8]) -> Result<Bytes, AllocError>
     ensures value { IfOk result (λ copy. copy ≡ bytes.now) }
     ensures bytes { IfOk result (λ copy. AllByRecursion (λ b. b < 256) copy) }
@@ -115,7 +116,7 @@ fn copy_of(alloc: Global, bytes: &[u8]) -> Result<Bytes, AllocError>
     Ok(Bytes::new(copy))
 }
 
-/// Converts a text to the form that a table holds: UTF-8 without line feeds.
+/// Returns a text in the form that a table holds: printable UTF-8, without line feeds.
 pub fn shown_text(alloc: Global, text: &[u8]) -> Result<Text, AllocError>
     ensures value { IfOk result (λ shown. shown ≡ printable_text text.now) }
     ensures text { IfOk result IsUtf8 }

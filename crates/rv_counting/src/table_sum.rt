@@ -1,4 +1,4 @@
-//! The sum of the tables of jobs.
+//! The sum of the tables of jobs, as a run delivers them.
 
 ghost use Rattle.std.specs.Prelude.{◌≡◌, None};
 ghost use Rattle.rv_count_tables.specs.Sum.{no_counts};
@@ -24,7 +24,7 @@ pub trait HasTable {
         ensures sound { IsTable (table self.now) };
 }
 
-/// Adds the tables of the results that it receives, up to the first that has no sum with those before it.
+/// A listener that adds the tables of the results which it receives, up to the first that has no sum with those before it.
 #[derive(Drop)]
 pub struct TableSum {
     alloc: Global,
@@ -44,7 +44,7 @@ impl Model for TableSum {
 }
 
 impl TableSum {
-    /// Creates a sum that has received no tables.
+    /// Returns a sum without tables. Does not allocate.
     pub fn new(alloc: Global) -> TableSum
         ensures { result ≡ record { sum = no_counts; failed = None } }
     {
@@ -55,7 +55,8 @@ impl TableSum {
         }
     }
 
-    /// Returns the sum after a run, or why there is none. A run ends early if an allocation fails or a thread cannot be started.
+    /// Returns the sum after a run, or why there is none. A run fails if an allocation fails or a thread cannot be started; both count as
+    /// `OutOfMemory`.
     pub fn into_sum_of_run(self, ran: Result<Flow, RunError>) -> Result<CountTable, SumError>
         ensures { result ≡ sum_of_run self ran }
     {

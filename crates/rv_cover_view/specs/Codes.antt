@@ -1,4 +1,4 @@
--- The encodings in a function's bytes, one after another from the first byte on.
+-- The encodings in the bytes of a function, one after another from the first byte on.
 use Rattle.std.specs.Prelude.{◌+◌, ◌*◌, ◌%◌, ◌==◌, ℕ, zero, suc, if◌then◌else◌, List, [], ◌∷◌, Option, Some, None, drop, length, option_and_then, option_map}
 use Rattle.std.specs.Option.{option_map_or}
 use Rattle.rv_elf.specs.Functions.{Named}
@@ -8,26 +8,27 @@ use Rattle.rv_trace.specs.declared.code.Code.TheVariants.{Half, Word}
 use Rattle.rv_trace.specs.Code.{size_of_code}
 use Rattle.rv_cover_view.specs.Functions.{address_of, bytes_of}
 
--- the halfword at the start of the bytes, little-endian
+-- the little-endian halfword at the start of the bytes, or `None` if there are fewer than two
 abbrev pub front_half : List ℕ → Option ℕ
 front_half (low ∷ high ∷ rest) = Some (low + 0x100 * high)
 front_half _ = None
 
--- a halfword whose low two bits are not 11 is a complete encoding; otherwise it is the low half of a word (ISA manual, 1.5)
+-- the encoding that begins with the halfword `low`, before the bytes `behind`: a word if its low two bits are 11, and otherwise the
+-- halfword itself (ISA manual, 1.5); `None` if a word is cut off
 abbrev pub code_of_half : List ℕ → ℕ → Option Code
 code_of_half behind low = if field low 1 0 == 3
     then option_map (λ high. Word (low + 0x1_0000 * high)) (front_half behind)
     else Some (Half low)
 
--- the encoding at the start of the bytes; none if it is cut off
+-- the encoding at the start of the bytes, or `None` if it is cut off
 unfoldable pub front_code : List ℕ → Option Code
 front_code bytes = option_and_then (code_of_half (drop 2 bytes)) (front_half bytes)
 
--- an encoding at its address
+-- an encoding with its address
 abbrev pub Placed : Type 0
 Placed = ℕ × Code
 
--- at most n encodings of bytes at an address; addresses advance as a pc does
+-- the first `n` encodings of bytes at an address, or all if there are fewer; addresses advance as a pc does
 unfoldable pub codes_from : ℕ → ℕ → List ℕ → List Placed
 codes_from zero address bytes = []
 codes_from (suc n) address bytes = option_map_or

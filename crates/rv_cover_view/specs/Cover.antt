@@ -1,4 +1,4 @@
--- Coverage of functions.
+-- The coverage of functions.
 use Rattle.std.specs.Prelude.{◌≡◌, ◌+◌, ◌≤◌, ◌<◌, ◌&&◌, ℕ, Bool, not, nat_le, nat_lt, List, filter, is_some, length}
 use Rattle.std.specs.List.{count_by, flat_map, list_any}
 use Rattle.rv_count_tables.specs.declared.table.AddressCounts.{AddressCounts}
@@ -13,42 +13,47 @@ use Rattle.rv_cover_view.specs.Functions.{address_of, bytes_of}
 
 -- ---- a function
 
--- an instruction was executed at one of the function's addresses
+-- whether an instruction was executed at one of the function's addresses
 abbrev pub has_run : List AddressCounts → Named → Bool
 has_run counts f = list_any (λ c. nat_le (address_of f) c.address && nat_lt c.address (address_of f + length (bytes_of f))) counts
 
+-- the functions at whose addresses no instruction was executed, in order
 abbrev pub never_run : List AddressCounts → List Named → List Named
 never_run counts fs = filter (λ f. not (has_run counts f)) fs
 
--- ---- a code at its address
+-- ---- an encoding with its address
 
--- RV32IMC has an instruction for the encoding
+-- whether RV32IMC has an instruction for the encoding
 abbrev pub is_instruction : Placed → Bool
 is_instruction p = is_some (instr_of p.1)
 
--- an instruction was executed at the encoding's address
+-- whether an instruction was executed at the encoding's address
 abbrev pub has_begun : List AddressCounts → Placed → Bool
 has_begun counts p = nat_lt 0 (begun_at p.0 counts)
 
+-- whether RV32IMC has an instruction for the encoding, and one was executed at its address
 abbrev pub is_run : List AddressCounts → Placed → Bool
 is_run counts p = is_instruction p && has_begun counts p
 
--- the branch was taken, and executed more often than taken
+-- whether the branch was taken at least once, and also executed without being taken
 abbrev pub went_both_ways : List AddressCounts → Placed → Bool
 went_both_ways counts p = nat_lt 0 (taken_at p.0 counts) && nat_lt (taken_at p.0 counts) (begun_at p.0 counts)
 
--- conditional branches that went both ways, only one way, and were never executed
+-- whether the encoding is a conditional branch that was both taken and not taken
 abbrev pub is_branch_both_ways : List AddressCounts → Placed → Bool
 is_branch_both_ways counts p = is_branch_code p.1 && went_both_ways counts p
 
+-- whether the encoding is a conditional branch that was executed, but always taken or never taken
 abbrev pub is_branch_one_way : List AddressCounts → Placed → Bool
 is_branch_one_way counts p = is_branch_code p.1 && (has_begun counts p && not (went_both_ways counts p))
 
+-- whether the encoding is a conditional branch that was never executed
 abbrev pub is_branch_never : List AddressCounts → Placed → Bool
 is_branch_never counts p = is_branch_code p.1 && not (has_begun counts p)
 
 -- ---- sums
 
+-- the coverage of encodings: how many instructions and conditional branches of each kind there are
 abbrev pub amounts_of_codes : List AddressCounts → List Placed → CodeAmounts
 amounts_of_codes counts ps = record {
   instructions = count_by is_instruction ps;
@@ -58,6 +63,7 @@ amounts_of_codes counts ps = record {
   branches_never = count_by (is_branch_never counts) ps;
 }
 
+-- the coverage of functions: how many there are, how many ran, and the coverage of their encodings
 abbrev pub amounts_of : List AddressCounts → List Named → Amounts
 amounts_of counts fs = record {
   functions = length fs;
@@ -65,7 +71,7 @@ amounts_of counts fs = record {
   code = amounts_of_codes counts (flat_map codes_of fs);
 }
 
--- ---- the theorem
+-- ---- counts and lines agree
 
 -- no instruction was executed at the function's addresses
 abbrev pub HasNotBegun : List AddressCounts → Named → Type 0

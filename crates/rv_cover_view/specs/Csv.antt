@@ -1,36 +1,43 @@
--- Coverage of images as comma-separated values (RFC 4180): a row of column names and a row per image, each terminated by a line feed.
+-- The coverage of images as comma-separated values (RFC 4180): a row of column names and a row for each image, each ended by a line feed.
 use Rattle.std.specs.Prelude.{◌++◌, ◌==◌, ◌||◌, ℕ, Bool, if◌then◌else◌, List, [], ◌∷◌, codes}
 use Rattle.std.specs.Fmt.{decimal}
 use Rattle.std.specs.List.{flat_map, list_any}
 use Rattle.rv_cover_view.specs.declared.amounts.Amounts.{Amounts}
 use Rattle.rv_cover_view.specs.declared.amounts.CodeAmounts.{CodeAmounts}
 
+-- the row of column names
 unfoldable pub csv_head : List ℕ
 csv_head = codes "image,functions,functions_run,instructions,instructions_run,branches_both_ways,branches_one_way,branches_never\n"
 
--- a comma, a quote, a line feed or a carriage return
+-- whether a field with this byte must be quoted: a comma, a quote, a line feed or a carriage return
 abbrev pub is_special : ℕ → Bool
 is_special byte = (byte == 44) || ((byte == 34) || ((byte == 10) || (byte == 13)))
 
+-- a byte of a quoted field: a quote is doubled
 abbrev pub quote_twice : ℕ → List ℕ
 quote_twice byte = if byte == 34 then 34 ∷ 34 ∷ [] else byte ∷ []
 
+-- a field with its quotes doubled
 abbrev pub with_quotes_twice : List ℕ → List ℕ
 with_quotes_twice field = flat_map quote_twice field
 
--- a field with a special character is quoted, and its own quotes are doubled
+-- a field, in quotes and with its own quotes doubled if it has a special byte
 unfoldable pub csv_field : List ℕ → List ℕ
 csv_field field = if list_any is_special field then codes "\"" ++ with_quotes_twice field ++ codes "\"" else field
 
+-- the fields of a row for the numbers of functions
 unfoldable pub csv_functions : Amounts → List ℕ
 csv_functions a = codes "," ++ decimal a.functions ++ codes "," ++ decimal a.functions_run
 
+-- the fields of a row for the numbers of instructions
 unfoldable pub csv_instructions : CodeAmounts → List ℕ
 csv_instructions a = codes "," ++ decimal a.instructions ++ codes "," ++ decimal a.instructions_run
 
+-- the fields of a row for the numbers of conditional branches
 unfoldable pub csv_branches : CodeAmounts → List ℕ
 csv_branches a = codes "," ++ decimal a.branches_both_ways ++ codes "," ++ decimal a.branches_one_way
     ++ codes "," ++ decimal a.branches_never
 
+-- the row of the image with this path and coverage
 unfoldable pub csv_row : List ℕ → Amounts → List ℕ
 csv_row path a = csv_field path ++ csv_functions a ++ csv_instructions a.code ++ csv_branches a.code ++ codes "\n"

@@ -5,20 +5,23 @@ use Rattle.std.specs.List.Sorted.{IsStrictlyIncreasing}
 use Rattle.rv_elf.specs.declared.function.Function.{Function}
 use Rattle.rv_elf.specs.Functions.{Named}
 
--- a function with its name, its address and its bytes
+-- a function of the code as contracts see it: its name, its address and its bytes
 abbrev pub named : Function → Named
 named f = (f.name.now, (f.address, f.code.now))
 
+-- the address of a function
 abbrev pub address_of : Named → ℕ
 address_of f = f.1.0
 
+-- the bytes of a function
 abbrev pub bytes_of : Named → List ℕ
 bytes_of f = f.1.1
 
+-- whether a function is at an address
 abbrev pub stands_at : ℕ → Named → Bool
 stands_at address f = address_of f == address
 
--- sorted by address, with the first of the old functions at each address
+-- `new` has one function for each address of `old`, the first there, sorted by address
 pub record IsEachOnce (old new : List Named) : Type 0 where
   pub rising : IsStrictlyIncreasing (map address_of new)
   pub first : (address : ℕ) → find (stands_at address) new ≡ find (stands_at address) old

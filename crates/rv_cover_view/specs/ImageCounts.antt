@@ -10,23 +10,23 @@ use Rattle.rv_count_tables.specs.declared.table.ImageCounts.{ImageCounts}
 use Rattle.rv_text.specs.Printable.{printable_text}
 use Rattle.rv_cover_view.specs.JobImages.{FileImage}
 
--- a table's image has the digest
+-- whether an image of a table has this digest
 abbrev pub is_of_digest : List ℕ → ImageCounts → Bool
 is_of_digest digest counted = bytes_eq counted.digest digest
 
--- the image in a table with the digest of a file, if there is one
+-- the image of a table with the digest of these bytes, or `None` if there is none
 abbrev pub counted_image : CountTable → List ℕ → Option ImageCounts
 counted_image table bytes = find (is_of_digest (sha256 bytes)) table.images
 
--- the image's counts; none if the table has no such image
+-- the counts of the image with the digest of these bytes, which are none if the table has no such image
 abbrev pub counts_of : CountTable → List ℕ → List AddressCounts
 counts_of table bytes = option_map_or (λ counted. counted.addresses) (counted_image table bytes) []
 
--- a table has counts of another image with the same path, and none of this one
+-- whether a table has an image with the path of this image, but none with its digest
 abbrev pub is_other_image : CountTable → FileImage → Bool
 is_other_image table image = not (list_any (is_of_digest (sha256 image.bytes)) table.images)
     && list_any (λ counted. bytes_eq counted.path (printable_text image.path)) table.images
 
--- the path of the first image for which the table has counts of another image only, if there is one
+-- the path of the first image for which the table has only another image with its path, or `None` if there is none
 abbrev pub other_image : CountTable → List FileImage → Option (List ℕ)
 other_image table images = option_map (λ image. image.path) (find (is_other_image table) images)

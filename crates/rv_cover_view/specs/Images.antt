@@ -1,4 +1,4 @@
--- Coverage of an image, from the counts of its addresses.
+-- The coverage of an image, from the counts of its addresses.
 use Rattle.std.specs.Prelude.{◌≡◌, ℕ, List, map}
 use Rattle.rv_count_tables.specs.declared.table.AddressCounts.{AddressCounts}
 use Rattle.rv_elf.specs.Functions.{Named, functions}
@@ -7,8 +7,7 @@ use Rattle.rv_cover_view.specs.Cover.{amounts_of, never_run}
 use Rattle.rv_cover_view.specs.Functions.{IsEachOnce, named}
 use Rattle.rv_cover_view.specs.declared.image_cover.ImageCover.{ImageCover}
 
--- the coverage has the path; its totals and its functions that never ran are those of the functions in the image's file, one for each
--- address
+-- `cover` has this path, and the totals and the functions that never ran of the functions in the image's file, one for each address
 pub record IsCoverOf (path : List ℕ) (image : Image) (file : List ℕ) (counts : List AddressCounts) (cover : ImageCover) : Type 0 where
   pub found : List Named
   pub once : IsEachOnce (functions image file) found

@@ -1,4 +1,4 @@
--- The coverage report of images, from a table's counts: a header, then the coverage of each image.
+-- The coverage report of images, from a table's counts: a header, and then the coverage of each image.
 use Rattle.std.specs.Prelude.{◌≡◌, ◌++◌, ℕ, Bool, false, true, if◌then◌else◌, List, [], ◌∷◌, map}
 use Rattle.rv_count_tables.specs.declared.table.CountTable.{CountTable}
 use Rattle.rv_cover_view.specs.Csv.{csv_head, csv_row}
@@ -9,25 +9,26 @@ use Rattle.rv_cover_view.specs.JobImages.{FileImage}
 use Rattle.rv_cover_view.specs.Text.{cover_head, image_line, never_run_line}
 use Rattle.rv_cover_view.specs.declared.image_cover.ImageCover.{ImageCover}
 
--- an image's coverage, as a CSV row, or as a line followed by the names of the functions that never ran
+-- the coverage of an image: as a CSV row if the Boolean is true, or else as a line, and the names of the functions that never ran
 abbrev pub image_text : Bool → ImageCover → List ℕ
 image_text true cover = csv_row cover.path.now cover.amounts
 image_text false cover = image_line cover.path.now cover.amounts ++ never_run_line (map named cover.never_run.items)
 
+-- the header of the report, in CSV or as a line
 abbrev pub head_text : Bool → List ℕ
 head_text csv = if csv then csv_head else cover_head
 
--- the text shows an image's coverage by a table's counts
+-- the text is the coverage of an image by a table's counts
 abbrev pub IsShownOf : Bool → CountTable → FileImage → List ℕ → Type 0
 IsShownOf csv table image text = (cover : ImageCover)
     × (IsCoverOf image.path image.image image.bytes (counts_of table image.bytes) cover × (text ≡ image_text csv cover))
 
--- the text shows the coverage of each image, one after another
+-- the text is the coverage of each image by a table's counts, in order
 abbrev pub AreShown : Bool → CountTable → List FileImage → List ℕ → Type 0
 AreShown csv table [] text = text ≡ []
 AreShown csv table (image ∷ images) text = (first : List ℕ) × (IsShownOf csv table image first
     × ((rest : List ℕ) × (AreShown csv table images rest × (text ≡ first ++ rest))))
 
--- the text is a header followed by the coverage of the images
+-- the text is the header, and then the coverage of each image by a table's counts, in order
 abbrev pub IsCoverText : Bool → CountTable → List FileImage → List ℕ → Type 0
 IsCoverText csv table images text = (lines : List ℕ) × (AreShown csv table images lines × (text ≡ head_text csv ++ lines))

@@ -11,22 +11,23 @@ use Rattle.rv_rows.specs.Rows.{image_if_read}
 use Rattle.rv_cover_view.specs.declared.image_file.ImageFile.{ImageFile}
 use Rattle.rv_trace.specs.Trace.{image_bytes}
 
--- an image with the path by which a list names it, and its file
+-- the image of a file, with the path by which a list names the file
 pub record FileImage : Type 0 where
   pub path : List ℕ
   pub bytes : List ℕ
   pub image : Image
 
--- the image of a job, if its file was read and is a valid image
+-- the image of a job, or `None` if its file was not read or is not an image
 abbrev pub image_of_job : List Answer → Job → Option FileImage
 image_of_job answers job = option_and_then (λ bytes. option_map (λ image. record { path = job.image; bytes = bytes; image = image })
     (image_if_read job.isa (Some bytes))) (image_bytes answers job)
 
--- the images with this one added, unless one of them has an equal file
+-- the images with this one appended, unless one of them has the same bytes
 abbrev pub with_image : List FileImage → FileImage → List FileImage
 with_image images image =
     if list_any (λ other. bytes_eq image.bytes other.bytes) images then images else images ++ image ∷ []
 
+-- the images with that of a job appended, if it has one and no image has the same bytes
 abbrev pub with_image_of : List Answer → List FileImage → Job → List FileImage
 with_image_of answers images job = option_map_or (with_image images) (image_of_job answers job) images
 
@@ -34,14 +35,16 @@ with_image_of answers images job = option_map_or (with_image images) (image_of_j
 abbrev pub images_of : List Answer → List Job → List FileImage
 images_of answers jobs = fold (with_image_of answers) [] jobs
 
--- image files are no larger than the store's read limit
+-- each image file is at most as large as files that are read may be
 abbrev pub AreSmall : List Answer → Type 0
 AreSmall answers = (job : Job) → IfSome (image_bytes answers job) (λ bytes. length bytes ≤ most_bytes)
 
--- ---- as the program has them
+-- ---- images as the code has them
 
+-- an image file of the code as contracts see it
 abbrev pub image_of_file : ImageFile → FileImage
 image_of_file file = record { path = file.path.now; bytes = file.bytes.now; image = file.image }
 
+-- the image files of the code as contracts see them, in order
 abbrev pub images_of_files : List ImageFile → List FileImage
 images_of_files files = map image_of_file files

@@ -1,9 +1,9 @@
-//! Coverage totals of functions.
+//! The totals of the coverage of functions.
 
 ghost use Rattle.std.specs.Prelude.{◌≡◌};
 ghost use Rattle.rv_cover_view.specs.Steps.{Fits, no_amounts, plus};
 
-/// All functions, and those that ran.
+/// How many functions there are, how many of them ran, and the coverage of their code.
 #[derive(Clone, Copy, Debug, PartialEq)]
 pub struct Amounts {
     /// The number of functions.
@@ -14,16 +14,16 @@ pub struct Amounts {
     pub code: CodeAmounts,
 }
 
-/// All instructions, and those that were executed.
+/// How many instructions and conditional branches there are, and how many of them were executed.
 #[derive(Clone, Copy, Debug, PartialEq)]
 pub struct CodeAmounts {
     /// The number of encodings for which RV32IMC has an instruction.
     pub instructions: u64,
     /// The number of executed instructions.
     pub instructions_run: u64,
-    /// The number of conditional branches that were taken, and executed more often than taken.
+    /// The number of conditional branches that were both taken and not taken.
     pub branches_both_ways: u64,
-    /// The number of executed conditional branches that always went the same way.
+    /// The number of executed conditional branches that were always taken or never taken.
     pub branches_one_way: u64,
     /// The number of conditional branches that were never executed.
     pub branches_never: u64,

@@ -1,4 +1,4 @@
-//! Coverage of the code of a function.
+//! The coverage of the code of a function.
 
 ghost use Rattle.std.specs.Prelude.{◌≡◌, ◌≤◌, ◌∷◌, [], drop, length, true};
 ghost use Rattle.rv_count_tables.specs.Table.{rise_from};
@@ -12,7 +12,7 @@ use rv_counting::is_branch;
 use rv_isa::is_long;
 use rv_trace::{Code, code_length, instr_of};
 
-/// Returns the coverage of code at an address.
+/// Returns the coverage of the encodings in these bytes at an address.
 pub(crate) fn amounts_of_code(address: u32, code: &[u8], counts: &[AddressCounts]) -> CodeAmounts
     requires { rise_from 0 counts.now ≡ true }
     ensures { result ≡ amounts_of_codes counts.now (codes_from (length code.now) address code.now) }
@@ -28,7 +28,7 @@ pub(crate) fn amounts_of_code(address: u32, code: &[u8], counts: &[AddressCounts
     amounts
 }
 
-// Returns the coverage of one encoding; each total is 0 or 1.
+// Returns the coverage of one encoding. Each total is 0 or 1.
 fn amounts_at(address: u32, code: Code, counts: &[AddressCounts]) -> CodeAmounts
     requires { rise_from 0 counts.now ≡ true }
     ensures { result ≡ amounts_of_codes counts.now ((address, code) ∷ []) }
@@ -49,7 +49,7 @@ fn amounts_at(address: u32, code: Code, counts: &[AddressCounts]) -> CodeAmounts
     }
 }
 
-// Returns the encoding at the start of the bytes, unless it is cut off.
+// Returns the encoding at the start of the bytes, or `None` if it is cut off.
 #[tactic(auto, unfolding(crate::specs::Codes::front_code))]
 fn front_code(bytes: &[u8]) -> Option<Code>
     ensures { result ≡ front_code bytes.now }
@@ -62,7 +62,7 @@ fn front_code(bytes: &[u8]) -> Option<Code>
     Some(Code::Word(u32::from(low) + 0x1_0000 * u32::from(high)))
 }
 
-// Returns the halfword at the start of the bytes, little-endian.
+// Returns the little-endian halfword at the start of the bytes, or `None` if there are fewer than two.
 fn front_half(bytes: &[u8]) -> Option<u16>
     ensures { result ≡ front_half bytes.now }
 {

@@ -1,4 +1,4 @@
-//! Coverage of functions.
+//! The coverage of functions.
 
 ghost use Rattle.std.specs.Prelude.{◌≡◌, ◌<◌, ◌^◌, IfOk, map, true};
 ghost use Rattle.std.specs.List.{count_by, flat_map};
@@ -13,8 +13,8 @@ use rv_count_tables::{AddressCounts, has_begun_within};
 use rv_elf::Function;
 use std::alloc::{AllocError, Global};
 
-/// Counts the functions that ran, and their executed instructions and conditional branches, summed over the functions. Takes one search
-/// among the counts for each function and each encoding.
+/// Returns the coverage of functions: how many ran, and how many of their instructions and conditional branches were executed. Takes one
+/// search among the counts for each function and each encoding.
 pub fn cover_of_functions(functions: &[Function<'_>], counts: &[AddressCounts]) -> Amounts
     requires rising { rise_from 0 counts.now ≡ true }
     requires few { code_bytes (map named functions.now) < 2 ^ 64 }
@@ -45,6 +45,7 @@ pub fn never_run<'a>(
     Ok(found)
 }
 
+// Returns how many of the functions ran.
 fn functions_run(functions: &[Function<'_>], counts: &[AddressCounts]) -> u64
     requires { rise_from 0 counts.now ≡ true }
     ensures { result ≡ count_by (has_run counts.now) (map named functions.now) }
@@ -58,6 +59,7 @@ fn functions_run(functions: &[Function<'_>], counts: &[AddressCounts]) -> u64
     count
 }
 
+// Returns the coverage of the code of all functions.
 fn coverage_of_functions(functions: &[Function<'_>], counts: &[AddressCounts]) -> CodeAmounts
     requires rising { rise_from 0 counts.now ≡ true }
     requires few { code_bytes (map named functions.now) < 2 ^ 64 }

@@ -1,4 +1,4 @@
-//! Coverage of images for tools: comma-separated values (RFC 4180), each line terminated by a line feed.
+//! The coverage of images for tools: comma-separated values (RFC 4180), each line ended by a line feed.
 
 ghost use Rattle.std.specs.Prelude.{◌≡◌, ◌++◌, OnOk};
 ghost use Rattle.std.specs.List.{list_any};
@@ -31,6 +31,7 @@ pub fn push_csv_row(bytes: &mut Vec<u8>, path: &[u8], amounts: &Amounts) -> Resu
     push_text(bytes, "\n")
 }
 
+// Appends the fields for the numbers of functions.
 #[tactic(auto, unfolding(crate::specs::Csv::csv_functions))]
 fn push_csv_functions(bytes: &mut Vec<u8>, amounts: &Amounts) -> Result<(), AllocError>
     ensures { OnOk result (bytes.new.items ≡ bytes.old.items ++ csv_functions amounts.now) }
@@ -46,6 +47,7 @@ fn push_csv_functions(bytes: &mut Vec<u8>, amounts: &Amounts) -> Result<(), Allo
     )
 }
 
+// Appends the fields for the numbers of instructions.
 #[tactic(auto, unfolding(crate::specs::Csv::csv_instructions))]
 fn push_csv_instructions(bytes: &mut Vec<u8>, amounts: &CodeAmounts) -> Result<(), AllocError>
     ensures { OnOk result (bytes.new.items ≡ bytes.old.items ++ csv_instructions amounts.now) }
@@ -61,6 +63,7 @@ fn push_csv_instructions(bytes: &mut Vec<u8>, amounts: &CodeAmounts) -> Result<(
     )
 }
 
+// Appends the fields for the numbers of conditional branches.
 #[tactic(auto, unfolding(crate::specs::Csv::csv_branches))]
 fn push_csv_branches(bytes: &mut Vec<u8>, amounts: &CodeAmounts) -> Result<(), AllocError>
     ensures { OnOk result (bytes.new.items ≡ bytes.old.items ++ csv_branches amounts.now) }
@@ -78,7 +81,7 @@ fn push_csv_branches(bytes: &mut Vec<u8>, amounts: &CodeAmounts) -> Result<(), A
     )
 }
 
-/// Appends a field, quoted if necessary.
+/// Appends a field, in quotes and with its own quotes doubled if it has a special byte.
 #[tactic(auto, unfolding(crate::specs::Csv::csv_field))]
 pub fn push_csv_field(bytes: &mut Vec<u8>, field: &[u8]) -> Result<(), AllocError>
     ensures { OnOk result (bytes.new.items ≡ bytes.old.items ++ csv_field field.now) }
@@ -91,19 +94,21 @@ pub fn push_csv_field(bytes: &mut Vec<u8>, field: &[u8]) -> Result<(), AllocErro
     push_text(bytes, "\"")
 }
 
+// Whether a field must be quoted.
 fn has_special(field: &[u8]) -> bool
     ensures { result ≡ list_any is_special field.now }
 {
     field.iter().any(|byte| is_special(*byte))
 }
 
-// Whether a field that contains the byte must be quoted.
+// Whether a field with this byte must be quoted.
 fn is_special(byte: u8) -> bool
     ensures { result ≡ is_special byte }
 {
     byte == b',' || byte == b'"' || byte == b'\n' || byte == b'\r'
 }
 
+// Appends a field with its quotes doubled.
 fn push_with_quotes_twice(bytes: &mut Vec<u8>, field: &[u8]) -> Result<(), AllocError>
     ensures { OnOk result (bytes.new.items ≡ bytes.old.items ++ with_quotes_twice field.now) }
 {

@@ -14,7 +14,7 @@ use rv_text::push_printable_text;
 use sha2::{Digest, Sha256};
 use std::alloc::{AllocError, Global};
 
-/// Returns the path of the first image of which a table has no counts, although it has counts of another image with that path.
+/// Returns the path of the first image for which a table has only another image with its path, or `None` if there is none.
 pub fn other_image<'a>(
     alloc: Global,
     table: &CountTable,
@@ -30,6 +30,7 @@ pub fn other_image<'a>(
     Ok(None)
 }
 
+// Whether a table has an image with the path of this image, but none with its digest.
 fn is_other_image(
     alloc: Global,
     table: &CountTable,
@@ -45,6 +46,7 @@ fn is_other_image(
     Ok(has_path(table, path.as_slice()))
 }
 
+// Whether a table has an image with the digest of these bytes.
 fn has_digest_of(table: &CountTable, bytes: &[u8]) -> bool
     ensures { result ≡ list_any (is_of_digest (sha256 bytes.now)) table.now.images }
 {
@@ -53,6 +55,7 @@ fn has_digest_of(table: &CountTable, bytes: &[u8]) -> bool
     images.iter().any(|counted| is_of_digest(&digest, counted))
 }
 
+// Whether a table has an image with this path.
 fn has_path(table: &CountTable, path: &[u8]) -> bool
     ensures { result ≡ list_any (λ counted. bytes_eq counted.path path.now) table.now.images }
 {
@@ -62,7 +65,7 @@ fn has_path(table: &CountTable, path: &[u8]) -> bool
         .any(|counted| counted.path.as_str().as_bytes() == path)
 }
 
-/// Returns a table's counts of the image with the digest of a file.
+/// Returns a table's counts of the image with the digest of these bytes, which are none if there is no such image.
 pub(crate) fn counts_of<'t>(table: &'t CountTable, bytes: &[u8]) -> &'t [AddressCounts]
     requires { IsTable table.now }
     ensures counts { result.now ≡ counts_of table.now bytes.now }
@@ -74,7 +77,7 @@ pub(crate) fn counts_of<'t>(table: &'t CountTable, bytes: &[u8]) -> &'t [Address
     }
 }
 
-/// Returns a table's image with the digest of a file, if it has one.
+/// Returns a table's image with the digest of these bytes, or `None` if there is none.
 pub fn counted_image<'t>(table: &'t CountTable, bytes: &[u8]) -> Option<&'t ImageCounts>
     ensures { option_map (λ counted. counted.now) result ≡ counted_image table.now bytes.now }
 {
@@ -83,6 +86,7 @@ pub fn counted_image<'t>(table: &'t CountTable, bytes: &[u8]) -> Option<&'t Imag
     images.iter().find(|counted| is_of_digest(&digest, counted))
 }
 
+// Whether an image of a table has this digest.
 fn is_of_digest(digest: &[u8], counted: &ImageCounts) -> bool
     ensures { result ≡ is_of_digest digest.now counted.now }
 {

@@ -1,4 +1,4 @@
-//! Coverage of an image.
+//! The coverage of an image.
 
 ghost use Rattle.std.specs.Prelude.{◌≡◌, ◌≤◌, IfOk, length, true};
 ghost use Rattle.rv_count_tables.specs.Table.{rise_from};
@@ -12,10 +12,10 @@ use rv_count_tables::AddressCounts;
 use rv_elf::{Function, Image};
 use std::alloc::{AllocError, Global};
 
-/// Coverage of an image.
+/// The coverage of an image.
 #[derive(Drop)]
 pub struct ImageCover<'a> {
-    /// The path to show.
+    /// The path of the image, which is shown.
     pub path: &'a [u8],
     /// The totals of the image's functions, one for each address.
     pub amounts: Amounts,
@@ -23,7 +23,7 @@ pub struct ImageCover<'a> {
     pub never_run: Vec<Function<'a>>,
 }
 
-/// Returns the coverage of a file's image, from the counts of its addresses.
+/// Returns the coverage of the image of a file, from the counts of its addresses.
 pub fn cover_of_image<'a>(
     alloc: Global,
     path: &'a [u8],

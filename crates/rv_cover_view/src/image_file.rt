@@ -1,4 +1,4 @@
-//! A job's image together with its file.
+//! A job's image, with its file.
 
 ghost use Rattle.std.specs.Prelude.{◌≡◌, ◌≤◌, Ok, length};
 ghost use Rattle.rv_base.specs.Limits.{most_bytes};
@@ -7,14 +7,14 @@ ghost use Rattle.rv_elf.specs.Image.{image_of};
 use rv_elf::Image;
 use rv_isa::Isa;
 
-/// A job's image together with its file.
+/// A job's image, with its file.
 #[derive(Drop)]
 pub struct ImageFile<'a> {
-    /// The path by which the list names it.
+    /// The path by which the list names the file.
     pub path: &'a str,
     pub bytes: &'a [u8],
     pub image: Image,
-    /// The instruction set that it was parsed for.
+    /// The instruction set that the image was read for.
     pub isa: Isa,
     ghost read: { image_of isa bytes.now ≡ Ok image },
     ghost small: { length bytes.now ≤ most_bytes },

@@ -13,7 +13,7 @@ use crate::text::{push_cover_head, push_image_line, push_never_run_line};
 use rv_count_tables::CountTable;
 use std::alloc::{AllocError, Global};
 
-/// Formats the coverage of images by a table's counts: a header, then each image as a CSV row or as lines for people.
+/// Returns the coverage report of images by a table's counts: a header, and then each image as a CSV row or as lines for people.
 pub fn cover_text(
     alloc: Global,
     csv: bool,
@@ -31,6 +31,7 @@ pub fn cover_text(
     Ok(text)
 }
 
+// Appends the header of the report.
 fn push_head(text: &mut Vec<u8>, csv: bool) -> Result<(), AllocError>
     ensures { OnOk result (text.new.items ≡ text.old.items ++ head_text csv) }
 {
@@ -41,7 +42,7 @@ fn push_head(text: &mut Vec<u8>, csv: bool) -> Result<(), AllocError>
     }
 }
 
-// Appends the coverage of an image.
+// Appends the coverage of an image by a table's counts.
 fn push_image(
     alloc: Global,
     text: &mut Vec<u8>,
@@ -59,6 +60,7 @@ fn push_image(
     push_image_cover(alloc, text, csv, &cover)
 }
 
+// Appends the coverage of an image as a CSV row, or as a line and the names of the functions that never ran.
 fn push_image_cover(
     alloc: Global,
     text: &mut Vec<u8>,

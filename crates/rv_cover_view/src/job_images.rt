@@ -14,7 +14,7 @@ use rv_jobs::Plan;
 use rv_trace::{image_bytes, image_of_bytes};
 use std::alloc::{AllocError, Global};
 
-/// Returns the images of the jobs at some indices, in order: each file once, with the path of the first job that has it.
+/// Returns the images of the jobs at these indices, in order: each file once, with the path of the first job that has it.
 pub fn images_of_jobs<'a>(
     alloc: Global,
     plan: &'a Plan,
@@ -32,7 +32,7 @@ pub fn images_of_jobs<'a>(
     Ok(files)
 }
 
-// Appends the image of the job at an index, if it has one whose file is not in the list yet.
+// Appends the image of the job at an index, if it has one and no image in the list has the same bytes.
 fn push_image_at<'a>(
     alloc: Global,
     files: &mut Vec<ImageFile<'a>>,
@@ -51,7 +51,7 @@ fn push_image_at<'a>(
     }
 }
 
-// Appends an image unless its file is in the list already.
+// Appends an image, unless one in the list has the same bytes.
 fn push_image<'a>(files: &mut Vec<ImageFile<'a>>, file: ImageFile<'a>) -> Result<(), AllocError>
     ensures { OnOk result (images_of_files files.new.items ≡ with_image (images_of_files files.old.items) (image_of_file file.entry)) }
 {
@@ -69,7 +69,7 @@ fn has_bytes(files: &[ImageFile<'_>], bytes: &[u8]) -> bool
     files.iter().any(|file| bytes == file.bytes)
 }
 
-// Returns the image of the job at an index, if its file was read and is a valid image.
+// Returns the image of the job at an index, or `None` if its file was not read or is not an image.
 fn image_at(alloc: Global, plan: &Plan, place: usize) -> Result<Option<ImageFile<'_>>, AllocError>
     requires within { place < length plan.now.jobs }
     requires small { AreSmall plan.now.answers }

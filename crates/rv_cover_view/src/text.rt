@@ -9,7 +9,7 @@ use rv_elf::Function;
 use rv_text::{Span, push_number, push_spans, push_text};
 use std::alloc::{AllocError, Global};
 
-/// Appends the header line.
+/// Appends the header of the coverage table.
 #[tactic(auto, unfolding(crate::specs::Text::cover_head))]
 pub fn push_cover_head(bytes: &mut Vec<u8>) -> Result<(), AllocError>
     ensures { OnOk result (bytes.new.items ≡ bytes.old.items ++ cover_head) }
@@ -54,6 +54,7 @@ pub fn push_never_run_line(
     push_text(bytes, "\n")
 }
 
+// Appends the names of functions, each after a comma and a space.
 fn push_further_names(bytes: &mut Vec<u8>, functions: &[Function<'_>]) -> Result<(), AllocError>
     ensures { OnOk result (bytes.new.items ≡ bytes.old.items ++ further_names (map named functions.now)) }
 {
@@ -63,6 +64,7 @@ fn push_further_names(bytes: &mut Vec<u8>, functions: &[Function<'_>]) -> Result
     Ok(())
 }
 
+// Appends the columns for the numbers of functions.
 #[tactic(auto, unfolding(crate::specs::Text::function_columns))]
 fn push_function_columns(
     alloc: Global,
@@ -76,6 +78,7 @@ fn push_function_columns(
     push_right(alloc, bytes, 6, amounts.functions)
 }
 
+// Appends the columns for the numbers of instructions and of conditional branches.
 #[tactic(auto, unfolding(crate::specs::Text::code_columns))]
 fn push_code_columns(
     alloc: Global,
@@ -92,7 +95,7 @@ fn push_code_columns(
     push_right(alloc, bytes, 10, amounts.branches_never)
 }
 
-/// Appends a number, right-aligned in a column of width `places`. A longer number widens the column.
+/// Appends a number with leading spaces up to a width of `places`. A longer number widens the column.
 #[tactic(auto, unfolding(crate::specs::Text::right))]
 pub fn push_right(
     alloc: Global,

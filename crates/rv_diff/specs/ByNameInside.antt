@@ -1,11 +1,11 @@
--- How rows relate to the index of their names.
+-- How the fields of `ByName` fit together: the rows, and the map from their names.
 use Rattle.std.specs.Prelude.{◌≡◌, ℕ, List, option_map}
 use Rattle.std.specs.HashMap.{get_by}
 use Rattle.std.specs.Str.{bytes_eq}
 use Rattle.rv_diff.specs.declared.by_name.ByName.TheInside.{Inside}
 use Rattle.rv_diff.specs.ByName.{row_named}
 
--- each name is mapped to the first row with that name
+-- what always holds for the fields of `ByName`: the map has the first row with each name
 abbrev pub IsByNameInside : Inside → Type 0
 IsByNameInside named = (name : List ℕ)
     → option_map (λ row. row.now) (get_by (λ key. bytes_eq name key.now) named.found)

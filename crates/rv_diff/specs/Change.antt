@@ -1,4 +1,4 @@
--- Whether two rows with the same name agree, and how a job changed from one report to another.
+-- Whether two rows with one name agree, and how a job changed from one report to another.
 use Rattle.std.specs.Prelude.{◌==◌, ◌&&◌, ◌*◌, ◌-◌, ℕ, Bool, true, nat_lt, not, Option, Some, None, if◌then◌else◌}
 use Rattle.std.specs.Str.{bytes_eq}
 use Rattle.rv_rows.specs.declared_row.Row.{Row}
@@ -14,47 +14,50 @@ use Rattle.rv_diff.specs.declared.change.Change.TheVariants.{Gone, Added, Change
 
 -- ---- which rows differ
 
--- both ended with the same code, with the same kind of fault, by their budgets, or with the same refusal
+-- whether two jobs ended alike: with one exit code, with one kind of fault, by using up their budgets, or with one refusal
 abbrev pub are_same_end_kinds : RowEnd → RowEnd → Bool
 are_same_end_kinds (ending.Refused why) (ending.Refused because) =
     bytes_eq (refusal_name why) (refusal_name because)
 are_same_end_kinds old new = are_alike_endings old new
 
--- two faults have the same address and the same value
+-- whether two endings, if both are faults, have one address and one value; true for other endings
 abbrev pub agree_in_fault_pc_and_value : RowEnd → RowEnd → Bool
 agree_in_fault_pc_and_value (ending.Fault kind pc value) (ending.Fault other at met) = pc == at && value == met
 agree_in_fault_pc_and_value old new = true
 
--- addresses and values of faults are compared only if steps are
+-- whether two jobs ended alike, as far as `compare` compares endings: addresses and values of faults are compared only if steps are
 abbrev pub are_same_endings : Compare → RowEnd → RowEnd → Bool
 are_same_endings Outcomes old new = are_same_end_kinds old new
 are_same_endings (Slower percent) old new = are_same_end_kinds old new
 are_same_endings Steps old new = are_same_end_kinds old new && agree_in_fault_pc_and_value old new
 
--- whether a job takes more steps than before, by more than a percentage of the old number
+-- whether the number of steps increased by more than `percent` percent of the old number
 abbrev pub is_slower : ℕ → ℕ → ℕ → Bool
 is_slower percent old new = nat_lt (old * percent) ((new - old) * 100)
 
+-- whether two rows agree in their steps, as far as `compare` compares steps
 abbrev pub agree_in_steps : Compare → Row → Row → Bool
 agree_in_steps Outcomes old new = true
 agree_in_steps Steps old new = old.steps == new.steps
 agree_in_steps (Slower percent) old new = not (is_slower percent old.steps new.steps)
 
+-- whether two rows have the same console
 abbrev pub have_same_console : Row → Row → Bool
 have_same_console old new = bytes_eq old.console new.console
 
+-- whether two verdicts are the same
 abbrev pub are_same_verdicts : Verdict → Verdict → Bool
 are_same_verdicts old new = bytes_eq (verdict_name old) (verdict_name new)
 
--- two rows agree in everything that is compared
+-- whether two rows agree in everything that `compare` compares
 unfoldable pub rows_agree : Compare → Row → Row → Bool
 rows_agree compare old new = are_same_endings compare old.ending new.ending && agree_in_steps compare old new
     && have_same_console old new && are_same_signatures old.signature new.signature
     && are_same_verdicts old.verdict new.verdict
 
--- ---- what became of a job
+-- ---- how a job changed
 
--- how a job changed, given its rows in the old and in the new report
+-- how a job changed, given its rows in the old and in the new report, if it has them; a job in neither counts as unchanged
 abbrev pub change_of : Compare → Option Row → Option Row → Change
 change_of compare None None = Same
 change_of compare None (Some new) = Added

@@ -1,4 +1,4 @@
--- How two rows with the same name differ.
+-- How two rows with one name differ.
 use Rattle.std.specs.Prelude.{◌==◌, ◌*◌, ◌-◌, ◌/◌, ℕ, Bool, not, List, [], ◌++◌, Option, Some, None}
 use Rattle.std.specs.Prelude.{if◌then◌else◌, codes, drop, length, position, slice_index}
 use Rattle.std.specs.Fmt.{decimal}
@@ -16,8 +16,9 @@ use Rattle.rv_diff.specs.declared.change.Compare.{Compare}
 use Rattle.rv_diff.specs.declared.change.Compare.TheVariants.{Outcomes, Slower, Steps}
 use Rattle.rv_diff.specs.Change.{have_same_console, are_same_endings, agree_in_steps, are_same_verdicts}
 
--- ---- what changed
+-- ---- the words for a change
 
+-- how a job ended, as reports say it
 unfoldable pub ending_words : RowEnd → List ℕ
 ending_words (ending.Exit code) = codes "exit " ++ exit_code_text code
 ending_words (ending.Fault kind pc value) = codes "fault " ++ fault_name kind
@@ -25,72 +26,79 @@ ending_words (ending.Fault kind pc value) = codes "fault " ++ fault_name kind
 ending_words ending.Budget = codes "budget"
 ending_words (ending.Refused why) = codes "refused " ++ refusal_name why
 
--- the old value, and the new one that replaces it
+-- the words `OLD -> NEW`
 abbrev pub becomes : List ℕ → List ℕ → List ℕ
 becomes old new = old ++ codes " -> " ++ new
 
+-- a value in quotes, as it is shown
 abbrev pub value_in_quotes : List ℕ → List ℕ
 value_in_quotes value = codes "\"" ++ printable_value value ++ codes "\""
 
--- the first index at which both lists have elements and these differ
+-- the first index at which both lists have elements that differ, or `None` if one list is a prefix of the other
 abbrev pub first_differing_index : List ℕ → List ℕ → Option ℕ
 first_differing_index old new = position (λ pair. not (pair.0 == pair.1)) (zip old new)
 
--- the number of each
+-- the words `COUNT -> COUNT` for the lengths of two lists of `what`
 abbrev pub counts_words : List ℕ → List ℕ → List ℕ → List ℕ
 counts_words what old new = becomes (count_text (length old) what) (count_text (length new) what)
 
--- the bytes from the first difference on; if there is none, one console is a prefix of the other
+-- how two consoles differ: the bytes from the first difference on, or the lengths if one console is a prefix of the other
 abbrev pub byte_change_words : Option ℕ → List ℕ → List ℕ → List ℕ
 byte_change_words (Some place) old new = codes "byte " ++ decimal place ++ codes ": "
     ++ becomes (value_in_quotes (drop place old)) (value_in_quotes (drop place new))
 byte_change_words None old new = counts_words (codes "byte") old new
 
+-- the words for a console that changed from `old` to `new`
 unfoldable pub console_words : List ℕ → List ℕ → List ℕ
 console_words old new = codes "console " ++ byte_change_words (first_differing_index old new) old new
 
--- the first word that differs
+-- how the words of two signatures differ: the first word that differs, or the lengths if one signature is a prefix of the other
 abbrev pub word_change_words : Option ℕ → List ℕ → List ℕ → List ℕ
 word_change_words (Some place) old new = codes "word " ++ decimal place ++ codes ": "
     ++ becomes (word_digits (slice_index old place)) (word_digits (slice_index new place))
 word_change_words None old new = counts_words (codes "word") old new
 
+-- the number of words of a signature, or `none` if there is no signature
 abbrev pub size_words : Option (List ℕ) → List ℕ
 size_words None = codes "none"
 size_words (Some words) = count_text (length words) (codes "word")
 
--- the sizes, if one of the two signatures is missing
+-- how two signatures differ: the first word that differs, or the sizes if one is missing or a prefix of the other
 abbrev pub signature_change_words : Option (List ℕ) → Option (List ℕ) → List ℕ
 signature_change_words (Some old) (Some new) = word_change_words (first_differing_index old new) old new
 signature_change_words old new = becomes (size_words old) (size_words new)
 
+-- the words for a signature that changed from `old` to `new`
 unfoldable pub signature_words : Option (List ℕ) → Option (List ℕ) → List ℕ
 signature_words old new = codes "signature " ++ signature_change_words old new
 
--- the increase in percent of the old steps, if requested
+-- the increase of the steps in percent of the old number, if slower jobs are compared, or else nothing
 abbrev pub percent_words : Compare → ℕ → ℕ → List ℕ
 percent_words Outcomes old new = []
 percent_words Steps old new = []
 percent_words (Slower percent) old new =
     if old == 0 then [] else codes " (+" ++ decimal ((new - old) * 100 / old) ++ codes " %)"
 
+-- the words for steps that changed from `old` to `new`
 abbrev pub steps_words : Compare → ℕ → ℕ → List ℕ
 steps_words compare old new =
     codes "steps " ++ becomes (decimal old) (decimal new) ++ percent_words compare old new
 
+-- the words for a verdict that changed from `old` to `new`
 abbrev pub verdict_words : Verdict → Verdict → List ℕ
 verdict_words old new = codes "verdict " ++ becomes (verdict_name old) (verdict_name new)
 
 -- ---- the lines
 
+-- the beginning `! NAME: ` of a line for a job whose rows differ
 abbrev pub change_begin : List ℕ → List ℕ
 change_begin name = codes "! " ++ name ++ codes ": "
 
--- a line if a part differs
+-- the line for a part of the job with this name, if it is not the same in both rows
 abbrev pub change_line : List ℕ → Bool → List ℕ → List ℕ
 change_line name same words = if same then [] else line (change_begin name ++ words)
 
--- a line for each part that differs: the ending, the steps, the console, the signature, the verdict
+-- a line for each part in which two rows differ: the ending, the steps, the console, the signature, the verdict
 unfoldable pub change_lines : Compare → Row → Row → List ℕ
 change_lines compare old new =
     change_line new.name (are_same_endings compare old.ending new.ending)

@@ -9,7 +9,7 @@ use std::collections::HashMap;
 use std::hash::{BuildHasherDefault, FoldHasher};
 use std::marker::Model;
 
-/// Rows that can be looked up by name, seen by contracts as a list. Among rows with the same name the first is found.
+/// Rows that can be looked up by name, seen by contracts as a list. Among rows with one name the first is found.
 #[derive(Drop)]
 pub(crate) struct ByName<'a> {
     rows: &'a [Row],
@@ -30,6 +30,7 @@ impl<'a> Model for ByName<'a> {
 }
 
 impl<'a> ByName<'a> {
+    /// Returns these rows with an index of their names.
     pub(crate) fn new(alloc: Global, rows: &'a [Row]) -> Result<ByName<'a>, AllocError>
         ensures { IfOk result (λ named. named ≡ rows.now) }
     {
@@ -48,7 +49,7 @@ impl<'a> ByName<'a> {
         Ok(ByName { rows, found })
     }
 
-    /// Returns the row with a name.
+    /// Returns the first row with this name, or `None` if there is none.
     pub(crate) fn find(&self, name: &str) -> Option<&'a Row>
         ensures { option_map (λ row. row.now) result ≡ row_named self.now name.now }
     {

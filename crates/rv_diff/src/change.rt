@@ -19,7 +19,7 @@ pub enum Change {
     Same,
 }
 
-/// What is compared in two rows of a job.
+/// What is compared in the two rows of a job.
 #[derive(Clone, Copy)]
 pub enum Compare {
     /// How they ended, and their consoles, signatures and verdicts.
@@ -30,7 +30,7 @@ pub enum Compare {
     Slower(u32),
 }
 
-/// Returns how a job changed, given its rows in two reports.
+/// Returns how a job changed, given its rows in the old and in the new report, if it has them.
 pub fn change_of(compare: Compare, old: Option<&Row>, new: Option<&Row>) -> Change
     ensures { result ≡ change_of compare (option_map (λ row. row.now) old.entry)
         (option_map (λ row. row.now) new.entry) }
@@ -55,8 +55,8 @@ fn rows_agree(compare: Compare, old: &Row, new: &Row) -> bool
         && are_same_verdicts(old.verdict, new.verdict)
 }
 
-/// Whether two rows ended alike: with the same code, the same kind of fault, by their budgets, or with the same refusal; and, if steps are
-/// compared, a fault with the same address and value.
+/// Whether two jobs ended alike: with one exit code, with one kind of fault, by using up their budgets, or with one refusal; and, if steps
+/// are compared, with one address and value of a fault.
 pub fn are_same_endings(compare: Compare, old: RowEnd, new: RowEnd) -> bool
     ensures { result ≡ are_same_endings compare old new }
 {
@@ -66,6 +66,7 @@ pub fn are_same_endings(compare: Compare, old: RowEnd, new: RowEnd) -> bool
     }
 }
 
+// Whether two jobs ended alike: with one exit code, with one kind of fault, by using up their budgets, or with one refusal.
 fn are_same_end_kinds(old: RowEnd, new: RowEnd) -> bool
     ensures { result ≡ are_same_end_kinds old new }
 {
@@ -75,6 +76,7 @@ fn are_same_end_kinds(old: RowEnd, new: RowEnd) -> bool
     }
 }
 
+// Whether two endings, if both are faults, have one address and one value. True for other endings.
 fn agree_in_fault_pc_and_value(old: RowEnd, new: RowEnd) -> bool
     ensures { result ≡ agree_in_fault_pc_and_value old new }
 {
@@ -84,7 +86,7 @@ fn agree_in_fault_pc_and_value(old: RowEnd, new: RowEnd) -> bool
     }
 }
 
-/// Whether two rows have the same steps, or the new one is not slower, if these are compared.
+/// Whether two rows have the same steps, if these are compared, or the new row is not slower, if that is compared.
 pub fn agree_in_steps(compare: Compare, old: &Row, new: &Row) -> bool
     ensures { result ≡ agree_in_steps compare old.now new.now }
 {
@@ -95,7 +97,7 @@ pub fn agree_in_steps(compare: Compare, old: &Row, new: &Row) -> bool
     }
 }
 
-// Whether a job takes more steps than before, by more than a percentage of the old number.
+// Whether the number of steps increased by more than `percent` percent of the old number.
 fn is_slower(percent: u32, old: u32, new: u32) -> bool
     ensures { result ≡ is_slower percent old new }
 {

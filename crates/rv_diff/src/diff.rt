@@ -1,4 +1,4 @@
-//! Two reports, row by row.
+//! The differences between two reports, row by row.
 
 ghost use Rattle.std.specs.Prelude.{◌≡◌, ◌==◌, ◌≤◌, ◌<◌, ◌+◌, ◌^◌, ◌++◌, IfOk, OnOk, count_by, length, not, option_map};
 ghost use Rattle.std.specs.List.{flat_map};
@@ -15,19 +15,19 @@ use rv_rows::Row;
 use rv_text::{Span, push_spans, push_text};
 use std::alloc::{AllocError, Global};
 
-/// The number of differing jobs of two reports.
+/// How many jobs of two reports differ.
 #[derive(Clone, Copy)]
 pub struct Differing {
-    /// Those that only the old report has.
+    /// The number of jobs that only the old report has.
     pub gone: usize,
-    /// Those that only the new report has.
+    /// The number of jobs that only the new report has.
     pub added: usize,
-    /// Those that both have, with rows that differ.
+    /// The number of jobs that both have, with rows that differ.
     pub changed: usize,
 }
 
 impl Differing {
-    /// Whether any job differs, so that there is a line.
+    /// Whether any job differs.
     pub fn has_differences(&self) -> bool
         ensures { result ≡ not (differing_count self.now == 0) }
     {
@@ -40,7 +40,7 @@ impl Differing {
 pub struct Compared<'a> {
     pub old: &'a [Row],
     pub new: &'a [Row],
-    /// The number of other rows that one of the reports has, whose jobs the other report leaves out.
+    /// The number of jobs that are not compared, since one of the reports is a part without them.
     pub left_out: usize,
 }
 
@@ -51,10 +51,10 @@ pub struct StepSums {
     pub new: u64,
 }
 
-/// Appends how the rows of two reports differ: first `- NAME` for each job that only the old report has, in its order; then, in the order
-/// of the new report, `+ NAME` for each job that only the new one has, and `! NAME: ` and the change for each job whose rows differ; and
-/// last how many jobs differ, and how many are left out. Among rows with the same name only the first counts; reports that can be read have
-/// no such rows.
+/// Appends the output of `diff` for the rows of two reports, and returns how many jobs differ. First comes `- NAME` for each job that only
+/// the old report has, in its order; then, in the order of the new report, `+ NAME` for each job that only the new one has, and a line `!
+/// NAME: ..` for each part in which the rows of a job differ; and last how many jobs differ, and how many are not compared. Among rows with
+/// one name only the first counts; reports that can be read have no such rows.
 #[tactic(auto, unfolding(crate::specs::Diff::diff_text))]
 pub fn push_diff(
     alloc: Global,
@@ -82,7 +82,7 @@ pub fn push_diff(
     Ok(counts)
 }
 
-/// Returns the rows whose jobs also occur in `others`, in order.
+/// Returns the rows whose names also occur in `others`, in order.
 pub fn rows_beside(alloc: Global, rows: Vec<Row>, others: &[Row]) -> Result<Vec<Row>, AllocError>
     ensures { IfOk result (λ kept. kept.items ≡ rows_beside others.now rows.items) }
 {
@@ -92,7 +92,7 @@ pub fn rows_beside(alloc: Global, rows: Vec<Row>, others: &[Row]) -> Result<Vec<
     Ok(rows)
 }
 
-// Returns the total steps of both reports, if slower jobs are looked for.
+// Returns the total steps of both reports, if slower jobs are compared.
 fn step_sums(compare: Compare, old: &[Row], new: &[Row]) -> Option<StepSums>
     requires old { length old.now < 2 ^ 32 }
     requires new { length new.now < 2 ^ 32 }
@@ -107,7 +107,7 @@ fn step_sums(compare: Compare, old: &[Row], new: &[Row]) -> Option<StepSums>
     }
 }
 
-// No row has more steps than a budget allows, so the sum does not overflow.
+// Returns the sum of the steps of all rows. A step count has 32 bits, so the sum does not overflow.
 fn total_steps(rows: &[Row]) -> u64
     requires { length rows.now < 2 ^ 32 }
     ensures { result ≡ total_steps rows.now }
@@ -115,7 +115,7 @@ fn total_steps(rows: &[Row]) -> u64
     rows.iter().map(|row| u64::from(row.steps)).sum()
 }
 
-// Appends the lines of the jobs that are gone, and returns their number.
+// Appends `- NAME` for each job that only the old report has, and returns their number.
 fn push_gone_lines(
     alloc: Global,
     text: &mut Vec<u8>,
@@ -139,7 +139,7 @@ fn push_gone_lines(
     Ok(gone)
 }
 
-// Appends the lines of the jobs of the new report, and returns how many were added and how many changed.
+// Appends the lines of the jobs that the new report adds or changes, and returns how many were added and how many changed.
 fn push_added_and_changed_lines(
     alloc: Global,
     text: &mut Vec<u8>,
@@ -169,6 +169,7 @@ fn push_added_and_changed_lines(
     Ok((added, changed))
 }
 
+// Appends the lines for a row of the new report: `+ NAME` if the old report has no row with its name, or a line for each part that differs.
 fn push_changes_of_row(
     text: &mut Vec<u8>,
     compare: Compare,
@@ -199,7 +200,8 @@ fn push_sign_line<'a>(text: &mut Vec<u8>, sign: &'a str, row: &'a Row) -> Result
     )
 }
 
-// Appends how many of the jobs differ, how many are left out, and the total steps of both reports if requested.
+// Appends the last line: how many of the compared jobs differ and how, how many jobs are not compared, and the total steps of both reports,
+// if requested.
 #[tactic(auto, unfolding(crate::specs::Diff::count_line))]
 fn push_count_line(
     text: &mut Vec<u8>,
@@ -217,6 +219,7 @@ fn push_count_line(
     push_text(text, "\n")
 }
 
+// Appends how many jobs are not compared, or nothing if there are none.
 fn push_left_out(text: &mut Vec<u8>, count: usize) -> Result<(), AllocError>
     ensures { OnOk result (text.new.items ≡ text.old.items ++ left_out_words count) }
 {
@@ -233,6 +236,7 @@ fn push_left_out(text: &mut Vec<u8>, count: usize) -> Result<(), AllocError>
     )
 }
 
+// Appends the total steps of both reports, if requested.
 fn push_step_sums(text: &mut Vec<u8>, sums: Option<StepSums>) -> Result<(), AllocError>
     ensures { OnOk result (text.new.items ≡ text.old.items ++ sums_words sums) }
 {
@@ -250,12 +254,14 @@ fn push_step_sums(text: &mut Vec<u8>, sums: Option<StepSums>) -> Result<(), Allo
     }
 }
 
+// Returns the verb after the number of compared jobs: singular for 1, else plural.
 fn differ_words(jobs: usize) -> &'static str
     ensures { result.now ≡ differ_words jobs }
 {
     if jobs == 1 { " differs: " } else { " differ: " }
 }
 
+// Appends how many of the compared jobs differ, and how many are gone, new and changed.
 fn push_counts(text: &mut Vec<u8>, jobs: usize, counts: Differing) -> Result<(), AllocError>
     requires { differing_count counts < 2 ^ 64 }
     ensures { OnOk result (text.new.items ≡ text.old.items

@@ -1,4 +1,4 @@
-//! The lines that describe how two rows with the same name differ.
+//! The lines that say how two rows with one name differ.
 
 ghost use Rattle.std.specs.Prelude.{◌≡◌, ◌++◌, OnOk};
 ghost use Rattle.rv_diff.specs.Change.{have_same_console, are_same_endings, agree_in_steps, are_same_verdicts};
@@ -31,6 +31,7 @@ pub(crate) fn push_change_lines(
     push_verdict_change(text, old, new)
 }
 
+// Appends the line for the endings, if they differ.
 fn push_ending_change(
     text: &mut Vec<u8>,
     compare: Compare,
@@ -56,7 +57,7 @@ fn push_ending_change(
     push_ending(text, new.ending, "\n")
 }
 
-// Appends how a row ended, as in a report, followed by `end`.
+// Appends how a job ended, as reports say it, followed by `end`.
 #[tactic(auto, unfolding(crate::specs::Differences::ending_words))]
 fn push_ending<'a>(text: &mut Vec<u8>, ending: RowEnd, end: &'a str) -> Result<(), AllocError>
     ensures { OnOk result (text.new.items
@@ -91,6 +92,7 @@ fn push_ending<'a>(text: &mut Vec<u8>, ending: RowEnd, end: &'a str) -> Result<(
     }
 }
 
+// Appends the line for the steps, if they differ.
 fn push_steps_change(
     text: &mut Vec<u8>,
     compare: Compare,
@@ -121,7 +123,7 @@ fn push_steps_change(
     push_text(text, "\n")
 }
 
-// Appends the increase in percent of the old steps, if requested.
+// Appends the increase of the steps in percent of the old number, if slower jobs are compared.
 fn push_percent(text: &mut Vec<u8>, compare: Compare, old: u32, new: u32) -> Result<(), AllocError>
     ensures { OnOk result (text.new.items ≡ text.old.items ++ percent_words compare old new) }
 {
@@ -137,7 +139,8 @@ fn push_percent(text: &mut Vec<u8>, compare: Compare, old: u32, new: u32) -> Res
     }
 }
 
-// Appends the first byte at which two consoles differ, or their lengths if one is a prefix of the other.
+// Appends the line for the consoles, if they differ: the bytes from the first difference on, or the lengths if one console is a prefix of
+// the other.
 #[tactic(auto, unfolding(crate::specs::Differences::console_words))]
 fn push_console_change<'a>(text: &mut Vec<u8>, old: &'a Row, new: &'a Row) -> Result<(), AllocError>
     ensures { OnOk result (text.new.items ≡ text.old.items
@@ -179,12 +182,14 @@ fn push_console_change<'a>(text: &mut Vec<u8>, old: &'a Row, new: &'a Row) -> Re
     }
 }
 
+// Returns the first index at which both have bytes that differ, or `None` if one is a prefix of the other.
 fn first_differing_byte(old: &[u8], new: &[u8]) -> Option<usize>
     ensures { result ≡ first_differing_index old.now new.now }
 {
     old.iter().zip(new).position(|(x, y)| x != y)
 }
 
+// Appends the line for the verdicts, if they differ.
 fn push_verdict_change(text: &mut Vec<u8>, old: &Row, new: &Row) -> Result<(), AllocError>
     ensures { OnOk result (text.new.items ≡ text.old.items
         ++ change_line new.now.name (are_same_verdicts old.now.verdict new.now.verdict)

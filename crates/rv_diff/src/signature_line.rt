@@ -1,4 +1,4 @@
-//! The line that describes how two signatures differ.
+//! The line that says how two signatures differ.
 
 ghost use Rattle.std.specs.Prelude.{◌≡◌, ◌++◌, OnOk, codes, slice_index};
 ghost use Rattle.rv_rows.specs.Report.{line};
@@ -9,7 +9,8 @@ use rv_rows::{Row, Words, are_same_signatures};
 use rv_text::{Span, push_spans};
 use std::alloc::AllocError;
 
-/// Appends the line for two rows whose signatures differ: the first word that differs, or the sizes if these differ.
+/// Appends the line for the signatures, if they differ: the first word that differs, or the sizes if one signature is missing or a prefix
+/// of the other.
 pub(crate) fn push_signature_change(
     text: &mut Vec<u8>,
     old: &Row,
@@ -25,6 +26,7 @@ pub(crate) fn push_signature_change(
     push_signature_line(text, new.name.as_str(), &old.signature, &new.signature)
 }
 
+// Appends the line for two signatures that differ.
 #[tactic(auto, unfolding(crate::specs::Differences::signature_words))]
 fn push_signature_line<'a>(
     text: &mut Vec<u8>,
@@ -70,6 +72,8 @@ fn push_signature_line<'a>(
     }
 }
 
+// Appends the line for the words of two signatures that differ: the first word that differs, or the lengths if one is a prefix of the
+// other.
 fn push_words_change<'a>(
     text: &mut Vec<u8>,
     name: &'a str,
@@ -109,12 +113,14 @@ fn push_words_change<'a>(
     }
 }
 
+// Returns the first index at which both have words that differ, or `None` if one is a prefix of the other.
 fn first_differing_word(old: &[u32], new: &[u32]) -> Option<usize>
     ensures { result ≡ first_differing_index old.now new.now }
 {
     old.iter().zip(new).position(|(x, y)| x != y)
 }
 
+// Returns the word at an index, or 0 if there are not so many.
 fn word_or_zero(words: &[u32], place: usize) -> u32
     ensures { result ≡ slice_index words.now place }
 {

@@ -1,4 +1,4 @@
--- The assembly text of a code that was fetched at an address: the name of its row and its operands at that address.
+-- The assembly text of an encoding that was fetched at an address: the mnemonic of its row, and its operands at that address.
 use Rattle.std.specs.Prelude.{ℕ, List, [], ◌++◌, codes, Option, Some, None}
 use Rattle.rv_isa.specs.Words.{meaning32}
 use Rattle.rv_isa.specs.Halfwords.{meaning16}
@@ -12,7 +12,7 @@ use Rattle.rv_disasm.specs.Forms.{Form, form16, form32}
 use Rattle.rv_disasm.specs.Illegal.{unsimulated_text}
 use Rattle.rv_disasm.specs.Unsimulated.{unsimulated16, unsimulated32}
 
--- the operands after a space, separated by commas
+-- the text of the operands of a fetched instruction: a space, then the operands separated by `, `; empty if it has no operands
 unfoldable pub operands_text : Operands → Fetched → List ℕ
 operands_text Absent f = []
 operands_text (One a) f = codes " " ++ operand_text a f
@@ -21,25 +21,30 @@ operands_text (Three a b c) f =
     codes " " ++ operand_text a f ++ codes ", " ++ operand_text b f ++ codes ", "
     ++ operand_text c f
 
+-- the text of a fetched instruction: the mnemonic of its form, then its operands
 unfoldable pub form_text : Form → Fetched → List ℕ
 form_text form f = form.mnemonic ++ operands_text form.operands f
 
+-- a fetched instruction, with its encoding and the address that it was fetched at
 abbrev pub fetched_instr : Instr → ℕ → ℕ → Fetched
 fetched_instr i code pc = record { instr = i; code = code; pc = pc }
 
--- the text of a word's instruction, from the form of its name, or the text of a word that has none
+-- the text of a word: that of the instruction which it decodes to, or, if it does not decode, the description of an instruction that is not
+-- simulated
 abbrev pub text_by_name : Option Instr → ℕ → ℕ → List ℕ
 text_by_name None word pc = unsimulated_text (unsimulated32 word)
 text_by_name (Some i) word pc = form_text (form32 i.op) (fetched_instr i word pc)
 
+-- the assembly text of a word fetched at `pc`, decoded as an instruction of RV32IMC
 unfoldable pub assembly32 : ℕ → ℕ → List ℕ
 assembly32 word pc = text_by_name (meaning32 set.Imc word) word pc
 
--- the text of a halfword's instruction, from the form of its row, or the text of a halfword that has none
+-- the text of a halfword: that of its form and instruction, or, if one is missing, the description of an instruction that is not simulated
 abbrev pub text_by_row : Option Form → Option Instr → ℕ → ℕ → List ℕ
 text_by_row None i half pc = unsimulated_text (unsimulated16 half)
 text_by_row (Some form) None half pc = unsimulated_text (unsimulated16 half)
 text_by_row (Some form) (Some i) half pc = form_text form (fetched_instr i half pc)
 
+-- the assembly text of a halfword fetched at `pc`, decoded as an instruction of RV32IMC
 unfoldable pub assembly16 : ℕ → ℕ → List ℕ
 assembly16 half pc = text_by_row (form16 half) (meaning16 set.Imc half) half pc

@@ -13,50 +13,54 @@ use Rattle.rv_disasm.specs.declared.form.Operand.TheVariants.{Target, Predecesso
 use Rattle.rv_disasm.specs.declared.form.Operands.{Operands}
 use Rattle.rv_disasm.specs.declared.form.Operands.TheVariants.{Absent, One, Two, Three}
 
--- a name followed by its operands
+-- how the instructions of a row are written: a mnemonic, followed by the operands in this order
 pub record Form : Type 0 where
   pub mnemonic : List ℕ
   pub operands : Operands
 
--- a row of a table of forms
+-- the form with this mnemonic and these operands
 abbrev pub form_row : List ℕ → Operands → Form
 form_row mnemonic operands = record { mnemonic = mnemonic; operands = operands }
 
--- a form in the code, as contracts see it
+-- the form that a `Form` of the code represents; its text is a reference
 abbrev pub form_of_code : CodesForm → Form
 form_of_code seen = form_row seen.0.now seen.1
 
 -- ---- the 32-bit rows
 
--- the operands of formats R and I (chapters 2 and 7)
+-- the operands of computations on two registers (format R, section 2.4 and chapter 7): `rd, rs1, rs2`
 abbrev pub register_operands : Operands
 register_operands = Three Rd Rs1 Rs2
 
+-- the operands of computations with an immediate (format I, section 2.4): `rd, rs1, imm`
 abbrev pub immediate_operands : Operands
 immediate_operands = Three Rd Rs1 Imm
 
--- loads and JALR, stores (sections 2.5 and 2.6)
+-- the operands of loads and JALR (format I, sections 2.5 and 2.6): `rd, imm(rs1)`
 abbrev pub load_operands : Operands
 load_operands = Two Rd Address
 
+-- the operands of stores (format S, section 2.6): `rs2, imm(rs1)`
 abbrev pub store_operands : Operands
 store_operands = Two Rs2 Address
 
--- the operands of formats B, U and J (chapter 2)
+-- the operands of conditional branches (format B, section 2.5): `rs1, rs2, target`
 abbrev pub branch_operands : Operands
 branch_operands = Three Rs1 Rs2 Target
 
+-- the operands of LUI and AUIPC (format U, section 2.4): `rd`, then the upper 20 bits
 abbrev pub upper_immediate_operands : Operands
 upper_immediate_operands = Two Rd Upper
 
+-- the operands of JAL (format J, section 2.5): `rd, target`
 abbrev pub jump_operands : Operands
 jump_operands = Two Rd Target
 
--- the operands of FENCE (section 2.7)
+-- the operands of FENCE (section 2.7): the predecessor set, then the successor set
 abbrev pub fence_operands : Operands
 fence_operands = Two Predecessors Successors
 
--- the form of a name
+-- how the 32-bit instruction with this name is written
 abbrev pub form32 : Op → Form
 form32 op.Lui = form_row (codes "lui") upper_immediate_operands
 form32 op.Auipc = form_row (codes "auipc") upper_immediate_operands
@@ -110,24 +114,29 @@ form32 op.Remu = form_row (codes "remu") register_operands
 
 -- ---- the 16-bit rows
 
--- instructions that write the register that they read, or that read x0, name it once (chapter 16)
+-- Instructions that write the register that they read, or that read x0, name it once (chapter 16).
+
+-- the operands of 16-bit computations with an immediate: `rd, imm`
 abbrev pub register_immediate : Operands
 register_immediate = Two Rd Imm
 
+-- the operands of 16-bit computations on two registers: `rd, rs2`
 abbrev pub two_registers : Operands
 two_registers = Two Rd Rs2
 
+-- the operands of C.BEQZ and C.BNEZ: `rs1, target`
 abbrev pub test_of_zero : Operands
 test_of_zero = Two Rs1 Target
 
--- C.ADDI, or C.NOP if its register is x0; a hint form of C.NOP shows an immediate (section 16.5)
+-- the form of the halfword `h` as C.ADDI, or as C.NOP if its register is x0; a C.NOP with a nonzero immediate, which is a hint, shows it
+-- (section 16.5)
 abbrev pub addi_or_nop : ℕ → Form
 addi_or_nop h =
     if not (rd h == 0) then form_row (codes "c.addi") register_immediate
     else if not (immediate_ci h == 0) then form_row (codes "c.nop") (One Imm)
     else form_row (codes "c.nop") Absent
 
--- a form for each row of the listing, in order
+-- the form of each row of `rows16`, in order; only the form of the row C.ADDI depends on the halfword `h`
 abbrev pub forms16 : ℕ → List Form
 forms16 h =
     form_row (codes "c.addi4spn") immediate_operands ∷
@@ -158,6 +167,6 @@ forms16 h =
     form_row (codes "c.swsp") store_operands ∷
     []
 
--- the form of the row that matches a halfword
+-- how the halfword is written: the form of the first row of RV32IMC that it matches, or `None` if it matches none
 unfoldable pub form16 : ℕ → Option Form
 form16 h = first_of (λ r. fits16 set.Imc h r.0) (λ r. r.1) (zip rows16 (forms16 h))

@@ -1,4 +1,4 @@
--- How a code without an instruction is described: by its name, if a listing has one.
+-- How an encoding that is not an instruction is described: by the mnemonic of its row, if a listing has one.
 use Rattle.std.specs.Prelude.{ℕ, List, ◌++◌, codes, Option, Some, None}
 use Rattle.rv_isa.specs.Words.{meaning32}
 use Rattle.rv_isa.specs.declared.instruction.Instr.{Instr}
@@ -6,34 +6,39 @@ use Rattle.rv_isa.specs.declared.sets.Isa.TheVariants as set
 use Rattle.rv_disasm.specs.Forms.{Form, form16, form32}
 use Rattle.rv_disasm.specs.Unsimulated.{Row, unsimulated16, unsimulated32}
 
--- a name, followed in parentheses by its extension and the reason why it is not an instruction here
+-- a mnemonic, followed in parentheses by its extension and the reason why it is not an instruction here
 unfoldable pub name_and_reason : List ℕ → List ℕ → List ℕ → List ℕ
 name_and_reason mnemonic extension reason =
     mnemonic ++ codes " (" ++ extension ++ codes ": " ++ reason ++ codes ")"
 
--- the text of a code that is not an instruction of RV32IMC
+-- the description of an encoding that is not an instruction of RV32IMC, given its row in the listings of instructions that are not
+-- simulated
 abbrev pub unsimulated_text : Option Row → List ℕ
 unsimulated_text None = codes "not an instruction"
 unsimulated_text (Some r) = name_and_reason r.mnemonic r.extension (codes "not simulated")
 
--- ---- of a code that has none in the set of a job
+-- ---- encodings that are not an instruction of a job's set
 
--- an instruction of RV32IMC that the set lacks, by its name and its extension
+-- the description of an instruction of RV32IMC that the job's instruction set lacks, given its mnemonic and its extension
 abbrev pub missing_text : List ℕ → List ℕ → List ℕ
 missing_text mnemonic extension = name_and_reason mnemonic extension (codes "not in this job's \"isa\"")
 
--- the text of a word: every set has the base, so a missing instruction of RV32IMC belongs to M
+-- the description of a word that is not an instruction of the job's set, given the instruction of RV32IMC that it decodes to; as every set
+-- has the base, a missing 32-bit instruction belongs to M
 abbrev pub illegal_text_by_name : Option Instr → ℕ → List ℕ
 illegal_text_by_name None word = unsimulated_text (unsimulated32 word)
 illegal_text_by_name (Some i) word = missing_text (form32 i.op).mnemonic (codes "M")
 
+-- the description of a word that is not an instruction of the job's set
 unfoldable pub illegal_text32 : ℕ → List ℕ
 illegal_text32 word = illegal_text_by_name (meaning32 set.Imc word) word
 
--- the text of a halfword: a missing instruction of RV32IMC belongs to C
+-- the description of a halfword that is not an instruction of the job's set, given its form in RV32IMC; a missing 16-bit instruction
+-- belongs to C
 abbrev pub illegal_text_by_row : Option Form → ℕ → List ℕ
 illegal_text_by_row None half = unsimulated_text (unsimulated16 half)
 illegal_text_by_row (Some form) half = missing_text form.mnemonic (codes "C")
 
+-- the description of a halfword that is not an instruction of the job's set
 unfoldable pub illegal_text16 : ℕ → List ℕ
 illegal_text16 half = illegal_text_by_row (form16 half) half

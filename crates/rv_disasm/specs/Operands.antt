@@ -8,7 +8,7 @@ use Rattle.rv_disasm.specs.declared.form.Fetched.{Fetched}
 use Rattle.rv_disasm.specs.declared.form.Operand.{Operand}
 use Rattle.rv_disasm.specs.declared.form.Operand.TheVariants as operand
 
--- the ABI names of the registers x0 to x31
+-- the ABI names of the registers x0 to x31, in order
 abbrev pub register_names : List (List ℕ)
 register_names =
     codes "zero" ∷ codes "ra" ∷ codes "sp" ∷ codes "gp" ∷ codes "tp" ∷ codes "t0" ∷ codes "t1"
@@ -17,25 +17,26 @@ register_names =
     ∷ codes "s5" ∷ codes "s6" ∷ codes "s7" ∷ codes "s8" ∷ codes "s9" ∷ codes "s10" ∷ codes "s11"
     ∷ codes "t3" ∷ codes "t4" ∷ codes "t5" ∷ codes "t6" ∷ []
 
--- the name of the register with this number
+-- the ABI name of the register with this number
 abbrev pub register_name : ℕ → List ℕ
 register_name number = slice_index_or register_names number []
 
--- a set of a FENCE (section 2.7): the letters of its set bits, from the highest of the four; `0` if none is set
+-- the letters of a predecessor or successor set of FENCE (section 2.7): those of its set bits, from bit 3 (`i`) to bit 0 (`w`), or `0` if
+-- no bit is set
 abbrev pub fence_set_name : ℕ → List ℕ
 fence_set_name bits = if bits == 0 then codes "0" else
     (if bit bits 3 == 1 then codes "i" else []) ++ (if bit bits 2 == 1 then codes "o" else [])
     ++ (if bit bits 1 == 1 then codes "r" else []) ++ (if bit bits 0 == 1 then codes "w" else [])
 
--- lower-case digits without leading zeros
+-- a number as `0x` and its lower-case hexadecimal digits, without leading zeros
 abbrev pub prefixed_hexadecimal : ℕ → List ℕ
 prefixed_hexadecimal number = codes "0x" ++ digits 16 false number
 
--- a base register and the offset added to it
+-- an address as `offset(base)`, with the signed offset in decimal and the ABI name of the base register
 unfoldable pub offset_and_base : ℤ → ℕ → List ℕ
 offset_and_base offset base = signed_decimal offset ++ codes "(" ++ register_name base ++ codes ")"
 
--- the text of an operand of an instruction
+-- the text of an operand of a fetched instruction
 unfoldable pub operand_text : Operand → Fetched → List ℕ
 operand_text operand.Rd f = register_name f.instr.rd
 operand_text operand.Rs1 f = register_name f.instr.rs1

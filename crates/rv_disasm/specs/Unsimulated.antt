@@ -3,29 +3,31 @@
 use Rattle.std.specs.Prelude.{ℕ, List, [], ◌∷◌, ◌++◌, Option, Bool, codes, bit_and, find, ◌==◌}
 use Rattle.rv_disasm.specs.declared.unsimulated.Row.{Row as CodesRow}
 
--- a line of a listing: the bits of a code that it fixes, their values, its name, and its extension
+-- a line of a listing: it matches an encoding whose bits in `mask` are those of `pattern`
 pub record Row : Type 0 where
+  -- the bits that the line fixes
   pub mask : ℕ
+  -- the values of the bits that the line fixes
   pub pattern : ℕ
   pub mnemonic : List ℕ
   pub extension : List ℕ
 
--- a row from its parts
+-- the line of a listing with this mask, pattern, mnemonic and extension
 abbrev pub row : ℕ → ℕ → List ℕ → List ℕ → Row
 row mask pattern mnemonic extension =
     record { mask = mask; pattern = pattern; mnemonic = mnemonic; extension = extension }
 
--- a row in the code, as contracts see it
+-- the line that a `Row` of the code represents; its texts are references
 abbrev pub row_of_code : CodesRow → Row
 row_of_code seen = row seen.0 seen.1 seen.2.now seen.3.now
 
--- whether the code has the row's values at the bits that the row fixes
+-- whether an encoding matches a line: it has the line's values at the bits that the line fixes
 abbrev pub is_row_of : ℕ → Row → Bool
 is_row_of code r = bit_and code r.mask == r.pattern
 
 -- ---- the 32-bit rows
 
--- control and status registers (chapter 9): opcode and funct3
+-- the CSR instructions (chapter 9), which fix opcode and funct3
 abbrev pub zicsr : List Row
 zicsr =
     row 0x0000_707f 0x0000_1073 (codes "csrrw") (codes "Zicsr") ∷
@@ -36,7 +38,7 @@ zicsr =
     row 0x0000_707f 0x0000_7073 (codes "csrrci") (codes "Zicsr") ∷
     []
 
--- atomic memory operations (chapter 8): opcode, funct3 and funct5, but not the bits aq and rl
+-- the atomic memory operations (chapter 8), which fix opcode, funct3 and funct5, but not the bits aq and rl
 abbrev pub atomics : List Row
 atomics =
     row 0xf9f0_707f 0x1000_202f (codes "lr.w") (codes "A") ∷
@@ -52,7 +54,7 @@ atomics =
     row 0xf800_707f 0xe000_202f (codes "amomaxu.w") (codes "A") ∷
     []
 
--- single-precision floating point (chapter 11): every field except registers and the rounding mode
+-- the single-precision floating-point instructions (chapter 11), which fix every field except registers, immediates and the rounding mode
 abbrev pub single_precision : List Row
 single_precision =
     row 0x0000_707f 0x0000_2007 (codes "flw") (codes "F") ∷
@@ -83,7 +85,7 @@ single_precision =
     row 0xfff0_707f 0xf000_0053 (codes "fmv.w.x") (codes "F") ∷
     []
 
--- double-precision floating point (chapter 12)
+-- the double-precision floating-point instructions (chapter 12)
 abbrev pub double_precision : List Row
 double_precision =
     row 0x0000_707f 0x0000_3007 (codes "fld") (codes "D") ∷
@@ -114,7 +116,7 @@ double_precision =
     row 0xfff0_007f 0xd210_0053 (codes "fcvt.d.wu") (codes "D") ∷
     []
 
--- bit manipulation 1.0.0: address generation
+-- the address generation instructions (bit manipulation 1.0.0, Zba)
 abbrev pub address_generation : List Row
 address_generation =
     row 0xfe00_707f 0x2000_2033 (codes "sh1add") (codes "Zba") ∷
@@ -122,7 +124,7 @@ address_generation =
     row 0xfe00_707f 0x2000_6033 (codes "sh3add") (codes "Zba") ∷
     []
 
--- basic bit manipulation
+-- the basic bit manipulation instructions (bit manipulation 1.0.0, Zbb)
 abbrev pub basic_bit_manipulation : List Row
 basic_bit_manipulation =
     row 0xfe00_707f 0x4000_7033 (codes "andn") (codes "Zbb") ∷
@@ -145,7 +147,7 @@ basic_bit_manipulation =
     row 0xfff0_707f 0x6980_5013 (codes "rev8") (codes "Zbb") ∷
     []
 
--- carry-less multiplication
+-- the carry-less multiplications (bit manipulation 1.0.0, Zbc)
 abbrev pub carry_less_products : List Row
 carry_less_products =
     row 0xfe00_707f 0x0a00_1033 (codes "clmul") (codes "Zbc") ∷
@@ -153,7 +155,7 @@ carry_less_products =
     row 0xfe00_707f 0x0a00_2033 (codes "clmulr") (codes "Zbc") ∷
     []
 
--- single-bit instructions
+-- the single-bit instructions (bit manipulation 1.0.0, Zbs)
 abbrev pub single_bits : List Row
 single_bits =
     row 0xfe00_707f 0x4800_1033 (codes "bclr") (codes "Zbs") ∷
@@ -166,21 +168,21 @@ single_bits =
     row 0xfe00_707f 0x2800_1013 (codes "bseti") (codes "Zbs") ∷
     []
 
--- conditional zeroing (Zicond 1.0)
+-- the conditional zeroing instructions (Zicond 1.0)
 abbrev pub conditional_zeros : List Row
 conditional_zeros =
     row 0xfe00_707f 0x0e00_5033 (codes "czero.eqz") (codes "Zicond") ∷
     row 0xfe00_707f 0x0e00_7033 (codes "czero.nez") (codes "Zicond") ∷
     []
 
--- waiting on a reservation (Zawrs 1.0)
+-- the instructions that wait on a reservation (Zawrs 1.0)
 abbrev pub waits : List Row
 waits =
     row 0xffff_ffff 0x00d0_0073 (codes "wrs.nto") (codes "Zawrs") ∷
     row 0xffff_ffff 0x01d0_0073 (codes "wrs.sto") (codes "Zawrs") ∷
     []
 
--- cache block management (CMO 1.0)
+-- the cache block management instructions (CMO 1.0, Zicbom)
 abbrev pub cache_blocks : List Row
 cache_blocks =
     row 0xfff0_7fff 0x0000_200f (codes "cbo.inval") (codes "Zicbom") ∷
@@ -188,13 +190,13 @@ cache_blocks =
     row 0xfff0_7fff 0x0020_200f (codes "cbo.flush") (codes "Zicbom") ∷
     []
 
--- zeroing a cache block (CMO 1.0)
+-- the instruction that zeroes a cache block (CMO 1.0, Zicboz)
 abbrev pub zeroed_cache_blocks : List Row
 zeroed_cache_blocks =
     row 0xfff0_7fff 0x0040_200f (codes "cbo.zero") (codes "Zicboz") ∷
     []
 
--- privileged instructions (Privileged ISA 20190608)
+-- the privileged instructions (Privileged ISA 20190608)
 abbrev pub privileged : List Row
 privileged =
     row 0xffff_ffff 0x1020_0073 (codes "sret") (codes "privileged") ∷
@@ -203,7 +205,7 @@ privileged =
     row 0xfe00_7fff 0x1200_0073 (codes "sfence.vma") (codes "privileged") ∷
     []
 
--- all 32-bit rows
+-- the rows of all 32-bit instructions that are not simulated
 unfoldable pub rows32 : List Row
 rows32 =
     zicsr ++
@@ -220,13 +222,14 @@ rows32 =
     (zeroed_cache_blocks ++
     privileged)))))))))))
 
--- the first row that matches a word
+-- the first row that a word matches, or `None` if it matches none
 unfoldable pub unsimulated32 : ℕ → Option Row
 unsimulated32 word = find (is_row_of word) rows32
 
 -- ---- the 16-bit rows
 
--- loads and stores of floating-point registers (chapter 16): quadrant and funct3
+-- the rows of all 16-bit instructions that are not simulated: loads and stores of floating-point registers (chapter 16), which fix quadrant
+-- and funct3
 unfoldable pub rows16 : List Row
 rows16 =
     row 0xe003 0x2000 (codes "c.fld") (codes "D") ∷
@@ -239,6 +242,6 @@ rows16 =
     row 0xe003 0xe002 (codes "c.fswsp") (codes "F") ∷
     []
 
--- the first row that matches a halfword
+-- the first row that a halfword matches, or `None` if it matches none
 unfoldable pub unsimulated16 : ℕ → Option Row
 unsimulated16 half = find (is_row_of half) rows16

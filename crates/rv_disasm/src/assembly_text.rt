@@ -14,8 +14,8 @@ use crate::unsimulated::{unsimulated16, unsimulated32};
 use rv_isa::{Isa, decode16, decode32};
 use std::alloc::{AllocError, Global};
 
-/// Appends the assembly text of a 32-bit word fetched at `pc`, such as `lw a0, 8(sp)`. A word without a row in RV32IM with Zifencei is
-/// shown as `csrrw (Zicsr: not simulated)`, or as `no instruction` if no known listing has it.
+/// Appends the assembly text of a 32-bit word fetched at `pc`, such as `lw a0, 8(sp)`. A word that is not an instruction of RV32IM with
+/// Zifencei is described as in `csrrw (Zicsr: not simulated)`, or as `not an instruction` if no known listing has it.
 #[tactic(auto, unfolding(crate::specs::Assembly::assembly32))]
 pub fn push_assembly32(
     alloc: Global,
@@ -32,8 +32,8 @@ pub fn push_assembly32(
     }
 }
 
-/// Appends the assembly text of a halfword fetched at `pc`, such as `c.lw a0, 8(a0)`. A halfword without a row in the C extension of RV32I
-/// is shown as `c.flw (F: not simulated)`, or as `no instruction`.
+/// Appends the assembly text of a halfword fetched at `pc`, such as `c.lw a0, 8(a0)`. A halfword that is not an instruction of the C
+/// extension of RV32I is described as in `c.flw (F: not simulated)`, or as `not an instruction` if no known listing has it.
 #[tactic(auto, unfolding(crate::specs::Assembly::assembly16))]
 pub fn push_assembly16(
     alloc: Global,
@@ -50,7 +50,7 @@ pub fn push_assembly16(
     }
 }
 
-// Appends the name of a row and its operands.
+// Appends the text of a fetched instruction: the mnemonic of its form, then its operands.
 #[tactic(auto, unfolding(crate::specs::Assembly::form_text))]
 fn push_form(
     alloc: Global,
@@ -67,7 +67,7 @@ fn push_form(
     push_operands(alloc, bytes, operands, fetched)
 }
 
-// Appends a space and the operands, separated by commas.
+// Appends a space and the operands of a fetched instruction, separated by `, `. Appends nothing if there are no operands.
 #[tactic(auto, unfolding(crate::specs::Assembly::operands_text))]
 fn push_operands(
     alloc: Global,
@@ -93,7 +93,7 @@ fn push_operands(
     }
 }
 
-// Appends a separator and an operand.
+// Appends a separator, and then an operand of a fetched instruction.
 fn push_separated_operand(
     alloc: Global,
     bytes: &mut Vec<u8>,

@@ -2,7 +2,7 @@
 
 use rv_isa::Instr;
 
-/// An instruction with its encoding and its address.
+/// A fetched instruction, with its encoding and its address.
 #[derive(Clone, Copy)]
 pub(crate) struct Fetched {
     pub instr: Instr,
@@ -10,28 +10,30 @@ pub(crate) struct Fetched {
     pub pc: u32,
 }
 
-/// An operand as written.
+/// An operand of an instruction, by how it is written.
 #[derive(Clone, Copy)]
 pub(crate) enum Operand {
     /// The name of the destination register.
     Rd,
-    /// The names of the source registers.
+    /// The name of the first source register.
     Rs1,
+    // The name of the second source register.
     Rs2,
     /// The immediate, in decimal.
     Imm,
-    /// The immediate and its base register, as in `8(a0)`.
+    /// The immediate and the name of the base register, as in `8(a0)`.
     Address,
     /// The upper 20 bits of the immediate, in hexadecimal.
     Upper,
     /// The target address of a pc-relative immediate.
     Target,
-    /// The predecessor and successor sets of a FENCE.
+    /// The predecessor set of a FENCE.
     Predecessors,
+    // The successor set of a FENCE.
     Successors,
 }
 
-/// The operands of a row, in the order in which they are written.
+/// The operands of an instruction, in the order in which they are written.
 #[derive(Clone, Copy)]
 pub(crate) enum Operands {
     Absent,
@@ -40,7 +42,7 @@ pub(crate) enum Operands {
     Three(Operand, Operand, Operand),
 }
 
-/// How a row is written: its name and its operands.
+/// How the instructions of a row are written: the mnemonic and the operands.
 #[derive(Clone, Copy)]
 pub(crate) struct Form(pub &'static str, pub Operands);
 

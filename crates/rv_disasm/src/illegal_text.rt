@@ -1,4 +1,4 @@
-//! The description of a code that is not an instruction.
+//! The description of an encoding that is not an instruction.
 ghost use Rattle.std.specs.Prelude.{◌≡◌, ◌++◌, OnOk, option_map};
 ghost use Rattle.rv_disasm.specs.Illegal.{illegal_text16, illegal_text32, missing_text, name_and_reason, unsimulated_text};
 ghost use Rattle.rv_disasm.specs.Unsimulated.{row_of_code};
@@ -11,8 +11,8 @@ use crate::unsimulated::{Row, unsimulated16, unsimulated32};
 use rv_isa::{Isa, decode32};
 use std::alloc::AllocError;
 
-/// Appends the description of a 32-bit word that is not an instruction of a job's set: its name and its extension, as in `mul (M: not in
-/// this job's set)` or `csrrw (Zicsr: not simulated)`, or `no instruction`.
+/// Appends the description of a 32-bit word that is not an instruction of a job's set: its mnemonic and its extension, as in `mul (M: not
+/// in this job's "isa")` or `csrrw (Zicsr: not simulated)`, or `not an instruction` if no known listing has it.
 #[tactic(auto, unfolding(crate::specs::Illegal::illegal_text32))]
 pub fn push_illegal32(bytes: &mut Vec<u8>, word: u32) -> Result<(), AllocError>
     ensures { OnOk result (bytes.new.items ≡ bytes.old.items ++ illegal_text32 word) }
@@ -23,8 +23,8 @@ pub fn push_illegal32(bytes: &mut Vec<u8>, word: u32) -> Result<(), AllocError>
     }
 }
 
-/// Appends the description of a halfword that is not an instruction of a job's set, as in `c.li (C: not in this job's \"isa\")` or `c.flw (F:
-/// not simulated)`, or `no instruction`.
+/// Appends the description of a halfword that is not an instruction of a job's set, as in `c.li (C: not in this job's "isa")` or `c.flw (F:
+/// not simulated)`, or `not an instruction` if no known listing has it.
 #[tactic(auto, unfolding(crate::specs::Illegal::illegal_text16))]
 pub fn push_illegal16(bytes: &mut Vec<u8>, half: u16) -> Result<(), AllocError>
     ensures { OnOk result (bytes.new.items ≡ bytes.old.items ++ illegal_text16 half) }
@@ -36,7 +36,7 @@ pub fn push_illegal16(bytes: &mut Vec<u8>, half: u16) -> Result<(), AllocError>
     }
 }
 
-// Appends the name of a row that the set lacks.
+// Appends the description of an instruction that a job's set lacks, from its form and its extension.
 fn push_missing(bytes: &mut Vec<u8>, form: Form, extension: &str) -> Result<(), AllocError>
     ensures { OnOk result (bytes.new.items
         ≡ bytes.old.items ++ missing_text form.0.now extension.now) }
@@ -45,7 +45,8 @@ fn push_missing(bytes: &mut Vec<u8>, form: Form, extension: &str) -> Result<(), 
     push_name_and_reason(bytes, mnemonic, extension, "not in this job's \"isa\"")
 }
 
-/// Appends the name of a row that is not simulated, or `no instruction` if there is none.
+/// Appends the description of an encoding that is not an instruction of RV32IMC: `MNEMONIC (EXTENSION: not simulated)`, or `not an
+/// instruction` if it has no row.
 pub(crate) fn push_unsimulated(bytes: &mut Vec<u8>, row: Option<Row>) -> Result<(), AllocError>
     ensures { OnOk result (bytes.new.items
         ≡ bytes.old.items ++ unsimulated_text (option_map row_of_code row)) }
@@ -58,7 +59,7 @@ pub(crate) fn push_unsimulated(bytes: &mut Vec<u8>, row: Option<Row>) -> Result<
     }
 }
 
-// Appends a name, followed in parentheses by its extension and the reason.
+// Appends a mnemonic, followed in parentheses by its extension and the reason why it is not an instruction here.
 #[tactic(auto, unfolding(crate::specs::Illegal::name_and_reason))]
 fn push_name_and_reason(
     bytes: &mut Vec<u8>,

@@ -1,10 +1,11 @@
-//! The assembly text of an instruction, as the RISC-V Unprivileged ISA 20191213 writes its row.
+//! The assembly text of an instruction, as the RISC-V Unprivileged ISA 20191213 writes it.
 //!
-//! [`push_assembly32`] appends the text of a word and [`push_assembly16`] the text of a halfword, under the name of its own row (`c.lw`),
-//! as fetched at an address. Registers have their ABI names ([`register_name`]), immediates are decimal except those of LUI and AUIPC,
-//! which are shown as their upper 20 bits in hexadecimal, and targets are addresses. There are no pseudoinstructions: `addi zero, zero, 0`
-//! is not written as `nop`. A code without a row is described by its name and extension, as in `mret (privileged: not simulated)`, or as
-//! `no instruction`. [`push_illegal32`] and [`push_illegal16`] describe a code that a job's instruction set lacks.
+//! [`push_assembly32`] appends the text of a word and [`push_assembly16`] the text of a halfword, each with the mnemonic of its own row
+//! (`c.lw`) and its operands at the address that it was fetched at. Registers have their ABI names ([`register_name`]), immediates are
+//! decimal except those of LUI and AUIPC, which are shown as their upper 20 bits in hexadecimal, and targets are addresses. There are no
+//! pseudoinstructions: `addi zero, zero, 0` is not written as `nop`. An encoding without a row is described by its mnemonic and extension,
+//! as in `mret (privileged: not simulated)`, or as `not an instruction`. [`push_illegal32`] and [`push_illegal16`] describe an encoding
+//! that is not an instruction of a job's set.
 #![tactic(auto)]
 
 mod assembly_text;

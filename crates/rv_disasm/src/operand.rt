@@ -9,7 +9,7 @@ use itoa::Buffer;
 use rv_isa::field;
 use std::alloc::{AllocError, Global};
 
-/// Appends the text of an operand of an instruction.
+/// Appends the text of an operand of a fetched instruction.
 #[tactic(auto, unfolding(crate::specs::Operands::operand_text))]
 pub(crate) fn push_operand(
     alloc: Global,
@@ -38,7 +38,7 @@ pub(crate) fn push_operand(
     }
 }
 
-/// Appends a text verbatim.
+/// Appends a text unchanged.
 pub(crate) fn push_literal(bytes: &mut Vec<u8>, text: &str) -> Result<(), AllocError>
     ensures { OnOk result (bytes.new.items ≡ bytes.old.items ++ text.now) }
 {
@@ -77,7 +77,7 @@ fn push_offset_and_base(bytes: &mut Vec<u8>, offset: i32, base: u8) -> Result<()
     push_literal(bytes, ")")
 }
 
-/// Returns the name of a register in the calling convention of the RISC-V ABIs.
+/// Returns the ABI name of the register with this number.
 pub fn register_name(number: u8) -> &'static str
     requires { number < 32 }
     ensures { result.now ≡ register_name number }
@@ -118,7 +118,7 @@ pub fn register_name(number: u8) -> &'static str
     }
 }
 
-// Returns the letters of a FENCE set, from its four bits.
+// Returns the letters of a predecessor or successor set of FENCE from its four bits, or `0` if no bit is set.
 #[tactic(auto, unfolding(rv_isa::specs::Bits::field))]
 fn fence_set_name(bits: u32) -> &'static str
     requires { bits < 16 }

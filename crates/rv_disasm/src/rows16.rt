@@ -10,7 +10,7 @@ use crate::form::{
 };
 use rv_isa::field;
 
-/// Returns the form of a halfword's row, or `None` if it has none.
+/// Returns how a halfword is written, or `None` if it is not an instruction of RV32IMC.
 #[tactic(auto, using(crate::proofs::HalfwordForms::by_quadrant))]
 pub(crate) fn form16(half: u32) -> Option<Form>
     ensures { option_map form_of_code result ≡ form16 half }
@@ -23,6 +23,7 @@ pub(crate) fn form16(half: u32) -> Option<Form>
     }
 }
 
+// Returns the form of a halfword of quadrant 0 (low bits 00), if it is an instruction.
 #[tactic(auto, using(crate::proofs::HalfwordForms::by_quadrant))]
 fn quadrant0_form(half: u32) -> Option<Form>
     requires { bits_of half 1 0 ≡ 0 }
@@ -36,6 +37,7 @@ fn quadrant0_form(half: u32) -> Option<Form>
     }
 }
 
+// Returns the form of a halfword of quadrant 1 (low bits 01), if it is an instruction.
 #[tactic(auto, using(crate::proofs::HalfwordForms::by_quadrant))]
 fn quadrant1_form(half: u32) -> Option<Form>
     requires { bits_of half 1 0 ≡ 1 }
@@ -55,14 +57,14 @@ fn quadrant1_form(half: u32) -> Option<Form>
     }
 }
 
-// Whether the immediate of a CI format is nonzero. C.ADDI16SP and C.LUI take theirs from the same bits.
+// Whether the immediate of a halfword of format CI is nonzero. C.ADDI16SP and C.LUI have their immediates in the same bits.
 fn has_ci_immediate(half: u32) -> bool
     ensures { IsTrue result ↔ (immediate_ci half ≢ 0) }
 {
     field(half, 12, 12) != 0 || field(half, 6, 2) != 0
 }
 
-// Returns the form of C.ADDI16SP or C.LUI.
+// Returns the form of C.ADDI16SP or C.LUI, or `None` if the immediate is 0.
 #[tactic(auto, using(crate::proofs::HalfwordForms::by_quadrant))]
 fn lui_or_addi16sp_form(half: u32) -> Option<Form>
     requires quadrant { bits_of half 1 0 ≡ 1 }
@@ -78,6 +80,7 @@ fn lui_or_addi16sp_form(half: u32) -> Option<Form>
     }
 }
 
+// Returns the form of a shift or an arithmetic instruction of quadrant 1 (bits 15 to 13 are 100), or `None` for a reserved encoding.
 #[tactic(auto, using(crate::proofs::HalfwordForms::by_quadrant))]
 fn misc_alu_form(half: u32) -> Option<Form>
     requires quadrant { bits_of half 1 0 ≡ 1 }
@@ -98,6 +101,7 @@ fn misc_alu_form(half: u32) -> Option<Form>
     }
 }
 
+// Returns the form of a halfword of quadrant 2 (low bits 10), if it is an instruction.
 #[tactic(auto, using(crate::proofs::HalfwordForms::by_quadrant))]
 fn quadrant2_form(half: u32) -> Option<Form>
     requires { bits_of half 1 0 ≡ 2 }
@@ -112,7 +116,7 @@ fn quadrant2_form(half: u32) -> Option<Form>
     }
 }
 
-// Returns the form of C.JR, C.MV, C.EBREAK, C.JALR or C.ADD.
+// Returns the form of C.JR, C.MV, C.EBREAK, C.JALR or C.ADD, or `None` for the reserved encoding.
 #[tactic(auto, using(crate::proofs::HalfwordForms::by_quadrant))]
 fn cr_format_form(half: u32) -> Option<Form>
     requires quadrant { bits_of half 1 0 ≡ 2 }

@@ -7,14 +7,14 @@ use crate::form::{
 };
 use rv_isa::Op;
 
-/// Returns the form of a name's row.
+/// Returns how the 32-bit instruction with this name is written.
 pub(crate) fn form32(op: Op) -> Form
     ensures { form_of_code result ≡ form32 op }
 {
     Form(mnemonic(op), operands_of_op(op))
 }
 
-// Returns the operands of a name's row.
+// Returns the operands of the 32-bit instruction with this name.
 fn operands_of_op(op: Op) -> Operands
     ensures { result ≡ (form32 op).operands }
 {
@@ -56,7 +56,7 @@ fn operands_of_op(op: Op) -> Operands
     }
 }
 
-// Returns the mnemonic of a name.
+// Returns the mnemonic of the 32-bit instruction with this name.
 fn mnemonic(op: Op) -> &'static str
     ensures { result.now ≡ (form32 op).mnemonic }
 {

@@ -2,25 +2,25 @@
 ghost use Rattle.std.specs.Prelude.{◌≡◌, ◌==◌, bit_and, find, map, option_map};
 ghost use Rattle.rv_disasm.specs.Unsimulated.{row_of_code, rows16, rows32, unsimulated16, unsimulated32};
 
-/// A row of a listing: the bits of a code that it fixes, their values, its name, and its extension.
+/// A row of a listing: the mask of the bits that it fixes, their values, the mnemonic, and the extension.
 #[derive(Clone, Copy)]
 pub(crate) struct Row(pub u32, pub u32, pub &'static str, pub &'static str);
 
-/// Returns the row of a word that is not an instruction of RV32IM, if a listing has one.
+/// Returns the row of a word in the listings of instructions that are not simulated, or `None` if it has none there.
 pub(crate) fn unsimulated32(word: u32) -> Option<Row>
     ensures { option_map row_of_code result ≡ unsimulated32 word }
 {
     find_row(rows32(), word).copied()
 }
 
-/// Returns the row of a halfword that is not an instruction of the C extension of RV32I, if a listing has one.
+/// Returns the row of a halfword in the listings of instructions that are not simulated, or `None` if it has none there.
 pub(crate) fn unsimulated16(half: u32) -> Option<Row>
     ensures { option_map row_of_code result ≡ unsimulated16 half }
 {
     find_row(rows16(), half).copied()
 }
 
-// Returns the first row that matches a code.
+// Returns the first row that an encoding matches, or `None` if it matches none.
 fn find_row<'a>(rows: &'a [Row], code: u32) -> Option<&'a Row>
     ensures { option_map (λ row. row.now) result
         ≡ find (λ row. bit_and code row.0 == row.1) rows.now }
@@ -29,6 +29,7 @@ fn find_row<'a>(rows: &'a [Row], code: u32) -> Option<&'a Row>
         .find(|Row(mask, pattern, _, _)| code & mask == *pattern)
 }
 
+// Returns the rows of all 16-bit instructions that are not simulated.
 #[tactic(auto, unfolding(crate::specs::Unsimulated::rows16))]
 fn rows16() -> &'static [Row]
     ensures { map row_of_code result.now ≡ rows16 }
@@ -36,6 +37,7 @@ fn rows16() -> &'static [Row]
     &ROWS16
 }
 
+// Returns the rows of all 32-bit instructions that are not simulated.
 #[tactic(auto, unfolding(crate::specs::Unsimulated::rows32))]
 fn rows32() -> &'static [Row]
     ensures { map row_of_code result.now ≡ rows32 }

@@ -1,4 +1,4 @@
--- The symbols of a table that may name code, ranked in the order in which `nearest_candidate` prefers them.
+-- The symbols of a table that may name code, and their ranks, by which `nearest_candidate` prefers them.
 use Rattle.std.specs.Prelude.{◌≡◌, ◌≤◌, ◌<◌, ◌==◌, ◌+◌, ◌-◌, ◌*◌, ◌/◌, ℕ, Bool, ◌&&◌, if◌then◌else◌, true, false, List}
 use Rattle.std.specs.Prelude.{length, drop, nat_le, slice_index_or, Option, None, option_map, is_some}
 use Rattle.std.specs.List.{All, Contains}
@@ -10,33 +10,35 @@ use Rattle.rv_elf.specs.declared.symbols.Symbol.{Symbol}
 use Rattle.rv_elf.specs.Sections.{symbol_entry, text_before_zero}
 use Rattle.rv_elf.specs.SymbolSearch.{are_in_one_segment, has_section, has_usable_name, may_be_code, precedence, symbol_at}
 
--- whether the symbol may name the code at some address
+-- whether the symbol `s` may name code: it is a function or has no type, it has a section, and its name is usable
 abbrev pub is_named_code : List ℕ → Symbol → Bool
 is_named_code strings s = may_be_code s && (has_section s && has_usable_name strings s)
 
--- symbols rank by greater value, then by precedence, then by lower index in the table
+-- the rank of the symbol `s` at an index of the table: symbols with a greater value rank higher, then those with a greater precedence, then
+-- those with a lower index
 abbrev pub rank : ℕ → Symbol → ℕ
 rank index s = 0x1000_0000 * (3 * s.value + precedence s) + (0x1000_0000 - 1 - index)
 
--- the stored form of the symbol at an index
+-- the symbol `s` at an index of the table in its stored form: its rank, its value, and the offset of its name
 abbrev pub code_symbol : ℕ → Symbol → CodeSymbol
 code_symbol index s = record { rank = rank index s; value = s.value; name = s.name }
 
--- the number of symbols in a table
+-- the number of symbols in the bytes of a symbol table
 abbrev pub symbol_count : List ℕ → ℕ
 symbol_count table = length table / 16
 
+-- the symbol at index `k` in the bytes of a symbol table
 abbrev pub symbol_of_index : List ℕ → ℕ → Symbol
 symbol_of_index table k = symbol_entry table (16 * k)
 
--- it is the stored form of one of the first n symbols of a table
+-- `s` is the stored form of one of the first `n` symbols of the table, which may name code
 pub record IsCodeSymbol (table strings : List ℕ) (n : ℕ) (s : CodeSymbol) : Type 0 where
   pub index : ℕ
   pub within : index < n
   pub code : is_named_code strings (symbol_of_index table index) ≡ true
   pub is : s ≡ code_symbol index (symbol_of_index table index)
 
--- they are the stored forms of those of the first n symbols that may name code, in some order
+-- `symbols` are the stored forms of exactly those of the first `n` symbols of the table that may name code, in some order
 pub record AreCodeSymbols (table strings : List ℕ) (n : ℕ) (symbols : List CodeSymbol) : Type 0 where
   pub sound : All (IsCodeSymbol table strings n) symbols
   pub complete : (k : ℕ) → k < n → is_named_code strings (symbol_of_index table k) ≡ true
@@ -44,27 +46,28 @@ pub record AreCodeSymbols (table strings : List ℕ) (n : ℕ) (symbols : List C
 
 -- ---- symbols in the order of their values
 
--- the symbol's name, and the offset of the address from its value
+-- the name of the symbol `s`, and the offset of the address `addr` from its value
 abbrev pub name_and_offset_of : List ℕ → ℕ → CodeSymbol → Option (List ℕ × ℕ)
 name_and_offset_of strings addr s = option_map (λ name. (name, addr - s.value)) (text_before_zero (drop s.name strings))
 
--- every symbol has a name
+-- every symbol has a name in the string table
 abbrev pub AreNamed : List ℕ → List CodeSymbol → Type 0
 AreNamed strings symbols = All (λ s. is_some (text_before_zero (drop s.name strings)) ≡ true) symbols
 
--- the symbol names an address if both are in one segment
+-- the name of the symbol `s` and the offset of the address `addr`, if some segment has both the symbol's value and the address
 abbrev pub named_in_segment : List Segment → List ℕ → ℕ → CodeSymbol → Option (List ℕ × ℕ)
 named_in_segment segments strings addr s =
     if are_in_one_segment segments s.value addr then name_and_offset_of strings addr s else None
 
--- the symbol of an address is the last one not above it, if both are in one segment
+-- in this list of symbols, sorted by value, the symbol of an address is the last one whose value is not above it, if some segment has both
+-- the symbol's value and the address
 abbrev pub FindSymbols : Image → List ℕ → List ℕ → List CodeSymbol → Type 0
 FindSymbols image file strings symbols = (addr above : ℕ) (d : CodeSymbol) → above ≤ length symbols
     → IsPartitionPoint (λ s. nat_le s.value addr ≡ true) (λ s. nat_le s.value addr ≡ false) symbols above
     → symbol_at image file addr ≡ (if above == 0 then None
     else named_in_segment image.segments strings addr (slice_index_or symbols (above - 1) d))
 
--- the symbol found for an address is this one
+-- `found`, the symbol found for the address `addr`, is the name of `s` and the offset of the address from its value
 pub record IsSymbolFor (found : Option (List ℕ × ℕ)) (strings : List ℕ) (addr : ℕ) (s : CodeSymbol) : Type 0 where
   pub below : s.value ≤ addr
   pub is : found ≡ name_and_offset_of strings addr s

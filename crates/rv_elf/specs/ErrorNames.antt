@@ -1,8 +1,9 @@
--- The names of the errors.
+-- The names of the errors of images.
 use Rattle.std.specs.Prelude.{ℕ, List, codes}
 use Rattle.rv_elf.specs.declared.error.ImageError.{ImageError}
 use Rattle.rv_elf.specs.declared.error.ImageError.TheVariants as image
 
+-- the name of an error in reports and messages
 abbrev pub image_error_name : ImageError → List ℕ
 image_error_name image.ShortHeader = codes "short-header"
 image_error_name image.BadMagic = codes "bad-magic"

@@ -10,57 +10,61 @@ use Rattle.rv_elf.specs.Sections.{symbols_of, text_before_zero}
 use Rattle.rv_elf.specs.SymbolSearch.{has_section, has_usable_name, is_function}
 use Rattle.rv_elf.specs.Symbols.{symbol_and_string_bytes, table_check}
 
--- PF_X
+-- whether a segment may be executed: its flags have PF_X
 abbrev pub is_executable : Segment → Bool
 is_executable segment = segment.flags % 2 == 1
 
--- the file bytes of a segment, if any, are within a file of n bytes
+-- whether all file bytes of a segment are in a file of `n` bytes; true if it has none
 abbrev pub is_in_file : ℕ → Segment → Bool
 is_in_file n segment = not (nat_lt 0 segment.filesz && nat_lt n (segment.offset + segment.filesz))
 
--- the bytes of the symbol are among the segment's file bytes
+-- whether all bytes of the symbol `s` are among the file bytes of a segment
 abbrev pub has_code_of : Symbol → Segment → Bool
 has_code_of s segment = nat_le segment.vaddr s.value && nat_le (s.value + s.size) (segment.vaddr + segment.filesz)
 
+-- whether a segment may be executed and has all bytes of the symbol `s` among its file bytes
 abbrev pub is_code_segment_of : Symbol → Segment → Bool
 is_code_segment_of s segment = is_executable segment && has_code_of s segment
 
--- the file bytes of a symbol in a segment
+-- the bytes of the symbol `s`, from the file bytes of a segment
 abbrev pub bytes_in_segment : List ℕ → Symbol → Segment → List ℕ
 bytes_in_segment file s segment = take s.size (drop (segment.offset + (s.value - segment.vaddr)) file)
 
--- the symbol's bytes in the first executable segment that has them
+-- the bytes of the symbol `s` in the first executable segment that has them all, or `None` if there is none
 abbrev pub code_of_symbol : List Segment → List ℕ → Symbol → Option (List ℕ)
 code_of_symbol segments file s = option_map (bytes_in_segment file s) (find (is_code_segment_of s) segments)
 
--- whether the symbol is a function with a size and a name
+-- whether the symbol `s` is a function with a section, a size above 0, and a usable name
 abbrev pub is_sized_function : List ℕ → Symbol → Bool
 is_sized_function strings s = is_function s && (has_section s && (nat_lt 0 s.size && has_usable_name strings s))
 
--- the maximum number of bytes shown of a name
+-- the maximum length at which the name of a function is shown, in bytes
 abbrev pub most_name : ℕ
 most_name = 1024
 
--- the bytes before the first zero byte, cut off at the maximum
+-- the name at the start of these bytes: those before the first zero byte, but at most `most_name`
 abbrev pub name_in : List ℕ → List ℕ
 name_in bytes = unwrap_or (text_before_zero (take most_name bytes)) (take most_name bytes)
 
--- a function's name, address and code
+-- a function: its name, its address and its code
 abbrev pub Named : Type 0
 Named = List ℕ × (ℕ × List ℕ)
 
+-- the function of the symbol `s` with this code
 abbrev pub named_code : List ℕ → Symbol → List ℕ → Named
 named_code strings s code = (name_in (drop s.name strings), (s.value, code))
 
+-- the function of the symbol `s`, or `None` if it is not a function with a size and a usable name, or if no executable segment has its
+-- bytes
 abbrev pub function_of_symbol : List Segment → List ℕ → List ℕ → Symbol → Option Named
 function_of_symbol segments file strings s =
     if is_sized_function strings s then option_map (named_code strings s) (code_of_symbol segments file s) else None
 
--- the functions in table order
+-- the functions of a symbol table and its string table, in table order
 abbrev pub functions_in : List Segment → List ℕ → List ℕ → List ℕ → List Named
 functions_in segments file table strings = filter_map (function_of_symbol segments file strings) (symbols_of table)
 
--- none if the tables are rejected
+-- the functions of the file's first symbol table, in table order; none if the tables are rejected
 unfoldable pub functions : Image → List ℕ → List Named
 functions image file = if is_ok (table_check file)
     then option_map_or (λ t. functions_in image.segments file t.0 t.1) (symbol_and_string_bytes file) [] else []

@@ -1,5 +1,5 @@
--- The image of a file's bytes, or the first error in a list that applies. ELF32 of the System V ABI, chapters "Object Files" and "Program
--- Loading"; the RISC-V machine number is from its ELF psABI.
+-- The image of a file's bytes, or the first error that applies. ELF32 of the System V ABI, chapters "Object Files" and "Program Loading";
+-- the RISC-V machine number is from its ELF psABI.
 use Rattle.std.specs.Prelude.{◌≡◌, ◌≤◌, ◌<◌, ◌==◌, ◌+◌, ◌*◌, ◌%◌, ℕ, Bool, not, ◌&&◌, ◌||◌, List}
 use Rattle.std.specs.Prelude.{[], ◌∷◌, length, map, filter, Result, Ok, nat_lt}
 use Rattle.std.specs.List.{list_any, range_with_len}
@@ -18,53 +18,67 @@ use Rattle.rv_elf.specs.declared.program_headers.ProgramHeader.{ProgramHeader}
 use Rattle.rv_elf.specs.Fields.{byte_at, half_at, word_at}
 use Rattle.rv_elf.specs.Rows.{RefusalRow, first_refusal}
 
--- ---- the ELF header's fields ("ELF Header")
+-- ---- the fields of the ELF header ("ELF Header")
 
+-- e_type: the type of the file
 abbrev pub e_type : List ℕ → ℕ
 e_type file = half_at file 16
 
+-- e_machine: the architecture of the file
 abbrev pub e_machine : List ℕ → ℕ
 e_machine file = half_at file 18
 
+-- e_version: the version of the format
 abbrev pub e_version : List ℕ → ℕ
 e_version file = word_at file 20
 
+-- e_entry: the address of the first instruction
 abbrev pub e_entry : List ℕ → ℕ
 e_entry file = word_at file 24
 
+-- e_phoff: the offset of the program header table
 abbrev pub e_phoff : List ℕ → ℕ
 e_phoff file = word_at file 28
 
+-- e_phentsize: the size of a program header
 abbrev pub e_phentsize : List ℕ → ℕ
 e_phentsize file = half_at file 42
 
+-- e_phnum: the number of program headers
 abbrev pub e_phnum : List ℕ → ℕ
 e_phnum file = half_at file 44
 
--- ---- the program header table ("Program Header"), and the fields of the entry at a place
+-- ---- the program header table ("Program Header"), and the fields of the program header at an offset `at`
 
+-- p_type: the type of the program header at `at`
 abbrev pub p_type : List ℕ → ℕ → ℕ
 p_type file at = word_at file at
 
+-- p_offset: the offset of the segment's bytes in the file
 abbrev pub p_offset : List ℕ → ℕ → ℕ
 p_offset file at = word_at file (at + 4)
 
+-- p_vaddr: the virtual address of the segment
 abbrev pub p_vaddr : List ℕ → ℕ → ℕ
 p_vaddr file at = word_at file (at + 8)
 
+-- p_paddr: the physical address of the segment
 abbrev pub p_paddr : List ℕ → ℕ → ℕ
 p_paddr file at = word_at file (at + 12)
 
+-- p_filesz: the number of the segment's bytes in the file
 abbrev pub p_filesz : List ℕ → ℕ → ℕ
 p_filesz file at = word_at file (at + 16)
 
+-- p_memsz: the number of the segment's bytes in memory
 abbrev pub p_memsz : List ℕ → ℕ → ℕ
 p_memsz file at = word_at file (at + 20)
 
+-- p_flags: the access rights of the segment
 abbrev pub p_flags : List ℕ → ℕ → ℕ
 p_flags file at = word_at file (at + 24)
 
--- the segment of the program header at an offset
+-- the segment of the program header at the offset `at`
 unfoldable pub segment_at : List ℕ → ℕ → Segment
 segment_at file at = record {
   offset = p_offset file at;
@@ -75,62 +89,65 @@ segment_at file at = record {
   flags = p_flags file at;
 }
 
+-- the program header at the offset `at`
 unfoldable pub program_entry_at : List ℕ → ℕ → ProgramHeader
 program_entry_at file at = record { p_type = p_type file at; segment = segment_at file at }
 
--- the program header table: e_phnum entries of 32 bytes from e_phoff on
+-- the program header table: `e_phnum` program headers of 32 bytes from `e_phoff` on
 unfoldable pub program_entries : List ℕ → List ProgramHeader
 program_entries file = map (λ k. program_entry_at file (e_phoff file + 32 * k)) (range_with_len 0 (e_phnum file))
 
--- ---- the conditions of the refusals
+-- ---- when a file is refused
 
--- 0x7f 'E' 'L' 'F'
+-- whether the file begins with 0x7f 'E' 'L' 'F'
 abbrev pub has_magic : List ℕ → Bool
 has_magic file = (byte_at file 0 == 0x7f) && ((byte_at file 1 == 0x45)
     && ((byte_at file 2 == 0x4c) && (byte_at file 3 == 0x46)))
 
--- the version, in the identification or in e_version, is not 1
+-- whether the version in the identification or in `e_version` is not 1
 abbrev pub has_bad_version : List ℕ → Bool
 has_bad_version file = not (byte_at file 6 == 1) || not (e_version file == 1)
 
--- there are more than 64 entries; or there are some, and their size is not 32 bytes or the table extends past the end of the file
+-- whether there are more than 64 program headers; or there are some, and their size is not 32 bytes or the table extends past the end of
+-- the file
 abbrev pub has_bad_program_table : List ℕ → Bool
 has_bad_program_table file = nat_lt 64 (e_phnum file) || (nat_lt 0 (e_phnum file)
     && (not (e_phentsize file == 32) || nat_lt (length file) (e_phoff file + 32 * e_phnum file)))
 
--- PT_DYNAMIC or PT_INTERP
+-- whether a program header is PT_DYNAMIC or PT_INTERP
 abbrev pub is_dynamic : ProgramHeader → Bool
 is_dynamic e = (e.p_type == 2) || (e.p_type == 3)
 
--- PT_LOAD
+-- whether a program header is PT_LOAD
 abbrev pub is_load : ProgramHeader → Bool
 is_load e = e.p_type == 1
 
--- whether it has more bytes in the file than in memory
+-- whether a program header is PT_LOAD and has more bytes in the file than in memory
 abbrev pub has_bad_sizes : ProgramHeader → Bool
 has_bad_sizes e = is_load e && nat_lt e.segment.memsz e.segment.filesz
 
--- whether its bytes extend past the end of a file of n bytes
+-- whether a program header is PT_LOAD, and its file bytes, if any, extend past the end of a file of `n` bytes
 abbrev pub is_entry_past_file : ℕ → ProgramHeader → Bool
 is_entry_past_file n e = is_load e
     && (nat_lt 0 e.segment.filesz && nat_lt n (e.segment.offset + e.segment.filesz))
 
--- whether it has bytes in memory
+-- whether a program header is PT_LOAD and has bytes in memory
 abbrev pub is_loaded_entry : ProgramHeader → Bool
 is_loaded_entry e = is_load e && nat_lt 0 e.segment.memsz
 
+-- the segments of the PT_LOAD program headers with bytes in memory, in order
 abbrev pub loaded_segments : List ProgramHeader → List Segment
 loaded_segments found = map (λ e. e.segment) (filter is_loaded_entry found)
 
--- the PT_LOAD entries with a nonzero memory size, in table order
+-- the segments of the file's PT_LOAD program headers with bytes in memory, in table order
 unfoldable pub segments : List ℕ → List Segment
 segments file = loaded_segments (program_entries file)
 
--- ---- the refusals, and the image
+-- ---- the image, or the first reason to refuse the file
 
--- the errors in order, each with its condition: of the ELF header, of the location of the program header table, of its entries (each
--- condition is checked for all entries before the next one), and of the image; only instruction sets without compressed instructions
--- require the entry to be a multiple of 4
+-- the errors of an image, in order, each with its condition: those of the ELF header, of the location of the program header table, of the
+-- program headers (each condition is checked for all of them before the next one), and of the entry; only instruction sets without
+-- compressed instructions require the entry to be a multiple of 4
 abbrev pub refusals : Isa → List ℕ → List RefusalRow
 refusals isa file = (nat_lt (length file) 52, ShortHeader)
     ∷ (not (has_magic file), BadMagic)
@@ -148,20 +165,20 @@ refusals isa file = (nat_lt (length file) 52, ShortHeader)
     ∷ (not (has isa RV32C) && not (e_entry file % 4 == 0), EntryAlign)
     ∷ []
 
--- the entry and the loaded segments, before any check
+-- the entry and the loaded segments of a file, before any check
 abbrev pub unchecked_image : List ℕ → Image
 unchecked_image file = record { entry = e_entry file; segments = segments file }
 
--- the error of the first condition in the list that holds, or else the image
+-- the image of a file for a hart with this instruction set, or the first error that applies
 unfoldable pub image_of : Isa → List ℕ → Result Image ImageError
 image_of isa file = first_refusal (refusals isa file) (Ok (unchecked_image file))
 
--- the image is read from these bytes, for some instruction set
+-- the file is read as this image for some instruction set
 pub record IsImageOf (file : List ℕ) (image : Image) : Type 0 where
   pub isa : Isa
   pub is : image_of isa file ≡ Ok image
 
--- the file contains the header and the whole program header table
+-- the file has the whole ELF header, and the whole program header table, with at most 64 program headers
 pub record HasTable (file : List ℕ) : Type 0 where
   pub header : 52 ≤ length file
   pub few : e_phnum file ≤ 64

@@ -1,4 +1,4 @@
--- The checks of each step of reading an image: its part of the list of errors.
+-- The checks of each step of reading an image: its part of the errors in `refusals`.
 use Rattle.std.specs.Prelude.{ℕ, List, drop, take, Result, Ok}
 use Rattle.rv_isa.specs.declared.sets.Isa.{Isa}
 use Rattle.rv_isa.specs.declared.sets.Isa.TheVariants.{Imc}
@@ -7,27 +7,31 @@ use Rattle.rv_elf.specs.declared.image.Image.{Image}
 use Rattle.rv_elf.specs.Rows.{RefusalRow, first_refusal, accepted}
 use Rattle.rv_elf.specs.Image.{refusals, unchecked_image}
 
--- the first eight concern the header; only the last of all depends on the instruction set, so any set will do here
+-- the first eight errors, which concern the header and the location of the program header table; since only the last of all errors depends
+-- on the instruction set, any set does here
 abbrev pub header_rows : List ℕ → List RefusalRow
 header_rows file = take 8 (refusals Imc file)
 
--- the next three concern the entries
+-- the next three errors, which concern the program headers
 abbrev pub entry_rows : List ℕ → List RefusalRow
 entry_rows file = take 3 (drop 8 (refusals Imc file))
 
--- the last three concern the image
+-- the last three errors, which concern the loaded segments and the entry
 abbrev pub image_rows : Isa → List ℕ → List RefusalRow
 image_rows isa file = drop 11 (refusals isa file)
 
+-- the first error of the header that applies; accepted if none does
 unfoldable pub header_check : List ℕ → Result (Unit {0}) ImageError
 header_check file = first_refusal (header_rows file) accepted
 
+-- the first error of the program headers that applies; accepted if none does
 unfoldable pub entry_check : List ℕ → Result (Unit {0}) ImageError
 entry_check file = first_refusal (entry_rows file) accepted
 
+-- the first error of the loaded segments and the entry that applies; accepted if none does
 unfoldable pub segments_and_entry_check : Isa → List ℕ → Result (Unit {0}) ImageError
 segments_and_entry_check isa file = first_refusal (image_rows isa file) accepted
 
--- the result once the header has been accepted
+-- the image of a file whose header is accepted, or the first of the other errors that applies
 unfoldable pub image_after_header : Isa → List ℕ → Result Image ImageError
 image_after_header isa file = first_refusal (drop 8 (refusals isa file)) (Ok (unchecked_image file))

@@ -14,58 +14,59 @@ use Rattle.rv_elf.specs.declared.loading.LoadAt.{LoadAt}
 use Rattle.rv_elf.specs.declared.loading.LoadAt.TheVariants.{Physical, Virtual}
 use Rattle.rv_elf.specs.Rows.{RefusalRow, first_refusal, accepted}
 
--- the address at which the segment's file bytes are loaded
+-- the address at which the file bytes of the segment `s` are loaded: its physical or its virtual address
 abbrev pub load_address : LoadAt → Segment → ℕ
 load_address Physical s = s.paddr
 load_address Virtual s = s.vaddr
 
--- whether its file bytes at the load address are in one region, and its memory at the virtual address is too; true for zero bytes
+-- whether the segment `s` fits a map: one region has all its file bytes at the load address, and one region has all its memory at the
+-- virtual address
 abbrev pub segment_fits : List Region → LoadAt → Segment → Bool
 segment_fits regions at s = in_one regions (load_address at s) s.filesz && in_one regions s.vaddr s.memsz
 
--- the first segment that does not fit the map
+-- the first segment that does not fit the map, or `None` if all fit
 abbrev pub unfit_segment : List Region → LoadAt → List Segment → Option Segment
 unfit_segment regions at segments = find (λ segment. not (segment_fits regions at segment)) segments
 
--- whether the file bytes of both, at their load addresses, share a byte: the later start is before the earlier end
+-- whether the file bytes of two segments, at their load addresses, share a byte of memory: the later start is before the earlier end
 abbrev pub segments_overlap : LoadAt → Segment → Segment → Bool
 segments_overlap at s t = nat_lt (max (load_address at s) (load_address at t))
     (min (load_address at s + s.filesz) (load_address at t + t.filesz))
 
--- whether some segment of the list shares a byte with a later one
+-- whether some segment of a list shares a byte of memory with a later one
 abbrev pub any_segments_overlap : LoadAt → List Segment → Bool
 any_segments_overlap at [] = false
 any_segments_overlap at (s ∷ ss) = list_any (segments_overlap at s) ss || any_segments_overlap at ss
 
--- the errors of a map, in order
+-- the errors of an image with these segments on a map, in order, each with its condition
 abbrev pub map_rows : List Segment → List Region → LoadAt → List RefusalRow
 map_rows segments regions at = (not (list_all (segment_fits regions at) segments), SegmentMap)
     ∷ (any_segments_overlap at segments, SegmentOverlap) ∷ []
 
--- the first error that applies, if any
+-- the first error of an image with these segments on a map that applies; accepted if none does
 unfoldable pub map_check : List Segment → List Region → LoadAt → Result (Unit {0}) ImageError
 map_check segments regions at = first_refusal (map_rows segments regions at) accepted
 
--- whether a byte of the segment's file bytes is loaded at the address
+-- whether the segment `s` loads one of its file bytes at the address `a`
 abbrev pub segment_fills : LoadAt → ℕ → Segment → Bool
 segment_fills at a s = nat_le (load_address at s) a && nat_lt a (load_address at s + s.filesz)
 
--- the file byte that a segment loads at an address
+-- the byte of the file that the segment `s` loads at the address `a`
 abbrev pub segment_byte : List ℕ → LoadAt → Segment → ℕ → ℕ
 segment_byte file at s a = slice_index file (s.offset + (a - load_address at s))
 
--- the initial byte at an address: the file byte of the segment that fills it, else 0. If the map is accepted no two segments fill one
--- address, so the first that does is the only one
+-- the byte at the address `a` of a loaded image: the file byte of the segment that fills it, else 0; if the map is accepted, no two
+-- segments fill one address
 abbrev pub initial_byte : List Segment → List ℕ → LoadAt → ℕ → ℕ
 initial_byte [] file at a = 0
 initial_byte (s ∷ ss) file at a =
     if segment_fills at a s then segment_byte file at s a else initial_byte ss file at a
 
--- the initial memory
+-- the memory of these regions after an image with these segments is loaded
 unfoldable pub initial_memory : List Region → List Segment → List ℕ → LoadAt → fin.FinMap nat_cmp ℕ
 initial_memory regions segments file at =
     tabulate (addresses regions) (initial_byte segments file at)
 
--- the segment's bytes in the file
+-- the bytes of the segment `s` in the file
 abbrev pub file_bytes : List ℕ → Segment → List ℕ
 file_bytes file s = take s.filesz (drop s.offset file)

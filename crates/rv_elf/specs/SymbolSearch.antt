@@ -14,106 +14,110 @@ use Rattle.rv_elf.specs.declared.symbols.Symbol.{Symbol}
 use Rattle.rv_elf.specs.Sections.{text_before_zero, symbols_of}
 use Rattle.rv_elf.specs.Symbols.{table_check, symbol_and_string_bytes}
 
--- ---- which symbols stand for a place
+-- ---- which symbols may name an address
 
--- STT_FUNC
+-- whether the symbol is a function (STT_FUNC)
 abbrev pub is_function : Symbol → Bool
 is_function s = s.kind == 2
 
--- a function, or STT_NOTYPE, like an assembly label
+-- whether the symbol is a function or has no type (STT_NOTYPE), like an assembly label
 abbrev pub may_be_code : Symbol → Bool
 may_be_code s = is_function s || (s.kind == 0)
 
--- whether it is defined in a section of the file: its index is neither SHN_UNDEF nor reserved, unlike that of an absolute value (SHN_ABS)
+-- whether the symbol is defined in a section of the file: its section index is neither SHN_UNDEF nor reserved, unlike that of an absolute
+-- value (SHN_ABS)
 abbrev pub has_section : Symbol → Bool
 has_section s = nat_lt 0 s.section && nat_lt s.section 0xff00
 
--- its name: the bytes at its offset in the string table, up to a zero byte, if there is one
+-- the name of the symbol: the bytes at its offset in the string table, up to a zero byte, or `None` if no zero byte follows
 abbrev pub symbol_name : List ℕ → Symbol → Option (List ℕ)
 symbol_name strings s = text_before_zero (drop s.name strings)
 
--- whether it is not empty and begins with neither `.` nor `$`, unlike the names that an assembler makes up
+-- whether a name is not empty and begins with neither `.` nor `$`, unlike the names that an assembler makes up
 abbrev pub is_source_name : List ℕ → Bool
 is_source_name [] = false
 is_source_name (b ∷ bs) = not (b == 0x2e) && not (b == 0x24)
 
+-- whether the symbol has a name that is not empty and begins with neither `.` nor `$`
 abbrev pub has_usable_name : List ℕ → Symbol → Bool
 has_usable_name strings s = option_map_or is_source_name (symbol_name strings s) false
 
--- whether the address is in the memory of the segment
+-- whether the address `a` is in the memory of a segment
 abbrev pub segment_holds_address : ℕ → Segment → Bool
 segment_holds_address a segment = nat_le segment.vaddr a && nat_lt a (segment.vaddr + segment.memsz)
 
--- whether both addresses are in one of the segments
+-- whether one of the segments has both addresses in its memory
 abbrev pub are_in_one_segment : List Segment → ℕ → ℕ → Bool
 are_in_one_segment segments a b = list_any (λ segment. segment_holds_address a segment && segment_holds_address b segment) segments
 
--- STT_OBJECT
+-- whether the symbol is an object (STT_OBJECT)
 abbrev pub is_object : Symbol → Bool
 is_object s = s.kind == 1
 
--- whether the address is among the bytes that the symbol's size covers
+-- whether the address is among the bytes that the symbol covers
 abbrev pub symbol_holds_address : ℕ → Symbol → Bool
 symbol_holds_address addr s = nat_le s.value addr && nat_lt addr (s.value + s.size)
 
--- whether the address is the symbol's value, or is in a function or an object
+-- whether the address is the value of the symbol, or is among the bytes of a function or an object
 abbrev pub covers_address : ℕ → Symbol → Bool
 covers_address addr s = (s.value == addr) || ((is_function s || is_object s) && symbol_holds_address addr s)
 
--- whether the symbol may name an address: it is a named symbol that is not above it. For code it must be a function or an untyped symbol in
--- one segment with the address; for a value, a function, an object or an untyped symbol that covers it
+-- whether the symbol may name the address `addr`; to name code, it must be a function or have no type, not be above the address, and be in
+-- one segment with it; to name a value, it must be a function, an object or have no type, and cover the address; it must always have a
+-- section and a usable name
 abbrev pub is_candidate : LookupKind → List Segment → List ℕ → ℕ → Symbol → Bool
 is_candidate Code segments strings addr s = may_be_code s && (has_section s && (nat_le s.value addr
     && (has_usable_name strings s && are_in_one_segment segments s.value addr)))
 is_candidate Value segments strings addr s = (may_be_code s || is_object s) && (has_section s
     && (covers_address addr s && has_usable_name strings s))
 
--- the candidates among the symbols in a table's bytes, in order
+-- the symbols in the bytes of a symbol table that may name the address `addr`, in table order
 abbrev pub candidates : LookupKind → List Segment → List ℕ → ℕ → List ℕ → List Symbol
 candidates sought segments strings addr table =
     filter (is_candidate sought segments strings addr) (symbols_of table)
 
--- ---- which of them is taken
+-- ---- which of them is chosen
 
--- functions come before objects, and objects before other symbols
+-- the precedence of a symbol: functions come before objects, and objects before other symbols
 abbrev pub precedence : Symbol → ℕ
 precedence s = if is_function s then 2 else if is_object s then 1 else 0
 
--- the first symbol has a greater value, or an equal value and precedence
+-- whether the symbol `s` is preferred to `t`: it has a greater value, or an equal value and a greater precedence
 abbrev pub is_nearer : Symbol → Symbol → Bool
 is_nearer s t = nat_lt t.value s.value
     || ((s.value == t.value) && nat_lt (precedence t) (precedence s))
 
--- the first symbol of a list such that no other is nearer
+-- the first symbol in a list to which no other is preferred, or `None` if the list is empty
 unfoldable pub nearest_candidate : List Symbol → Option Symbol
 nearest_candidate ss = find (λ s. not (list_any (λ t. is_nearer t s) ss)) ss
 
--- the name of a symbol, and the offset of the address from its value
+-- the name of the symbol, and the offset of the address `addr` from its value
 abbrev pub name_and_offset : List ℕ → ℕ → Symbol → Option (List ℕ × ℕ)
 name_and_offset strings addr s = option_map (λ name. (name, addr - s.value)) (symbol_name strings s)
 
--- the name and offset of the nearest candidate in a symbol table and its string table
+-- the name of the preferred symbol in a symbol table that may name the address `addr`, and the offset of the address from its value
 abbrev pub symbol_before : LookupKind → List Segment → ℕ → List ℕ → List ℕ → Option (List ℕ × ℕ)
 symbol_before sought segments addr table strings = option_and_then (name_and_offset strings addr)
     (nearest_candidate (candidates sought segments strings addr table))
 
--- the name and offset from the first symbol table of an image's file; none if a table is rejected
+-- the name of the preferred symbol in the file's first symbol table that may name the address `addr`, and the offset of the address from
+-- its value; `None` if there is none or a table is rejected
 unfoldable pub nearest_symbol : LookupKind → Image → List ℕ → ℕ → Option (List ℕ × ℕ)
 nearest_symbol sought image file addr = if is_ok (table_check file)
     then option_and_then (λ t. symbol_before sought image.segments addr t.0 t.1) (symbol_and_string_bytes file)
     else None
 
--- the symbol that a code address belongs to
+-- the name of the symbol that a code address belongs to, and the offset of the address from its value
 abbrev pub symbol_at : Image → List ℕ → ℕ → Option (List ℕ × ℕ)
 symbol_at = nearest_symbol Code
 
--- the symbol whose address a value is, or into which it points
+-- the name of the symbol whose address a value is, or into which it points, and the offset of the value from it
 abbrev pub symbol_of_value : Image → List ℕ → ℕ → Option (List ℕ × ℕ)
 symbol_of_value = nearest_symbol Value
 
--- ---- where names end
+-- ---- the ends of names
 
--- the index after the last zero byte of a string table: a name begins at each index before it, and at no other
+-- `end` is the index after the last zero byte of a string table: a name begins at each index before it, and at no other
 pub record IsNamesEnd (strings : List ℕ) (end : ℕ) : Type 0 where
   pub within : end ≤ length strings
   pub names : (k : ℕ) → is_some (text_before_zero (drop k strings)) ≡ nat_lt k end

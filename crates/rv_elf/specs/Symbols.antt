@@ -1,4 +1,4 @@
--- The value of a symbol, and the range of a signature, or the first error in the table that applies.
+-- The value of a symbol, and the range of a signature, or the first error that applies.
 use Rattle.std.specs.Prelude.{◌==◌, ◌-◌, ◌%◌, ℕ, Bool, true, false, not, ◌&&◌, ◌||◌, List, []}
 use Rattle.std.specs.Prelude.{◌∷◌}
 use Rattle.std.specs.Prelude.{◌++◌}
@@ -16,12 +16,13 @@ use Rattle.rv_elf.specs.Rows.{RefusalRow, first_refusal, accepted}
 use Rattle.rv_elf.specs.Sections.{has_bad_section_table, symbol_table_section, string_table_section, is_bad_symbol_table}
 use Rattle.rv_elf.specs.Sections.{is_bad_string_table, section_bytes, symbol_named}
 
--- the string table of a symbol table is missing, has another type, or extends past the end of the file
+-- whether the string table of a symbol table is missing, has another type than SHT_STRTAB, or extends past the end of the file
 abbrev pub has_bad_string_table : List ℕ → Section → Bool
 has_bad_string_table file symbols =
     option_map_or (is_bad_string_table (length file)) (string_table_section file symbols) true
 
--- the errors of a file's symbols, in order; those of a symbol table are checked only if there is one
+-- the errors of the file's symbol and string tables, in order, each with its condition; the errors of a symbol table apply only if there is
+-- one
 abbrev pub table_rows : List ℕ → List RefusalRow
 table_rows file = (has_bad_section_table file, SectionTable)
     ∷ (is_none (symbol_table_section file), NoSymbols)
@@ -29,41 +30,42 @@ table_rows file = (has_bad_section_table file, SectionTable)
     ∷ (option_map_or (has_bad_string_table file) (symbol_table_section file) false, StringTable)
     ∷ []
 
--- the first of them that applies, if any
+-- the first error of the file's symbol and string tables that applies; accepted if none does
 unfoldable pub table_check : List ℕ → Result (Unit {0}) ImageError
 table_check file = first_refusal (table_rows file) accepted
 
--- the bytes of a symbol table and of its string table
+-- the bytes of a symbol table and of its string table, or `None` if the string table does not exist
 abbrev pub tables_of_section : List ℕ → Section → Option (List ℕ × List ℕ)
 tables_of_section file symbols =
     option_map (λ strings. (section_bytes file symbols, section_bytes file strings))
     (string_table_section file symbols)
 
--- the bytes of the first symbol table and of its string table
+-- the bytes of the file's first symbol table and of its string table, or `None` if one of them does not exist
 abbrev pub symbol_and_string_bytes : List ℕ → Option (List ℕ × List ℕ)
 symbol_and_string_bytes file = option_and_then (tables_of_section file) (symbol_table_section file)
 
--- the first symbol with this name in them
+-- the first defined symbol with this name in the file's first symbol table, or `None` if there is none
 abbrev pub symbol_of_name : List ℕ → List ℕ → Option Symbol
 symbol_of_name file name = option_and_then (λ t. symbol_named t.0 t.1 name) (symbol_and_string_bytes file)
 
--- the errors of a name, in order
+-- the errors of looking up a name in a file, in order, each with its condition
 abbrev pub symbol_rows : List ℕ → List ℕ → List RefusalRow
 symbol_rows file name = table_rows file ++ (is_none (symbol_of_name file name), NoBegin) ∷ []
 
--- the first error that applies, or the value of the symbol; without an error the symbol exists, so the default is never used
+-- the value of the symbol with this name, or the first error that applies; without an error the symbol exists, so the default 0 is never
+-- returned
 unfoldable pub symbol_of : List ℕ → List ℕ → Result ℕ ImageError
 symbol_of file name = first_refusal (symbol_rows file name)
     (Ok (unwrap_or (option_map (λ s. s.value) (symbol_of_name file name)) 0))
 
--- the begin is above the end, one of them is not a multiple of 4, or there are bytes that are not in one region or make up more than 65,536
--- words
+-- whether the words from `begin` up to `end` cannot be a signature: `begin` is above `end`, one of them is not a multiple of 4, or the
+-- bytes are not in one region or make up more than 65,536 words
 abbrev pub is_bad_signature_range : ℕ → ℕ → List Region → Bool
 is_bad_signature_range begin end regions = nat_lt end begin || (not (begin % 4 == 0) || (not (end % 4 == 0)
     || (nat_lt begin end && (not (in_one regions begin (end - begin))
     || nat_lt 0x4_0000 (end - begin)))))
 
--- the error of a signature's range, if it applies
+-- the error of a signature from `begin` up to `end` if it is not in a valid range; accepted if it is
 unfoldable pub signature_check : ℕ → ℕ → List Region → Result (Unit {0}) ImageError
 signature_check begin end regions =
     first_refusal ((is_bad_signature_range begin end regions, SignatureRange) ∷ []) accepted

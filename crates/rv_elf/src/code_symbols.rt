@@ -10,12 +10,13 @@ use crate::symbol_search::{SymbolAt, are_in_one_segment, names_end, text_before_
 use crate::symbols::{SYMBOL_SIZE, Symbol, bytes_from, symbol_and_string_bytes, symbol_entry};
 use std::alloc::{AllocError, Global};
 
-// The stored form of a symbol.
+// A symbol that may name code, in its stored form.
 #[derive(Clone, Copy)]
 struct CodeSymbol {
-    // Greater for symbols that `symbol_at` prefers.
+    // Greater for symbols that [`symbol_at`](crate::symbol_at) prefers.
     rank: u64,
     value: u32,
+    // The offset of the name in the string table.
     name: u32,
 }
 
@@ -80,16 +81,16 @@ impl<'a> CodeSymbols<'a> {
         })
     }
 
-    /// Returns the value of the symbol that an address of the image belongs to. Reads no name, so its time is logarithmic in the number of
-    /// symbols.
+    /// Returns the value of the symbol that an address of the image belongs to, or `None` if it belongs to none. Reads no name, so its time
+    /// is logarithmic in the number of symbols.
     pub fn symbol_value_at(&self, addr: u32) -> Option<u32>
         ensures { result ≡ option_map (λ s. addr - s.1) (symbol_at self.now.image.now self.now.bytes.now addr) }
     {
         Some(self.nearest_symbol(addr)?.value)
     }
 
-    // A segment that holds both a lower symbol and the address holds every value between them. So if the nearest symbol shares no segment
-    // with the address, no lower one does.
+    // Returns the symbol that an address belongs to: the last one not above it, if both are in one segment. A segment that has both a lower
+    // symbol and the address has every value between them. So if the last symbol shares no segment with the address, no lower one does.
     fn nearest_symbol(&self, addr: u32) -> Option<CodeSymbol>
         ensures { MatchOption result (symbol_at self.now.image.now self.now.bytes.now addr ≡ None)
             (IsSymbolFor (symbol_at self.now.image.now self.now.bytes.now addr) self.now.strings.now addr) }
@@ -139,7 +140,7 @@ fn code_symbols(alloc: Global, table: &[u8], strings: &[u8]) -> Result<Vec<CodeS
 }
 
 impl Symbol {
-    // Whether the symbol may name code: it has a section and a usable name.
+    // Whether the symbol may name code: its type allows it, it has a section, and its name is usable.
     fn is_named_code(&self, strings: &[u8], end: usize) -> bool
         requires { IsNamesEnd strings.now end }
         ensures { result ≡ is_named_code strings.now self.now }
@@ -147,7 +148,7 @@ impl Symbol {
         self.may_be_code() && self.has_section() && self.has_usable_name(strings, end)
     }
 
-    // Returns the stored form of the symbol with an index.
+    // Returns the stored form of the symbol at an index of its table.
     fn code_symbol(&self, index: usize) -> CodeSymbol
         requires { index < 0x1000_0000 }
         ensures { result ≡ code_symbol index self.now }

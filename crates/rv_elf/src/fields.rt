@@ -68,7 +68,7 @@ pub(crate) const ST_INFO: usize = 12;
 
 pub(crate) const ST_SHNDX: usize = 14;
 
-/// Reads the two-byte number at an offset.
+/// Reads the little-endian two-byte number at an offset.
 #[tactic(auto, unfolding(crate::specs::Fields::half_at))]
 pub(crate) fn half_field(file: &[u8], at: usize) -> u16
     requires { at + 2 ≤ length file.now }
@@ -77,7 +77,7 @@ pub(crate) fn half_field(file: &[u8], at: usize) -> u16
     LittleEndian::read_u16(&file[at..])
 }
 
-/// Reads the four-byte number at an offset.
+/// Reads the little-endian four-byte number at an offset.
 #[tactic(auto, unfolding(crate::specs::Fields::word_at))]
 pub(crate) fn word_field(file: &[u8], at: usize) -> u32
     requires { at + 4 ≤ length file.now }

@@ -24,9 +24,9 @@ pub struct Function<'a> {
 // The maximum number of bytes shown of a name, so that long names do not cost time for each function.
 const MOST_NAME: usize = 1_024;
 
-/// Returns the functions of the file's first symbol table that have a size and whose bytes are in the file part of an executable segment,
-/// in table order (System V ABI, "Symbol Table"). Symbols that [`symbol_at`](crate::symbol_at) ignores are left out. There are none if
-/// [`find_symbol`](crate::find_symbol) would reject the tables.
+/// Returns the functions of the file's first symbol table, in table order (System V ABI, "Symbol Table"): the functions with a size whose
+/// bytes are in the file part of an executable segment. Symbols that [`symbol_at`](crate::symbol_at) ignores are left out. There are none
+/// if [`find_symbol`](crate::find_symbol) would reject the tables.
 pub fn functions<'a>(
     alloc: Global,
     image: &Image,
@@ -41,7 +41,7 @@ pub fn functions<'a>(
     functions_in(alloc, image.segments.as_slice(), file, table, strings)
 }
 
-// Returns the functions among the symbols of a table.
+// Returns the functions among the symbols of a table, in table order.
 fn functions_in<'a>(
     alloc: Global,
     segments: &[Segment],
@@ -64,7 +64,7 @@ fn functions_in<'a>(
     Ok(found)
 }
 
-// Appends the function of a symbol, if an executable segment has its bytes.
+// Appends the function of a symbol, if an executable segment has its bytes in the file.
 fn push_function<'a>(
     found: &mut Vec<Function<'a>>,
     symbol: &Symbol,
@@ -90,6 +90,7 @@ fn push_function<'a>(
 }
 
 impl Symbol {
+    // Whether the symbol is a function with a section, a size above 0, and a usable name.
     fn is_sized_function(&self, strings: &[u8], end: usize) -> bool
         requires { IsNamesEnd strings.now end }
         ensures { result ≡ is_sized_function strings.now self.now }
@@ -100,7 +101,7 @@ impl Symbol {
             && self.has_usable_name(strings, end)
     }
 
-    // Returns its bytes in the file, in the first executable segment that has them.
+    // Returns the symbol's bytes in the first executable segment that has them all, or `None` if there is none.
     fn code<'a>(&self, segments: &[Segment], file: &'a [u8]) -> Option<&'a [u8]>
         requires in_file { list_all (is_in_file (length file.now)) segments.now ≡ true }
         requires sized { 0 < self.now.size }
@@ -111,14 +112,14 @@ impl Symbol {
         Some(&file[at..at + self.size as usize])
     }
 
-    // Returns the first executable segment that has the function's bytes in the file.
+    // Returns the first executable segment that has all the symbol's bytes in the file.
     fn code_segment<'s>(&self, segments: &'s [Segment]) -> Option<&'s Segment>
         ensures { option_map (λ segment. segment.now) result ≡ find (is_code_segment_of self.now) segments.now }
     {
         segments.iter().find(|segment| self.is_code_in(segment))
     }
 
-    // Whether a segment is executable and has the function's bytes in the file.
+    // Whether a segment is executable and has all the symbol's bytes in the file.
     fn is_code_in(&self, segment: &Segment) -> bool
         ensures { result ≡ is_code_segment_of self.now segment.now }
     {
@@ -129,7 +130,7 @@ impl Symbol {
     }
 }
 
-// Returns the bytes before the first zero byte, cut off at the maximum.
+// Returns the name at the start of these bytes: those before the first zero byte, but at most `MOST_NAME`.
 fn name_in(bytes: &[u8]) -> &[u8]
     ensures { result.now ≡ name_in bytes.now }
 {
@@ -140,6 +141,7 @@ fn name_in(bytes: &[u8]) -> &[u8]
     }
 }
 
+// Returns the first `MOST_NAME` bytes, or all if there are fewer.
 fn first_bytes(bytes: &[u8]) -> &[u8]
     ensures { result.now ≡ take MOST_NAME bytes.now }
 {

@@ -20,7 +20,7 @@ pub enum LoadAt {
 }
 
 /// Checks that an image fits a map; fails with [`ImageError::SegmentMap`] or [`ImageError::SegmentOverlap`]. If it succeeds, no address
-/// receives file bytes of two segments.
+/// gets file bytes of two segments.
 #[tactic(auto, unfolding(crate::specs::Loading::map_check))]
 pub fn check_map(image: &Image, map: &Map, at: LoadAt) -> Result<(), ImageError>
     ensures value { result ≡ map_check image.now.segments map.now at }
@@ -36,8 +36,8 @@ pub fn check_map(image: &Image, map: &Map, at: LoadAt) -> Result<(), ImageError>
     Ok(())
 }
 
-/// Writes the file bytes of an image's segments to a new bus, in read-only regions too. All other bytes are zero, and none counts as
-/// stored.
+/// Writes the file bytes of an image's segments to a new bus, even to read-only regions. All other bytes are zero, and none counts as
+/// stored to.
 pub fn load(image: &Image, file: &[u8], at: LoadAt, bus: &mut Bus)
     requires image { IsImageOf file.now image.now }
     requires fits { map_check image.now.segments bus.old.regions at ≡ accepted }
@@ -62,7 +62,7 @@ impl LoadAt {
         }
     }
 
-    /// Returns the address past a segment's last file byte, or its load address if it has no file bytes.
+    /// Returns the address after a segment's last file byte, or its load address if it has no file bytes.
     pub fn load_end(self, segment: &Segment) -> u64
         ensures { result ≡ load_address self segment.now + segment.now.filesz }
     {
@@ -70,6 +70,7 @@ impl LoadAt {
     }
 }
 
+// Whether all segments fit a map.
 fn all_segments_fit(segments: &[Segment], map: &Map, at: LoadAt) -> bool
     ensures { result ≡ list_all (segment_fits map.now at) segments.now }
 {
@@ -78,7 +79,7 @@ fn all_segments_fit(segments: &[Segment], map: &Map, at: LoadAt) -> bool
         .all(|segment| segment_fits(map, at, segment))
 }
 
-/// Returns the first segment that does not fit a map.
+/// Returns the first segment that does not fit a map, or `None` if all fit.
 pub fn unfit_segment<'a>(map: &Map, at: LoadAt, segments: &'a [Segment]) -> Option<&'a Segment>
     ensures { option_map (λ segment. segment.now) result ≡ unfit_segment map.now at segments.now }
 {
@@ -87,14 +88,15 @@ pub fn unfit_segment<'a>(map: &Map, at: LoadAt, segments: &'a [Segment]) -> Opti
         .find(|segment| !segment_fits(map, at, segment))
 }
 
-/// Whether a segment fits a map: its file bytes at the load address are in one region, and its memory at the virtual address is too.
+/// Whether a segment fits a map: one region has all its file bytes at the load address, and one region has all its memory at the virtual
+/// address.
 pub fn segment_fits(map: &Map, at: LoadAt, segment: &Segment) -> bool
     ensures { result ≡ segment_fits map.now at segment.now }
 {
     map.in_one(at.load_address(segment), segment.filesz) && map.in_one(segment.vaddr, segment.memsz)
 }
 
-// Whether two of the segments are loaded to a common byte of memory.
+// Whether the file bytes of two of the segments share a byte of memory.
 fn any_segments_overlap(segments: &[Segment], at: LoadAt) -> bool
     ensures { result ≡ any_segments_overlap at segments.now }
 {
@@ -106,6 +108,7 @@ fn any_segments_overlap(segments: &[Segment], at: LoadAt) -> bool
     false
 }
 
+// Whether the file bytes of a segment share a byte of memory with those of one of the others.
 fn overlaps_any_segment(segment: &Segment, others: &[Segment], at: LoadAt) -> bool
     ensures { result ≡ list_any (segments_overlap at segment.now) others.now }
 {
@@ -114,7 +117,7 @@ fn overlaps_any_segment(segment: &Segment, others: &[Segment], at: LoadAt) -> bo
         .any(|other| segments_overlap(at, segment, other))
 }
 
-/// Whether the file bytes of two segments are loaded to a common byte of memory.
+/// Whether the file bytes of two segments, at their load addresses, share a byte of memory.
 pub fn segments_overlap(at: LoadAt, one: &Segment, other: &Segment) -> bool
     ensures { result ≡ segments_overlap at one.now other.now }
 {

@@ -11,7 +11,7 @@ use crate::fields::{
     word_field,
 };
 
-/// The fields that are read of a section header (System V ABI, "Sections").
+/// The fields of a section header that are used (System V ABI, "Sections").
 #[derive(Clone, Copy)]
 pub(crate) struct Section {
     pub(crate) sh_type: u32,
@@ -32,7 +32,8 @@ const SHT_SYMTAB: u32 = 2;
 const SHT_STRTAB: u32 = 3;
 
 impl Section {
-    /// Whether a symbol table cannot be read: its entries have another size, or it extends past the end of a file of `size` bytes.
+    /// Whether a symbol table cannot be read: its entries are not 16 bytes long, its size is not a multiple of 16, or it extends past the
+    /// end of a file of `size` bytes.
     pub(crate) fn is_bad_symbol_table(&self, size: usize) -> bool
         ensures { result ≡ is_bad_symbol_table size self.now }
     {
@@ -41,14 +42,14 @@ impl Section {
             || self.is_section_past_file(size)
     }
 
-    /// Whether it is not a string table within a file of `size` bytes.
+    /// Whether the section is not a string table, or extends past the end of a file of `size` bytes.
     pub(crate) fn is_bad_string_table(&self, size: usize) -> bool
         ensures { result ≡ is_bad_string_table size self.now }
     {
         self.sh_type != SHT_STRTAB || self.is_section_past_file(size)
     }
 
-    /// Returns the bytes of the section.
+    /// Returns the bytes of the section in the file.
     pub(crate) fn section_bytes<'a>(&self, file: &'a [u8]) -> &'a [u8]
         requires { is_section_past_file (length file.now) self.now ≡ false }
         ensures { result.now ≡ section_bytes file.now self.now }
@@ -56,6 +57,7 @@ impl Section {
         &file[self.offset as usize..self.offset as usize + self.size as usize]
     }
 
+    // Whether the section extends past the end of a file of `size` bytes.
     fn is_section_past_file(&self, size: usize) -> bool
         ensures { result ≡ is_section_past_file size self.now }
     {
@@ -63,7 +65,7 @@ impl Section {
     }
 }
 
-/// Whether the section header table is missing or cannot be read.
+/// Whether there is no section header table, its entries are not 40 bytes long, or it extends past the end of the file.
 pub(crate) fn has_bad_section_table(file: &[u8]) -> bool
     requires { 52 ≤ length file.now }
     ensures { result ≡ has_bad_section_table file.now }
@@ -74,7 +76,7 @@ pub(crate) fn has_bad_section_table(file: &[u8]) -> bool
         || file.len() < word_field(file, E_SHOFF) as usize + HEADER_SIZE as usize * count as usize
 }
 
-/// Returns the first symbol table of the file.
+/// Returns the first symbol table of the file, or `None` if there is none.
 pub(crate) fn symbol_table_section(file: &[u8]) -> Option<Section>
     requires { HasSections file.now }
     ensures { result ≡ symbol_table_section file.now }
@@ -88,7 +90,7 @@ pub(crate) fn symbol_table_section(file: &[u8]) -> Option<Section>
     None
 }
 
-/// Returns the section with the index in a symbol table's link, if it exists.
+/// Returns the section at the index in a symbol table's link, or `None` if there is no section with this index.
 pub(crate) fn string_table_section(file: &[u8], symbols: &Section) -> Option<Section>
     requires { HasSections file.now }
     ensures { result ≡ string_table_section file.now symbols.now }
@@ -99,7 +101,7 @@ pub(crate) fn string_table_section(file: &[u8], symbols: &Section) -> Option<Sec
     Some(section_of_index(file, symbols.link))
 }
 
-// Returns the section header with an index.
+// Returns the section header at an index of the table.
 fn section_of_index(file: &[u8], index: u32) -> Section
     requires table { HasSections file.now }
     requires within { index < e_shnum file.now }
@@ -111,6 +113,7 @@ fn section_of_index(file: &[u8], index: u32) -> Section
     )
 }
 
+// Returns the section header at an offset of the file.
 #[tactic(auto, unfolding(crate::specs::Sections::section_at))]
 fn section_at(file: &[u8], at: usize) -> Section
     requires { at + 40 ≤ length file.now }

@@ -13,12 +13,12 @@ use crate::symbols::{
     SHN_UNDEF, SYMBOL_SIZE, Symbol, bytes_from, symbol_and_string_bytes, symbol_entry,
 };
 
-/// A location relative to a symbol.
+/// The symbol that an address belongs to, with the offset of the address.
 #[derive(Clone, Copy)]
 pub struct SymbolAt<'a> {
     /// The symbol's name, without the terminating zero byte.
     pub name: &'a [u8],
-    /// The number of bytes from the symbol's value to the location.
+    /// The number of bytes from the symbol's value to the address.
     pub offset: u32,
 }
 
@@ -42,9 +42,9 @@ const SHN_LORESERVE: u16 = 0xff00;
 
 /// Returns the symbol that an address of an image belongs to. Among the functions and untyped symbols of the file's first symbol table
 /// (System V ABI, "Symbol Table"), it is the one with the greatest value that is not above the address and is in one loadable segment with
-/// it. Among equal values a function comes first, then the first in the table. Symbols without a section of the file, such as absolute
-/// values, and symbols without a name or with one that begins with `.` or `$` are ignored. Returns `None` if
-/// [`find_symbol`](crate::find_symbol) would reject the tables.
+/// it. Among symbols with equal values, functions come first, and then table order decides. Symbols without a section of the file, such as
+/// absolute values, and symbols without a name or with one that begins with `.` or `$` are ignored. Returns `None` if there is no such
+/// symbol, or if [`find_symbol`](crate::find_symbol) would reject the tables.
 ///
 /// Does not allocate. Takes one pass over the table and one over the strings, however long the names are: of each symbol only the first
 /// byte of the name is read, and only the name of the result is scanned.
@@ -57,10 +57,10 @@ pub fn symbol_at<'a>(image: &Image, file: &'a [u8], addr: u32) -> Option<SymbolA
 }
 
 /// Returns the symbol of a value, such as a register's, that may be an address: the function, object or untyped symbol of the file's first
-/// symbol table at exactly that address, or the function or object whose bytes (`st_size`) include it. If there are several, the one with
-/// the greatest value is chosen, which is one at exactly that address if there is one; among equal values a function comes before an
-/// object, an object before an untyped symbol, and then the first in the table. Symbols need not be in a segment here, so that the end of a
-/// stack has its name too. Symbols that [`symbol_at`] ignores are ignored here; rejected tables, memory and time are as for [`symbol_at`].
+/// symbol table at exactly this address, or the function or object whose bytes (`st_size`) include it. If there are several, the one with
+/// the greatest value is chosen; among symbols with equal values, functions come before objects, objects before untyped symbols, and then
+/// table order decides. Symbols need not be in a segment here, so the end of a stack has its name too. Symbols that [`symbol_at`] ignores
+/// are ignored here; rejected tables, memory and time are as for [`symbol_at`].
 pub fn symbol_of_value<'a>(image: &Image, file: &'a [u8], value: u32) -> Option<SymbolAt<'a>>
     requires image { IsImageOf file.now image.now }
     ensures { MatchOption result (symbol_of_value image.now file.now value ≡ None)
@@ -69,7 +69,7 @@ pub fn symbol_of_value<'a>(image: &Image, file: &'a [u8], value: u32) -> Option<
     nearest_symbol(image, file, value, LookupKind::Value)
 }
 
-// Returns the nearest symbol at or below an address in the first symbol table, for code or for a value.
+// Returns the preferred symbol in the first symbol table that may name an address, as code or as a value.
 fn nearest_symbol<'a>(
     image: &Image,
     file: &'a [u8],
@@ -90,7 +90,8 @@ fn nearest_symbol<'a>(
     })
 }
 
-// Returns the nearest candidate of a table. A symbol that is not nearer than the best so far is not checked any further.
+// Returns the preferred symbol of a table that may name an address. A symbol that is not preferred to the best so far is not checked any
+// further.
 fn nearest_candidate(
     table: &[u8],
     strings: &[u8],
@@ -114,7 +115,7 @@ fn nearest_candidate(
     best
 }
 
-// Returns the index after the last zero byte: a name begins at each index before it, and at no other.
+// Returns the index after the last zero byte of a string table: a name begins at each index before it, and at no other.
 pub(crate) fn names_end(strings: &[u8]) -> usize
     ensures { IsNamesEnd strings.now result }
 {
@@ -126,7 +127,7 @@ pub(crate) fn names_end(strings: &[u8]) -> usize
 }
 
 impl Symbol {
-    // Whether it is nearer than the best so far, if there is one.
+    // Whether the symbol is preferred to the best so far, or there is none so far.
     fn is_nearer_than_best(&self, best: Option<Symbol>) -> bool
         ensures { result ≡ option_map_or (is_nearer self.now) best true }
     {
@@ -136,7 +137,7 @@ impl Symbol {
         }
     }
 
-    // Whether it has a greater value than the other symbol, or an equal value and precedence over it.
+    // Whether the symbol is preferred to another: it has a greater value, or an equal value and a greater precedence.
     fn is_nearer(&self, other: &Symbol) -> bool
         ensures { result ≡ is_nearer self.now other.now }
     {
@@ -144,7 +145,7 @@ impl Symbol {
             || self.value == other.value && other.precedence() < self.precedence()
     }
 
-    /// Returns 2 for a function, 1 for an object and 0 for any other symbol.
+    /// Returns the precedence of the symbol: 2 for a function, 1 for an object and 0 for any other.
     pub(crate) fn precedence(&self) -> u8
         ensures value { result ≡ precedence self.now }
         ensures few { result ≤ 2 }
@@ -158,7 +159,7 @@ impl Symbol {
         }
     }
 
-    // Whether the address may belong to the symbol. There may be 64 segments, so they are checked last.
+    // Whether the symbol may name an address, as code or as a value. There may be 64 segments, so they are checked last.
     fn is_candidate(
         &self,
         strings: &[u8],
@@ -187,7 +188,7 @@ impl Symbol {
         }
     }
 
-    // Whether the address is the symbol's value, or is among the bytes of a function or an object.
+    // Whether an address is the symbol's value, or is among the bytes of a function or an object.
     fn covers_address(&self, addr: u32) -> bool
         ensures { result ≡ covers_address addr self.now }
     {
@@ -198,33 +199,36 @@ impl Symbol {
                 && u64::from(addr) < end
     }
 
+    /// Whether the symbol is a function.
     pub(crate) fn is_function(&self) -> bool
         ensures { result ≡ is_function self.now }
     {
         self.kind == STT_FUNC
     }
 
+    // Whether the symbol is an object.
     fn is_object(&self) -> bool
         ensures { result ≡ is_object self.now }
     {
         self.kind == STT_OBJECT
     }
 
-    /// Whether it is a function or untyped, like an assembly label.
+    /// Whether the symbol is a function or has no type, like an assembly label.
     pub(crate) fn may_be_code(&self) -> bool
         ensures { result ≡ may_be_code self.now }
     {
         self.is_function() || self.kind == STT_NOTYPE
     }
 
-    /// Whether its section index is neither undefined nor reserved.
+    /// Whether the symbol is defined in a section of the file: its section index is neither undefined nor reserved.
     pub(crate) fn has_section(&self) -> bool
         ensures { result ≡ has_section self.now }
     {
         SHN_UNDEF < self.section && self.section < SHN_LORESERVE
     }
 
-    // Its name begins before the end of all names, and the first byte of the name is not zero, `.` or `$`.
+    // Whether the symbol has a name that is not empty and begins with neither `.` nor `$`. `end` is where the names of the string table
+    // end.
     pub(crate) fn has_usable_name(&self, strings: &[u8], end: usize) -> bool
         requires { IsNamesEnd strings.now end }
         ensures { result ≡ has_usable_name strings.now self.now }
@@ -234,6 +238,7 @@ impl Symbol {
     }
 }
 
+/// Whether one of the segments has both addresses in its memory.
 pub(crate) fn are_in_one_segment(segments: &[Segment], one: u32, other: u32) -> bool
     ensures { result ≡ are_in_one_segment segments.now one other }
 {
@@ -241,13 +246,14 @@ pub(crate) fn are_in_one_segment(segments: &[Segment], one: u32, other: u32) -> 
         && segment_holds_address(other, segment))
 }
 
+// Whether an address is in the memory of a segment.
 fn segment_holds_address(addr: u32, segment: &Segment) -> bool
     ensures { result ≡ segment_holds_address addr segment.now }
 {
     segment.vaddr <= addr && u64::from(addr) < u64::from(segment.vaddr) + u64::from(segment.memsz)
 }
 
-// Returns the bytes before the first zero byte, if there is one.
+// Returns the bytes before the first zero byte, or `None` if there is no zero byte.
 pub(crate) fn text_before_zero(bytes: &[u8]) -> Option<&[u8]>
     ensures { MatchOption result (text_before_zero bytes.now ≡ None) (λ t. text_before_zero bytes.now ≡ Some t.now) }
 {
@@ -255,6 +261,7 @@ pub(crate) fn text_before_zero(bytes: &[u8]) -> Option<&[u8]>
     Some(&bytes[..end])
 }
 
+// Returns the index of the first zero byte, or `None` if there is none.
 fn first_zero_byte(bytes: &[u8]) -> Option<usize>
     ensures { result ≡ position (λ b. b == 0) bytes.now }
 {

@@ -13,7 +13,7 @@ use crate::image::Image;
 use crate::sections::{has_bad_section_table, string_table_section, symbol_table_section};
 use rv_memory::Map;
 
-/// The fields that are read of a symbol table entry (System V ABI, "Symbol Table").
+/// The fields of a symbol table entry that are used (System V ABI, "Symbol Table").
 #[derive(Clone, Copy)]
 pub(crate) struct Symbol {
     /// The offset of its name in the string table.
@@ -62,6 +62,8 @@ pub fn check_signature(begin: u32, end: u32, map: &Map) -> Result<(), ImageError
     Ok(())
 }
 
+// Whether the words from `begin` up to `end` cannot be a signature: `begin` is above `end`, one of them is not a multiple of 4, or the
+// bytes are not in one region or make up more than 65,536 words.
 fn is_bad_signature_range(begin: u32, end: u32, map: &Map) -> bool
     ensures { result ≡ is_bad_signature_range begin end map.now }
 {
@@ -71,7 +73,7 @@ fn is_bad_signature_range(begin: u32, end: u32, map: &Map) -> bool
         || begin < end && (!map.in_one(begin, end - begin) || MOST_BYTES < end - begin)
 }
 
-/// Returns the bytes of the first symbol table and of its string table, or their first error.
+/// Returns the bytes of the file's first symbol table and of its string table, or the first error of the tables that applies.
 pub(crate) fn symbol_and_string_bytes(file: &[u8]) -> Result<(&[u8], &[u8]), ImageError>
     requires { 52 ≤ length file.now }
     ensures checked { MatchResult result (λ _. table_check file.now ≡ accepted)
@@ -97,7 +99,7 @@ pub(crate) fn symbol_and_string_bytes(file: &[u8]) -> Result<(&[u8], &[u8]), Ima
     Ok((symbols.section_bytes(file), strings.section_bytes(file)))
 }
 
-// Returns the value of the first defined symbol of this name in the bytes of a symbol table and its strings.
+// Returns the value of the first defined symbol of this name in a symbol table and its string table, or `None` if there is none.
 fn value_of_symbol_name(table: &[u8], strings: &[u8], name: &[u8]) -> Option<u32>
     ensures { result ≡ option_map (λ s. s.value) (symbol_named table.now strings.now name.now) }
 {
@@ -110,7 +112,7 @@ fn value_of_symbol_name(table: &[u8], strings: &[u8], name: &[u8]) -> Option<u32
     None
 }
 
-/// Returns the entry at an offset in a symbol table's bytes.
+/// Returns the symbol at an offset of a symbol table's bytes.
 #[tactic(auto, unfolding(crate::specs::Sections::symbol_entry))]
 pub(crate) fn symbol_entry(table: &[u8], at: usize) -> Symbol
     requires { at + 16 ≤ length table.now }
@@ -126,7 +128,7 @@ pub(crate) fn symbol_entry(table: &[u8], at: usize) -> Symbol
 }
 
 impl Symbol {
-    // Whether it is defined and has this name in the string table.
+    // Whether the symbol is defined and has this name in the string table.
     fn is_named(&self, strings: &[u8], name: &[u8]) -> bool
         ensures { result ≡ is_named strings.now name.now self.now }
     {
@@ -134,14 +136,14 @@ impl Symbol {
     }
 }
 
-/// Returns the bytes from an offset on, or none if it is past the end.
+/// Returns the bytes from an offset on, which are none if it is past the end.
 pub(crate) fn bytes_from(bytes: &[u8], at: usize) -> &[u8]
     ensures { result.now ≡ drop at bytes.now }
 {
     &bytes[at.min(bytes.len())..]
 }
 
-// Whether `bytes` begin with `text`, which contains no zero byte, followed by a zero byte. The text itself is compared last, since few
+// Whether the bytes before the first zero byte are `text`, which contains no zero byte. The text itself is compared last, since few
 // candidates get that far.
 fn begins_with_name(bytes: &[u8], text: &[u8]) -> bool
     ensures { result ≡ begins_with_name bytes.now text.now }

@@ -5,7 +5,7 @@ ghost use Rattle.rv_engine.specs.declared.listener.Flow.TheVariants.{GoOn, Stop}
 
 use crate::listener::{Flow, Listener, Observer};
 
-/// Two recipients of the same results, the first of them an observer. A run stops when either says so.
+/// An observer and a second recipient of the same results. A run stops when either says so.
 #[derive(Drop)]
 pub struct Both<A: Drop, B: Drop> {
     pub first: A,
@@ -52,7 +52,7 @@ impl<H, A: Observer<H> + Drop, B: Observer<H> + Drop> Observer<H> for Both<A, B>
     }
 }
 
-// Returns `Stop` if either is `Stop`.
+// Returns `Stop` if one of the two is `Stop`.
 fn first_stop(first: Flow, second: Flow) -> Flow
     ensures goes { result ≡ GoOn → (first ≡ GoOn) × (second ≡ GoOn) }
     ensures stops { result ≡ Stop → (first ≡ Stop) ⊎ (second ≡ Stop) }

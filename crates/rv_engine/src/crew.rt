@@ -18,7 +18,7 @@ pub struct Crew<'r, R> {
 }
 
 impl<'r, R> Crew<'r, R> {
-    /// Creates a crew of `workers` threads, from 1 to 64, each of which takes `group` jobs at a time, from 1 to 4,096.
+    /// Returns a crew of `workers` threads, from 1 to 64, each of which takes `group` jobs at a time, from 1 to 4,096.
     pub fn new(rt: &'r R, alloc: Global, workers: u32, group: u32) -> Crew<'r, R>
         requires workers { (0 < workers) × (workers ≤ most_workers) }
         requires group { (0 < group) × (group ≤ most_group) }

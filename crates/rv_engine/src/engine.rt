@@ -37,12 +37,13 @@ impl From<AllocError> for RunError {
     }
 }
 
-/// Makes the result of each job, using as many threads as the crew has, or one per piece if there are fewer pieces. The listener receives
-/// each result as soon as it has received those of all earlier jobs, and is returned at the end. With `GoOn` it has received the result of
-/// every job, once and in order; with `Stop` those up to the job where it said so; after an error, those of the first jobs. A free thread
-/// draws the next piece; when the run ends, each thread finishes the piece it is making. All threads are joined.
+/// Computes the result of each job on as many threads as the crew has, or one per chunk if there are fewer chunks, and delivers the results
+/// to the listener. The listener receives each result as soon as it has received those of all earlier jobs, and is returned at the end.
+/// With `GoOn` it has received the result of every job, once and in order; with `Stop`, those up to the job at which it stopped the run;
+/// after an error, those of the first jobs. A free thread draws the next chunk; when the run ends, each thread finishes the chunk that it
+/// is computing. All threads are joined.
 ///
-/// `J` is the run's `Brand`: it gives the results, jobs and pieces a name that contracts can use, and the caller picks its ghost members.
+/// `J` is the run's `Brand`: it gives the results, jobs and chunks a name that contracts can use, and the caller picks its ghost members.
 pub fn run_jobs<
     J: RunSpec<H> + Send + Sync,
     H: Drop + Send,
@@ -77,7 +78,7 @@ pub fn run_jobs<
     }
 }
 
-// Delivers everything that no worker delivered. After a run that ends normally nothing is left.
+// Delivers the results that no worker delivered. After a run that ends normally there are none.
 fn deliver_rest<J: RunSpec<H>, H: Drop, R, W: Work<H>, L: Listener<H>>(
     crew: &Crew<'_, R>,
     work: &W,
@@ -107,7 +108,7 @@ fn deliver_rest<J: RunSpec<H>, H: Drop, R, W: Work<H>, L: Listener<H>>(
     }
 }
 
-// Delivers the chunks from `next` on: those that are pending, and the others once they are made here.
+// Delivers the results of the chunks from `next` on. Those that are not pending are computed here.
 fn deliver_from<J: RunSpec<H>, H: Drop, R, W: Work<H>, L: Listener<H>>(
     crew: &Crew<'_, R>,
     work: &W,

@@ -7,7 +7,7 @@ use crate::listener::{Flow, Listener};
 use std::alloc::{AllocError, Global};
 use std::marker::{Brand, Model, PhantomData};
 
-/// Specifies a run: which results are made of jobs, the number of jobs, and the chunk size. Each run chooses its own.
+/// Specifies a run: which results its jobs can have, the number of jobs, and the chunk size. Each run chooses its own.
 pub trait RunSpec<H> {
     ghost use Rattle.std.specs.Prelude.{ℕ};
 
@@ -31,11 +31,11 @@ impl<H> RunSpec<H> for Brand {
 pub(crate) enum End {
     /// The listener stopped the run.
     Stopped,
-    /// A growth or the start of a thread was refused.
+    /// An allocation or the start of a thread failed.
     GaveUp,
 }
 
-/// The state under the lock: the listener, and the results of chunks that were made before their turn.
+/// The state under the lock of a run: the listener, and the results of chunks that were computed before their turn.
 #[derive(Drop)]
 pub(crate) struct InOrder<J: RunSpec<H>, H: Drop, L: Listener<H> + Drop> {
     listener: L,
@@ -57,6 +57,7 @@ impl<J: RunSpec<H>, H: Drop, L: Listener<H> + Drop> Model for InOrder<J, H, L> {
 }
 
 impl<J: RunSpec<H>, H: Drop, L: Listener<H> + Drop> InOrder<J, H, L> {
+    /// Returns the state before the first result, with room for the results of each chunk in `pending`.
     pub(crate) fn new(listener: L, pending: Vec<Option<Vec<H>>>) -> InOrder<J, H, L>
         requires received { L.has_received listener [] }
         requires goes { L.stops listener → ⊥ }
@@ -71,7 +72,7 @@ impl<J: RunSpec<H>, H: Drop, L: Listener<H> + Drop> InOrder<J, H, L> {
         }
     }
 
-    /// Stores the results of a chunk and delivers all results whose turn has come. Returns whether to continue.
+    /// Stores the results of a chunk, and delivers all results whose turn has come. Returns whether to continue.
     pub(crate) fn take_piece(&mut self, piece: u64, results: Vec<H>) -> Flow
         requires { IsPiece J.is_result J.jobs J.group piece results.items }
     {
@@ -87,14 +88,14 @@ impl<J: RunSpec<H>, H: Drop, L: Listener<H> + Drop> InOrder<J, H, L> {
         received.flow
     }
 
-    /// Ends the run after a growth or the start of a thread was refused.
+    /// Ends the run after an allocation or the start of a thread failed, unless it has ended already.
     pub(crate) fn give_up(&mut self) {
         if self.ended.is_none() {
             self.ended = Some(End::GaveUp);
         }
     }
 
-    /// Returns the listener and the undelivered results, after the last worker has ended.
+    /// Returns the listener and the results that were not delivered, after the last worker has ended.
     pub(crate) fn into_parts(self) -> (L, Undelivered<H>)
         ensures { IsInOrder J.is_result J.jobs J.group (L.has_received result.0) (L.stops result.0)
             result.1.next result.1.ended result.1.pending.items }
@@ -122,13 +123,13 @@ impl<J: RunSpec<H>, H: Drop, L: Listener<H> + Drop> InOrder<J, H, L> {
 pub(crate) struct Undelivered<H: Drop> {
     /// The next chunk to deliver.
     pub(crate) next: usize,
-    /// The results that were made but not delivered.
+    /// The results that were computed but not delivered.
     pub(crate) pending: Vec<Option<Vec<H>>>,
     /// Why the run ended, if it did.
     pub(crate) ended: Option<End>,
 }
 
-// The first chunk that is not yet delivered, and whether the listener continues.
+// The first chunk that is not delivered yet, and whether the listener continues.
 #[derive(Clone, Copy)]
 struct DeliveredPieces {
     next: usize,
@@ -150,7 +151,8 @@ fn note_piece<J: RunSpec<H>, H: Drop>(
     }
 }
 
-// Delivers the results of consecutive chunks from `from` on, as far as they are present; then lets the listener pause if there were any.
+// Delivers the results of consecutive chunks from `from` on, as far as they are pending. Then lets the listener pause, if any were
+// delivered.
 fn deliver_ready<J: RunSpec<H>, H: Drop, L: Listener<H>>(
     listener: &mut L,
     pending: &mut Vec<Option<Vec<H>>>,
@@ -171,7 +173,7 @@ fn deliver_ready<J: RunSpec<H>, H: Drop, L: Listener<H>>(
     }
 }
 
-// Delivers the results of consecutive chunks from `from` on, as far as they are present.
+// Delivers the results of consecutive chunks from `from` on, as far as they are pending.
 fn deliver_pieces<J: RunSpec<H>, H: Drop, L: Listener<H>>(
     listener: &mut L,
     pending: &mut Vec<Option<Vec<H>>>,
@@ -219,7 +221,7 @@ pub(crate) fn deliver_piece<J: RunSpec<H>, H: Drop, L: Listener<H>>(
     Flow::GoOn
 }
 
-/// Takes the results of a chunk out of `pending`, if they are present.
+/// Removes the results of a chunk from `pending` and returns them, or returns `None` if they are not there.
 pub(crate) fn take_pending<J: RunSpec<H>, H: Drop>(
     pending: &mut Vec<Option<Vec<H>>>,
     piece: usize,

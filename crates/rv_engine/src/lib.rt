@@ -1,8 +1,8 @@
-//! The engine: threads that make a result of each job, and a listener that receives the results in order.
+//! The run engine: threads that compute a result for each job, and a listener that receives the results in order.
 //!
-//! [`run_jobs`] runs the jobs of a [`Work`] with a [`Crew`]. The work defines what a worker makes of a job; the [`Listener`] receives each
-//! result as soon as it has received those of all earlier jobs. With `Ok` it has received the result of each job once, in order, for every
-//! crew, or those up to the job at which it stopped the run; after an error it has received the results of the first jobs.
+//! [`run_jobs`] runs the jobs of a [`Work`] with a [`Crew`]. The work defines what a worker computes for a job; the [`Listener`] receives
+//! each result as soon as it has received those of all earlier jobs. With `Ok` it has received the result of each job once, in order, for
+//! every crew, or those up to the job at which it stopped the run; after an error it has received the results of the first jobs.
 #![tactic(auto)]
 
 mod both;

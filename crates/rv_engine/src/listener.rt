@@ -12,20 +12,20 @@ pub trait Listener<H> {
     ghost use Rattle.std.specs.Prelude.{◌≡◌, ◌∷◌, ◌++◌, [], List};
     ghost use Rattle.rv_engine.specs.declared.listener.Flow.TheVariants.{GoOn, Stop};
 
-    // What holds once it has received these results.
+    // What holds once the listener has received these results.
     ghost has_received: { Self → List H → Type 0 };
 
-    // What holds once it has returned `Stop`.
+    // What holds once the listener has returned `Stop`.
     ghost stops: { Self → Type 0 };
 
-    /// Receives the result of the next job, and returns whether to continue. It receives nothing after a stop.
+    /// Receives the result of the next job, and returns whether to continue. It is not called again after it returned `Stop`.
     fn receive(&mut self, made: H) -> Flow
         requires goes { stops self.old → ⊥ }
         ensures received { (results : List H) → has_received self.old results → has_received self.new (results ++ made ∷ []) }
         ensures goes { result ≡ GoOn → stops self.new → ⊥ }
         ensures stops { result ≡ Stop → stops self.new };
 
-    /// Flushes what it has buffered, since the next result is not ready yet. Returns whether to continue.
+    /// Flushes the buffered output, since the next result is not ready yet. Returns whether to continue.
     fn pause(&mut self) -> Flow
         requires goes { stops self.old → ⊥ }
         ensures received { (results : List H) → has_received self.old results → has_received self.new results }
@@ -38,20 +38,20 @@ pub trait Observer<H> {
     ghost use Rattle.std.specs.Prelude.{◌≡◌, ◌∷◌, ◌++◌, [], List};
     ghost use Rattle.rv_engine.specs.declared.listener.Flow.TheVariants.{GoOn, Stop};
 
-    // What holds once it has seen these results.
+    // What holds once the observer has seen these results.
     ghost has_seen: { Self → List H → Type 0 };
 
-    // What holds once it has returned `Stop`.
+    // What holds once the observer has returned `Stop`.
     ghost stops: { Self → Type 0 };
 
-    /// Sees the result of the next job, and returns whether to continue. It sees nothing after a stop.
+    /// Sees the result of the next job, and returns whether to continue. It is not called again after it returned `Stop`.
     fn see(&mut self, made: &H) -> Flow
         requires goes { stops self.old → ⊥ }
         ensures seen { (results : List H) → has_seen self.old results → has_seen self.new (results ++ made.now ∷ []) }
         ensures goes { result ≡ GoOn → stops self.new → ⊥ }
         ensures stops { result ≡ Stop → stops self.new };
 
-    /// Flushes what it has buffered, since the next result is not ready yet. Returns whether to continue.
+    /// Flushes the buffered output, since the next result is not ready yet. Returns whether to continue.
     fn pause(&mut self) -> Flow
         requires goes { stops self.old → ⊥ }
         ensures seen { (results : List H) → has_seen self.old results → has_seen self.new results }

@@ -8,7 +8,7 @@ use crate::work::Work;
 use crate::worker_state::WorkerState;
 use std::alloc::{AllocError, Global};
 
-/// Returns the number of chunks of `group` jobs each, in order. The last chunk may have fewer.
+/// Returns the number of chunks of `group` jobs that the jobs are divided into. The last chunk may have fewer jobs.
 pub(crate) fn piece_count(jobs: usize, group: u32) -> u64
     requires few { jobs ≤ most_jobs }
     requires some { 0 < group }
@@ -18,7 +18,7 @@ pub(crate) fn piece_count(jobs: usize, group: u32) -> u64
     jobs.div_ceil(group as usize) as u64
 }
 
-/// Makes the results of the jobs in a chunk.
+/// Computes the results of the jobs in a chunk.
 pub(crate) fn make_piece<H: Drop, W: Work<H>>(
     alloc: Global,
     work: &W,

@@ -1,4 +1,4 @@
-//! Threads that draw chunks, each with its own pass.
+//! Threads that draw chunks, each with a pass of its own.
 
 ghost use Rattle.std.specs.Prelude.{◌≡◌, ◌≤◌, IfOk};
 ghost use Rattle.std.specs.List.{All};
@@ -17,15 +17,15 @@ pub(crate) trait Worker: Sync {
     ghost use Rattle.std.specs.Prelude.{◌≡◌};
     ghost use Rattle.rv_claims.specs.Passes.{SharedDraw};
 
-    // Whether a shared draw hands out the chunks that it works on.
+    // The chunks of this shared counter are those that the worker can compute.
     ghost draws: { Self → SharedDraw → Type 0 };
 
-    /// Takes chunks until none is left or the run ends.
+    /// Draws chunks and computes them until none is left or the run ends.
     fn work_on_pieces(&self, claims: &Claims, pass: Pass) -> Result<(), AllocError>
         requires claims { draws self.now claims.now }
         requires pass { pass.draw ≡ claims.now };
 
-    /// Tells the other workers to stop.
+    /// Makes the other workers stop.
     fn give_up(&self);
 }
 
@@ -75,7 +75,7 @@ pub(crate) fn run_workers<R: Threads + Wait, S: Worker>(
     )
 }
 
-// Returns a pass for each thread: `count` of them, or as many as there are free pass indices. The last is the first pass itself.
+// Returns a pass for each thread: `count` of them, or as many as there are free pass indices. The last one is the first pass itself.
 fn split_passes(
     alloc: Global,
     claims: &Claims,

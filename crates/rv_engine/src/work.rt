@@ -1,9 +1,9 @@
-//! What a run makes of its jobs.
+//! What a run computes for its jobs.
 
 use crate::worker_state::WorkerState;
 use std::alloc::{AllocError, Global};
 
-/// Makes a result of each job; jobs are numbered from 0.
+/// Computes a result for each job; jobs are numbered from 0.
 pub trait Work<H> {
     ghost use Rattle.std.specs.Prelude.{◌≡◌, ◌<◌, ◌≤◌, ℕ, IfOk, OnOk};
     ghost use Rattle.rv_jobs.specs.Limits.{most_jobs};
@@ -15,7 +15,7 @@ pub trait Work<H> {
     // Which results the job with a number can have.
     ghost is_made: { Self → ℕ → H → Type 0 };
 
-    // What holds of a worker's state after each of its jobs.
+    // What holds for the state of a worker before and after each of its jobs.
     ghost is_worker_state: { Self → WorkerState → Type 0 };
 
     // Returns the number of jobs.
@@ -27,7 +27,7 @@ pub trait Work<H> {
     fn new_worker_state(&self, alloc: Global) -> WorkerState
         ensures { is_worker_state self.now result };
 
-    /// Makes the result of the job with this number.
+    /// Computes the result of the job with this number.
     fn make(
         &self,
         alloc: Global,

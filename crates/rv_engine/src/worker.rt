@@ -1,4 +1,4 @@
-//! The loop of a worker: draws chunks, makes their results and delivers them.
+//! The loop of a worker: draws chunks, computes their results and delivers them.
 
 ghost use Rattle.rv_jobs.specs.Limits.{most_group};
 ghost use Rattle.std.specs.Prelude.{◌≡◌, ◌<◌, ◌≤◌};

@@ -6,7 +6,7 @@ ghost use Rattle.rv_rows.specs.Recent.{AreOutcomes};
 use rv_rows::{Recent, Spare};
 use std::alloc::Global;
 
-/// The memory of a worker's last run, and the outcomes of its last jobs.
+/// What a worker carries over from one job to the next: the memory of its last run, and the outcomes of its last jobs.
 #[derive(Drop)]
 pub struct WorkerState {
     pub spare: Spare,
@@ -14,7 +14,7 @@ pub struct WorkerState {
 }
 
 impl WorkerState {
-    /// Creates a worker's state without allocating.
+    /// Returns the state of a worker that has not run a job. Does not allocate.
     pub fn new(alloc: Global) -> WorkerState
         ensures { (plan : Planned) → AreOutcomes plan result.recent }
     {

@@ -14,7 +14,7 @@ use Rattle.rv_expect.specs.declared.difference.SameDifference.TheVariants as sam
 
 -- ---- two lists
 
--- the first difference of two lists, with indices counted from the given one
+-- the first difference of two lists, whose first elements have the index `place`, or `None` if they are equal
 unfoldable pub difference_from : ℕ → List ℕ → List ℕ → Option Difference
 difference_from place [] [] = None
 difference_from place [] (y ∷ ys) = Some Lengths
@@ -22,11 +22,11 @@ difference_from place (x ∷ xs) [] = Some Lengths
 difference_from place (x ∷ xs) (y ∷ ys) =
     if x == y then difference_from (place + 1) xs ys else Some (At place)
 
--- the first difference of two lists; none if they are equal
+-- the first difference of two lists, or `None` if they are equal
 abbrev pub first_difference : List ℕ → List ℕ → Option Difference
 first_difference xs ys = difference_from 0 xs ys
 
--- both lists have an element at the index; these elements differ, and all earlier ones are equal
+-- both lists have an element at the index `place`; these elements differ, and all earlier elements are equal
 pub record DifferAt (place : ℕ) (xs ys : List ℕ) : Type 0 where
   pub in_one : place < length xs
   pub in_other : place < length ys
@@ -38,7 +38,7 @@ pub record DifferInLength (xs ys : List ℕ) : Type 0 where
   pub before : take (length ys) xs ≡ take (length xs) ys
   pub lengths : length xs ≢ length ys
 
--- a difference describes two lists, both of which are present
+-- the two lists differ first as `Difference` says; neither is absent
 abbrev pub IsDifference : Difference → List ℕ → List ℕ → Type 0
 IsDifference (At place) xs ys = DifferAt place xs ys
 IsDifference Lengths xs ys = DifferInLength xs ys
@@ -46,7 +46,8 @@ IsDifference Absent xs ys = ⊥
 
 -- ---- two consoles
 
--- the first difference between a console and the expected one, if one is expected: text, or the bytes of a file
+-- the first difference between a console and the expected one, which is the text of the list or the bytes `file`, or `None` if they are
+-- equal or none is expected
 abbrev pub console_difference :
     Option ExpectedConsole → Option (List ℕ) → List ℕ → Option Difference
 console_difference None file console = None
@@ -56,26 +57,26 @@ console_difference (Some (File path)) (Some bytes) console = first_difference co
 
 -- ---- two runs
 
--- the first difference between two signatures, either of which may be missing
+-- the first difference between two signatures, either of which may be missing, or `None` if they are equal
 abbrev pub signatures_difference : Option (List ℕ) → Option (List ℕ) → Option Difference
 signatures_difference None None = None
 signatures_difference (Some words) (Some others) = first_difference words others
 signatures_difference (Some words) None = Some Absent
 signatures_difference None (Some others) = Some Absent
 
--- the first difference between two rows with equal ends: consoles are compared before signatures
+-- the first difference between the consoles of two rows, or else between their signatures, or `None` if they agree in both
 abbrev pub difference_of_texts : Row → Row → Option SameDifference
 difference_of_texts row other =
     option_or (option_map same.Console (first_difference row.console other.console))
     (option_map same.Signature (signatures_difference row.signature other.signature))
 
--- the first difference between two rows: their ends are compared first
+-- the first difference between two rows: in how they ended, in their consoles, or in their signatures, or `None` if they agree
 abbrev pub difference_of_runs : Row → Row → Option SameDifference
 difference_of_runs row other =
     if are_alike_endings row.ending other.ending then difference_of_texts row other
     else Some same.Ending
 
--- the first difference between a row and the row of the job that its job names, if it names one
+-- the first difference between a row and the row of the job that `same_as` names, or `None` if they agree or there is no `same_as`
 abbrev pub same_as_difference : Option ℕ → Option Row → Row → Option SameDifference
 same_as_difference None other row = None
 same_as_difference (Some place) None row = Some same.Absent

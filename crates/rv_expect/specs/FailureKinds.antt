@@ -1,4 +1,5 @@
--- What did not match in a failed job: how it ended, else the console, the signature, or the result of the named job.
+-- The kind of a failed job: how it ended, if that was unexpected, or else that the console, the signature or the result of another job did
+-- not match.
 use Rattle.std.specs.Prelude.{◌==◌, ◌+◌, ◌-◌, ℕ, Bool, true, false, List, [], ◌∷◌, if◌then◌else◌}
 use Rattle.std.specs.Prelude.{Option, Some, None, length, option_to_list, slice_get}
 use Rattle.std.specs.List.{flat_map, zip}
@@ -21,27 +22,27 @@ use Rattle.rv_expect.specs.declared.unmet.Unmet.TheVariants as unmet
 
 -- ---- the kinds in order
 
--- the number of kinds
+-- the number of kinds of failures
 abbrev pub failure_kind_count : ℕ
 failure_kind_count = length fault_kinds + 6
 
--- the kinds after those of faults
+-- the kind of failure at an index of the kinds that follow those of faults
 abbrev pub kind_after_faults : ℕ → FailureKind
 kind_after_faults index = if index == 0 then failure.Refused
     else (if index == 1 then failure.Console else (if index == 2 then failure.Signature else failure.SameAs))
 
--- the kinds after the budget: those of faults come first
+-- the kind of failure at an index of the kinds that follow the budget: the kinds of faults come first
 abbrev pub kind_after_budget : Option FaultKind → ℕ → FailureKind
 kind_after_budget (Some kind) index = failure.Fault kind
 kind_after_budget None index = kind_after_faults (index - length fault_kinds)
 
--- the kind at an index
+-- the kind of failure at an index, in their order
 abbrev pub failure_kind_at : ℕ → FailureKind
 failure_kind_at index =
     if index == 0 then failure.Exit
     else (if index == 1 then failure.Budget else kind_after_budget (slice_get fault_kinds (index - 2)) (index - 2))
 
--- whether two kinds are the same
+-- whether two kinds of failures are the same
 abbrev pub is_same_failure_kind : FailureKind → FailureKind → Bool
 is_same_failure_kind failure.Exit failure.Exit = true
 is_same_failure_kind failure.Budget failure.Budget = true
@@ -54,51 +55,54 @@ is_same_failure_kind _ _ = false
 
 -- ---- the kind of a failure
 
--- the kind of a failure of which only the end is known
+-- the kind of a failure, given only how the job ended
 abbrev pub failure_kind_of_end : RowEnd → FailureKind
 failure_kind_of_end (ending.Exit code) = failure.Exit
 failure_kind_of_end ending.Budget = failure.Budget
 failure_kind_of_end (ending.Fault kind pc value) = failure.Fault kind
 failure_kind_of_end (ending.Refused why) = failure.Refused
 
--- the kind of a failure whose first unmet expectation this is
+-- the kind of a failure, given how the job ended and the first expectation that its run does not meet
 abbrev pub failure_kind_of_first : RowEnd → Unmet → FailureKind
 failure_kind_of_first end (unmet.Console difference) = failure.Console
 failure_kind_of_first end (unmet.Signature difference) = failure.Signature
 failure_kind_of_first end (unmet.Same difference) = failure.SameAs
 failure_kind_of_first end _ = failure_kind_of_end end
 
--- the kind of a failure with these unmet expectations, the first of which decides; a refused job has none
+-- the kind of a failure with these unmet expectations, of which the first decides; a refused job has none
 abbrev pub failure_kind_of_unmet : RowEnd → List Unmet → FailureKind
 failure_kind_of_unmet end [] = failure_kind_of_end end
 failure_kind_of_unmet end (first ∷ others) = failure_kind_of_first end first
 
 -- ---- the failures among rows
 
--- the failures in a report, which has the ends but not the expectations
+-- the kind of a row that counts as a failure, given only how its job ended, or `None` if it does not count as one
 abbrev pub failure_by_end : Judging → Row → Option FailureKind
 failure_by_end judging row = if fails judging row then Some (failure_kind_of_end row.ending) else None
 
+-- the kinds of the failures in a report, which has no expectations, in order
 abbrev pub failures_by_end : Judging → List Row → List FailureKind
 failures_by_end judging rows = flat_map (λ row. option_to_list (failure_by_end judging row)) rows
 
--- what the job expects, as if the job that it names had not run: if it fails though it meets all other expectations, that one is unmet
+-- a row of a plan with the data that it is compared with, as if the job that `same_as` names had not run; so if a job meets all other
+-- expectations and fails, `same_as` is the unmet one
 abbrev pub sides_without_named_job : Planned → Job → Row → Sides
 sides_without_named_job plan job row = record (sides_in plan job row) { other = None }
 
--- the kind of a row that failed; a job that passes although it is listed as known to fail has no unmet expectation
+-- the kind of a row that counts as a failure, given its job in a plan, if it has one; a job that passes although it is known to fail has no
+-- unmet expectation
 abbrev pub failure_kind_in_plan : Judging → Planned → Option Job → Row → FailureKind
 failure_kind_in_plan judging plan None row = failure_kind_of_end row.ending
 failure_kind_in_plan judging plan (Some job) row = if is_unknown_failure (judgement judging row)
     then failure_kind_of_unmet row.ending (unmet_of (sides_without_named_job plan job row))
     else failure_kind_of_end row.ending
 
--- the failure of the job at an index of a plan, if its row counts as one
+-- the kind of the row of the job at an index of a plan, or `None` if the row does not count as a failure
 abbrev pub failure_in_plan : Judging → Planned → ℕ → Row → Option FailureKind
 failure_in_plan judging plan place row =
     if fails judging row then Some (failure_kind_in_plan judging plan (slice_get plan.jobs place) row) else None
 
--- the failures among the rows of the jobs at some indices
+-- the kinds of the failures among the rows of the jobs at these indices of a plan, in order
 abbrev pub failures_in_plan : Judging → Planned → List ℕ → List Row → List FailureKind
 failures_in_plan judging plan places rows =
     flat_map (λ placed. option_to_list (failure_in_plan judging plan placed.0 placed.1)) (zip places rows)

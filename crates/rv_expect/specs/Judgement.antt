@@ -1,4 +1,4 @@
--- How a run counts a row, given a rule and a list of known failures.
+-- How a run counts a row, given a rule and the known failures.
 use Rattle.std.specs.Prelude.{ℕ, Bool, true, false, List, Option, Some, None, option_map}
 use Rattle.rv_expect.specs.declared.known_jobs.KnownJobs.{KnownJobs}
 use Rattle.rv_expect.specs.KnownJobs.{reason_of}
@@ -9,68 +9,76 @@ use Rattle.rv_expect.specs.declared.judgement.Judgement.{Judgement}
 use Rattle.rv_expect.specs.declared.judgement.Judgement.TheVariants as counted
 use Rattle.rv_expect.specs.declared.passing.Rule.{Rule}
 
--- a rule, and the known failures if there are any
+-- how a run counts rows: a rule, and the known failures, if a file lists them
 pub record Judging : Type 0 where
   pub rule : Rule
   pub known : Option KnownJobs
 
+-- a `Judge` of the code as contracts see it
 abbrev pub judging_of : Judge → Judging
 judging_of judge = record { rule = judge.rule; known = option_map (λ known. known.now) judge.known }
 
+-- counting rows by a rule alone, without known failures
 abbrev pub judging_by_rule : Rule → Judging
 judging_by_rule rule = record { rule = rule; known = None }
 
--- a row passed or failed; or it is a known failure, with a reason; or it passed although the file at a path lists it as a known failure
+-- how a row counts: it passed or failed; it is a known failure, with a reason; or it passed although the file at a path lists it as a known
+-- failure
 pub data Judged : Type 0 where
   passed : Judged
   failed : Judged
   known : List ℕ → Judged
   now_passes : List ℕ → Judged
 
+-- a `Judgement` of the code as contracts see it
 abbrev pub judged_of : Judgement → Judged
 judged_of counted.Passed = passed
 judged_of counted.Failed = failed
 judged_of (counted.Known reason) = known reason.now
 judged_of (counted.NowPasses path) = now_passes path.now
 
--- the judgement of a row that is not a known failure, by whether it passed
+-- how the row of a job that is not known to fail counts, given whether it passed
 abbrev pub judged_unknown : Bool → Judged
 judged_unknown true = passed
 judged_unknown false = failed
 
--- the judgement by whether a row passed and by the reason that the file at a path gives for its failure, if it lists the job
+-- how a row counts, given the path of the file of known failures, whether the row passed, and the reason in the file, if it lists the job
 abbrev pub judged_in_file : List ℕ → Bool → Option (List ℕ) → Judged
 judged_in_file path has_passed None = judged_unknown has_passed
 judged_in_file path true (Some reason) = now_passes path
 judged_in_file path false (Some reason) = known reason
 
+-- how the row of the job with this name counts, given the known failures, if a file lists them, and whether the row passed
 abbrev pub judged_by_known : Option KnownJobs → Bool → List ℕ → Judged
 judged_by_known None has_passed name = judged_unknown has_passed
 judged_by_known (Some file) has_passed name = judged_in_file file.path has_passed (reason_of file.jobs name)
 
+-- how a row counts
 abbrev pub judgement : Judging → Row → Judged
 judgement judging row = judged_by_known judging.known (has_passed judging.rule row) row.name
 
--- which judgements are failures, passes and known failures
+-- whether a row that counts so is a failure
 abbrev pub is_failing : Judged → Bool
 is_failing passed = false
 is_failing failed = true
 is_failing (known reason) = false
 is_failing (now_passes path) = true
 
+-- whether a row that counts so passed, and is not listed as a known failure
 abbrev pub is_passed : Judged → Bool
 is_passed passed = true
 is_passed _ = false
 
+-- whether a row that counts so is a known failure
 abbrev pub is_known_failure : Judged → Bool
 is_known_failure (known reason) = true
 is_known_failure _ = false
 
--- the row failed, and is not a known failure
+-- whether a row that counts so failed, and is not a known failure
 abbrev pub is_unknown_failure : Judged → Bool
 is_unknown_failure failed = true
 is_unknown_failure _ = false
 
--- a row counts as a failure
+-- whether a row counts as a failure
 abbrev pub fails : Judging → Row → Bool
 fails judging row = is_failing (judgement judging row)

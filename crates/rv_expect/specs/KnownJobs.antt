@@ -13,53 +13,56 @@ use Rattle.rv_expect.specs.KnownLines.{has_name, lines_of, name_text, reason_tex
 
 -- ---- known jobs
 
--- the known failure of the given name, with its reason
+-- the known failure with this name, or `None` if there is none
 abbrev pub known_job_of : List KnownJob → List ℕ → Option KnownJob
 known_job_of known name = find (λ (job : KnownJob). bytes_eq job.name name) known
 
+-- the reason of the known failure with this name, or `None` if there is none
 abbrev pub reason_of : List KnownJob → List ℕ → Option (List ℕ)
 reason_of known name = option_map (λ (job : KnownJob). job.reason) (known_job_of known name)
 
+-- whether there is a known failure with this name
 abbrev pub is_known : List KnownJob → List ℕ → Bool
 is_known known name = is_some (known_job_of known name)
 
 -- ---- lines
 
+-- the known failure in a line: its name, and its reason
 abbrev pub known_job_of_line : List ℕ → KnownJob
 known_job_of_line line = record { name = name_text line; reason = reason_text line }
 
--- the known failures of lines, one for each line that has a name
+-- the known failures in these lines: one for each line that has a name
 abbrev pub known_in : List (List ℕ) → List KnownJob
 known_in lines = map known_job_of_line (filter has_name lines)
 
--- the names of jobs as passed to the function
+-- the names of jobs, which are passed by reference
 abbrev pub job_names : List (Bor (List ℕ)) → List (List ℕ)
 job_names jobs = map (λ name. name.now) jobs
 
--- one of these names is the given name
+-- whether one of the jobs has this name
 abbrev pub has_job_named : List (List ℕ) → List ℕ → Bool
 has_job_named jobs name = list_any (λ job. bytes_eq job name) jobs
 
--- what is wrong with a name that follows these known failures: it is invalid, a duplicate, or not the name of a job
+-- the error of a name that follows these known failures: it is invalid, repeated, or not the name of a job; `None` if it is good
 abbrev pub fault_kind : List (List ℕ) → List KnownJob → List ℕ → Option KnownFaultKind
 fault_kind jobs known name = if is_name name
     then (if is_known known name then Some kind.Twice
     else if has_job_named jobs name then None else Some kind.NoJob)
     else Some kind.NoName
 
--- the error in a line that follows these earlier lines; lines count from 1
+-- the error in a line that follows the `earlier` lines, or `None` if it is good; lines are counted from 1
 abbrev pub fault_of_line : List (List ℕ) → List (List ℕ) → List ℕ → Option KnownFault
 fault_of_line jobs earlier line = if has_name line
     then option_map (λ kind. record { line = length earlier + 1; name = name_text line; kind = kind })
     (fault_kind jobs (known_in earlier) (name_text line))
     else None
 
--- the first of two errors, if there is one
+-- the first of two errors, or the other if there is only one
 abbrev pub first_of : Option KnownFault → Option KnownFault → Option KnownFault
 first_of (Some fault) more = Some fault
 first_of None more = more
 
--- the first error in lines that follow these earlier lines
+-- the first error in lines that follow the `earlier` lines, or `None` if all are good
 unfoldable pub first_fault : List (List ℕ) → List (List ℕ) → List (List ℕ) → Option KnownFault
 first_fault jobs earlier [] = None
 first_fault jobs earlier (line ∷ lines) =
@@ -67,12 +70,15 @@ first_fault jobs earlier (line ∷ lines) =
 
 -- ---- a text
 
+-- the known failures, or the error if there is one
 abbrev pub known_or_fault : List KnownJob → Option KnownFault → Result (List KnownJob) KnownFault
 known_or_fault known None = Ok known
 known_or_fault known (Some fault) = Err fault
 
+-- the known failures in the lines of a text, or the first error; `jobs` are the names of the list's jobs
 abbrev pub known_jobs_in : List (List ℕ) → List (List ℕ) → Result (List KnownJob) KnownFault
 known_jobs_in jobs lines = known_or_fault (known_in lines) (first_fault jobs [] lines)
 
+-- the known failures in a text, or the first error; `jobs` are the names of the list's jobs
 abbrev pub known_jobs_of : List (List ℕ) → List ℕ → Result (List KnownJob) KnownFault
 known_jobs_of jobs text = known_jobs_in jobs (lines_of text)

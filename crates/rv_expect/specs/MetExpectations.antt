@@ -1,4 +1,4 @@
--- Which expectations a run meets: those that its job has and that are not among the unmet ones.
+-- Which expectations a run meets: those that its job has and that are not unmet.
 use Rattle.std.specs.Prelude.{◌&&◌, Bool, true, false, not, List, is_some}
 use Rattle.std.specs.List.{list_any}
 use Rattle.rv_expect.specs.declared.met_expectations.Expectation.{Expectation}
@@ -8,7 +8,7 @@ use Rattle.rv_expect.specs.declared.unmet.Unmet.TheVariants as unmet
 use Rattle.rv_jobs.specs.declared_job.Job.{Job}
 use Rattle.rv_rows.specs.Verdict.{expects_anything}
 
--- a job has an expectation; a job without any other expects exit code 0
+-- whether a job has an expectation of this kind; a job without any other expects exit code 0
 unfoldable pub job_expects : Job → Expectation → Bool
 job_expects job expectation.Exit = is_some job.expect_exit
 job_expects job expectation.End = is_some job.expect_end
@@ -17,7 +17,7 @@ job_expects job expectation.Signature = is_some job.expect_signature
 job_expects job expectation.Same = is_some job.same_as
 job_expects job expectation.Nothing = not (expects_anything job)
 
--- an unmet expectation is of this kind
+-- whether an unmet expectation is of this kind
 unfoldable pub is_same_expectation : Expectation → Unmet → Bool
 is_same_expectation expectation.Exit unmet.Exit = true
 is_same_expectation expectation.End unmet.End = true
@@ -27,5 +27,6 @@ is_same_expectation expectation.Same (unmet.Same difference) = true
 is_same_expectation expectation.Nothing unmet.Nothing = true
 is_same_expectation _ _ = false
 
+-- whether a job has an expectation of this kind, and its run meets it, given the unmet ones
 abbrev pub is_expectation_met : Job → List Unmet → Expectation → Bool
 is_expectation_met job unmet one = job_expects job one && not (list_any (is_same_expectation one) unmet)

@@ -7,12 +7,14 @@ use Rattle.rv_expect.specs.RowReporter.{passes}
 use Rattle.rv_expect.specs.declared.passing.Rule.{Rule}
 use Rattle.rv_expect.specs.declared.passing.Rule.TheVariants.{Strict, Lenient}
 
+-- whether a verdict is not `fail`
 abbrev pub is_no_fail : Verdict → Bool
 is_no_fail verdict.Unasked = true
 is_no_fail verdict.Pass = true
 is_no_fail verdict.Fail = false
 
--- strict: the verdict is pass, or the job expects nothing and ended with exit code 0; lenient: the verdict is anything but fail
+-- whether a row passed; by the strict rule, if the verdict is `pass`, or the job has no expectations and ended with exit code 0; by the
+-- lenient rule, if the verdict is not `fail`
 abbrev pub has_passed : Rule → Row → Bool
 has_passed Strict row = passes row.verdict row.ending
 has_passed Lenient row = is_no_fail row.verdict

@@ -1,12 +1,13 @@
--- The kinds of problem in a row that counts as a failure.
+-- The two kinds of rows that count as failures.
 use Rattle.std.specs.Prelude.{◌&&◌, Bool, not}
 use Rattle.rv_rows.specs.declared_row.Row.{Row}
 use Rattle.rv_rows.specs.Verdict.{did_run}
 use Rattle.rv_expect.specs.Judgement.{Judging, fails}
 
--- a failure is a row of a job that ran, an error one of a job that was refused
+-- whether a row counts as a failure and its job ran
 abbrev pub is_failure : Judging → Row → Bool
 is_failure judging row = fails judging row && did_run row.ending
 
+-- whether a row counts as a failure and its job was refused
 abbrev pub is_error : Judging → Row → Bool
 is_error judging row = fails judging row && not (did_run row.ending)

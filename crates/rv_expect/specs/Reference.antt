@@ -1,4 +1,4 @@
--- References: the words that their lines encode, and how they differ from a signature.
+-- The text of an expected signature: the words in its lines, and how they differ from a signature.
 use Rattle.std.specs.Prelude.{◌≡◌, ◌+◌, ◌<◌, ◌^◌, ℕ, List, [], ◌∷◌, ◌++◌, length, take, Option}
 use Rattle.std.specs.Prelude.{Some, None, Result, Ok, Err, option_map, if◌then◌else◌}
 use Rattle.std.specs.Int.{w32, from_be_bytes}
@@ -18,36 +18,37 @@ use Rattle.rv_expect.specs.declared.reference.Reference.TheVariants.{Words, BadL
 
 -- ---- one line
 
--- the word of these bytes, if this is its line
+-- the word with these bytes, if `line` is its line, or else `None`
 abbrev pub word_if_line : List ℕ → Result (List ℕ) FromHexError → Option ℕ
 word_if_line line (Ok bytes) =
     let word = from_be_bytes w32 bytes in
     if bytes_eq line (word_line word) then Some word else None
 word_if_line line (Err error) = None
 
--- the word encoded by this line: eight lower-case hexadecimal digits and a line feed
+-- the word in a line of eight lower-case hexadecimal digits and a line feed, or `None` if the line is not of this form
 unfoldable pub word_of_line : List ℕ → Option ℕ
 word_of_line line = word_if_line line (decode_sized (take 8 line) 4)
 
 -- ---- all lines
 
--- the result of a line, which encodes a word or does not, followed by lines with the given result
+-- the words of a first line and of the lines after it, or the number of the first line without a word
 abbrev pub with_reference_line : Option ℕ → Reference → Reference
 with_reference_line None behind = BadLine 1
 with_reference_line (Some word) (Words words) = Words (word ∷ words)
 with_reference_line (Some word) (BadLine line) = BadLine (line + 1)
 
--- the words that a text's lines encode, or its first line that encodes no word
+-- the words in the lines of a text, or the number of its first line without a word
 unfoldable pub read_reference : List ℕ → Reference
 read_reference [] = Words []
 read_reference (a ∷ b ∷ c ∷ d ∷ e ∷ f ∷ g ∷ h ∷ feed ∷ rest) =
     with_reference_line (word_of_line (a ∷ b ∷ c ∷ d ∷ e ∷ f ∷ g ∷ h ∷ feed ∷ [])) (read_reference rest)
 read_reference _ = BadLine 1
 
+-- the number has 32 bits
 abbrev pub IsWord : ℕ → Type 0
 IsWord word = word < 2 ^ 32
 
--- the lines before this one encode 32-bit words, one per line; this line exists and does not
+-- each line of the bytes before the line `number` has a 32-bit word; this line exists and has none
 pub record IsFirstBadLine (number : ℕ) (bytes : List ℕ) : Type 0 where
   pub words : List ℕ
   pub rest : List ℕ
@@ -57,32 +58,33 @@ pub record IsFirstBadLine (number : ℕ) (bytes : List ℕ) : Type 0 where
   pub there : rest ≡ [] → ⊥
   pub bad : (word : ℕ) (more : List ℕ) → IsWord word → rest ≡ word_line word ++ more → ⊥
 
--- what the result of reading a text states about the text
+-- the result of reading a text is right: the text consists of the lines of these words, or this is its first line without a word
 abbrev pub IsReferenceOf : Reference → List ℕ → Type 0
 IsReferenceOf (Words words) text =
     AllByRecursion IsWord words × (text ≡ flat_map word_line words)
 IsReferenceOf (BadLine line) text = IsFirstBadLine line text
 
--- ---- compared with a signature
+-- ---- a signature and its reference
 
--- a missing signature counts as one without words
+-- the words of a signature, or none if there is no signature
 abbrev pub signature_words_or_empty : Option (List ℕ) → List ℕ
 signature_words_or_empty None = []
 signature_words_or_empty (Some words) = words
 
--- a difference of words as a difference of signatures
+-- the first difference between two lists of words, as one of signatures
 abbrev pub word_difference : Difference → SignatureDifference
 word_difference (difference.At place) = Word place
 word_difference difference.Lengths = Count
 word_difference difference.Absent = Absent
 
--- the first difference between a reference and the words of a signature
+-- the first difference between the words of a signature and the expected ones, which were read from a text, or `None` if they are equal
 abbrev pub difference_from_reference : Reference → List ℕ → Option SignatureDifference
 difference_from_reference (Words expected) words =
     option_map word_difference (first_difference words expected)
 difference_from_reference (BadLine line) words = Some (Line line)
 
--- the first difference between a signature and the expected reference, if one is expected
+-- the first difference between a signature and the expected one, in the file with these bytes, if it was read, or `None` if they are equal
+-- or none is expected
 abbrev pub signature_difference :
     Option (List ℕ) → Option (List ℕ) → Option (List ℕ) → Option SignatureDifference
 signature_difference None bytes signature = None

@@ -1,4 +1,4 @@
--- How a row's unmet expectations relate to the definitions of the verdict.
+-- How the unmet expectations of a row relate to the definitions of the verdict.
 use Rattle.std.specs.Prelude.{◌≡◌, ◌&&◌, ℕ, Bool, true, false, not, List, Option}
 use Rattle.std.specs.Prelude.{option_map}
 use Rattle.std.specs.List.{list_any}
@@ -15,35 +15,41 @@ use Rattle.rv_expect.specs.declared.unmet.Unmet.{Unmet}
 use Rattle.rv_expect.specs.declared.unmet.Unmet.TheVariants.{Exit, End, Console, Signature}
 use Rattle.rv_expect.specs.declared.unmet.Unmet.TheVariants.{Same, Nothing}
 
--- ---- what an unmet expectation is of
+-- ---- the kind of an unmet expectation
 
+-- whether an unmet expectation is that of the exit code
 abbrev pub is_exit : Unmet → Bool
 is_exit Exit = true
 is_exit _ = false
 
+-- whether an unmet expectation is that of the end
 abbrev pub is_end : Unmet → Bool
 is_end End = true
 is_end _ = false
 
+-- whether an unmet expectation is that of the console
 abbrev pub is_console : Unmet → Bool
 is_console (Console difference) = true
 is_console _ = false
 
+-- whether an unmet expectation is that of the signature
 abbrev pub is_signature : Unmet → Bool
 is_signature (Signature difference) = true
 is_signature _ = false
 
+-- whether an unmet expectation is that of `same_as`
 abbrev pub is_same : Unmet → Bool
 is_same (Same difference) = true
 is_same _ = false
 
+-- whether an unmet expectation is the default one: exit code 0
 abbrev pub is_nothing : Unmet → Bool
 is_nothing Nothing = true
 is_nothing _ = false
 
--- ---- what they say of a row
+-- ---- which expectations are unmet
 
--- a row without its name and verdict
+-- the outcome in a row: all but its name and verdict
 abbrev pub outcome_in_row : Row → Outcome
 outcome_in_row row = record {
   ending = row.ending;
@@ -52,11 +58,12 @@ outcome_in_row row = record {
   signature = row.signature;
 }
 
+-- the outcome in the row of the job that `same_as` names, if it has one
 abbrev pub named_outcome : Option Row → Option Outcome
 named_outcome other = option_map outcome_in_row other
 
--- an expectation is reported exactly when it does not hold, and the default one of a job that expects nothing exactly when its run did not
--- end with exit code 0
+-- `told` has each expectation of the job if and only if the outcome does not meet it, and the default one if and only if the job has no
+-- expectations and did not end with exit code 0
 pub record ReportsUnmet (told : List Unmet) (job : Job) (outcome : Outcome)
     (file reference : Option (List ℕ)) (other : Option Outcome) : Type 0 where
   pub exit : list_any is_exit told ≡ not (has_expected_exit job.expect_exit outcome.ending)
@@ -68,13 +75,13 @@ pub record ReportsUnmet (told : List Unmet) (job : Job) (outcome : Outcome)
   pub nothing : list_any is_nothing told
       ≡ (not (expects_anything job) && not (exits_with 0 outcome.ending))
 
--- the verdict is pass, or the job expects nothing and ended with exit code 0
+-- whether a job passes: its verdict is `pass`, or it has no expectations and ended with exit code 0
 abbrev pub passes : Verdict → RowEnd → Bool
 passes verdict.Pass end = true
 passes verdict.Fail end = false
 passes verdict.Unasked end = exits_with 0 end
 
--- the row's verdict is the verdict on its outcome
+-- the verdict in the row is that on its outcome
 abbrev pub HasItsVerdict : Sides → Type 0
 HasItsVerdict sides =
     sides.row.verdict ≡ verdict_of sides.job (outcome_in_row sides.row) sides.reference

@@ -8,12 +8,13 @@ use Rattle.rv_expect.specs.Comparisons.{Sides}
 use Rattle.rv_expect.specs.declared.unmet.Unmet.{Unmet}
 use Rattle.rv_expect.specs.Unmet.{unmet_of}
 
--- the row of the job that a job names
+-- the row of the job that a job's `same_as` names, or `None` if it names none
 abbrev pub row_of_same_as_job : Planned → Job → Option Row
 row_of_same_as_job plan job =
     option_map (row_of plan) (option_and_then (slice_get plan.jobs) job.same_as)
 
--- a job's row together with the contents of its files in the plan and the row of the job that it names
+-- a row of a plan's job, with the data that it is compared with: the contents of the job's files, and the row of the job that its `same_as`
+-- names
 abbrev pub sides_in : Planned → Job → Row → Sides
 sides_in plan job row = record {
   job = job;
@@ -23,5 +24,6 @@ sides_in plan job row = record {
   other = row_of_same_as_job plan job;
 }
 
+-- the unmet expectations of a row of a plan's job
 abbrev pub unmet_in : Planned → Job → Row → List Unmet
 unmet_in plan job row = unmet_of (sides_in plan job row)

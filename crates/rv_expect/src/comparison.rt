@@ -1,17 +1,17 @@
-//! A row together with the data it is compared with.
+//! A job's row, with the data that it is compared with.
 
 use rv_jobs::Job;
 use rv_rows::Row;
 
-/// A job's row together with everything that its job expects it to equal.
+/// A job and its row, with the data that the row is compared with.
 #[derive(Clone, Copy)]
 pub struct Comparison<'a, 'b> {
     pub job: &'a Job,
     pub row: &'a Row,
-    /// The bytes of the file that the console is compared with, if one was read.
+    /// The bytes of the file with the expected console text, if it was read.
     pub console: Option<&'a [u8]>,
-    /// The bytes of the reference that the signature is compared with, if one was read.
+    /// The bytes of the file with the expected signature, if it was read.
     pub reference: Option<&'a [u8]>,
-    /// The row of the job that this one names, if that job was run.
+    /// The row of the job that `same_as` names, if that job ran.
     pub other: Option<&'b Row>,
 }

@@ -18,11 +18,11 @@ pub enum Difference {
     Absent,
 }
 
-/// The first difference between a reference and a signature.
+/// The first difference between a signature and the text of the expected one.
 #[derive(Clone, Copy)]
 pub enum SignatureDifference {
-    /// The first line of the reference, counted from 1, that is not eight lower-case hexadecimal digits and a line feed. No words are
-    /// compared then.
+    /// The first line of the text, counted from 1, that is not eight lower-case hexadecimal digits and a line feed. No words are compared
+    /// then.
     Line(usize),
     /// The words at this index, counted from 0, are the first that differ.
     Word(usize),
@@ -32,7 +32,7 @@ pub enum SignatureDifference {
     Absent,
 }
 
-/// The first difference between a run and the run of the job that it is expected to equal.
+/// The first difference between a row and the row of the job that `same_as` names.
 #[derive(Clone, Copy)]
 pub enum SameDifference {
     /// The ends of the runs.
@@ -45,7 +45,7 @@ pub enum SameDifference {
     Absent,
 }
 
-/// Returns the first difference between actual and expected bytes.
+/// Returns the first difference between the actual and the expected bytes, or `None` if they are equal.
 pub(crate) fn first_byte_difference(met: &[u8], expected: &[u8]) -> Option<Difference>
     ensures { result ≡ first_difference met.now expected.now }
 {
@@ -64,7 +64,7 @@ pub(crate) fn first_byte_difference(met: &[u8], expected: &[u8]) -> Option<Diffe
     }
 }
 
-/// Returns the first difference between actual and expected words.
+/// Returns the first difference between the actual and the expected words, or `None` if they are equal.
 pub(crate) fn first_word_difference(met: &[u32], expected: &[u32]) -> Option<Difference>
     ensures { result ≡ first_difference met.now expected.now }
 {
@@ -83,8 +83,8 @@ pub(crate) fn first_word_difference(met: &[u32], expected: &[u32]) -> Option<Dif
     }
 }
 
-/// Returns the difference between a console and the expected one, if one is expected. `file` holds the bytes of the file that the
-/// expectation names.
+/// Returns the first difference between a console and the expected one, or `None` if they are equal or none is expected. `file` holds the
+/// bytes of the file with the expected text, if it was read.
 pub(crate) fn console_difference(
     expected: &Option<ExpectedConsole>,
     file: Option<&[u8]>,
@@ -101,7 +101,8 @@ pub(crate) fn console_difference(
     }
 }
 
-/// Returns the difference between a row and the row of the job that its job names, if it names one.
+/// Returns the first difference between a row and the row of the job that `same_as` names, or `None` if they agree or there is no
+/// `same_as`.
 pub(crate) fn same_as_difference(
     named: Option<usize>,
     other: Option<&Row>,
@@ -116,6 +117,7 @@ pub(crate) fn same_as_difference(
     }
 }
 
+// Returns the first difference between two rows: in how they ended, in their consoles, or in their signatures, or `None` if they agree.
 fn difference_of_runs(row: &Row, other: &Row) -> Option<SameDifference>
     ensures { result ≡ difference_of_runs row.now other.now }
 {
@@ -134,6 +136,7 @@ fn difference_of_runs(row: &Row, other: &Row) -> Option<SameDifference>
     }
 }
 
+// Returns the first difference between two signatures, either of which may be missing, or `None` if they are equal.
 fn signatures_difference(signature: &Option<Words>, other: &Option<Words>) -> Option<Difference>
     ensures { result ≡ signatures_difference signature.now other.now }
 {

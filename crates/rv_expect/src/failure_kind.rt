@@ -1,4 +1,4 @@
-//! What did not match in a failed job.
+//! The kinds of failures.
 
 ghost use Rattle.std.specs.Prelude.{◌≡◌, slice_get};
 ghost use Rattle.rv_machine.specs.Faults.{fault_kinds};
@@ -9,8 +9,8 @@ use crate::unmet::Unmet;
 use rv_machine::FaultKind;
 use rv_rows::RowEnd;
 
-/// What did not match in a failed job, without the exit code, address or value: how it ended or, if it ended as expected, the first of its
-/// other expectations that its run does not meet.
+/// The kind of a failed job: how it ended, without the exit code, address or value; or, if it ended as expected, the first other
+/// expectation that its run does not meet.
 #[derive(Clone, Copy)]
 pub enum FailureKind {
     /// The run ended with another exit code than the expected one, or with an exit where another end was expected.
@@ -47,7 +47,7 @@ impl FailureKind {
         }
     }
 
-    /// Returns the kind of a failure of which only the end is known.
+    /// Returns the kind of a failure, given only how the job ended.
     pub fn of_end(ending: RowEnd) -> FailureKind
         ensures { result ≡ failure_kind_of_end ending }
     {
@@ -59,7 +59,7 @@ impl FailureKind {
         }
     }
 
-    /// Returns the kind of a failure with these unmet expectations, the first of which decides.
+    /// Returns the kind of a failure with these unmet expectations, of which the first decides.
     pub fn of_unmet(ending: RowEnd, unmet: &[Unmet]) -> FailureKind
         ensures { result ≡ failure_kind_of_unmet ending unmet.now }
     {
@@ -69,7 +69,7 @@ impl FailureKind {
         }
     }
 
-    /// Whether this is the other kind.
+    /// Whether two kinds of failures are the same.
     pub fn is_same(self, other: FailureKind) -> bool
         ensures { result ≡ is_same_failure_kind self other }
     {
@@ -86,6 +86,7 @@ impl FailureKind {
     }
 }
 
+// Returns the kind of failure at an index of the kinds that follow the budget.
 fn kind_after_budget(index: usize) -> FailureKind
     ensures { result ≡ kind_after_budget (slice_get fault_kinds index) index }
 {
@@ -95,6 +96,7 @@ fn kind_after_budget(index: usize) -> FailureKind
     }
 }
 
+// Returns the kind of failure at an index of the kinds that follow those of faults.
 fn kind_after_faults(index: usize) -> FailureKind
     ensures { result ≡ kind_after_faults index }
 {
@@ -106,6 +108,7 @@ fn kind_after_faults(index: usize) -> FailureKind
     }
 }
 
+// Returns the kind of a failure, given how the job ended and the first expectation that its run does not meet.
 fn kind_of_first(ending: RowEnd, first: Unmet) -> FailureKind
     ensures { result ≡ failure_kind_of_first ending first }
 {

@@ -1,4 +1,4 @@
-//! The failures among rows, each by what did not match.
+//! The failures among rows, each by its kind.
 
 ghost use Rattle.std.specs.Prelude.{◌≡◌, ◌++◌, ◌<◌, ◌≤◌, IfOk, OnOk, length, option_to_list, slice_index_or};
 ghost use Rattle.rv_jobs.specs.declared_job.Job.{Job as AJob};
@@ -15,7 +15,8 @@ use rv_jobs::Plan;
 use rv_rows::{Row, expected_console_bytes, signature_reference_bytes};
 use std::alloc::{AllocError, Global};
 
-/// Returns the failures among the rows of a report, in order. A report has no expectations, so each is of the kind of its end.
+/// Returns the kinds of the failures among the rows of a report, in order. A report has no expectations, so only how the jobs ended is
+/// known.
 pub fn failures_by_end(
     alloc: Global,
     judge: &Judge<'_>,
@@ -30,7 +31,7 @@ pub fn failures_by_end(
     Ok(failures)
 }
 
-/// Returns the failures among the rows of a plan's jobs at some indices, in order.
+/// Returns the kinds of the failures among the rows of the jobs at these indices of a plan, in order.
 pub fn failures_in_plan(
     alloc: Global,
     judge: &Judge<'_>,
@@ -50,6 +51,7 @@ pub fn failures_in_plan(
     Ok(failures)
 }
 
+// Appends the kind of a failure, if there is one.
 fn push_if_failed(
     failures: &mut Vec<FailureKind>,
     failure: Option<FailureKind>,
@@ -62,6 +64,7 @@ fn push_if_failed(
     Ok(())
 }
 
+// Returns the kind of a row that counts as a failure, given only how its job ended, or `None` if it does not count as one.
 fn failure_by_end(judge: &Judge<'_>, row: &Row) -> Option<FailureKind>
     ensures { result ≡ failure_by_end (judging_of judge.now) row.now }
 {
@@ -72,6 +75,7 @@ fn failure_by_end(judge: &Judge<'_>, row: &Row) -> Option<FailureKind>
     }
 }
 
+// Returns the kind of the row of the job at an index of a plan, or `None` if the row does not count as a failure.
 fn failure_in_plan(
     alloc: Global,
     judge: &Judge<'_>,
@@ -91,7 +95,8 @@ fn failure_in_plan(
     Ok(Some(kind))
 }
 
-// Returns the kind of a failure by what the job at an index expects. The job that it names is not run again.
+// Returns the kind of a failure by the unmet expectations of the job at an index of a plan. The job that its `same_as` names is not run
+// again.
 fn kind_of_job(
     alloc: Global,
     plan: &Plan,

@@ -1,4 +1,4 @@
-//! How a run counts its rows: passed, failed or known to fail.
+//! How a run counts its rows: as passed, failed or known to fail.
 
 ghost use Rattle.std.specs.Prelude.{◌≡◌};
 ghost use Rattle.std.specs.List.{list_any};
@@ -10,7 +10,7 @@ use crate::known_jobs::KnownJobs;
 use crate::passing::{Rule, has_passed};
 use rv_rows::Row;
 
-/// The rules by which the rows of a run are counted.
+/// How a run counts its rows: a rule, and the known failures.
 #[derive(Clone, Copy)]
 pub struct Judge<'k> {
     pub rule: Rule,
@@ -30,7 +30,7 @@ pub enum Judgement<'k> {
 }
 
 impl<'k> Judge<'k> {
-    /// Creates a judge that applies only this rule, without known failures.
+    /// Returns a judge that applies only this rule, without known failures.
     pub fn by_rule(rule: Rule) -> Judge<'k>
         ensures { judging_of result ≡ judging_by_rule rule }
     {
@@ -55,7 +55,7 @@ impl<'k> Judge<'k> {
         self.judgement(row).is_failing()
     }
 
-    /// Whether at least one row counts as a failure.
+    /// Whether one of the rows counts as a failure.
     pub fn fail_some(&self, rows: &[Row]) -> bool
         ensures { result ≡ list_any (fails (judging_of self.now)) rows.now }
     {
@@ -64,7 +64,7 @@ impl<'k> Judge<'k> {
 }
 
 impl<'k> Judgement<'k> {
-    /// Whether this counts as a failure.
+    /// Whether a row that counts so is a failure.
     pub fn is_failing(self) -> bool
         ensures { result ≡ is_failing (judged_of self.entry) }
     {
@@ -74,7 +74,7 @@ impl<'k> Judgement<'k> {
         }
     }
 
-    /// Whether the row passed and is not a known failure.
+    /// Whether a row that counts so passed, and is not listed as a known failure.
     pub fn is_passed(self) -> bool
         ensures { result ≡ is_passed (judged_of self.entry) }
     {
@@ -84,7 +84,7 @@ impl<'k> Judgement<'k> {
         }
     }
 
-    /// Whether this is a failure that is not a known one.
+    /// Whether a row that counts so failed, and is not a known failure.
     pub fn is_unknown_failure(self) -> bool
         ensures { result ≡ is_unknown_failure (judged_of self.entry) }
     {
@@ -94,7 +94,7 @@ impl<'k> Judgement<'k> {
         }
     }
 
-    /// Whether this is a known failure.
+    /// Whether a row that counts so is a known failure.
     pub fn is_known(self) -> bool
         ensures { result ≡ is_known_failure (judged_of self.entry) }
     {
@@ -105,6 +105,7 @@ impl<'k> Judgement<'k> {
     }
 }
 
+// Returns how the row of a job that is not known to fail counts, given whether it passed.
 fn judgement_of_unknown<'k>(passed: bool) -> Judgement<'k>
     ensures { judged_of result ≡ judged_unknown passed }
 {
@@ -115,6 +116,7 @@ fn judgement_of_unknown<'k>(passed: bool) -> Judgement<'k>
     }
 }
 
+// Returns how a row counts, given the known failures and whether it passed.
 fn judgement_in_file<'k>(known: &'k KnownJobs, passed: bool, row: &Row) -> Judgement<'k>
     ensures { judged_of result ≡ judged_in_file known.now.path passed (reason_of known.now.jobs row.now.name) }
 {

@@ -19,12 +19,12 @@ pub struct KnownJob {
 pub struct KnownJobs {
     /// The file's path, as the user gave it.
     pub path: Text,
-    /// The jobs in the order of the file, each name once.
+    /// The jobs in the order of the file. No name is repeated.
     pub jobs: Sequence<KnownJob>,
 }
 
 impl KnownJobs {
-    /// Returns why the job of this name is known to fail, or `None` if it is not.
+    /// Returns why the job with this name is known to fail, or `None` if it is not.
     pub fn reason_of(&self, name: &[u8]) -> Option<&[u8]>
         ensures { option_map (λ reason. reason.now) result ≡ reason_of self.now.jobs name.now }
     {
@@ -35,7 +35,7 @@ impl KnownJobs {
     }
 }
 
-/// Returns the known failure of this name.
+/// Returns the known failure with this name, or `None` if there is none.
 pub(crate) fn known_job_of<'a>(jobs: &'a [KnownJob], name: &[u8]) -> Option<&'a KnownJob>
     ensures { option_map (λ job. job.now) result ≡ known_job_of jobs.now name.now }
 {
@@ -53,7 +53,7 @@ pub enum KnownFaultKind {
     NoJob,
 }
 
-/// The first error in a text.
+/// An error in a line of a text.
 #[derive(Debug, Drop)]
 pub struct KnownFault {
     /// The line's number, from 1.

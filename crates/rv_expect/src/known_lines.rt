@@ -1,4 +1,4 @@
-//! The parts of a line in a list of known failures.
+//! The lines of a list of known failures, and their parts.
 
 ghost use Rattle.std.specs.Prelude.{◌≡◌, ◌≤◌, IfOk, length, position};
 ghost use Rattle.std.specs.List.{position_or_len};
@@ -6,14 +6,14 @@ ghost use Rattle.rv_expect.specs.KnownLines.{borrowed_lines, is_hash, lines_of, 
 
 use std::alloc::{AllocError, Global};
 
-/// Returns the lines of a text, without their line feeds. Allocates the list of slices.
+/// Returns the lines of a text, without their line feeds. Allocates the list of lines.
 pub(crate) fn lines_of(alloc: Global, text: &[u8]) -> Result<Vec<&[u8]>, AllocError>
     ensures { IfOk result (λ lines. borrowed_lines lines.items ≡ lines_of text.now) }
 {
     text.split(|byte| *byte == b'\n').collect(alloc)
 }
 
-/// Returns the name in a line, empty if it has none.
+/// Returns the name in a line, which is empty if there is none.
 #[tactic(auto, unfolding(crate::specs::KnownLines::name_text))]
 pub(crate) fn name_text(line: &[u8]) -> &[u8]
     ensures { result.now ≡ name_text line.now }
@@ -21,7 +21,7 @@ pub(crate) fn name_text(line: &[u8]) -> &[u8]
     trimmed(&line[..hash_index(line)])
 }
 
-/// Returns the reason in a line, empty if it has none.
+/// Returns the reason in a line, which is empty if there is none.
 #[tactic(auto, unfolding(crate::specs::KnownLines::reason_text))]
 pub(crate) fn reason_text(line: &[u8]) -> &[u8]
     ensures { result.now ≡ reason_text line.now }
@@ -45,6 +45,7 @@ fn hash_index(line: &[u8]) -> usize
     }
 }
 
+// Returns the index of the first `#`, or `None` if there is none.
 fn first_hash(line: &[u8]) -> Option<usize>
     ensures { result ≡ position is_hash line.now }
 {

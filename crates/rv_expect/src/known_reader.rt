@@ -1,4 +1,4 @@
-//! Parses the list of known failures.
+//! Parsing a list of known failures.
 
 ghost use Rattle.std.specs.Prelude.{◌≡◌, ◌+◌, ℕ, IfOk, List, length};
 ghost use Rattle.std.specs.List.{list_any};
@@ -12,8 +12,8 @@ use crate::known_lines::{lines_of, name_text, reason_text};
 use rv_base::{Bytes, Sequence, is_name};
 use std::alloc::{AllocError, Global};
 
-/// Parses a list of known failures among jobs of these names: one name per line, then the reason after a `#`. Lines without a name are
-/// ignored. The inner error is the first error in the text.
+/// Parses a list of known failures: one job name per line, then the reason after a `#`. Lines without a name are ignored. `jobs` are the
+/// names of the list's jobs. The inner error is the first error in the text.
 pub fn read_known_jobs(
     alloc: Global,
     jobs: &[&str],
@@ -25,6 +25,7 @@ pub fn read_known_jobs(
     read_lines(alloc, jobs, lines.as_slice())
 }
 
+// Parses the lines of a list of known failures.
 fn read_lines(
     alloc: Global,
     jobs: &[&str],
@@ -44,7 +45,7 @@ fn read_lines(
     Ok(Ok(Sequence::new(known)))
 }
 
-// Returns the error in the line with this number that follows these known failures, if there is one.
+// Returns the error in the line with this number, which follows lines with these known failures, or `None` if it is good.
 fn fault_of_line(
     alloc: Global,
     jobs: &[&str],
@@ -70,7 +71,7 @@ fn fault_of_line(
     }))
 }
 
-// Returns what is wrong with a name that follows these known failures, if anything is.
+// Returns the error of a name that follows these known failures, or `None` if it is good.
 fn fault_kind(jobs: &[&str], known: &[KnownJob], name: &[u8]) -> Option<KnownFaultKind>
     ensures { result ≡ fault_kind (job_names jobs.now) known.now name.now }
 {
@@ -85,24 +86,28 @@ fn fault_kind(jobs: &[&str], known: &[KnownJob], name: &[u8]) -> Option<KnownFau
     }
 }
 
+// Whether there is a known failure with this name.
 fn is_known(known: &[KnownJob], name: &[u8]) -> bool
     ensures { result ≡ is_known known.now name.now }
 {
     known_job_of(known, name).is_some()
 }
 
+// Whether one of the jobs has this name.
 fn has_job_named(jobs: &[&str], name: &[u8]) -> bool
     ensures { result ≡ has_job_named (job_names jobs.now) name.now }
 {
     is_among(jobs, name)
 }
 
+// Whether one of the names is this name.
 fn is_among(names: &[&str], name: &[u8]) -> bool
     ensures { result ≡ list_any (λ one. bytes_eq one.now name.now) names.now }
 {
     names.iter().any(|one| one.as_bytes() == name)
 }
 
+// Returns the known failure in a line.
 fn known_job_of_line(alloc: Global, line: &[u8]) -> Result<KnownJob, AllocError>
     ensures { IfOk result (λ job. job ≡ known_job_of_line line.now) }
 {
@@ -111,6 +116,7 @@ fn known_job_of_line(alloc: Global, line: &[u8]) -> Result<KnownJob, AllocError>
     Ok(KnownJob { name, reason })
 }
 
+// Returns a copy of the bytes.
 fn copied(alloc: Global, bytes: &[u8]) -> Result<Bytes, AllocError>
     ensures { IfOk result (λ copy. copy ≡ bytes.now) }
 {

@@ -1,4 +1,4 @@
-//! Laws about reported differences and expectations; none of them is executed.
+//! Laws on reported differences and unmet expectations, with no code to run.
 
 ghost use Rattle.std.specs.Prelude.{◌≡◌, ◌==◌, ℕ, List, IsTrue, MatchOption, length};
 ghost use Rattle.std.specs.List.{AllByRecursion, flat_map};
@@ -15,24 +15,23 @@ ghost use Rattle.rv_expect.specs.Reference.{IsReferenceOf, IsWord, read_referenc
 ghost use Rattle.rv_expect.specs.RowReporter.{HasItsVerdict, ReportsUnmet, named_outcome, outcome_in_row, passes};
 ghost use Rattle.rv_expect.specs.Unmet.{unmet_of};
 
-/// A reported difference of two lists is a real one, and the first: before it the lists are equal. If none is reported, the lists are
-/// equal.
+/// Proves that `first_difference` is right: the two lists differ as it says, and are equal before that; if it is `None`, they are equal.
 pub fn differences_are_first()
     ensures { (xs ys : List ℕ)
         → MatchOption (first_difference xs ys) (xs ≡ ys)
         (λ difference. IsDifference difference xs ys) }
 {}
 
-/// A reference parses as words exactly when it consists of their lines. Otherwise the result names the first line that does not encode a
-/// 32-bit word.
+/// Proves that the text of an expected signature is read as words if and only if it consists of their lines, and that otherwise the result
+/// is the first line without a 32-bit word.
 pub fn references_are_lines_of_words()
     ensures read { (text : List ℕ) → IsReferenceOf (read_reference text) text }
     ensures written { (words : List ℕ) → AllByRecursion IsWord words
         → read_reference (flat_map word_line words) ≡ Words words }
 {}
 
-/// For a row that is not refused and whose signature has 32-bit words, an expectation is reported exactly when it does not hold by the
-/// definitions of the verdict.
+/// Proves that an expectation is reported as unmet if and only if it does not hold by the definitions of the verdict, for each row whose
+/// job ran and whose signature has 32-bit words.
 pub fn unmet_is_what_does_not_hold()
     ensures { (sides : Sides)
         → IsTrue (did_run sides.row.ending)
@@ -41,8 +40,9 @@ pub fn unmet_is_what_does_not_hold()
         sides.console sides.reference (named_outcome sides.other) }
 {}
 
-/// For such a row with its verdict, nothing is reported exactly when its job passes: its verdict is pass, or it expects nothing and ended
-/// with exit code 0.
+/// Proves that no expectation is reported as unmet if and only if the job passes, for each row whose job ran, whose signature has 32-bit
+/// words and whose verdict is that on its outcome. A job passes if its verdict is `pass`, or if it has no expectations and ended with exit
+/// code 0.
 pub fn nothing_is_unmet_where_a_job_passes()
     ensures { (sides : Sides)
         → IsTrue (did_run sides.row.ending)
@@ -51,9 +51,9 @@ pub fn nothing_is_unmet_where_a_job_passes()
         → (length (unmet_of sides) == 0) ≡ passes sides.row.verdict sides.row.ending }
 {}
 
-/// For a plan's job whose row is not refused and whose signature has 32-bit words, an expectation is reported exactly when it does not hold
-/// by the definitions of the verdict, given the plan's contents of the job's files and the outcome of the job that it names. Nothing is
-/// reported exactly when the job passes.
+/// Proves that for a job of a plan which ran, and whose signature has 32-bit words, an expectation is reported as unmet if and only if it
+/// does not hold by the definitions of the verdict, given the plan's contents of the job's files and the outcome of the job that its
+/// `same_as` names. No expectation is reported if and only if the job passes.
 pub fn unmet_of_a_plan_is_what_does_not_hold()
     ensures told { (plan : Planned) (job : Job)
         → IsTrue (did_run (row_of plan job).ending)

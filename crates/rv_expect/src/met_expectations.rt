@@ -16,23 +16,25 @@ pub enum Expectation {
     Console,
     Signature,
     Same,
-    /// Exit code 0, expected if the job has no other expectation.
+    /// Exit code 0, which is expected if the job has no other expectation.
     Nothing,
 }
 
-/// Whether a job has this expectation and its run meets it.
+/// Whether a job has an expectation of this kind and its run meets it, given the unmet ones.
 pub fn is_expectation_met(job: &Job, unmet: &[Unmet], one: Expectation) -> bool
     ensures { result ≡ is_expectation_met job.now unmet.now one }
 {
     job_expects(job, one) && !is_expectation_unmet(unmet, one)
 }
 
+// Whether an expectation of this kind is unmet.
 fn is_expectation_unmet(unmet: &[Unmet], one: Expectation) -> bool
     ensures { result ≡ list_any (is_same_expectation one) unmet.now }
 {
     unmet.iter().any(|other| is_same_expectation(one, *other))
 }
 
+// Whether a job has an expectation of this kind.
 #[tactic(auto, unfolding(crate::specs::MetExpectations::job_expects))]
 fn job_expects(job: &Job, one: Expectation) -> bool
     ensures { result ≡ job_expects job.now one }
@@ -47,6 +49,7 @@ fn job_expects(job: &Job, one: Expectation) -> bool
     }
 }
 
+// Whether an unmet expectation is of this kind.
 #[tactic(auto, unfolding(crate::specs::MetExpectations::is_same_expectation))]
 fn is_same_expectation(one: Expectation, unmet: Unmet) -> bool
     ensures { result ≡ is_same_expectation one unmet }

@@ -15,7 +15,7 @@ pub enum Rule {
     Lenient,
 }
 
-/// Whether a job passed, judged by its row.
+/// Whether a row passed by this rule.
 pub fn has_passed(rule: Rule, row: &Row) -> bool
     ensures { result ≡ has_passed rule row.now }
 {

@@ -1,4 +1,4 @@
-//! The kinds of problem in a row that counts as a failure.
+//! The two kinds of rows that count as failures.
 
 ghost use Rattle.std.specs.Prelude.{◌≡◌};
 ghost use Rattle.rv_expect.specs.Judgement.{judging_of};
@@ -14,7 +14,7 @@ pub fn is_failure(judge: &Judge<'_>, row: &Row) -> bool
     judge.fails(row) && did_run(row.ending)
 }
 
-/// Whether a row counts as a failure because its job was refused.
+/// Whether a row counts as a failure and its job was refused.
 pub fn is_error(judge: &Judge<'_>, row: &Row) -> bool
     ensures { result ≡ is_error (judging_of judge.now) row.now }
 {

@@ -1,4 +1,4 @@
-//! References: texts with one line for each word of a signature.
+//! The text of an expected signature, with one line for each word.
 
 ghost use Rattle.std.specs.Prelude.{◌≡◌, IfOk, length, option_map};
 ghost use Rattle.rv_expect.specs.Reference.{difference_from_reference, read_reference, signature_difference};
@@ -9,17 +9,17 @@ use rv_jobs::Text;
 use rv_rows::{LINE, Words, word_line};
 use std::alloc::{AllocError, Global};
 
-/// A parsed reference.
+/// The text of an expected signature, as it was read.
 #[derive(Drop)]
 pub(crate) enum Reference {
-    /// The words that the lines encode.
+    /// The words in its lines.
     Words(Words),
-    /// The first line, counted from 1, that does not encode a word.
+    /// The number of the first line without a word, counted from 1.
     BadLine(usize),
 }
 
-/// Returns the difference between a signature and the expected reference, if one is expected. `reference` holds the reference's bytes.
-/// Allocates the reference's words.
+/// Returns the first difference between a signature and the expected one, or `None` if they are equal or none is expected. `reference`
+/// holds the bytes of the file with the expected signature, if it was read. Allocates the expected words.
 pub(crate) fn signature_difference(
     alloc: Global,
     expected: &Option<Text>,
@@ -40,7 +40,7 @@ pub(crate) fn signature_difference(
     }
 }
 
-/// Returns the words of a signature; a missing signature has none.
+/// Returns the words of a signature, or none if there is no signature.
 pub fn signature_words_or_empty(signature: &Option<Words>) -> &[u32]
     ensures { result.now ≡ signature_words_or_empty signature.now }
 {
@@ -50,6 +50,7 @@ pub fn signature_words_or_empty(signature: &Option<Words>) -> &[u32]
     }
 }
 
+// Returns the first difference between the words of a signature and the expected ones, or `None` if they are equal.
 fn difference_from_reference(reference: &Reference, words: &[u32]) -> Option<SignatureDifference>
     ensures { result ≡ difference_from_reference reference.now words.now }
 {
@@ -65,6 +66,7 @@ fn difference_from_reference(reference: &Reference, words: &[u32]) -> Option<Sig
     }
 }
 
+// Returns the words in the lines of a text, or the number of its first line without a word.
 fn read_reference(alloc: Global, text: &[u8]) -> Result<Reference, AllocError>
     ensures { IfOk result (λ reference. reference ≡ read_reference text.now) }
 {
@@ -84,7 +86,7 @@ fn read_reference(alloc: Global, text: &[u8]) -> Result<Reference, AllocError>
     }
 }
 
-// Returns the word that a line encodes. Digits are parsed in either case, so the value is written again and compared.
+// Returns the word in a line, or `None` if it has none. Digits are decoded in either case, so the word is written again and compared.
 fn word_of_line(line: &[u8]) -> Option<u32>
     requires { length line.now ≡ LINE }
     ensures { result ≡ word_of_line line.now }

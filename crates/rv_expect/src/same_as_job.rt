@@ -1,4 +1,4 @@
-//! The row of the job that a job in a plan names.
+//! The row of the job that a job's `same_as` names.
 
 ghost use Rattle.std.specs.Prelude.{◌≡◌, ◌<◌, IfOk, IfSome, length};
 ghost use Rattle.rv_expect.specs.UnmetInPlan.{row_of_same_as_job};
@@ -7,7 +7,7 @@ use rv_jobs::{Job, Plan};
 use rv_rows::{Row, row_at};
 use std::alloc::{AllocError, Global};
 
-/// Returns the row of the job that a job names, if it names one. That job is run once more.
+/// Returns the row of the job that a job's `same_as` names, or `None` if it names none. The named job is run once more.
 pub fn row_of_same_as_job(alloc: Global, plan: &Plan, job: &Job) -> Result<Option<Row>, AllocError>
     requires { IfSome job.now.same_as (λ place. place < length plan.now.jobs) }
     ensures { IfOk result (λ named. named ≡ row_of_same_as_job plan.now job.now) }

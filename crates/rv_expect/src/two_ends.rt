@@ -1,4 +1,4 @@
-//! Jobs that can never pass because they expect two different ends.
+//! Jobs that can never pass because they expect two ends.
 
 ghost use Rattle.std.specs.Prelude.{◌≡◌, List, Option, IsTrue, ℕ};
 ghost use Rattle.rv_jobs.specs.declared_job.Job.{Job};
@@ -9,14 +9,14 @@ ghost use Rattle.rv_expect.specs.TwoEnds.{expects_two_ends};
 
 use rv_jobs::Job;
 
-/// Whether a job expects an exit code and also an end by its budget or a fault.
+/// Whether a job expects an exit code and also another end than an exit.
 pub fn expects_two_ends(job: &Job) -> bool
     ensures { result ≡ expects_two_ends job.now }
 {
     job.expect_exit.is_some() && job.expect_end.is_some()
 }
 
-/// A run has one end, so a job that expects two fails whatever the result of its run.
+/// Proves that a job which expects two ends fails whatever its outcome is, since a run has only one end.
 pub fn two_ends_fail()
     ensures { (job : Job) (outcome : Outcome) (reference console : Option (List ℕ)) (other : Option Outcome)
         → IsTrue (expects_two_ends job)

@@ -1,4 +1,4 @@
-//! Which expectations a run does not meet.
+//! The expectations that a run does not meet.
 
 ghost use Rattle.std.specs.Prelude.{◌≡◌, ◌++◌, IfOk, OnOk, option_map, option_to_list};
 ghost use Rattle.rv_expect.specs.Unmet.{unmet_console, unmet_end, unmet_exit, unmet_default_exit, unmet_of, unmet_same_as};
@@ -23,14 +23,14 @@ pub enum Unmet {
     End,
     Console(Difference),
     Signature(SignatureDifference),
-    /// Equality with the named job.
+    /// The result of the job that `same_as` names.
     Same(SameDifference),
     /// Exit code 0, for a job without any other expectation.
     Nothing,
 }
 
-/// Returns the expectations of a job that its row's run does not meet, in the order exit, end, console, signature, other job. A refused row
-/// has none: its reason explains why nothing ran.
+/// Returns the expectations of a job that its run does not meet, in the order exit, end, console, signature, `same_as`. A refused job has
+/// none: its refusal explains why nothing ran.
 #[tactic(auto, unfolding(crate::specs::Unmet::unmet_of))]
 pub fn unmet_expectations(
     alloc: Global,
@@ -57,6 +57,7 @@ pub fn unmet_expectations(
     Ok(found)
 }
 
+// Appends an unmet expectation, if there is one.
 fn push_if_unmet(found: &mut Vec<Unmet>, unmet: Option<Unmet>) -> Result<(), AllocError>
     ensures { OnOk result (found.new.items ≡ found.old.items ++ option_to_list unmet) }
 {
@@ -66,6 +67,7 @@ fn push_if_unmet(found: &mut Vec<Unmet>, unmet: Option<Unmet>) -> Result<(), All
     Ok(())
 }
 
+// Returns the default expectation of exit code 0, if the ending does not meet it.
 fn unmet_default_exit(ending: RowEnd) -> Option<Unmet>
     ensures { result ≡ unmet_default_exit ending }
 {
@@ -76,6 +78,7 @@ fn unmet_default_exit(ending: RowEnd) -> Option<Unmet>
     }
 }
 
+// Returns the expectation of an exit code, if the job has it and the ending does not meet it.
 fn unmet_exit(job: &Job, ending: RowEnd) -> Option<Unmet>
     ensures { result ≡ unmet_exit job.now ending }
 {
@@ -86,6 +89,7 @@ fn unmet_exit(job: &Job, ending: RowEnd) -> Option<Unmet>
     }
 }
 
+// Returns the expectation of an end, if the job has it and the ending does not meet it.
 fn unmet_end(job: &Job, ending: RowEnd) -> Option<Unmet>
     ensures { result ≡ unmet_end job.now ending }
 {
@@ -96,6 +100,8 @@ fn unmet_end(job: &Job, ending: RowEnd) -> Option<Unmet>
     }
 }
 
+// Returns the expectation of a console, if the job has it and the row does not meet it. `file` holds the bytes of the file with the
+// expected text, if it was read.
 fn unmet_console(job: &Job, file: Option<&[u8]>, row: &Row) -> Option<Unmet>
     ensures { result ≡ unmet_console job.now (option_map (λ bytes. bytes.now) file.entry) row.now }
 {
@@ -105,6 +111,7 @@ fn unmet_console(job: &Job, file: Option<&[u8]>, row: &Row) -> Option<Unmet>
     }
 }
 
+// Returns the expectation of a signature, if there is a difference from it.
 fn unmet_signature(difference: Option<SignatureDifference>) -> Option<Unmet>
     ensures { result ≡ unmet_signature difference }
 {
@@ -114,6 +121,8 @@ fn unmet_signature(difference: Option<SignatureDifference>) -> Option<Unmet>
     }
 }
 
+// Returns the expectation of `same_as`, if the job has it and the row does not meet it. `other` is the row of the named job, if that job
+// ran.
 fn unmet_same_as(job: &Job, other: Option<&Row>, row: &Row) -> Option<Unmet>
     ensures { result ≡ unmet_same_as job.now (option_map (λ row. row.now) other.entry) row.now }
 {

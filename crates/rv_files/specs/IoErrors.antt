@@ -3,7 +3,7 @@ use Rattle.std.specs.Prelude.{ℕ, Bool, true, false, List, codes}
 use Rattle.std.specs.declared.io.ErrorKind.{ErrorKind}
 use Rattle.std.specs.declared.io.ErrorKind.TheVariants as kind
 
--- the system's message for a failed open, read or write, in the words of `strerror`
+-- the message for a failed open, read or write: that of `strerror`, or `cannot be read` for an error that is not listed
 unfoldable pub io_error_text : ErrorKind → List ℕ
 io_error_text kind.NotFound = codes "No such file or directory"
 io_error_text kind.IsADirectory = codes "Is a directory"
@@ -26,7 +26,7 @@ io_error_text kind.Unsupported = codes "Operation not supported"
 io_error_text kind.OutOfMemory = codes "out of memory"
 io_error_text _ = codes "cannot be read"
 
--- the message for a failed write
+-- the message for a failed write: that of `strerror`, or `write failed` for an error that is not listed
 unfoldable pub write_error_text : ErrorKind → List ℕ
 write_error_text kind.StorageFull = codes "No space left on device"
 write_error_text kind.QuotaExceeded = codes "Disk quota exceeded"
@@ -38,7 +38,7 @@ write_error_text kind.TimedOut = codes "Connection timed out"
 write_error_text kind.OutOfMemory = codes "out of memory"
 write_error_text _ = codes "write failed"
 
--- the pipe has no readers left
+-- whether a write failed because the pipe has no readers left
 abbrev pub is_broken_pipe : ErrorKind → Bool
 is_broken_pipe kind.BrokenPipe = true
 is_broken_pipe _ = false

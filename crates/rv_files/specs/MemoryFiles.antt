@@ -5,11 +5,11 @@ use Rattle.rv_base.specs.Files.{FileContents}
 use Rattle.rv_files.specs.declared.memory_files.MemoryFile.{MemoryFile}
 use Rattle.rv_files.specs.Placed.{CommittedFile, placed_file}
 
--- the bytes of the first file with each path
+-- the contents of files in memory: each path has the bytes of the first file with this path
 abbrev pub memory_contents : List MemoryFile → FileContents
 memory_contents files path = option_map (λ (file : MemoryFile). file.bytes.items)
     (find (λ (file : MemoryFile). bytes_eq path file.path) files)
 
--- the files as contracts see them
+-- the files in memory as contracts see committed files, in order
 abbrev pub committed_memory_files : List MemoryFile → List CommittedFile
 committed_memory_files files = map (λ (file : MemoryFile). placed_file file.path file.bytes.items) files

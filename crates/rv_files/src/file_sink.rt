@@ -10,7 +10,8 @@ use crate::streams::StreamSink;
 use rv_base::{Sink, SinkFailed};
 use std::io::{ErrorKind, Write};
 
-/// A file of [`SystemOutputs`](crate::SystemOutputs) that accepts bytes. What the outside world accepted is not known, so it reveals none.
+/// An open file of [`SystemOutputs`](crate::SystemOutputs) that accepts bytes. It reveals no bytes, since no contract can know what is on a
+/// disk.
 #[derive(Drop)]
 pub struct FileSink<W: Drop> {
     pub(crate) stream: StreamSink<W>,

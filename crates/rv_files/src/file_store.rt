@@ -13,7 +13,7 @@ use std::fs;
 use std::io::{ErrorKind, Read};
 use std::rt::Files;
 
-/// Why a reader was not read to its end.
+/// Why a file could not be read whole.
 #[derive(Clone, Copy, Debug, PartialEq, Eq)]
 pub enum WholeError {
     /// The file could not be opened, or a read failed, for this reason.
@@ -61,8 +61,8 @@ impl From<WholeError> for ReadError {
     }
 }
 
-/// A store over files: reading a path opens the file at exactly that path and reads it with `read_whole`. What the outside world holds is
-/// not known, so the store reveals no contents.
+/// A store over the system's files: reading a path opens the file at exactly that path and reads it with [`read_whole`]. It reveals no
+/// contents, since no contract can know what is on a disk.
 #[derive(Drop)]
 pub struct FileStore<'a, R: Files> {
     files: &'a R,
@@ -70,11 +70,12 @@ pub struct FileStore<'a, R: Files> {
 }
 
 impl<'a, R: Files> FileStore<'a, R> {
+    /// Returns a store over these files in which no file was unreadable.
     pub fn new(files: &'a R) -> FileStore<'a, R> {
         FileStore { files, faults: 0 }
     }
 
-    // Reads the file opened at the path; its bytes are those of some file of the system.
+    // Reads the file at a path, and counts it if it is unreadable. The bytes are those of some file of the system.
     fn read_counting_faults(&mut self, alloc: Global, path: &str) -> Result<Vec<u8>, ReadError>
         ensures opened { IfOk result (λ bytes. (file : R.File)
             × IfSome (R.File.remaining file) (λ known. bytes.items ≡ known)) }
@@ -90,7 +91,7 @@ impl<'a, R: Files> FileStore<'a, R> {
         }
     }
 
-    // Counts an unreadable file, and returns its error.
+    // Counts an unreadable file, and returns the error that says so.
     fn count_fault(&mut self) -> ReadError
         ensures counted { self.new.faults ≡ one_more self.old.faults }
         ensures value { result ≡ ReadError.Unreadable }
@@ -114,7 +115,7 @@ impl<'a, R: Files> Store for FileStore<'a, R> {
     }
 }
 
-/// Opens the file at exactly this path and reads it with `read_whole`.
+/// Opens the file at exactly this path and reads it with [`read_whole`].
 pub(crate) fn read_file<R: Files>(
     files: &R,
     alloc: Global,
@@ -132,7 +133,7 @@ pub(crate) fn read_file<R: Files>(
     }
 }
 
-/// Returns the remaining bytes of a reader, if there are at most 16,777,216. Of a longer one, only one byte more is read.
+/// Returns the remaining bytes of a reader, or an error if there are more than 16,777,216. At most one byte more than that is read.
 pub fn read_whole<R: Read>(alloc: Global, file: &mut R) -> Result<Vec<u8>, WholeError>
     ensures whole { IfOk result (λ bytes. IfSome (R.remaining file.old)
         (λ known. bytes.items ≡ known)) }

@@ -51,7 +51,8 @@ pub fn read_at_most<R: Read>(
     Ok(bytes)
 }
 
-// Reads once into a separate buffer, so that a failed allocation can be told from a failed read.
+// Reads once, appends the bytes that were read, and returns their number. A separate buffer receives them, so that a failed allocation is
+// not taken for a failed read.
 fn read_chunk<R: Read>(
     input: &mut R,
     chunk: &mut [u8; CHUNK],

@@ -23,13 +23,14 @@ pub trait Inputs {
             (λ files. files path.now ≡ None)) };
 }
 
-/// The system's files. What the outside world holds is not known, so they reveal no contents.
+/// The system's files as inputs. They reveal no contents, since no contract can know what is on a disk.
 #[derive(Drop)]
 pub struct SystemInputs<'a, R: Files> {
     files: &'a R,
 }
 
 impl<'a, R: Files> SystemInputs<'a, R> {
+    /// Returns the system's files as inputs.
     pub fn new(files: &'a R) -> SystemInputs<'a, R>
         ensures { result.files ≡ files.entry }
     {

@@ -5,7 +5,7 @@ ghost use Rattle.rv_files.specs.IoErrors.{io_error_text, write_error_text};
 
 use std::io::ErrorKind;
 
-/// Returns the system's message for a failed open, read or write.
+/// Returns the message for a failed open, read or write: that of `strerror`, or `cannot be read` for an error that is not listed.
 #[tactic(auto, unfolding(crate::specs::IoErrors::io_error_text))]
 pub fn io_error_text(kind: ErrorKind) -> &'static str
     ensures { result.now ≡ io_error_text kind }
@@ -34,7 +34,7 @@ pub fn io_error_text(kind: ErrorKind) -> &'static str
     }
 }
 
-/// Returns the system's message for a failed write.
+/// Returns the message for a failed write: that of `strerror`, or `write failed` for an error that is not listed.
 #[tactic(auto, unfolding(crate::specs::IoErrors::write_error_text))]
 pub fn write_error_text(kind: ErrorKind) -> &'static str
     ensures { result.now ≡ write_error_text kind }

@@ -26,13 +26,14 @@ pub struct MemoryInputs {
 }
 
 impl MemoryInputs {
-    /// Creates the inputs without allocating.
+    /// Returns these files as inputs. Does not allocate.
     pub fn new(files: Vec<MemoryFile>) -> MemoryInputs
         ensures { result.files ≡ files }
     {
         MemoryInputs { files }
     }
 
+    // Returns the first file with this path, or `None` if there is none.
     fn file_at(&self, path: &str) -> Option<&MemoryFile>
         ensures { option_map (λ file. file.now.bytes.items) result
             ≡ memory_contents self.now.files.items path.now }
@@ -87,7 +88,7 @@ impl LastError for MemorySink {
     }
 }
 
-/// Files that have been written.
+/// Files that were written to memory.
 #[derive(Debug, Drop)]
 pub struct MemoryOutputs {
     placed: Vec<MemoryFile>,
@@ -95,15 +96,15 @@ pub struct MemoryOutputs {
 }
 
 impl MemoryOutputs {
-    /// Creates empty outputs without allocating.
+    /// Returns outputs without files. Does not allocate.
     pub fn new(alloc: Global) -> MemoryOutputs
         ensures { result.placed.items ≡ [] }
     {
         MemoryOutputs::with_steps(alloc, u64::MAX)
     }
 
-    /// Creates outputs that allow `steps` steps and reject all later ones. Creating, syncing and placing a file are one step each. Does not
-    /// allocate.
+    /// Returns outputs without files that allow `steps` steps and reject all later ones. Creating, syncing and placing a file are one step
+    /// each. Does not allocate.
     pub fn with_steps(alloc: Global, steps: u64) -> MemoryOutputs
         ensures nothing { result.placed.items ≡ [] }
         ensures steps { result.steps_left ≡ steps }
@@ -189,6 +190,7 @@ impl Outputs for MemoryOutputs {
     fn abandon(&mut self, _place: Text) {}
 }
 
+// Appends a text to a list of texts.
 fn add_text(texts: &mut Vec<Text>, text: Text) -> Result<(), AllocError>
     ensures { OnOk result (texts.new.items ≡ texts.old.items ++ text ∷ []) }
 {

@@ -1,4 +1,4 @@
-//! The temporary file that receives the bytes until it is placed.
+//! The temporary file that receives the bytes of a file until it is placed.
 
 use crate::file_lock::FileLock;
 use crate::sink_paths::{Places, directory_of};
@@ -7,8 +7,8 @@ use std::io::{self, ErrorKind};
 use std::os::unix::fs::MetadataExt;
 use std::rt::Files;
 
-/// Creates a new locked file at the first of two paths, with the mode of the file at the second. A file that an earlier run left there is
-/// replaced; one that another process has locked is rejected as busy. A read-only file at the second path is rejected, too.
+/// Creates a locked file at the temporary path, with the mode of the file at the final path. A temporary file that an earlier run left is
+/// replaced; one that another process has locked is an error, and so is a read-only file at the final path.
 pub(crate) fn create_new_file<R: Files>(files: &R, places: &Places) -> io::Result<R::File>
 where
     R::File: FileLock,
@@ -21,7 +21,7 @@ where
     Ok(file)
 }
 
-// Returns the file to be replaced, if it exists.
+// Returns the metadata of the file at a path, or `None` if there is none. A read-only file is an error.
 fn replaceable_file<R: Files>(files: &R, path: &str) -> io::Result<Option<Metadata>> {
     match files.metadata(path) {
         Ok(old) if old.permissions().readonly() => Err(io::Error::from(
@@ -32,7 +32,8 @@ fn replaceable_file<R: Files>(files: &R, path: &str) -> io::Result<Option<Metada
     }
 }
 
-// Creates and locks a file. Of two processes that do this at once only one succeeds: each locks what it removes and what it creates.
+// Creates and locks a file, after removing one that an earlier run left. Of two processes that do this at once, only one succeeds: each
+// locks what it removes and what it creates.
 fn create_locked_file<R: Files>(files: &R, path: &str) -> io::Result<R::File>
 where
     R::File: FileLock,
@@ -54,7 +55,8 @@ where
     }
 }
 
-// Returns the file that an earlier run left at a path, locked, or `None` if no regular file is there.
+// Returns the locked file that an earlier run left at a path, or `None` if no regular file is there. If another process has locked it, this
+// is an error.
 fn lock_left_file<R: Files>(files: &R, path: &str) -> io::Result<Option<R::File>>
 where
     R::File: FileLock,
@@ -70,7 +72,7 @@ where
     Err(io::Error::from(ErrorKind::ResourceBusy))
 }
 
-// Whether an open file is the one at a path.
+// Whether the file at a path is this open file.
 fn is_still_at<R: Files>(files: &R, file: &R::File, path: &str) -> bool {
     match (file.metadata(), files.symlink_metadata(path)) {
         (Ok(open), Ok(found)) => open.dev() == found.dev() && open.ino() == found.ino(),
@@ -78,7 +80,7 @@ fn is_still_at<R: Files>(files: &R, file: &R::File, path: &str) -> bool {
     }
 }
 
-// Gives a new file the owner and group of another one, if the system allows it, and its mode.
+// Gives a new file the mode of another file, and its owner and group if the system allows it.
 fn keep_attributes<R: Files>(
     files: &R,
     path: &str,
@@ -92,7 +94,7 @@ fn keep_attributes<R: Files>(
     file.set_permissions(old.permissions())
 }
 
-/// Syncs a file's directory entry to disk, if the system can.
+/// Syncs the directory of a path to disk, if the system can.
 pub(crate) fn sync_directory<R: Files>(files: &R, path: &str) {
     if let Ok(directory) = fs::open(files, directory_of(path).as_str()) {
         let _ = directory.sync_all();

@@ -1,4 +1,4 @@
-//! The files that a command writes, each of which in the end exists complete or not at all.
+//! The files that a command writes. In the end, each exists completely or not at all.
 
 ghost use Rattle.std.specs.Prelude.{◌≡◌, ◌≢◌, ◌∷◌, [], List, ℕ, Option, Some, IfErr, IfOk, IfSome, IsTrue, OnErr, OnOk};
 ghost use Rattle.rv_files.specs.Placed.{CommittedFile, IsOneMorePlaced};

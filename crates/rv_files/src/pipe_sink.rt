@@ -19,8 +19,8 @@ pub trait Closable: Sink {
         ensures { result ≡ closed self.now };
 }
 
-/// A stream of the process as a sink that may be closed: like a [`StreamSink`](crate::StreamSink), it writes and flushes once per write,
-/// and reveals no bytes.
+/// A stream of the process, such as standard output, as a sink that may be closed. Like a [`StreamSink`](crate::StreamSink), it writes and
+/// flushes once per write, and reveals no bytes.
 #[derive(Drop)]
 pub struct PipeSink<W: Drop> {
     stream: W,
@@ -29,6 +29,7 @@ pub struct PipeSink<W: Drop> {
 }
 
 impl<W: Write + Drop> PipeSink<W> {
+    /// Returns an open sink over a stream, without failures.
     pub fn new(stream: W) -> PipeSink<W>
         ensures stream { result.stream ≡ stream }
         ensures unfailed { result.failures ≡ 0 }
@@ -53,6 +54,7 @@ impl<W: Write + Drop> PipeSink<W> {
     }
 }
 
+// Whether a write failed because the pipe has no readers left.
 fn is_broken_pipe(reason: ErrorKind) -> bool
     ensures { result ≡ is_broken_pipe reason }
 {
@@ -93,7 +95,7 @@ impl<W: Write + Drop> Closable for PipeSink<W> {
     }
 }
 
-// Writes one or more bytes from the front in one call and flushes them, or returns why that failed.
+// Writes bytes with one call, and flushes them. Returns how many were written, which is at least one, or why that failed.
 fn write_and_flush<W: Write>(stream: &mut W, bytes: &[u8]) -> Result<usize, ErrorKind>
     ensures within { IfOk result (λ count. (1 ≤ count) × (count ≤ length bytes.now)) }
     ensures written { IfOk result (λ count. Appends (W.contents stream.old) (W.contents stream.new) (take count bytes.now)) }

@@ -33,7 +33,7 @@ pub struct RecordingStore<'a, D: Inputs> {
 }
 
 impl<'a, D: Inputs> RecordingStore<'a, D> {
-    /// Creates the store without allocating.
+    /// Returns a store over inputs. Paths are relative to `folder`, if it is given. Does not allocate.
     pub fn new(inputs: &'a D, alloc: Global, folder: Option<&'a str>) -> RecordingStore<'a, D>
         ensures inputs { result.inputs ≡ inputs.entry }
         ensures folder { result.folder ≡ folder.entry }
@@ -60,7 +60,7 @@ impl<'a, D: Inputs> RecordingStore<'a, D> {
         self.unread
     }
 
-    // Reads the file that the path denotes, recording the path if it is unreadable.
+    // Reads the file at a path below the directory, and records the path if it is unreadable.
     fn read_noting_failure(&mut self, alloc: Global, path: &str) -> Result<Vec<u8>, WholeError>
         ensures same { (self.new.inputs ≡ self.old.inputs) × (self.new.folder ≡ self.old.folder) }
         ensures known { IfOk result (λ bytes.
@@ -83,7 +83,7 @@ impl<'a, D: Inputs> RecordingStore<'a, D> {
         answer
     }
 
-    // Reads the file that the path denotes.
+    // Reads the file at a path below the directory.
     fn read_resolved_path(&self, alloc: Global, path: &str) -> Result<Vec<u8>, WholeError>
         ensures known { IfOk result (λ bytes.
             IfSome (contents_below (option_copied self.now.folder) (D.contents self.now.inputs.now))

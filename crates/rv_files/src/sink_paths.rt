@@ -1,4 +1,4 @@
-//! The path of a file while it is being written, and its final path.
+//! The temporary path of a file, at which it is written, and its final path.
 
 ghost use Rattle.std.specs.Prelude.{◌≡◌, ◌≢◌, ◌↔◌, ◌++◌, IfErr, IfOk, IsTrue, codes};
 ghost use Rattle.std.specs.Fs.{IsFile, file_type};
@@ -13,7 +13,7 @@ use std::io::{self, ErrorKind};
 use std::path::{Path, PathBuf};
 use std::rt::Files;
 
-/// The path of a file while it is being written, and its final path.
+/// The temporary path of a file, at which it is written, and its final path.
 #[derive(Drop)]
 pub(crate) struct Places {
     pub(crate) new: PathBuf,
@@ -21,7 +21,7 @@ pub(crate) struct Places {
 }
 
 impl Places {
-    /// Returns the identities of the files at both paths.
+    /// Returns the identities of the files at the final and the temporary path.
     pub(crate) fn identities<R: Files>(
         &self,
         files: &R,
@@ -35,7 +35,8 @@ impl Places {
     }
 }
 
-/// Returns the temporary and final path of a file to be placed at `path`, or `None` if something other than a regular file is there.
+/// Returns the temporary and the final path of a file to be placed at `path`, or `None` if something other than a regular file is there,
+/// which is then written directly.
 pub(crate) fn temporary_and_final_path<R: Files>(
     files: &R,
     alloc: Global,
@@ -51,7 +52,7 @@ pub(crate) fn temporary_and_final_path<R: Files>(
     Ok(Some(Places { new, whole }))
 }
 
-// Whether there is nothing or a regular file at the path. A link is followed.
+// Whether there is nothing or a regular file at a path. A link is followed.
 fn is_replaceable<R: Files>(files: &R, path: &str) -> io::Result<bool> {
     match files.metadata(path) {
         Ok(met) => Ok(may_be_replaced(&met)),
@@ -67,10 +68,10 @@ fn may_be_replaced(met: &Metadata) -> bool
     met.is_file()
 }
 
-// The maximum number of links followed in a chain, the same as on Linux.
+// The maximum number of links followed in a chain, as on Linux.
 const MOST_LINKS: u32 = 40;
 
-/// Returns the path that a path leads to when links are followed.
+/// Returns the path that a path leads to if links are followed.
 pub(crate) fn follow_links<R: Files>(
     files: &R,
     alloc: Global,
@@ -89,6 +90,7 @@ pub(crate) fn follow_links<R: Files>(
     Err(FileError::Failed(ErrorKind::FilesystemLoop))
 }
 
+// Whether there is a link at a path.
 fn is_link<R: Files>(files: &R, path: &str) -> bool {
     match files.symlink_metadata(path) {
         Ok(met) => met.is_symlink(),
@@ -96,7 +98,7 @@ fn is_link<R: Files>(files: &R, path: &str) -> bool {
     }
 }
 
-/// Returns the directory of a path's file.
+/// Returns the directory of a path, which is `.` if the path has no directory.
 pub(crate) fn directory_of(path: &str) -> Path<'_> {
     match Path::new(path).parent() {
         Some(parent) if !parent.as_str().is_empty() => parent,
@@ -113,7 +115,7 @@ pub(crate) fn with_new_suffix(alloc: Global, path: &str) -> Result<PathBuf, Allo
     PathBuf::from_str(alloc, text.as_str())
 }
 
-/// Whether two paths lead to the same location.
+/// Whether the system resolves two paths to one location.
 pub(crate) fn is_same_place<R: Files>(
     files: &R,
     alloc: Global,
@@ -125,7 +127,7 @@ pub(crate) fn is_same_place<R: Files>(
     Ok(place.as_str() == other.as_str())
 }
 
-// Returns the resolved path. If nothing is there, or the system cannot resolve it, returns the path unchanged.
+// Returns the path as resolved by the system, or the path unchanged if nothing is there or the system cannot resolve it.
 fn real_path<R: Files>(files: &R, alloc: Global, path: &str) -> io::Result<PathBuf> {
     match files.canonicalize(alloc, path) {
         Err(error) if matches!(error.kind(), ErrorKind::NotFound | ErrorKind::Unsupported) => {

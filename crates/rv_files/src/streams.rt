@@ -9,8 +9,9 @@ use crate::last_error::LastError;
 use rv_base::{Sink, SinkFailed};
 use std::io::{ErrorKind, Write};
 
-/// A stream of the process as a sink: each write is one write and one flush, so nothing is buffered. What the outside world accepted is not
-/// known, so the sink reveals no bytes; if a write or its flush fails, the stream has received a possibly empty prefix of the bytes.
+/// A stream of the process as a sink. Each write is one write and one flush, so nothing is buffered. The sink reveals no bytes, since no
+/// contract can know what the stream's reader got; if a write or its flush fails, the stream has received a possibly empty prefix of the
+/// bytes.
 #[derive(Drop)]
 pub struct StreamSink<W: Drop> {
     stream: W,
@@ -20,6 +21,7 @@ pub struct StreamSink<W: Drop> {
 }
 
 impl<W: Write + Drop> StreamSink<W> {
+    /// Returns a sink over a stream, without failures.
     pub fn new(stream: W) -> StreamSink<W>
         ensures { (result.stream ≡ stream) × (result.failures ≡ 0) }
     {
@@ -30,12 +32,14 @@ impl<W: Write + Drop> StreamSink<W> {
         }
     }
 
+    /// Returns the stream.
     pub fn into_inner(self) -> W
         ensures { result ≡ self.stream }
     {
         self.stream
     }
 
+    // Counts a failure, and records its error.
     fn count_failure(&mut self, error: ErrorKind) -> SinkFailed
         ensures counted { self.new.failures ≡ one_more self.old.failures }
         ensures same { self.new.stream ≡ self.old.stream }

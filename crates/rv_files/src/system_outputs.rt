@@ -19,11 +19,13 @@ use std::io::{self, ErrorKind};
 use std::path::PathBuf;
 use std::rt::Files;
 
-/// The system's files. Whatever is at a file's path remains unchanged until the file is placed: the bytes go to a file with `.new` appended
-/// to the path, which is locked until then. If an earlier run left that file behind, it is replaced; if another run has locked it, it is an
-/// error. The placed file has the mode of the file that it replaces, and its owner and group if the system allows it; a read-only file is
-/// not replaced. A link is followed, and the file that it leads to is written in this way, whether or not it exists. Something other than a
-/// regular file, such as a pipe, is written directly. If a file cannot be placed, its temporary file is removed.
+/// The system's files as outputs.
+///
+/// Whatever is at a file's path stays as it is until the file is placed: the bytes go to a temporary file with `.new` appended to the path,
+/// which is locked until then. A temporary file that an earlier run left is replaced; one that another run has locked is an error. The
+/// placed file has the mode of the file that it replaces, and its owner and group if the system allows it; a read-only file is not
+/// replaced. A link is followed, and the file that it leads to is replaced, whether or not it exists. Something other than a regular file,
+/// such as a pipe, is written directly. If a file cannot be placed, its temporary file is removed.
 #[derive(Drop)]
 pub struct SystemOutputs<'a, R: Files> {
     files: &'a R,
@@ -40,7 +42,7 @@ pub struct PendingFile {
     places: Option<Places>,
 }
 
-/// A system file that is synced to disk. It stays open, and so locked, until it is placed.
+/// A system file that is synced to disk. It stays open, and so stays locked, until it is placed.
 #[derive(Drop)]
 pub struct SyncedFile<W: Drop> {
     file: W,
@@ -50,7 +52,7 @@ impl<'a, R: Files> SystemOutputs<'a, R>
 where
     R::File: FileLock,
 {
-    /// Creates the outputs without allocating.
+    /// Returns outputs over the system's files. Does not allocate.
     pub fn new(files: &'a R, alloc: Global) -> SystemOutputs<'a, R>
         ensures files { result.files ≡ files.entry }
         ensures nothing { result.unplaced.items ≡ [] }
@@ -61,7 +63,7 @@ where
         }
     }
 
-    // Opens the file that receives the bytes.
+    // Opens the file that receives the bytes: a new temporary file, or, without `places`, what is at the path.
     fn open_file(
         &mut self,
         alloc: Global,
@@ -81,7 +83,7 @@ where
         }
     }
 
-    // Creates a file at its temporary path, and records it as unplaced.
+    // Creates a file at its temporary path, and records it as not yet placed.
     fn create_unplaced(&mut self, alloc: Global, places: &Places) -> Result<R::File, FileError>
         ensures first { IfErr result (λ error. error ≡ FileError.SamePlace → 0 < vec_len self.old.unplaced) }
     {
@@ -96,7 +98,7 @@ where
         }
     }
 
-    // Rejects a file if one of its paths is a path of a file that is not yet placed: neither would end up complete.
+    // Fails if one of the file's paths is a path of a file that is not yet placed: neither would end up complete.
     fn refuse_same_place(&self, alloc: Global, places: &Places) -> Result<(), FileError>
         ensures first { IfErr result (λ error. error ≡ FileError.SamePlace → 0 < vec_len self.now.unplaced) }
     {
@@ -112,19 +114,19 @@ where
         Ok(())
     }
 
-    // Records a temporary path as unplaced.
+    // Records the file at a temporary path as not yet placed.
     fn note_unplaced(&mut self, alloc: Global, new: &str) -> Result<(), AllocError> {
         self.unplaced.push(PathBuf::from_str(alloc, new)?)?;
         Ok(())
     }
 
-    // Removes a temporary path from the unplaced ones.
+    // Removes a temporary path from the record of files that are not yet placed.
     fn forget_unplaced(&mut self, new: &str) {
         self.unplaced.retain(|path| path.as_str() != new);
     }
 }
 
-// Returns the path resolved by the system, or `None` if it cannot be resolved.
+// Returns the path as resolved by the system, or `None` if the system cannot resolve it.
 fn real_path_of<R: Files>(
     files: &R,
     alloc: Global,
@@ -137,7 +139,7 @@ fn real_path_of<R: Files>(
     }
 }
 
-// Returns the path at which a file is created if nothing is at a path, or only a dangling link.
+// Returns the path at which a file is created if nothing, or only a dangling link, is at a path.
 fn path_of_missing_file<R: Files>(
     files: &R,
     alloc: Global,
@@ -150,8 +152,8 @@ fn path_of_missing_file<R: Files>(
     }
 }
 
-// Opens the null device. Three such files occupy the descriptors of closed standard streams, so that no file opened later occupies one and
-// receives what is written to a stream.
+// Opens the null device. Three open null devices occupy the descriptors of closed standard streams, so that no file opened later gets one
+// of them and receives what is written to a stream.
 fn open_null_device<R: Files>(files: &R) -> io::Result<R::File> {
     fs::open(files, "/dev/null")
 }

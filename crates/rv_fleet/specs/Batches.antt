@@ -9,10 +9,11 @@ use Rattle.rv_rows.specs.Rows.{row_of, rows_at}
 abbrev pub batch_rows : Batch → List Row
 batch_rows batch = rows_at batch.plan.now batch.places.now
 
--- the index in the plan of a batch's job with a number, counted from 0, and the row of that job
+-- the index in the plan of the job with this number in the batch, counted from 0
 abbrev pub index_of_number : Batch → ℕ → ℕ
 index_of_number batch number = slice_index_or batch.places.now number 0
 
+-- the row of the job with this number in the batch, counted from 0
 abbrev pub row_of_number : Batch → ℕ → Row
 row_of_number batch number =
     row_of batch.plan.now (slice_index_or batch.plan.now.jobs (index_of_number batch number) (single_job [] 0 []))

@@ -1,4 +1,4 @@
--- The rows collected from the workers' chunks.
+-- The rows collected from the chunks that the workers computed.
 use Rattle.std.specs.Prelude.{◌≡◌, ℕ, ◌<◌, List, length, All, Option, None, IfSome}
 use Rattle.std.specs.Prelude.{slice_index_or}
 use Rattle.rv_fleet.specs.declared.piece.Piece.{Piece}
@@ -6,16 +6,16 @@ use Rattle.rv_fleet.specs.declared.pieces.Pieces.{Pieces}
 use Rattle.rv_rows.specs.declared_row.Row.{Row}
 use Rattle.rv_fleet.specs.Pieces.{count_of_pieces, numbered_piece, piece_rows}
 
--- it is one of the chunks, with its rows
+-- this is one of the chunks, with its rows
 abbrev pub IsPiece : Pieces → Piece → Type 0
 IsPiece pieces piece =
     (piece.number < count_of_pieces pieces) × (piece ≡ numbered_piece pieces piece.number)
 
--- each is one of the chunks
+-- each of these is one of the chunks, with its rows
 abbrev pub ArePieces : Pieces → List Piece → Type 0
 ArePieces pieces made = All (IsPiece pieces) made
 
--- each chunk's slot holds its rows or is empty; there is nothing past the last slot
+-- each chunk has a slot, which holds its rows or is empty
 abbrev pub IsFilled : Pieces → List (Option (List Row)) → Type 0
 IsFilled pieces slots = (length slots ≡ count_of_pieces pieces)
     × ((k : ℕ) → IfSome (slice_index_or slots k None) (λ part. part ≡ piece_rows pieces k))

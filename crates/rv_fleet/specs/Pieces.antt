@@ -9,34 +9,34 @@ use Rattle.rv_fleet.specs.declared.pieces.Pieces.{Pieces}
 use Rattle.rv_rows.specs.declared_row.Row.{Row}
 use Rattle.rv_rows.specs.Rows.{rows_of}
 
--- the number of chunks of rows: the number of rows divided by the group size, rounded up
+-- the number of chunks of `group` rows that the rows are divided into
 abbrev pub piece_count_of_rows : List Row → ℕ → ℕ
 piece_count_of_rows rows group = div_ceil (length rows) group
 
--- chunk k: its number, and `group` rows from k * group on, or as many as there are
+-- the chunk with the number `k`: `group` of the rows from index `k` * `group` on, or as many as there are
 abbrev pub piece_for : List Row → ℕ → ℕ → Piece
 piece_for rows group k = record { number = k; rows = slice_chunk rows group k }
 
--- ---- of a plan
+-- ---- the chunks of a plan
 
--- the number of chunks of a plan; each job has one row
+-- the number of chunks of `group` jobs that the jobs of a plan are divided into
 abbrev pub pieces_of : Planned → ℕ → ℕ
 pieces_of plan group = div_ceil (length plan.jobs) group
 
--- chunk k of a plan
+-- the chunk of a plan's rows with the number `k`
 abbrev pub piece_at : Planned → ℕ → ℕ → Piece
 piece_at plan group k = piece_for (rows_of plan) group k
 
--- ---- of a batch
+-- ---- the chunks of a batch
 
--- the number of chunks
+-- the number of chunks of a batch
 abbrev pub count_of_pieces : Pieces → ℕ
 count_of_pieces pieces = piece_count_of_rows (batch_rows pieces.batch) pieces.group
 
--- the rows of chunk k
+-- the rows of the chunk with the number `k` of a batch
 abbrev pub piece_rows : Pieces → ℕ → List Row
 piece_rows pieces k = slice_chunk (batch_rows pieces.batch) pieces.group k
 
--- chunk k
+-- the chunk with the number `k` of a batch
 abbrev pub numbered_piece : Pieces → ℕ → Piece
 numbered_piece pieces k = piece_for (batch_rows pieces.batch) pieces.group k

@@ -1,4 +1,4 @@
--- A worker's promise about its result.
+-- The promise of a worker about its result.
 use Rattle.std.specs.Prelude.{◌≡◌, ℕ, List, [], map, All, IfOk}
 use Rattle.rv_rows.specs.declared_row.Row.{Row}
 use Rattle.rv_fleet.specs.declared.worker_promise.Worked.{Worked}
@@ -6,15 +6,15 @@ use Rattle.rv_claims.specs.NewPieces.{pieces_among}
 use Rattle.rv_claims.specs.Passes.{SharedDraw, PassView}
 use Rattle.rv_fleet.specs.Pieces.{piece_for}
 
--- a pass of this shared draw, without draws
+-- the pass belongs to this shared counter and has no draws
 abbrev pub IsFresh : SharedDraw → PassView → Type 0
 IsFresh draw pass = (pass.draw ≡ draw) × (pass.draws ≡ [])
 
--- each is a fresh pass
+-- each pass belongs to this shared counter and has no draws
 abbrev pub AreFresh : SharedDraw → List PassView → Type 0
 AreFresh draw passes = All (IsFresh draw) passes
 
--- the worker's promise: its result is the chunks that its pass drew, each with its number and its rows
+-- the promise of a worker: unless memory ran out, its result is the chunks that its pass drew, each with its number and its rows
 abbrev pub HasWorked : List Row → ℕ → SharedDraw → Worked → Type 0
 HasWorked rows group draw worked = (worked.pass.draw ≡ draw)
     × IfOk worked.pieces (λ made. made.items

@@ -1,4 +1,4 @@
--- When a thread can be started, and what is known about a started one.
+-- When a thread can be started, and what a started one has promised.
 use Rattle.std.specs.Prelude.{◌≡◌, ◌<◌, ◌≤◌, ℕ, List, length}
 use Rattle.std.specs.List.Sorted.{IsStrictlyIncreasing}
 use Rattle.std.specs.declared.thread.PromisedHandle.{PromisedHandle}
@@ -12,19 +12,19 @@ use Rattle.rv_jobs.specs.Plans.{Planned}
 use Rattle.rv_fleet.specs.Choices.{AreJobIndices}
 use Rattle.rv_fleet.specs.Pieces.{piece_count_of_rows}
 
--- jobs that can form a batch, and a group size that its chunks can have
+-- the jobs at these indices form a batch of the plan, and `group` is a valid chunk size
 pub record AreGrouped (plan : Planned) (places : List ℕ) (group : ℕ) : Type 0 where
   pub within : AreJobIndices plan places
   pub rising : IsStrictlyIncreasing places
   pub few : length places ≤ most_jobs
   pub group_few : (0 < group) × (group ≤ most_group)
 
--- the shared draw hands out the chunks of these jobs' rows
+-- the jobs at these indices form a batch of the plan, and the shared counter has the number of its chunks
 abbrev pub CanWork : Planned → List ℕ → ℕ → SharedDraw → Type 0
 CanWork plan places group draw = AreGrouped plan places group
     × (draw.pieces ≡ piece_count_of_rows (rows_at plan places) group)
 
--- its promise is about these rows, this group size and this shared draw
+-- the promise of a started thread is about these rows, this chunk size and this shared counter
 abbrev pub IsStarted : List Row → ℕ → SharedDraw → PromisedHandle Worked Works → Type 0
 IsStarted rows group draw handle =
     (rows_at handle.promise.plan.now handle.promise.places.now ≡ rows)

@@ -1,4 +1,4 @@
-//! A selection of a plan's jobs to run.
+//! The jobs of a plan that one run executes.
 
 ghost use Rattle.std.specs.Prelude.{◌≡◌, ◌≤◌, length};
 ghost use Rattle.std.specs.List.Sorted.{IsStrictlyIncreasing};
@@ -7,7 +7,7 @@ ghost use Rattle.rv_fleet.specs.Choices.{AreJobIndices};
 
 use rv_jobs::Plan;
 
-/// The jobs of a plan to run, given by strictly increasing indices.
+/// The jobs of a plan that one run executes, given by strictly increasing indices.
 #[derive(Clone, Copy)]
 pub struct Batch<'a> {
     pub plan: &'a Plan,
@@ -18,7 +18,7 @@ pub struct Batch<'a> {
 }
 
 impl<'a> Batch<'a> {
-    /// Selects the jobs at these indices, which must be strictly increasing.
+    /// Returns the batch of the jobs at these indices, which must be strictly increasing.
     pub fn new(plan: &'a Plan, places: &'a [usize]) -> Batch<'a>
         requires within { AreJobIndices plan.now places.now }
         requires rising { IsStrictlyIncreasing places.now }

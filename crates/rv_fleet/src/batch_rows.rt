@@ -1,4 +1,4 @@
-//! The rows of a batch, made by the engine.
+//! The rows of a batch, computed by the run engine.
 
 ghost use Rattle.std.specs.Prelude.{◌≡◌, [], IfOk, false};
 ghost use Rattle.rv_fleet.specs.Batches.{batch_rows};
@@ -11,7 +11,7 @@ use std::marker::Brand;
 use std::sync::Wait;
 use std::thread::Threads;
 
-/// Makes the row of each job of a batch.
+/// Computes the row of each job of a batch.
 #[derive(Drop)]
 pub(crate) struct BatchRows<'a> {
     batch: &'a Batch<'a>,
@@ -48,7 +48,7 @@ impl Work<Row> for BatchRows<'_> {
     }
 }
 
-/// Collects the rows that it receives.
+/// A listener that collects the rows.
 #[derive(Drop)]
 pub(crate) struct CollectedRows {
     rows: Vec<Row>,
@@ -57,7 +57,7 @@ pub(crate) struct CollectedRows {
 }
 
 impl CollectedRows {
-    // Creates a collector without rows.
+    // Returns a collector without rows. Does not allocate.
     fn new(alloc: Global) -> CollectedRows
         ensures rows { result.rows.items ≡ [] }
         ensures refused { result.refused ≡ false }
@@ -91,7 +91,7 @@ impl Listener<Row> for CollectedRows {
     }
 }
 
-/// Returns the rows of a batch, in order. They are identical for every crew.
+/// Runs the jobs of a batch, and returns their rows in order. The rows are identical for every crew.
 pub fn run_batch<R: Threads + Wait + Sync>(
     crew: &Crew<'_, R>,
     batch: &Batch<'_>,

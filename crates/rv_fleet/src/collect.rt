@@ -1,4 +1,4 @@
-//! Puts the workers' results into list order.
+//! Brings the workers' results into list order.
 
 ghost use Rattle.std.specs.Prelude.{◌≡◌, ◌<◌, IfOk, IfSome};
 ghost use Rattle.rv_fleet.specs.Batches.{batch_rows};
@@ -18,7 +18,7 @@ use std::alloc::{AllocError, Global};
 /// The results of all workers.
 #[derive(Drop)]
 pub(crate) struct Collected {
-    /// The rows of each chunk that was made, in the slot with its number.
+    /// The rows of each chunk that was computed, in the slot with its number.
     pub(crate) slots: Vec<Option<Rows>>,
     /// All passes merged into one, if there are any.
     pub(crate) pass: Option<Pass>,
@@ -57,6 +57,7 @@ fn empty_slots(alloc: Global, pieces: &Pieces<'_>) -> Result<Vec<Option<Rows>>, 
     Ok(slots)
 }
 
+// Stores the rows of each chunk in its slot, unless the slot is filled.
 fn keep_pieces(slots: &mut Vec<Option<Rows>>, pieces: &Pieces<'_>, made: Vec<Piece>)
     requires slots { IsFilled pieces.now slots.old.items }
     requires made { ArePieces pieces.now made.items }
@@ -67,7 +68,7 @@ fn keep_pieces(slots: &mut Vec<Option<Rows>>, pieces: &Pieces<'_>, made: Vec<Pie
     }
 }
 
-/// Stores a chunk's rows unless its slot is filled.
+/// Stores the rows of a chunk in its slot, unless the slot is filled.
 fn keep_piece(slots: &mut Vec<Option<Rows>>, pieces: &Pieces<'_>, piece: Piece)
     requires slots { IsFilled pieces.now slots.old.items }
     requires piece { IsPiece pieces.now piece }
@@ -91,7 +92,7 @@ fn join_passes(claims: &Claims, all: Option<Pass>, pass: Pass) -> Pass
     }
 }
 
-/// Returns the rows of all chunks, in order. A chunk that no worker made is made here.
+/// Returns the rows of all chunks, in order. Computes the rows of each chunk that no worker has computed.
 pub(crate) fn rows_of_all_pieces<G: Gate>(
     alloc: Global,
     slots: Vec<Option<Rows>>,
@@ -111,7 +112,7 @@ pub(crate) fn rows_of_all_pieces<G: Gate>(
     Ok(Rows::new(rows))
 }
 
-/// Returns the rows in a chunk's slot, or makes them if the slot is empty.
+/// Returns the rows in a chunk's slot, or computes them if the slot is empty.
 fn rows_in_slot<G: Gate>(
     alloc: Global,
     slot: Option<Rows>,

@@ -1,4 +1,4 @@
-//! A fleet: the rows of a plan, made by threads that draw its chunks.
+//! A fleet: the rows of a plan, computed by threads that draw its chunks.
 
 ghost use Rattle.rv_jobs.specs.Limits.{most_group, most_workers};
 ghost use Rattle.std.specs.Prelude.{◌≡◌, ◌<◌, ◌≤◌, IfOk};
@@ -38,8 +38,8 @@ impl From<AllocError> for FleetError {
     }
 }
 
-/// Returns the rows of all jobs in list order, made by `workers` threads, or one per chunk if there are fewer chunks. The report is
-/// identical for every number of workers, from 1 to 64, and of jobs in a chunk, from 1 to 4,096.
+/// Runs all jobs of a plan on `workers` threads, or one per chunk if there are fewer chunks, and returns their rows in list order. The
+/// report is identical for every number of workers, from 1 to 64, and of jobs in a chunk, from 1 to 4,096.
 ///
 /// Each thread draws the next chunk when it is free. The function joins all threads that it started, even after an error. The gate is
 /// entered for each chunk.

@@ -1,6 +1,6 @@
-//! A hook that a worker calls before it makes a chunk.
+//! A hook that a worker calls before it computes a chunk.
 
-/// Entered once for each chunk that is run, by the worker that drew it and before its first row.
+/// A hook that is called once for each chunk that is run, by the worker that drew it and before its first row.
 pub trait Gate: Sync {
     /// `piece` is the chunk's number, counted from 0.
     fn enter(&self, piece: u64);

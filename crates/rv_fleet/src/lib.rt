@@ -1,8 +1,8 @@
-//! Fleets: threads that draw the chunks of a plan and make their rows.
+//! Fleets: threads that draw the chunks of a plan and compute their rows.
 //!
-//! [`run_fleet`] runs a plan in threads. Each thread calls [`work`] with its own pass, which makes the chunks that the pass draws. The
-//! report equals that of [`run_one`] for every number of workers and of jobs in a chunk. [`run_batch`] runs a [`Batch`] with the engine and
-//! returns its rows. The rows and the shared draw of the crates below are re-exported.
+//! [`run_fleet`] runs a plan in threads. Each thread calls [`work`] with its own pass, which computes the chunks that the pass draws. The
+//! report equals that of [`run_one`] for every number of workers and of jobs in a chunk. [`run_batch`] runs a [`Batch`] with the run engine
+//! and returns its rows. The rows and the shared counter of the crates below are re-exported.
 #![tactic(auto)]
 
 mod batch;

@@ -10,7 +10,7 @@ use rv_engine::WorkerState;
 use rv_rows::{Rows, row_at_with_recent};
 use std::alloc::{AllocError, Global};
 
-/// The rows of the jobs from index `number * group` on: `group` of them, or as many as there are.
+/// A chunk: the rows of the jobs from index `number * group` on, `group` of them or as many as there are.
 #[derive(Debug, Drop)]
 pub struct Piece {
     /// The chunk's number, counted from 0.
@@ -18,7 +18,7 @@ pub struct Piece {
     pub rows: Rows,
 }
 
-/// Enters the gate for a chunk, then makes the chunk.
+/// Enters the gate for a chunk, and then computes the chunk.
 pub(crate) fn make_piece<G: Gate>(
     alloc: Global,
     pieces: &Pieces<'_>,
@@ -36,6 +36,7 @@ pub(crate) fn make_piece<G: Gate>(
     Ok(Piece { number, rows })
 }
 
+// Computes the rows of a chunk.
 fn rows_of_piece(
     alloc: Global,
     pieces: &Pieces<'_>,

@@ -5,7 +5,7 @@ ghost use Rattle.std.specs.Prelude.{◌≡◌, ◌<◌, ◌≤◌};
 
 use crate::batch::Batch;
 
-/// The chunks of a batch: groups of its jobs, in order. The last chunk may have fewer.
+/// The chunks of a batch: groups of its jobs, in order. The last chunk may have fewer jobs.
 #[derive(Clone, Copy)]
 pub(crate) struct Pieces<'a> {
     pub(crate) batch: Batch<'a>,

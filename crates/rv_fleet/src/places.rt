@@ -8,7 +8,7 @@ ghost use Rattle.std.specs.List.Sorted.{IsStrictlyIncreasing};
 use rv_jobs::Plan;
 use std::alloc::{AllocError, Global};
 
-/// Returns the indices of all jobs, in order.
+/// Returns the indices of all jobs of a plan, in order.
 pub(crate) fn all_indices(alloc: Global, plan: &Plan) -> Result<Vec<usize>, AllocError>
     ensures within { IfOk result (λ places. AreJobIndices plan.now places.items) }
     ensures count { IfOk result (λ places. vec_len places ≡ length plan.now.jobs) }

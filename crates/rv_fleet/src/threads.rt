@@ -1,4 +1,4 @@
-//! The threads of a fleet: each draws chunks with its own pass and makes them.
+//! The threads of a fleet: each draws chunks with its own pass and computes them.
 
 ghost use Rattle.std.specs.Prelude.{◌≡◌, [], IfOk};
 ghost use Rattle.rv_rows.specs.Rows.{rows_at};
@@ -23,8 +23,8 @@ use std::sync::Wait;
 use std::thread;
 use std::thread::Threads;
 
-/// Makes the rows of all chunks and returns each chunk's in the slot with its number. Runs as many threads as the crew has, or one per
-/// chunk if there are fewer chunks.
+/// Computes the rows of all chunks, and returns those of each chunk in the slot with its number. Runs as many threads as the crew has, or
+/// one per chunk if there are fewer chunks.
 pub(crate) fn make_pieces<R: Threads + Wait, G: Gate>(
     crew: &Crew<'_, R>,
     pieces: &Pieces<'_>,
@@ -45,7 +45,7 @@ pub(crate) fn make_pieces<R: Threads + Wait, G: Gate>(
     Ok(slots)
 }
 
-/// Returns a pass for each thread: `count` of them, or as many as there are free pass indices. The last is the first pass itself.
+/// Returns a pass for each thread: `count` of them, or as many as there are free pass indices. The last one is the first pass itself.
 fn split_passes(
     alloc: Global,
     claims: &Claims,
@@ -76,7 +76,7 @@ fn split_passes(
     Ok(passes)
 }
 
-/// Runs a thread for each pass and returns what each made, once all of them have ended.
+/// Runs a thread for each pass, and returns the result of each, once all of them have ended.
 fn run_workers<R: Threads + Wait, G: Gate>(
     crew: &Crew<'_, R>,
     claims: &Claims,

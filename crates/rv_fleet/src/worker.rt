@@ -1,4 +1,4 @@
-//! The loop of a worker: draws chunks and makes them.
+//! The loop of a worker: draws chunks and computes them.
 
 ghost use Rattle.rv_jobs.specs.Limits.{most_group};
 ghost use Rattle.std.specs.Prelude.{◌≡◌, ◌<◌, ◌≤◌, [], true, map, IfOk};
@@ -19,8 +19,8 @@ use rv_engine::WorkerState;
 use rv_jobs::Plan;
 use std::alloc::{AllocError, Global};
 
-/// Takes chunks until none is left, and makes each before it takes the next. Returns the chunks in the order drawn. `group` is the number
-/// of jobs in a chunk; the last chunk may have fewer. After an error the pass holds what it drew.
+/// Draws chunks until none is left, and computes each before it draws the next. Returns the chunks in the order drawn. `group` is the
+/// number of jobs in a chunk; the last chunk may have fewer. After an error the pass has the draws that it made.
 pub fn work<G: Gate>(
     alloc: Global,
     claims: &Claims,
@@ -43,7 +43,7 @@ pub fn work<G: Gate>(
     work_on_pieces(alloc, claims, pass, &pieces, gate)
 }
 
-/// Like [`work`], for the chunks of a batch.
+/// Draws and computes chunks like [`work`], but those of a batch.
 pub(crate) fn work_on_pieces<G: Gate>(
     alloc: Global,
     claims: &Claims,
@@ -67,7 +67,7 @@ pub(crate) fn work_on_pieces<G: Gate>(
     Ok(drawn)
 }
 
-/// Runs one thread's work with its own pass.
+/// Draws and computes chunks with a pass of its own, which it returns with the chunks.
 pub(crate) fn work_with_own_pass<G: Gate>(
     alloc: Global,
     claims: &Claims,

@@ -1,4 +1,4 @@
-//! The result of a worker, and its promise about it.
+//! The result of a worker, and its promise about the result.
 
 use crate::piece::Piece;
 use rv_claims::{Claims, Pass};
@@ -6,14 +6,14 @@ use rv_jobs::Plan;
 use std::alloc::AllocError;
 use std::thread::Promise;
 
-/// The chunks that a worker made, and the pass that it drew with.
+/// The chunks that a worker computed, and the pass that it drew them with.
 #[derive(Drop)]
 pub(crate) struct Worked {
     pub pass: Pass,
     pub pieces: Result<Vec<Piece>, AllocError>,
 }
 
-/// The promise: exactly the chunks that the pass drew are made.
+/// The promise of a worker: it computes exactly the chunks that its pass draws.
 #[derive(Clone, Copy)]
 pub(crate) struct Works<'a> {
     pub plan: &'a Plan,

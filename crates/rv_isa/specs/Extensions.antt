@@ -4,29 +4,28 @@ use Rattle.std.specs.Prelude.{Bool, true, false}
 use Rattle.rv_isa.specs.declared.sets.Isa.{Isa}
 use Rattle.rv_isa.specs.declared.sets.Isa.TheVariants as set
 
--- the part of the manual that a row belongs to: the base (chapter 2), or an extension (chapters 3,
--- 7 and 16)
+-- the part of the manual that specifies an instruction: the base (chapter 2), Zifencei (chapter 3), M (chapter 7) or C (chapter 16)
 pub data Extension : Type 0 where
   RV32I : Extension
   Zifencei : Extension
   RV32M : Extension
   RV32C : Extension
 
--- the sets with an M in their name
+-- whether an instruction set includes M
 abbrev pub has_m : Isa → Bool
 has_m set.I = false
 has_m set.Im = true
 has_m set.Ic = false
 has_m set.Imc = true
 
--- the sets with a C in their name
+-- whether an instruction set includes C
 abbrev pub has_c : Isa → Bool
 has_c set.I = false
 has_c set.Im = false
 has_c set.Ic = true
 has_c set.Imc = true
 
--- whether a set includes an extension; every set includes FENCE.I
+-- whether an instruction set includes an extension; every set includes the base and Zifencei
 abbrev pub has : Isa → Extension → Bool
 has isa RV32I = true
 has isa Zifencei = true

@@ -10,8 +10,10 @@ ghost use Rattle.std.specs.Prelude.{◌≡◌, ◌*◌, ◌<◌, ◌^◌, ◌%�
 use crate::encode::{b_word, i_word, j_word, r_word, s_word, u_word};
 use crate::opcodes::{BRANCH, JAL, JALR, LOAD, LUI, OP, OP_IMM, STORE};
 
+/// The word of `ebreak`.
 pub const EBREAK: u32 = 0x0010_0073;
 
+/// Returns the word of `addi rd, rs1, imm`, where `imm` is the immediate's 12 bits.
 #[inline]
 pub fn addi(rd: u32, rs1: u32, imm: u32) -> u32
     requires rd { rd < 32 }
@@ -22,6 +24,7 @@ pub fn addi(rd: u32, rs1: u32, imm: u32) -> u32
     i_word(imm, rs1, 0, rd, OP_IMM)
 }
 
+/// Returns the word of `andi rd, rs1, imm`, where `imm` is the immediate's 12 bits.
 #[inline]
 pub fn andi(rd: u32, rs1: u32, imm: u32) -> u32
     requires rd { rd < 32 }
@@ -32,6 +35,7 @@ pub fn andi(rd: u32, rs1: u32, imm: u32) -> u32
     i_word(imm, rs1, 7, rd, OP_IMM)
 }
 
+/// Returns the word of `lw rd, imm(rs1)`, where `imm` is the offset's 12 bits.
 #[inline]
 pub fn lw(rd: u32, rs1: u32, imm: u32) -> u32
     requires rd { rd < 32 }
@@ -42,6 +46,7 @@ pub fn lw(rd: u32, rs1: u32, imm: u32) -> u32
     i_word(imm, rs1, 2, rd, LOAD)
 }
 
+/// Returns the word of `jalr rd, imm(rs1)`, where `imm` is the offset's 12 bits.
 #[inline]
 pub fn jalr(rd: u32, rs1: u32, imm: u32) -> u32
     requires rd { rd < 32 }
@@ -52,6 +57,7 @@ pub fn jalr(rd: u32, rs1: u32, imm: u32) -> u32
     i_word(imm, rs1, 0, rd, JALR)
 }
 
+/// Returns the word of `slli rd, rs1, shift`.
 #[inline]
 pub fn slli(rd: u32, rs1: u32, shift: u32) -> u32
     requires rd { rd < 32 }
@@ -62,6 +68,7 @@ pub fn slli(rd: u32, rs1: u32, shift: u32) -> u32
     r_word(0, shift, rs1, 1, rd, OP_IMM)
 }
 
+/// Returns the word of `srli rd, rs1, shift`.
 #[inline]
 pub fn srli(rd: u32, rs1: u32, shift: u32) -> u32
     requires rd { rd < 32 }
@@ -72,6 +79,7 @@ pub fn srli(rd: u32, rs1: u32, shift: u32) -> u32
     r_word(0, shift, rs1, 5, rd, OP_IMM)
 }
 
+/// Returns the word of `srai rd, rs1, shift`.
 #[inline]
 pub fn srai(rd: u32, rs1: u32, shift: u32) -> u32
     requires rd { rd < 32 }
@@ -82,6 +90,7 @@ pub fn srai(rd: u32, rs1: u32, shift: u32) -> u32
     r_word(0x20, shift, rs1, 5, rd, OP_IMM)
 }
 
+/// Returns the word of `add rd, rs1, rs2`.
 #[inline]
 pub fn add(rd: u32, rs1: u32, rs2: u32) -> u32
     requires rd { rd < 32 }
@@ -92,6 +101,7 @@ pub fn add(rd: u32, rs1: u32, rs2: u32) -> u32
     r_word(0, rs2, rs1, 0, rd, OP)
 }
 
+/// Returns the word of `sub rd, rs1, rs2`.
 #[inline]
 pub fn sub(rd: u32, rs1: u32, rs2: u32) -> u32
     requires rd { rd < 32 }
@@ -102,6 +112,7 @@ pub fn sub(rd: u32, rs1: u32, rs2: u32) -> u32
     r_word(0x20, rs2, rs1, 0, rd, OP)
 }
 
+/// Returns the word of `xor rd, rs1, rs2`.
 #[inline]
 pub fn xor(rd: u32, rs1: u32, rs2: u32) -> u32
     requires rd { rd < 32 }
@@ -112,6 +123,7 @@ pub fn xor(rd: u32, rs1: u32, rs2: u32) -> u32
     r_word(0, rs2, rs1, 4, rd, OP)
 }
 
+/// Returns the word of `or rd, rs1, rs2`.
 #[inline]
 pub fn or(rd: u32, rs1: u32, rs2: u32) -> u32
     requires rd { rd < 32 }
@@ -122,6 +134,7 @@ pub fn or(rd: u32, rs1: u32, rs2: u32) -> u32
     r_word(0, rs2, rs1, 6, rd, OP)
 }
 
+/// Returns the word of `and rd, rs1, rs2`.
 #[inline]
 pub fn and(rd: u32, rs1: u32, rs2: u32) -> u32
     requires rd { rd < 32 }
@@ -132,6 +145,7 @@ pub fn and(rd: u32, rs1: u32, rs2: u32) -> u32
     r_word(0, rs2, rs1, 7, rd, OP)
 }
 
+/// Returns the word of `sw rs2, imm(rs1)`, where `imm` is the offset's 12 bits.
 #[inline]
 pub fn sw(rs1: u32, rs2: u32, imm: u32) -> u32
     requires rs1 { rs1 < 32 }
@@ -142,6 +156,7 @@ pub fn sw(rs1: u32, rs2: u32, imm: u32) -> u32
     s_word(imm, rs2, rs1, 2, STORE)
 }
 
+/// Returns the word of `beq rs1, rs2` with this offset in bytes, given by its 13 bits.
 #[inline]
 pub fn beq(rs1: u32, rs2: u32, offset: u32) -> u32
     requires rs1 { rs1 < 32 }
@@ -154,6 +169,7 @@ pub fn beq(rs1: u32, rs2: u32, offset: u32) -> u32
     b_word(offset, rs2, rs1, 0, BRANCH)
 }
 
+/// Returns the word of `bne rs1, rs2` with this offset in bytes, given by its 13 bits.
 #[inline]
 pub fn bne(rs1: u32, rs2: u32, offset: u32) -> u32
     requires rs1 { rs1 < 32 }
@@ -166,6 +182,7 @@ pub fn bne(rs1: u32, rs2: u32, offset: u32) -> u32
     b_word(offset, rs2, rs1, 1, BRANCH)
 }
 
+/// Returns the word of `jal rd` with this offset in bytes, given by its 21 bits.
 #[inline]
 pub fn jal(rd: u32, offset: u32) -> u32
     requires rd { rd < 32 }
@@ -176,6 +193,7 @@ pub fn jal(rd: u32, offset: u32) -> u32
     j_word(offset, rd, JAL)
 }
 
+/// Returns the word of `lui rd, upper`, which loads `upper` into bits 31 to 12.
 #[inline]
 pub fn lui(rd: u32, upper: u32) -> u32
     requires rd { rd < 32 }

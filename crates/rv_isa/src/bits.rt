@@ -2,9 +2,9 @@
 ghost use Rattle.rv_isa.specs.Bits.{field as bits_of, sign_extended};
 ghost use Rattle.std.specs.Prelude.{ℕ, ◌≡◌, ◌+◌, ◌*◌, ◌-◌, ◌<◌, ◌≤◌, ◌^◌};
 
-/// Returns the low `bits` bits of `value` read as two's complement.
+/// Returns the two's complement value of `value`, a number of `bits` bits.
 ///
-/// `bits` must be from 1 to 32, and `value` must have no bits set above them.
+/// `bits` must be from 1 to 32, and `value` must be below 2^`bits`.
 #[inline]
 pub fn sign_extend(value: u32, bits: u32) -> i32
     requires some { 1 ≤ bits }
@@ -19,7 +19,7 @@ pub fn sign_extend(value: u32, bits: u32) -> i32
     }
 }
 
-/// Returns the bits of `word` from `high` down to `low`.
+/// Returns the bits `high` down to `low` of `word`, as a number.
 #[inline]
 pub fn field(word: u32, high: u32, low: u32) -> u32
     requires ordered { low ≤ high }
@@ -30,7 +30,7 @@ pub fn field(word: u32, high: u32, low: u32) -> u32
     (word >> low) & (u32::MAX >> (31 - (high - low)))
 }
 
-/// Returns `high` followed by the `width` bits of `low`.
+/// Returns the bits of `high` followed by the `width` bits of `low`.
 #[inline]
 pub fn join(high: u32, low: u32, width: u32) -> u32
     requires fits { low < 2 ^ width }

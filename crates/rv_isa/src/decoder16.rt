@@ -19,8 +19,8 @@ use crate::half_immediates::{
 use crate::instruction::Instr;
 use crate::sets::Isa;
 
-/// Whether a halfword begins a 32-bit instruction: its low two bits are 11 (section 1.5 of the RISC-V Unprivileged ISA 20191213). Every
-/// other halfword is a complete instruction or illegal.
+/// Whether a halfword begins a 32-bit instruction: its low two bits are 11 (section 1.5 of the RISC-V Unprivileged ISA 20191213). Any other
+/// halfword is a complete 16-bit instruction or illegal.
 #[inline]
 pub fn is_long(half: u16) -> bool
     ensures { IsTrue result ↔ (bits_of half 1 0 ≡ 0b11) }
@@ -28,8 +28,8 @@ pub fn is_long(half: u16) -> bool
     field(u32::from(half), 1, 0) == 3
 }
 
-/// Returns a 32-bit word equivalent to a 16-bit instruction, or `None` if no row of the RVC listing (section 16.8, the RV32 lines without F
-/// and D) matches the halfword: it is reserved, belongs to another extension, or begins a 32-bit instruction.
+/// Returns a 32-bit word that decodes to the same instruction as a halfword, or `None` if the halfword matches no row of the RVC listing
+/// (section 16.8, the RV32 lines without F and D): it is reserved, belongs to another extension, or begins a 32-bit instruction.
 ///
 /// Hints have rows. The halfword 0x0000 has none.
 #[inline(always)]
@@ -42,7 +42,7 @@ pub fn expand(half: u16) -> Option<u32>
     expanded_word(half)
 }
 
-/// Decodes a halfword: returns the instruction of its only row in the RVC listing, or `None` if no row matches (see `expand`) or the
+/// Decodes a halfword: returns the instruction of its only row in the RVC listing, or `None` if no row matches (see [`expand`]) or the
 /// instruction set lacks C.
 #[inline(always)]
 pub fn decode16(half: u16, isa: Isa) -> Option<Instr>
@@ -53,11 +53,12 @@ pub fn decode16(half: u16, isa: Isa) -> Option<Instr>
     instr_of_half(half, isa)
 }
 
-/// A law of the listing, with no code to run: no halfword matches two rows, in any set.
+/// Proves that no halfword matches two rows of the RVC listing, in any instruction set. There is no code to run.
 pub fn no_halfword_has_two_rows()
     ensures { (isa : Set) (half : ℕ) → count_by (fits16 isa half) rows16 ≤ 1 }
 {}
 
+// Decodes a halfword, as [`decode16`] does.
 #[inline(always)]
 #[tactic(auto, using(crate::proofs::ByQuadrant::by_set))]
 fn instr_of_half(half: u16, isa: Isa) -> Option<Instr>
@@ -70,7 +71,7 @@ fn instr_of_half(half: u16, isa: Isa) -> Option<Instr>
     decode32(expand(half)?, Isa::Imc)
 }
 
-// Returns the 32-bit word equivalent to a 16-bit instruction, by quadrant.
+// Returns the 32-bit word equivalent to a halfword, if there is one, as [`expand`] does.
 #[tactic(auto, using(crate::proofs::ByQuadrant::quadrant_3))]
 fn expanded_word(half: u16) -> Option<u32>
     ensures { Expands half result }
@@ -84,6 +85,7 @@ fn expanded_word(half: u16) -> Option<u32>
     }
 }
 
+// Returns the 32-bit word equivalent to a halfword of quadrant 0 (low bits 00), if there is one.
 #[tactic(auto, using(crate::proofs::ByQuadrant::by_quadrant))]
 fn quadrant0_word(half: u32) -> Option<u32>
     requires { bits_of half 1 0 ≡ 0 }
@@ -99,6 +101,7 @@ fn quadrant0_word(half: u32) -> Option<u32>
     }
 }
 
+// Returns the 32-bit word equivalent to a halfword of quadrant 1 (low bits 01), if there is one.
 #[tactic(auto, using(crate::proofs::ByQuadrant::by_quadrant))]
 fn quadrant1_word(half: u32) -> Option<u32>
     requires { bits_of half 1 0 ≡ 1 }
@@ -118,7 +121,8 @@ fn quadrant1_word(half: u32) -> Option<u32>
     }
 }
 
-// Expands C.ADDI16SP and C.LUI. Both take their immediates from the same bits, so both are 0 together.
+// Returns the 32-bit word equivalent to C.ADDI16SP or C.LUI, or `None` if the immediate is 0. Both have their immediate in the same bits of
+// the halfword.
 #[tactic(auto, using(crate::proofs::ByQuadrant::by_quadrant))]
 fn lui_or_addi16sp_word(half: u32) -> Option<u32>
     requires quadrant { bits_of half 1 0 ≡ 1 }
@@ -136,6 +140,7 @@ fn lui_or_addi16sp_word(half: u32) -> Option<u32>
     }
 }
 
+// Returns the 32-bit word equivalent to a shift or an arithmetic instruction of quadrant 1 (bits 15 to 13 are 100), if there is one.
 #[tactic(auto, using(crate::proofs::ByQuadrant::by_quadrant))]
 fn misc_alu_word(half: u32) -> Option<u32>
     requires quadrant { bits_of half 1 0 ≡ 1 }
@@ -158,6 +163,7 @@ fn misc_alu_word(half: u32) -> Option<u32>
     }
 }
 
+// Returns the 32-bit word equivalent to a halfword of quadrant 2 (low bits 10), if there is one.
 #[tactic(auto, using(crate::proofs::ByQuadrant::by_quadrant))]
 fn quadrant2_word(half: u32) -> Option<u32>
     requires { bits_of half 1 0 ≡ 2 }
@@ -173,7 +179,7 @@ fn quadrant2_word(half: u32) -> Option<u32>
     }
 }
 
-// Expands C.JR, C.MV, C.EBREAK, C.JALR and C.ADD.
+// Returns the 32-bit word equivalent to C.JR, C.MV, C.EBREAK, C.JALR or C.ADD, or `None` for the reserved encoding.
 #[tactic(auto, using(crate::proofs::ByQuadrant::by_quadrant))]
 fn cr_format_word(half: u32) -> Option<u32>
     requires quadrant { bits_of half 1 0 ≡ 2 }

@@ -15,8 +15,8 @@ use crate::opcodes::{AUIPC, BRANCH, JAL, JALR, LOAD, LUI, MISC_MEM, OP, OP_IMM, 
 use crate::sets::Isa;
 
 /// Decodes a 32-bit word: returns the instruction of its only row in the RV32G listing of the RISC-V Unprivileged ISA 20191213 (chapter 24;
-/// RV32I, RV32M and Zifencei), or `None` if no row of the instruction set matches. The rows of RV32M are in `Isa::Im` and `Isa::Imc`, all
-/// others in every set.
+/// RV32I, RV32M and Zifencei), or `None` if no row of the instruction set matches. `Isa::Im` and `Isa::Imc` have the rows of RV32M; every
+/// set has the others.
 ///
 /// Words of other extensions, including Zicsr, WFI and MRET, have no row. FENCE and FENCE.I ignore their other fields.
 #[inline(always)]
@@ -28,11 +28,12 @@ pub fn decode32(word: u32, isa: Isa) -> Option<Instr>
     instr_of_word(word, isa)
 }
 
-/// A law of the listing, with no code to run: no word matches two rows, in any set.
+/// Proves that no word matches two rows of the RV32G listing, in any instruction set. There is no code to run.
 pub fn no_word_has_two_rows()
     ensures { (isa : Set) (word : ℕ) → count_by (fits isa word) rows ≤ 1 }
 {}
 
+// Decodes a 32-bit word, as [`decode32`] does.
 #[inline(always)]
 #[tactic(auto, using(crate::proofs::ByOpcode::by_opcode))]
 fn instr_of_word(word: u32, isa: Isa) -> Option<Instr>
@@ -59,6 +60,7 @@ fn instr_of_word(word: u32, isa: Isa) -> Option<Instr>
     }
 }
 
+// Returns the conditional branch with this funct3, if there is one.
 #[inline]
 fn branch_op(funct3: u32) -> Option<Op>
     ensures { result ≡ name_at branches funct3 }
@@ -74,6 +76,7 @@ fn branch_op(funct3: u32) -> Option<Op>
     }
 }
 
+// Returns the load with this funct3, if there is one.
 #[inline]
 fn load_op(funct3: u32) -> Option<Op>
     ensures { result ≡ name_at loads funct3 }
@@ -88,6 +91,7 @@ fn load_op(funct3: u32) -> Option<Op>
     }
 }
 
+// Returns the store with this funct3, if there is one.
 #[inline]
 fn store_op(funct3: u32) -> Option<Op>
     ensures { result ≡ name_at stores funct3 }
@@ -100,6 +104,7 @@ fn store_op(funct3: u32) -> Option<Op>
     }
 }
 
+// Returns the arithmetic instruction with an immediate that has this funct3, if there is one. The shifts are in `shift_op`.
 #[inline]
 fn immediate_op(funct3: u32) -> Option<Op>
     ensures { result ≡ name_at immediates funct3 }
@@ -115,6 +120,7 @@ fn immediate_op(funct3: u32) -> Option<Op>
     }
 }
 
+// Returns the shift by an immediate with this funct7 and funct3, if there is one.
 #[inline]
 fn shift_op(funct7: u32, funct3: u32) -> Option<Op>
     ensures { result ≡ (if funct7 == 0 then name_at shifts funct3
@@ -129,6 +135,7 @@ fn shift_op(funct7: u32, funct3: u32) -> Option<Op>
     }
 }
 
+// Returns the arithmetic instruction on two registers with this funct7 and funct3, if the instruction set has one.
 #[inline]
 fn register_op(funct7: u32, funct3: u32, isa: Isa) -> Option<Op>
     ensures { result ≡ (if funct7 == 0 then name_at registers funct3
@@ -144,6 +151,7 @@ fn register_op(funct7: u32, funct3: u32, isa: Isa) -> Option<Op>
     }
 }
 
+// Returns the arithmetic instruction on two registers with funct7 0000000 and this funct3, if there is one.
 #[inline]
 fn register_plain_op(funct3: u32) -> Option<Op>
     ensures { result ≡ name_at registers funct3 }
@@ -161,6 +169,7 @@ fn register_plain_op(funct3: u32) -> Option<Op>
     }
 }
 
+// Returns the arithmetic instruction on two registers with funct7 0100000 and this funct3, if there is one.
 #[inline]
 fn register_alternate_op(funct3: u32) -> Option<Op>
     ensures { result ≡ name_at registers_alternate funct3 }
@@ -172,6 +181,7 @@ fn register_alternate_op(funct3: u32) -> Option<Op>
     }
 }
 
+// Returns the multiplication or division with this funct3, if there is one.
 #[inline]
 fn product_op(funct3: u32) -> Option<Op>
     ensures { result ≡ name_at products funct3 }
@@ -189,6 +199,7 @@ fn product_op(funct3: u32) -> Option<Op>
     }
 }
 
+// Returns the fence with this funct3, if there is one.
 #[inline]
 fn fence_op(funct3: u32) -> Option<Op>
     ensures { result ≡ name_at (fences ++ instruction_fences) funct3 }
@@ -200,7 +211,7 @@ fn fence_op(funct3: u32) -> Option<Op>
     }
 }
 
-// Decodes ECALL and EBREAK, the only words of the SYSTEM opcode that have a row.
+// Decodes a word whose opcode is SYSTEM: ECALL or EBREAK, or `None` for any other word.
 #[inline]
 #[tactic(auto, using(crate::proofs::ByOpcode::by_opcode))]
 fn system_instr(word: u32, isa: Isa) -> Option<Instr>

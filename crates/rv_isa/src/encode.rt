@@ -7,6 +7,7 @@ ghost use Rattle.std.specs.Prelude.{◌≡◌, ◌+◌, ◌*◌, ◌-◌, ◌<�
 
 use crate::bits::{field, join};
 
+/// Returns the word of format R with these fields.
 #[inline]
 #[tactic(auto, using(crate::proofs::Fields::field_self))]
 pub fn r_word(funct7: u32, rs2: u32, rs1: u32, funct3: u32, rd: u32, opcode: u32) -> u32
@@ -29,6 +30,7 @@ pub fn r_word(funct7: u32, rs2: u32, rs1: u32, funct3: u32, rd: u32, opcode: u32
     join(sources, rest, 15)
 }
 
+/// Returns the word of format I with these fields; `imm` is the immediate's 12 bits.
 #[inline]
 #[tactic(auto, using(crate::proofs::Fields::field_self))]
 pub fn i_word(imm: u32, rs1: u32, funct3: u32, rd: u32, opcode: u32) -> u32
@@ -50,6 +52,7 @@ pub fn i_word(imm: u32, rs1: u32, funct3: u32, rd: u32, opcode: u32) -> u32
     join(with_rd, opcode, 7)
 }
 
+/// Returns the word of format S with these fields; `imm` is the immediate's 12 bits.
 #[inline]
 #[tactic(auto, using(crate::proofs::Fields::field_self))]
 pub fn s_word(imm: u32, rs2: u32, rs1: u32, funct3: u32, opcode: u32) -> u32
@@ -70,6 +73,7 @@ pub fn s_word(imm: u32, rs2: u32, rs1: u32, funct3: u32, opcode: u32) -> u32
     r_word(upper, rs2, rs1, funct3, lower, opcode)
 }
 
+/// Returns the word of format B with these fields; `offset` is the 13 bits of an even offset in bytes.
 #[inline]
 #[tactic(auto, using(crate::proofs::Fields::field_self))]
 pub fn b_word(offset: u32, rs2: u32, rs1: u32, funct3: u32, opcode: u32) -> u32
@@ -91,6 +95,7 @@ pub fn b_word(offset: u32, rs2: u32, rs1: u32, funct3: u32, opcode: u32) -> u32
     r_word(upper, rs2, rs1, funct3, lower, opcode)
 }
 
+/// Returns the word of format U with these fields; `upper` is bits 31 to 12.
 #[inline]
 #[tactic(auto, using(crate::proofs::Fields::field_self))]
 pub fn u_word(upper: u32, rd: u32, opcode: u32) -> u32
@@ -106,6 +111,7 @@ pub fn u_word(upper: u32, rd: u32, opcode: u32) -> u32
     join(with_rd, opcode, 7)
 }
 
+/// Returns the word of format J with these fields; `offset` is the 21 bits of an even offset in bytes.
 #[inline]
 #[tactic(auto, using(crate::proofs::Fields::field_self))]
 pub fn j_word(offset: u32, rd: u32, opcode: u32) -> u32

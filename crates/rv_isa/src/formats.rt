@@ -8,6 +8,7 @@ ghost use Rattle.std.specs.Prelude.{◌≡◌, ◌+◌, ◌*◌, ◌-◌, ◌<�
 use crate::bits::{field, join, sign_extend};
 use crate::instruction::{Instr, Op};
 
+/// Returns the instruction of this name with the operands of a word of format R.
 #[inline]
 pub fn type_r(op: Op, word: u32) -> Instr
     ensures { result ≡ instruction op TypeR word }
@@ -21,6 +22,7 @@ pub fn type_r(op: Op, word: u32) -> Instr
     }
 }
 
+/// Returns the instruction of this name with the operands of a word of format I.
 #[inline]
 pub fn type_i(op: Op, word: u32) -> Instr
     ensures { result ≡ instruction op TypeI word }
@@ -34,7 +36,7 @@ pub fn type_i(op: Op, word: u32) -> Instr
     }
 }
 
-/// Decodes a shift by an immediate; the shift amount is in the bits of `rs2`.
+/// Returns the shift by an immediate of this name with the operands of a word. The shift amount is in the bits of `rs2`.
 #[inline]
 pub fn type_shift(op: Op, word: u32) -> Instr
     ensures { result ≡ instruction op TypeShift word }
@@ -48,6 +50,7 @@ pub fn type_shift(op: Op, word: u32) -> Instr
     }
 }
 
+/// Returns the instruction of this name with the operands of a word of format S.
 #[inline]
 pub fn type_s(op: Op, word: u32) -> Instr
     ensures { result ≡ instruction op TypeS word }
@@ -61,6 +64,7 @@ pub fn type_s(op: Op, word: u32) -> Instr
     }
 }
 
+/// Returns the instruction of this name with the operands of a word of format B.
 #[inline]
 pub fn type_b(op: Op, word: u32) -> Instr
     ensures { result ≡ instruction op TypeB word }
@@ -74,6 +78,7 @@ pub fn type_b(op: Op, word: u32) -> Instr
     }
 }
 
+/// Returns the instruction of this name with the operands of a word of format U.
 #[inline]
 pub fn type_u(op: Op, word: u32) -> Instr
     ensures { result ≡ instruction op TypeU word }
@@ -87,6 +92,7 @@ pub fn type_u(op: Op, word: u32) -> Instr
     }
 }
 
+/// Returns the instruction of this name with the operands of a word of format J.
 #[inline]
 pub fn type_j(op: Op, word: u32) -> Instr
     ensures { result ≡ instruction op TypeJ word }
@@ -100,7 +106,7 @@ pub fn type_j(op: Op, word: u32) -> Instr
     }
 }
 
-/// Returns an instruction that takes no operands from its word.
+/// Returns the instruction of this name without operands.
 #[inline]
 pub fn no_operands(op: Op) -> Instr
     ensures { result ≡ instruction op NoOperands 0 }
@@ -114,6 +120,7 @@ pub fn no_operands(op: Op) -> Instr
     }
 }
 
+// Returns the number of the destination register of a word.
 #[inline]
 fn rd(word: u32) -> u8
     ensures { result ≡ bits_of word 11 7 }
@@ -121,6 +128,7 @@ fn rd(word: u32) -> u8
     field(word, 11, 7) as u8
 }
 
+// Returns the number of the first source register of a word.
 #[inline]
 fn rs1(word: u32) -> u8
     ensures { result ≡ bits_of word 19 15 }
@@ -128,6 +136,7 @@ fn rs1(word: u32) -> u8
     field(word, 19, 15) as u8
 }
 
+// Returns the number of the second source register of a word.
 #[inline]
 fn rs2(word: u32) -> u8
     ensures { result ≡ bits_of word 24 20 }
@@ -135,6 +144,7 @@ fn rs2(word: u32) -> u8
     field(word, 24, 20) as u8
 }
 
+// Returns the sign-extended immediate of a word of format I.
 #[inline]
 fn imm_i(word: u32) -> i32
     ensures { result ≡ immediate_i word }
@@ -142,6 +152,7 @@ fn imm_i(word: u32) -> i32
     sign_extend(field(word, 31, 20), 12)
 }
 
+// Returns the sign-extended immediate of a word of format S.
 #[inline]
 fn imm_s(word: u32) -> i32
     ensures { result ≡ immediate_s word }
@@ -149,6 +160,7 @@ fn imm_s(word: u32) -> i32
     sign_extend(join(field(word, 31, 25), field(word, 11, 7), 5), 12)
 }
 
+// Returns the sign-extended offset of a word of format B, in bytes.
 #[inline]
 fn imm_b(word: u32) -> i32
     ensures { result ≡ immediate_b word }
@@ -159,6 +171,7 @@ fn imm_b(word: u32) -> i32
     sign_extend(halves << 1, 13)
 }
 
+// Returns the immediate of a word of format U, whose low 12 bits are 0.
 #[inline]
 fn imm_u(word: u32) -> i32
     ensures { result ≡ immediate_u word }
@@ -166,6 +179,7 @@ fn imm_u(word: u32) -> i32
     sign_extend(field(word, 31, 12) << 12, 32)
 }
 
+// Returns the sign-extended offset of a word of format J, in bytes.
 #[inline]
 fn imm_j(word: u32) -> i32
     ensures { result ≡ immediate_j word }

@@ -6,7 +6,7 @@ ghost use Rattle.std.specs.Prelude.{◌≡◌, ◌+◌, ◌*◌, ◌-◌, ◌<�
 
 use crate::bits::{field, join};
 
-/// Returns the immediate of C.ADDI, C.LI and C.ANDI, and of C.LUI in units of 4096.
+/// Returns the immediate of C.ADDI, C.LI, C.ANDI and C.LUI as a number of 6 bits, before sign extension. For C.LUI it is in units of 4096.
 #[inline]
 pub fn imm_ci(half: u32) -> u32
     ensures value { result ≡ row.immediate_ci half }
@@ -26,7 +26,7 @@ pub fn imm_ciw(half: u32) -> u32
     words << 2
 }
 
-/// Returns the immediate of C.LW and C.SW.
+/// Returns the offset of C.LW and C.SW.
 #[inline]
 pub fn imm_cl(half: u32) -> u32
     ensures value { result ≡ row.immediate_cl half }
@@ -36,7 +36,7 @@ pub fn imm_cl(half: u32) -> u32
     join(upper, field(half, 6, 6), 1) << 2
 }
 
-/// Returns the immediate of C.ADDI16SP.
+/// Returns the immediate of C.ADDI16SP as a number of 10 bits, before sign extension.
 #[inline]
 pub fn imm_addi16sp(half: u32) -> u32
     ensures value { result ≡ row.immediate_addi16sp half }
@@ -47,7 +47,7 @@ pub fn imm_addi16sp(half: u32) -> u32
     join(middle, field(half, 6, 6), 1) << 4
 }
 
-/// Returns the immediate of C.J and C.JAL.
+/// Returns the offset of C.J and C.JAL as a number of 12 bits, before sign extension.
 #[inline]
 pub fn imm_cj(half: u32) -> u32
     ensures value { result ≡ row.immediate_cj half }
@@ -61,7 +61,7 @@ pub fn imm_cj(half: u32) -> u32
     join(middle, field(half, 5, 3), 3) << 1
 }
 
-/// Returns the immediate of C.BEQZ and C.BNEZ.
+/// Returns the offset of C.BEQZ and C.BNEZ as a number of 9 bits, before sign extension.
 #[inline]
 pub fn imm_cb(half: u32) -> u32
     ensures value { result ≡ row.immediate_cb half }
@@ -73,7 +73,7 @@ pub fn imm_cb(half: u32) -> u32
     join(join(top, field(half, 11, 10), 2), field(half, 4, 3), 2) << 1
 }
 
-/// Returns the immediate of C.LWSP.
+/// Returns the offset of C.LWSP.
 #[inline]
 pub fn imm_lwsp(half: u32) -> u32
     ensures value { result ≡ row.immediate_lwsp half }
@@ -83,7 +83,7 @@ pub fn imm_lwsp(half: u32) -> u32
     join(upper, field(half, 6, 4), 3) << 2
 }
 
-/// Returns the immediate of C.SWSP.
+/// Returns the offset of C.SWSP.
 #[inline]
 pub fn imm_css(half: u32) -> u32
     ensures value { result ≡ row.immediate_css half }

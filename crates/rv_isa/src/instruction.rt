@@ -55,14 +55,15 @@ pub enum Op {
     Remu,
 }
 
-/// An instruction with its operands. Operands that its format lacks are 0.
+/// A decoded instruction: its name and operands. Operands that its format lacks are 0.
 #[derive(Clone, Copy, Debug, PartialEq, Eq)]
 pub struct Instr {
     pub op: Op,
     /// The number of the destination register, below 32.
     pub rd: u8,
-    /// The numbers of the source registers, below 32.
+    /// The number of the first source register, below 32.
     pub rs1: u8,
+    /// The number of the second source register, below 32.
     pub rs2: u8,
     /// The sign-extended immediate. For LUI and AUIPC, the value loaded or added, with its low 12 bits 0; for a shift by an immediate, the
     /// shift amount, from 0 to 31; for a branch or jump, the offset in bytes.

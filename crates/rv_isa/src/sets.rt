@@ -2,7 +2,7 @@
 ghost use Rattle.rv_isa.specs.Extensions.{has, RV32M, RV32C};
 ghost use Rattle.std.specs.Prelude.{◌≡◌};
 
-/// An instruction set: RV32I with Zifencei, and the extensions named by its letters. M is multiplication and division, C is the 16-bit
+/// An instruction set: RV32I with Zifencei, and the extensions that its letters name. M is multiplication and division; C is the 16-bit
 /// instructions.
 #[derive(Clone, Copy, Debug, PartialEq, Eq)]
 pub enum Isa {
@@ -13,7 +13,7 @@ pub enum Isa {
 }
 
 impl Isa {
-    /// Whether a hart of this set has multiplication and division.
+    /// Whether the instruction set has multiplication and division.
     #[inline]
     pub fn has_m(self) -> bool
         ensures { result ≡ has self RV32M }
@@ -21,8 +21,8 @@ impl Isa {
         matches!(self, Isa::Im | Isa::Imc)
     }
 
-    /// Whether a hart of this set runs 16-bit instructions, so that an instruction may start at any even address. Without them, every
-    /// instruction starts at a multiple of 4.
+    /// Whether the instruction set has 16-bit instructions, so that an instruction may begin at any even address. Without them, every
+    /// instruction begins at a multiple of 4.
     #[inline]
     pub fn has_c(self) -> bool
         ensures { result ≡ has self RV32C }

@@ -1,4 +1,4 @@
--- The result recorded for a path.
+-- The result of reading a path.
 use Rattle.std.specs.Prelude.{◌≡◌, ◌≤◌, ◌<◌, ℕ, Bool, true, false, List, Option, Some, IfSome}
 use Rattle.std.specs.Prelude.{IsSomeAnd, length, if◌then◌else◌}
 use Rattle.rv_base.specs.Counts.{one_more}
@@ -7,16 +7,16 @@ use Rattle.rv_base.specs.Limits.{most_bytes}
 use Rattle.rv_jobs.specs.declared.kept.Kept.{Kept}
 use Rattle.rv_jobs.specs.declared.kept.Kept.TheVariants.{Content, TooLong, Unreadable}
 
--- a path that could not be read for a reason other than its length
+-- whether a path could not be read, for another reason than the length of its file
 abbrev pub is_unreadable : Kept → Bool
 is_unreadable Unreadable = true
 is_unreadable _ = false
 
--- the fault count after a read with this result
+-- the number of unreadable files after a read with this result, if it was `n` before
 abbrev pub faults_with : Kept → ℕ → ℕ
 faults_with kept n = if is_unreadable kept then one_more n else n
 
--- the result recorded for a path agrees with the contents, if the store reveals them
+-- the result of reading a path agrees with the contents of the files, if these are known
 abbrev pub IsKeptOf : Option FileContents → List ℕ → Kept → Type 0
 IsKeptOf known path (Content bytes) =
     (length bytes ≤ most_bytes) × IfSome known (λ files. files path ≡ Some bytes)

@@ -1,4 +1,4 @@
--- The indices of the results of a job's paths.
+-- The indices of the results for a job's paths.
 use Rattle.std.specs.Prelude.{◌≡◌, ◌<◌, ℕ, List, length, Option, Some, None, IfSome, option_map}
 use Rattle.std.specs.Prelude.{option_and_then, slice_index_or}
 use Rattle.rv_lists.specs.declared.job.Job.{Job}
@@ -7,7 +7,7 @@ use Rattle.rv_jobs.specs.declared.path_reading.Found.{Found}
 use Rattle.rv_base.specs.Names.{index_in}
 use Rattle.rv_lists.specs.Jobs.{console_path}
 
--- these are the indices of a job's paths, all of which exist
+-- `at` has the index of each path of the job among `paths`, which have them all
 pub record ArePlaced (paths : List (List ℕ)) (job : Job) (at : Places) : Type 0 where
   pub image : index_in paths job.image ≡ Some at.image
   pub reference :
@@ -16,20 +16,20 @@ pub record ArePlaced (paths : List (List ℕ)) (job : Job) (at : Places) : Type 
       option_map (index_in paths) (console_path job.expect_console)
       ≡ option_map (λ k. Some k) at.console
 
--- what is recorded for each job: the indices of its paths, or nothing
+-- for each job, `noted` has the indices of its paths among `paths`, or nothing
 pub record AreNoted (paths : List (List ℕ)) (jobs : List Job)
     (noted : List (Option Places)) : Type 0 where
   pub many : length noted ≡ length jobs
   pub each : (i : ℕ) → IfSome (slice_index_or noted i None)
       (λ at. (d : Job) → ArePlaced paths (slice_index_or jobs i d) at)
 
--- these are the indices of those of a job's paths that exist
+-- `at` has the index of each path of the job among `paths`, or `None` for a path that is not among them
 pub record IsFound (paths : List (List ℕ)) (job : Job) (at : Found) : Type 0 where
   pub image : index_in paths job.image ≡ at.image
   pub reference : option_and_then (index_in paths) job.expect_signature ≡ at.reference
   pub console : option_and_then (index_in paths) (console_path job.expect_console) ≡ at.console
 
--- these are the indices for each job
+-- for each job, `found` has the index of each of its paths among `paths`, or `None` for a path that is not among them
 pub record AreFound (paths : List (List ℕ)) (jobs : List Job) (found : List Found) : Type 0 where
   pub many : length found ≡ length jobs
   pub each : (i : ℕ) (d : Job) (e : Found) → i < length jobs

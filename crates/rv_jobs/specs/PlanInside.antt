@@ -1,4 +1,4 @@
--- What is known of every plan.
+-- What always holds for the fields of a plan.
 use Rattle.std.specs.Prelude.{◌≡◌, List, ℕ, length}
 use Rattle.rv_jobs.specs.declared.plan.Plan.TheInside.{Inside}
 use Rattle.rv_jobs.specs.declared.kept.Kept.TheVariants.{Unreadable}
@@ -6,14 +6,16 @@ use Rattle.rv_lists.specs.Jobs.{AreJobs}
 use Rattle.rv_jobs.specs.Placed.{AreFound}
 use Rattle.rv_jobs.specs.Plans.{Planned, paths_used, jobs_needed_for, answers_with}
 
--- the paths that were read
+-- the paths that were read for a plan, in order of first use
 abbrev pub paths_read : Inside → List (List ℕ)
 paths_read a = paths_used (jobs_needed_for a.jobs a.chosen.items)
 
+-- the plan that the fields represent, as contracts see it
 abbrev pub plan_view : Inside → Planned
 plan_view a = record { jobs = a.jobs; answers = answers_with (paths_read a) a.answers.items }
 
--- the jobs are those of a list, each path that was read has a result, and these are the indices of each job's results
+-- what always holds for the fields of a plan: the jobs form a valid list, each path that was read has a result, and each job has the
+-- indices of its results
 pub record IsPlanInside (a : Inside) : Type 0 where
   pub jobs : AreJobs a.jobs
   pub even : length (paths_read a) ≡ length a.answers.items

@@ -1,4 +1,4 @@
-//! The results for the distinct paths that jobs name, while a plan is gathered.
+//! The results for the distinct paths of jobs, while a plan is gathered.
 
 ghost use Rattle.std.specs.Prelude.{◌≡◌, ℕ, [], IfOk, Some, map};
 ghost use Rattle.rv_base.specs.Names.{index_in};
@@ -12,15 +12,15 @@ use std::collections::HashMap;
 use std::hash::{BuildHasherDefault, FoldHasher};
 use std::marker::Model;
 
-/// The result recorded for a path. Never constructed: only contracts see the results of a plan in this form.
+/// A path and the result of reading it. Never constructed: only contracts see the results of a plan in this form.
 #[derive(Drop)]
 pub struct Answer {
     pub path: Text,
     pub kept: Kept,
 }
 
-/// The results so far, with the index of each path. The paths are borrowed from the jobs. They are looked up by hash, since paths that
-/// differ only at their ends are expensive to compare in order.
+/// The results so far, with the index of each path. The paths are borrowed from the jobs. They are looked up by hash, since comparing paths
+/// that differ only at their ends is slow.
 #[derive(Drop)]
 pub(crate) struct Answers<'a> {
     answers: Vec<Kept>,
@@ -42,7 +42,7 @@ impl<'a> Model for Answers<'a> {
 }
 
 impl<'a> Answers<'a> {
-    /// Creates an empty collection with room to look up `room` paths.
+    /// Returns no results, with room to look up `room` paths.
     pub(crate) fn new(alloc: Global, room: usize) -> Result<Answers<'a>, AllocError>
         ensures { IfOk result (λ answers. answers ≡ []) }
     {
@@ -54,7 +54,7 @@ impl<'a> Answers<'a> {
         })
     }
 
-    /// Adds the result for a path, which is read unless it has one, and returns its index.
+    /// Reads a path unless it has a result already, and returns the results with the index of this path's result.
     ///
     /// A new path is searched for only once: the search that would find it inserts it.
     pub(crate) fn read_path_once<S: Store>(
@@ -97,7 +97,7 @@ impl<'a> Answers<'a> {
         Ok((asked, next))
     }
 
-    /// Returns the index of a path's result, if it has one.
+    /// Returns the index of a path's result, or `None` if it has none.
     pub(crate) fn place_of_path(&self, path: &str) -> Option<usize>
         ensures { result ≡ index_in (paths_of self.now) path.now }
     {
@@ -105,7 +105,7 @@ impl<'a> Answers<'a> {
         self.places.get(path).copied()
     }
 
-    /// Returns the result for each path, in order.
+    /// Returns the results in the order in which the paths were read.
     pub(crate) fn into_kept(self) -> Vec<Kept>
         ensures { result.items ≡ map (λ a. a.kept) self.entry }
     {

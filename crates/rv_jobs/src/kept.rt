@@ -1,4 +1,4 @@
-//! The result recorded for a path.
+//! The result of reading a path.
 
 ghost use Rattle.std.specs.Prelude.{◌≡◌, IfOk};
 ghost use Rattle.rv_jobs.specs.Kept.{IsKeptOf, faults_with};
@@ -13,11 +13,11 @@ pub enum Kept {
     Content(Bytes),
     /// The file does not exist, or reading it failed.
     Unreadable,
-    /// The file is longer than that.
+    /// The file is longer than 16,777,216 bytes.
     TooLong,
 }
 
-/// Reads a path once, and records the result.
+/// Reads a path, and returns the result.
 pub(crate) fn keep_path_answer<S: Store>(
     alloc: Global,
     store: &mut S,

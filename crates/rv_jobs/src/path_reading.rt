@@ -14,7 +14,7 @@ use rv_base::Store;
 use rv_lists::Job;
 use std::alloc::{AllocError, Global};
 
-/// The indices of the results of a job's paths, each of which has one.
+/// The indices of the results for a job's paths, all of which were read.
 #[derive(Clone, Copy)]
 pub(crate) struct Places {
     pub(crate) image: usize,
@@ -22,7 +22,7 @@ pub(crate) struct Places {
     pub(crate) console: Option<usize>,
 }
 
-/// The indices of the results of those of a job's paths that have one.
+/// The indices of the results for a job's paths, or `None` for a path that was not read.
 #[derive(Clone, Copy)]
 pub(crate) struct Found {
     pub(crate) image: Option<usize>,
@@ -30,7 +30,7 @@ pub(crate) struct Found {
     pub(crate) console: Option<usize>,
 }
 
-/// Allocates an entry for each job, with no paths read yet.
+/// Returns an entry for each job, without indices, since no path has been read.
 pub(crate) fn blank_job_places(
     alloc: Global,
     jobs: &[Job],
@@ -45,7 +45,7 @@ pub(crate) fn blank_job_places(
 }
 
 impl<'a> Answers<'a> {
-    /// Reads what is needed for the row of the job at an index: its paths, and those of the job that it names.
+    /// Reads the paths that the row of the job at an index needs: its own, and those of the job that its `same_as` names.
     pub(crate) fn read_paths_for_row<S: Store>(
         self,
         alloc: Global,
@@ -73,7 +73,7 @@ impl<'a> Answers<'a> {
         }
     }
 
-    /// Reads the paths of the job at an index and records their indices. A job whose paths were read before adds none.
+    /// Reads the paths of the job at an index, and records the indices of their results. Does nothing if they are recorded already.
     fn read_paths_at_place<S: Store>(
         self,
         alloc: Global,
@@ -102,7 +102,7 @@ impl<'a> Answers<'a> {
     }
 }
 
-/// Reads the paths of a job, and returns their indices.
+/// Reads the paths of a job, and returns the indices of their results.
 fn read_paths_of_job<'a, S: Store>(
     alloc: Global,
     store: &mut S,
@@ -128,6 +128,7 @@ fn read_paths_of_job<'a, S: Store>(
     Ok((third, places))
 }
 
+/// Returns the path of a job's expected signature, if it has one.
 pub(crate) fn reference_path(job: &Job) -> Option<&str>
     ensures { option_map (λ path. path.now) result ≡ job.now.expect_signature }
 {
@@ -137,6 +138,7 @@ pub(crate) fn reference_path(job: &Job) -> Option<&str>
     }
 }
 
+/// Returns the path of the file with a job's expected console text, if it has one.
 pub(crate) fn console_path(job: &Job) -> Option<&str>
     ensures { option_map (λ path. path.now) result ≡ console_path job.now.expect_console }
 {
@@ -172,8 +174,8 @@ fn read_path_if_named<'a, S: Store>(
     }
 }
 
-/// Returns the indices of the results of each job's paths: as recorded, or, for a job whose paths were not read, those of the paths that
-/// were read for other jobs.
+/// Returns, for each job, the indices of the results for its paths: those that are recorded, or, for a job whose paths were not read, those
+/// of the paths that were read for other jobs.
 pub(crate) fn places_of_answers(
     alloc: Global,
     asked: &Answers,
@@ -190,7 +192,7 @@ pub(crate) fn places_of_answers(
     Ok(found)
 }
 
-/// Returns the indices of the results of a job's paths.
+/// Returns the indices of the results for a job's paths: those that are recorded, or else those of the paths that were read for other jobs.
 fn answer_places_of_job(asked: &Answers, job: &Job, noted: Option<Places>) -> Found
     requires { IfSome noted (λ places. ArePlaced (paths_of asked.now) job.now places) }
     ensures { IsFound (paths_of asked.now) job.now result }
@@ -209,7 +211,7 @@ fn answer_places_of_job(asked: &Answers, job: &Job, noted: Option<Places>) -> Fo
     }
 }
 
-/// Returns the index of a path's result, if there is a path and it has a result.
+/// Returns the index of a path's result, or `None` if there is no path or it has no result.
 fn place_of_path_if_named(asked: &Answers, path: Option<&str>) -> Option<usize>
     ensures { result ≡ option_and_then (index_in (paths_of asked.now))
         (option_map (λ p. p.now) path.entry) }

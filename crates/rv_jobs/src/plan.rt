@@ -1,4 +1,4 @@
-//! A plan: jobs, and the results for the paths that they name.
+//! A plan: the jobs of a list, and the results for the paths that they name.
 
 ghost use Rattle.rv_base.specs.Limits.{most_jobs};
 ghost use Rattle.rv_lists.specs.declared.job.Job.{Job as AJob};
@@ -20,15 +20,15 @@ use rv_lists::{Job, JobList};
 use std::alloc::{AllocError, Global};
 use std::marker::Model;
 
-/// Jobs, and one result for each distinct path that was read, shared by all jobs that name it.
+/// The jobs of a list, and one result for each distinct path that was read, shared by all jobs that name it.
 #[derive(Drop)]
 pub struct Plan {
     jobs: JobList,
-    // The indices of the jobs for which it was gathered.
+    // The indices of the jobs for which the plan was gathered.
     chosen: Vec<usize>,
     // The result for each path that their rows need, in order of first use.
     answers: Vec<Kept>,
-    // The indices of the results of each job's paths.
+    // The indices of the results for each job's paths.
     found: Vec<Found>,
     // The result for a path that was not read.
     unread: Kept,
@@ -46,7 +46,7 @@ impl Model for Plan {
     ghost invariant = { IsPlanInside };
 }
 
-/// Reads each distinct path of the jobs once, in order of first use, and records the results.
+/// Reads each distinct path of the jobs once, in order of first use, and returns the plan with the results.
 pub fn gather<S: Store>(alloc: Global, jobs: JobList, store: &mut S) -> Result<Plan, AllocError>
     ensures same { S.contents store.new ≡ S.contents store.old }
     ensures jobs { IfOk result (λ p. p.jobs ≡ jobs) }
@@ -59,8 +59,8 @@ pub fn gather<S: Store>(alloc: Global, jobs: JobList, store: &mut S) -> Result<P
     gather_jobs(alloc, jobs, places, store)
 }
 
-/// Gathers only what is needed for the rows of the jobs at `places`: reads each distinct path of these jobs and of those that they name by
-/// `same_as` once, in order of first use.
+/// Reads only the paths that the rows of the jobs at `places` need, and returns the plan with the results: each distinct path of these
+/// jobs, and of those that they name by `same_as`, once, in order of first use.
 pub fn gather_jobs<S: Store>(
     alloc: Global,
     jobs: JobList,
@@ -93,7 +93,7 @@ pub fn gather_jobs<S: Store>(
     })
 }
 
-/// Returns the indices of all jobs.
+/// Returns the indices of all jobs, in order.
 fn all_indices(alloc: Global, jobs: &JobList) -> Result<Vec<usize>, AllocError>
     ensures within { IfOk result (λ places. All (λ place. place < length jobs.now) places.items) }
     ensures paths { IfOk result (λ places. paths_used (jobs_needed_for jobs.now places.items)
@@ -125,7 +125,7 @@ impl Plan {
         &self.jobs.as_slice()[i]
     }
 
-    /// Returns the result for the path of a job's image. A path that was not read counts as unreadable.
+    /// Returns the result for the image of the job at an index. A path that was not read counts as unreadable.
     pub fn image(&self, i: usize) -> &Kept
         requires { i < length self.now.jobs }
         ensures { (d : AJob) → result.now
@@ -134,7 +134,8 @@ impl Plan {
         self.kept_or_unread(self.found[i].image)
     }
 
-    /// Returns the result for the path of a job's reference, if it has one. A path that was not read counts as unreadable.
+    /// Returns the result for the expected signature of the job at an index, or `None` if it expects none. A path that was not read counts
+    /// as unreadable.
     pub fn reference(&self, i: usize) -> Option<&Kept>
         requires { i < length self.now.jobs }
         ensures { (d : AJob) → option_map (λ k. k.now) result
@@ -147,8 +148,8 @@ impl Plan {
         }
     }
 
-    /// Returns the result for the path of the file with a job's expected console text, if it names one. A path that was not read counts as
-    /// unreadable.
+    /// Returns the result for the file with the expected console text of the job at an index, or `None` if it names no file. A path that
+    /// was not read counts as unreadable.
     pub fn console_reference(&self, i: usize) -> Option<&Kept>
         requires { i < length self.now.jobs }
         ensures { (d : AJob) → option_map (λ k. k.now) result
@@ -161,7 +162,7 @@ impl Plan {
         }
     }
 
-    // Returns the result at an index, or that of a path that was not read.
+    // Returns the result at an index, or the result of an unreadable path if there is no index.
     fn kept_or_unread(&self, at: Option<usize>) -> &Kept
         requires { IfSome at (λ k. k < length self.now.answers) }
         ensures { (path : List ℕ) → index_in (paths_of self.now.answers) path ≡ at

@@ -1,4 +1,4 @@
--- How a bad expectation and an unknown instruction set are explained: the key whose value is shown, if any, and the words.
+-- How a bad expectation or an unknown instruction set is explained: the key whose value is shown, if any, and the words.
 use Rattle.std.specs.Prelude.{◌≡◌, ◌⊎◌, ◌==◌, ◌||◌, ◌++◌, ℕ, Bool, true, List, Option, Some, None, codes, drop, if◌then◌else◌, is_some, length}
 use Rattle.std.specs.Prelude.{nat_eq, nat_lt}
 use Rattle.std.specs.Fmt.{decimal}
@@ -12,29 +12,35 @@ use Rattle.rv_list_errors.specs.Explanation.{first_kinds_text, letters_words, se
 
 -- ---- expectations
 
+-- what is expected of a path
 abbrev pub path_words : List ℕ
 path_words = codes "expected a path of 1 to " ++ (decimal most_path ++ codes " bytes")
 
+-- whether a text may not be a path: it is empty, or longer than `most_path`
 abbrev pub is_no_path : List ℕ → Bool
 is_no_path path = (length path == 0) || nat_lt most_path (length path)
 
+-- the explanation of a bad `expect_exit`: the key whose value is shown, and the words
 abbrev pub exit_told : Option (List ℕ) × List ℕ
 exit_told = (Some (codes "expect_exit"), codes "expected an integer from 0 to " ++ (decimal 0xffff_ffff ++ codes ""))
 
+-- the explanation of a bad `expect_end`: the key whose value is shown, and the words, which list all kinds of faults
 abbrev pub kinds_told : Option (List ℕ) × List ℕ
 kinds_told = (
   Some (codes "expect_end"),
   codes "expected \"budget\" or a fault kind: " ++ first_kinds_text (length fault_kinds),
 )
 
--- an exit is expected by a separate key
+-- the explanation of a bad `expect_end` with this text: the key whose value is shown, if any, and the words; for `exit`, that `expect_exit`
+-- is the key to use
 abbrev pub end_told : Option (List ℕ) → Option (List ℕ) × List ℕ
 end_told None = kinds_told
 end_told (Some end) =
     if bytes_eq end (codes "exit")
     then (None, codes "expect_end = \"exit\": to expect an exit, set \"expect_exit\" to its code") else kinds_told
 
--- given the texts of `expect_console`, `expect_console_file` and `expect_end`
+-- the explanation of a bad `expect_console`, `expect_console_file` or `expect_end`, given the texts at these keys: the key whose value is
+-- shown, if any, and the words
 abbrev pub console_told : Option (List ℕ) → Option (List ℕ) → Option (List ℕ) → Option (List ℕ) × List ℕ
 console_told (Some text) (Some path) end =
     (None, codes "\"expect_console\" and \"expect_console_file\" cannot both be set")
@@ -45,7 +51,8 @@ console_told None (Some path) end =
     if is_no_path path then (Some (codes "expect_console_file"), path_words) else end_told end
 console_told None None end = end_told end
 
--- given whether there is a signature, and the text of `expect_signature`; otherwise as the rest is explained
+-- the explanation of a bad `expect_signature`, given its text: the key whose value is shown, and the words; `asked` is whether the job has
+-- a signature; `rest` if the key is missing or good
 abbrev pub reference_told : Bool → Option (List ℕ) → Option (List ℕ) × List ℕ → Option (List ℕ) × List ℕ
 reference_told asked None rest = rest
 reference_told asked (Some path) rest =
@@ -55,30 +62,36 @@ reference_told asked (Some path) rest =
       codes "cannot be used without \"signature\"",
     )
 
+-- the explanation of a job's bad `expect_console`, `expect_console_file` or `expect_end`: the key whose value is shown, if any, and the
+-- words
 abbrev pub console_told_of : Members → Option (List ℕ) × List ℕ
 console_told_of ms = console_told (text_at_key (codes "expect_console") ms)
     (text_at_key (codes "expect_console_file") ms) (text_at_key (codes "expect_end") ms)
 
+-- the explanation of a job's bad `expect_signature`, or, if that is missing or good, of the expected console or end
 abbrev pub reference_told_of : Members → Option (List ℕ) × List ℕ
 reference_told_of ms = reference_told (is_some (get_member (codes "signature") ms))
     (text_at_key (codes "expect_signature") ms) (console_told_of ms)
 
--- the first bad expectation of a job is explained: its exit, if it has one, or another
+-- `told`, the key whose value is shown and the words, explains the first bad expectation of the job: `expect_exit`, if the job has this
+-- key, or another expectation
 abbrev pub IsExpectationTold : Members → Option (List ℕ) × List ℕ → Type 0
 IsExpectationTold ms told =
     ((is_some (get_member (codes "expect_exit") ms) ≡ true) × (told ≡ exit_told)) ⊎ (told ≡ reference_told_of ms)
 
--- ---- sets of instructions
+-- ---- instruction sets
 
--- which part of an instruction set is not simulated, for the sets requested most often
+-- the explanation of an unknown instruction set: which part of it is not simulated, if it is a common one, and the known sets
 abbrev pub set_words : List ℕ → List ℕ
 set_words isa =
     if starts_with nat_eq isa (codes "rv64") then codes "RV64 is not simulated: " ++ sets_words
     else if starts_with nat_eq isa (codes "rv32") then letters_words (drop 4 isa) else sets_words
 
+-- the explanation of a bad `isa`, given its text, if it has one
 abbrev pub isa_words : Option (List ℕ) → List ℕ
 isa_words None = sets_words
 isa_words (Some isa) = set_words isa
 
+-- the explanation of a job's bad `isa`: the key whose value is shown, and the words
 abbrev pub isa_told : Members → Option (List ℕ) × List ℕ
 isa_told ms = (Some (codes "isa"), isa_words (text_at_key (codes "isa") ms))

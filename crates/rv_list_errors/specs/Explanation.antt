@@ -1,4 +1,4 @@
--- The explanation of an error, after its location.
+-- The explanation of an error, which follows its location.
 use Rattle.std.specs.Prelude.{◌≡◌, ◌+◌, ◌++◌, ℕ, Bool, List, [], Option, Some, None, IsOk, MatchOption, OnOk, codes, if◌then◌else◌}
 use Rattle.std.specs.Prelude.{◌==◌, ◌||◌, zero, suc, false, length, not, slice_index_or}
 use Rattle.std.specs.Fmt.{decimal}
@@ -22,100 +22,106 @@ use Rattle.rv_list_errors.specs.declared.keys.Owner.{Owner}
 use Rattle.rv_list_errors.specs.declared.keys.Owner.TheVariants as owner
 use Rattle.rv_list_errors.specs.declared.message.Message.{Message}
 
--- ---- a message that grows by a text of which only some things are known
+-- ---- a message that grows by a text that is only partly known
 
--- unless an allocation failed, the message has been extended by a text that satisfies the predicate
+-- unless an allocation failed, the message went from `before` to `after` by appending a text that satisfies the predicate
 abbrev pub AddsSome : Message → Message → (List ℕ → Type 0) → Type 0
 AddsSome before after IsSo = OnOk after.grown
     (IsOk before.grown × ((text : List ℕ) × IsSo text × (after.bytes.items ≡ before.bytes.items ++ text)))
 
--- ---- values that were met
+-- ---- actual values
 
--- a text is shown in quotes, another value as in TOML
+-- `shown` is how a value is shown: a text in quotes, or another value as in TOML
 abbrev pub IsShownValue : Data → List ℕ → Type 0
 IsShownValue value shown = MatchOption (as_str value)
     ((text : List ℕ) × IsValueText false value text × (shown ≡ printable_value text)) (λ text. shown ≡ quoted text)
 
+-- the text that a key is missing
 abbrev pub missing_key_text : List ℕ → List ℕ
 missing_key_text key = codes "missing key \"" ++ (key ++ codes "\"")
 
--- a key with its value, or that it is missing
+-- `told` is the key with its value, or that the key is missing
 abbrev pub IsKeyAndValue : List ℕ → Option Data → List ℕ → Type 0
 IsKeyAndValue key None told = told ≡ missing_key_text key
 IsKeyAndValue key (Some value) told = (shown : List ℕ) × IsShownValue value shown × (told ≡ key ++ codes " = " ++ shown)
 
--- a key with its value, or that it is missing, and what is expected of the value
+-- `told` is the key with its value, or that it is missing, and then `wanted`, which is expected of the value
 abbrev pub IsExpectedValue : List ℕ → Option Data → List ℕ → List ℕ → Type 0
 IsExpectedValue key value wanted told =
     (met : List ℕ) × IsKeyAndValue key value met × (told ≡ met ++ (codes ": " ++ wanted))
 
--- ---- faults of the whole list
+-- ---- errors of the whole list
 
--- for a text that is not TOML: the line and column of the error, followed by a reason
+-- `told` is the explanation of a text that is not TOML: the line and column of the byte at the index `place`, where the error is, and a
+-- reason
 abbrev pub IsNotToml : List ℕ → ℕ → List ℕ → Type 0
 IsNotToml text place told = (reason : List ℕ) × (told
     ≡ codes ":" ++ (decimal (line_at place text) ++ (codes ":" ++ (decimal (column_at place text)
     ++ (codes ": error: invalid TOML: " ++ reason)))))
 
+-- the explanation of a list with too many jobs, given their number
 abbrev pub too_many_jobs_text : ℕ → List ℕ
 too_many_jobs_text count = (codes "too many jobs: expected at most " ++ (decimal most_jobs ++ codes ", found ")) ++ decimal count
 
 -- ---- keys
 
+-- whether the whole list, a job or a region has a key with this name
 abbrev pub is_key_of_owner : Owner → List ℕ → Bool
 is_key_of_owner owner.List key = is_list_key key
 is_key_of_owner owner.Job key = is_job_key key
 is_key_of_owner owner.Region key = is_region_key key
 
--- the first unknown key
+-- the first key of a table that is not known, or `None` if all are known
 unfoldable pub first_unknown_key : (List ℕ → Bool) → Members → Option (List ℕ)
 first_unknown_key known no_members = None
 first_unknown_key known (member key value members) =
     if known key then first_unknown_key known members else Some key
 
+-- the text that a key is unknown
 abbrev pub unknown_key_text : List ℕ → List ℕ
 unknown_key_text key = codes "unknown key " ++ quoted key
 
--- the number of a region, counted from 1
+-- the number of the region at an index, counted from 1, as in `region 1`
 abbrev pub region_number_text : ℕ → List ℕ
 region_number_text place = codes "region " ++ decimal (place + 1)
 
 -- ---- names
 
--- the name that is probably meant, or else all of these names
+-- the suggestion for an unknown job name: the name that is probably meant, or else all of these names
 abbrev pub nearest_job_text : List (Option (List ℕ)) → Option (List ℕ) → List ℕ
 nearest_job_text names (Some name) = codes "; a similar name exists: " ++ quoted name
 nearest_job_text names None = codes "; the earlier jobs are " ++ names_text (present names)
 
--- the text suggests which of these names is probably meant by an unknown job name
+-- `told` suggests the name that is probably meant by the job name `wanted`, or else all of these names
 abbrev pub IsNearestJob : List (Option (List ℕ)) → List ℕ → List ℕ → Type 0
 IsNearestJob names wanted told =
     (near : Option (List ℕ)) × IsNearName names wanted near × (told ≡ nearest_job_text names near)
 
--- ---- what is wanted
+-- ---- expected values
 
--- the name of the fault kind at an index, in quotes, after the separator from the kind before
+-- the name of the fault kind at an index, in quotes, with the separator before it
 abbrev pub kind_text : ℕ → List ℕ
 kind_text place =
     (if place == 0 then [] else if place + 1 == length fault_kinds then codes " or " else codes ", ")
     ++ quoted (fault_name (slice_index_or fault_kinds place fault.FetchAccess))
 
--- the first n kinds of faults, as a sentence lists them
+-- the names of the first kinds of faults, as a sentence lists them
 unfoldable pub first_kinds_text : ℕ → List ℕ
 first_kinds_text zero = []
 first_kinds_text (suc count) = first_kinds_text count ++ kind_text count
 
--- the maximum, or all kinds of faults
+-- the text that completes the words of an explanation: a maximum, or the names of all kinds of faults
 abbrev pub rest_words : Rest → List ℕ
 rest_words rest.Nothing = []
 rest_words (rest.Most most) = decimal most
 rest_words rest.FaultKinds = first_kinds_text (length fault_kinds)
 
+-- the words of an explanation, without the key and its value
 abbrev pub explained_words : Explanation → List ℕ
 explained_words (told.Text text) = text.now
 explained_words (told.Expected wanted) = wanted.now.before.now ++ (rest_words wanted.now.rest ++ wanted.now.behind.now)
 
--- the words for a key's value, if they depend only on the error
+-- what is expected of the value of a key, given the error, or `None` if it depends on more than the error
 abbrev pub key_words : What → Option (List ℕ)
 key_words what.Name =
     Some (codes "expected 1 to " ++ (decimal most_name ++ codes " ASCII letters, digits, \".\", \"_\" or \"-\""))
@@ -127,22 +133,23 @@ key_words what.Signature =
 key_words what.Misaligned = Some (codes "expected \"fault\" or \"allow\"")
 key_words _ = None
 
--- ---- sets of instructions
+-- ---- instruction sets
 
+-- the known instruction sets
 abbrev pub sets_words : List ℕ
 sets_words = codes "expected \"rv32i\", \"rv32im\", \"rv32ic\" or \"rv32imc\""
 
--- whether a letter is none of I, M and C
+-- whether a letter of an instruction set names none of the base and the extensions M and C
 abbrev pub is_unsimulated : ℕ → Bool
 is_unsimulated letter = not (letter == 105 || letter == 109 || letter == 99)
 
--- the words for the first such letter: A, or F and D, are not simulated
+-- the explanation of an unknown instruction set, given its first letter that is not simulated: A, F and D are named
 abbrev pub letter_words : Option ℕ → List ℕ
 letter_words None = sets_words
 letter_words (Some letter) =
     if letter == 97 then codes "the A extension is not simulated: " ++ sets_words
     else if letter == 102 || letter == 100 then codes "the F and D extensions are not simulated: " ++ sets_words else sets_words
 
--- the words for the letters after rv32
+-- the explanation of an unknown instruction set, given the letters after `rv32`
 abbrev pub letters_words : List ℕ → List ℕ
 letters_words letters = letter_words (find is_unsimulated letters)

@@ -1,4 +1,4 @@
--- The beginning of an error's line: the path of the list, and for an error of a job the line on which the job begins, its number and its
+-- The beginning of an error's line: the path of the list, and, for an error of a job, the line on which the job begins, its number and its
 -- name.
 use Rattle.std.specs.Prelude.{◌-◌, ◌==◌, ◌++◌, ℕ, List, [], ◌∷◌, Option, Some, None, codes, if◌then◌else◌, map, option_map}
 use Rattle.std.specs.Prelude.{slice_get, slice_index_or, unwrap_or}
@@ -15,64 +15,69 @@ use Rattle.rv_list_errors.specs.declared.fault_text.FaultView.TheVariants as loo
 
 -- ---- the names of jobs
 
--- the name of an element, if it is a table with a text as its name
+-- the name of an element of `job`, if it is a table with a text at `name`
 abbrev pub element_name : Data → Option (List ℕ)
 element_name (table ms) = text_at_key (codes "name") ms
 element_name _ = None
 
+-- the name of each element of `job`, if it has one
 unfoldable pub element_names : Items → List (Option (List ℕ))
 element_names no_items = []
 element_names (item d ds) = element_name d ∷ element_names ds
 
--- the elements of `job`, or none if it is not an array
+-- the elements of `job` in a document, or none if it is not an array
 abbrev pub elements_of_job : Members → Items
 elements_of_job ms = unwrap_or (array_at_key (codes "job") ms) no_items
 
--- the names of the jobs of a document
+-- the name of each job of a document, if it has one
 abbrev pub job_names : Members → List (Option (List ℕ))
 job_names ms = element_names (elements_of_job ms)
 
--- ---- where a job stands
+-- ---- where a job begins
 
+-- the text `:NUMBER` of a line number, or nothing if there is none
 abbrev pub line_text : Option ℕ → List ℕ
 line_text None = []
 line_text (Some number) = codes ":" ++ decimal number
 
+-- the name of a job after a space and in quotes, or nothing if it has none
 abbrev pub name_text : Option (List ℕ) → List ℕ
 name_text None = []
 name_text (Some name) = codes " \"" ++ (printable_value name ++ codes "\"")
 
--- the number of a job, counted from 1, and its name
+-- the part `: error: job NUMBER "NAME": ` of a line, for the job with this number, counted from 1
 abbrev pub job_number_and_name : List (Option (List ℕ)) → ℕ → List ℕ
 job_number_and_name names number =
     codes ": error: job " ++ (decimal number ++ (name_text (slice_index_or names (number - 1) None) ++ codes ": "))
 
--- the line on which the job with this number begins, the number, and its name
+-- the part of a line for the job with this number: the line on which it begins, its number, and its name
 abbrev pub job_heading : List ℕ → List (Option (List ℕ)) → ℕ → List ℕ
 job_heading lines names number = line_text (slice_get lines (number - 1)) ++ job_number_and_name names number
 
--- the number 0 is the whole list
+-- the part of a line for an error of the job with this number, or of the whole list if the number is 0
 abbrev pub fault_place : List ℕ → List (Option (List ℕ)) → ℕ → List ℕ
 fault_place lines names number = if number == 0 then codes ": error: " else job_heading lines names number
 
--- nothing is known of the jobs if the text is not a document
+-- the part of a line for an error of the job with this number, given the list's text and its document; empty if the text is not a document
 abbrev pub place_in_document : List ℕ → Option Members → ℕ → List ℕ
 place_in_document text None number = []
 place_in_document text (Some ms) number = fault_place (job_lines text) (job_names ms) number
 
--- the beginning of the line that reports an error of the list read from a path
+-- the beginning of the line that reports this error of the list with this path and text
 abbrev pub fault_head : List ℕ → List ℕ → JobError → List ℕ
 fault_head path text fault = path ++ place_in_document text (document_of text) fault.job
 
--- ---- the program's own values
+-- ---- values of the code
 
+-- the name that a reference points to, if there is one
 abbrev pub borrowed_name : Option (Bor (List ℕ)) → Option (List ℕ)
 borrowed_name name = option_map (λ text. text.now) name
 
+-- the name that each reference points to, if there is one
 abbrev pub borrowed_names : List (Option (Bor (List ℕ))) → List (Option (List ℕ))
 borrowed_names names = map borrowed_name names
 
--- the location as found by reading the text a second time
+-- the part of a line for an error of the job with this number, given the list as it was found by parsing its text again
 abbrev pub location_in_view : FaultView → ℕ → List ℕ
 location_in_view (look.NoToml text error) number = []
 location_in_view (look.List list) number = fault_place list.lines.items (borrowed_names list.names.items) number

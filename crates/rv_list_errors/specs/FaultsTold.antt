@@ -6,17 +6,17 @@ use Rattle.rv_lists.specs.declared.error.JobError.{JobError}
 use Rattle.rv_list_errors.specs.FaultHeads.{elements_of_job, fault_head, job_names}
 use Rattle.rv_list_errors.specs.JobFaults.{EndsSo, TellsJobFault, element_at}
 
--- for a document: an error of a numbered job is explained by that job's own values
+-- `told` explains this error of a document, if it is an error of a job, by the values of that job
 abbrev pub TellsFaultOfDocument : Members → JobError → List ℕ → Type 0
 TellsFaultOfDocument ms fault told = 0 < fault.job → TellsJobFault
     (job_names ms) (element_at (elements_of_job ms) (fault.job - 1)) fault.what told
 
--- a text that is not a document has no jobs
+-- `told` explains this error of a document by the values of the job, if there is a document
 abbrev pub TellsFaultIn : Option Members → JobError → List ℕ → Type 0
 TellsFaultIn None fault told = ⊤
 TellsFaultIn (Some ms) fault told = TellsFaultOfDocument ms fault told
 
--- a message is the head of an error followed by its explanation
+-- the message is the beginning of the error's line, followed by an explanation of the error
 abbrev pub TellsFaultOfText : List ℕ → List ℕ → JobError → List ℕ → Type 0
 TellsFaultOfText path text fault message =
     EndsSo (TellsFaultIn (document_of text) fault) (fault_head path text fault) message

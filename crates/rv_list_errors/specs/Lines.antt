@@ -4,36 +4,37 @@ use Rattle.std.specs.List.{flat_map}
 use Rattle.rv_lists.specs.declared.error.JobError.{JobError}
 use Rattle.rv_text.specs.Printable.{printable_text}
 
--- a message as printable text for a terminal, followed by a line feed
+-- a message as printable text for a terminal, with a line feed
 abbrev pub printable_line : List ℕ → List ℕ
 printable_line message = printable_text message ++ 10 ∷ []
 
+-- the message begins with `head`
 abbrev pub BeginsWith : List ℕ → List ℕ → Type 0
 BeginsWith head message = (rest : List ℕ) × (message ≡ head ++ rest)
 
--- one message per error, in order, each satisfying the predicate
+-- there is one message for each error, in order, and each error with its message satisfies the predicate
 abbrev pub TellEach : (JobError → List ℕ → Type 0) → List JobError → List (List ℕ) → Type 0
 TellEach Is [] [] = ⊤
 TellEach Is (fault ∷ faults) (message ∷ messages) = Is fault message × TellEach Is faults messages
 TellEach Is _ _ = ⊥
 
--- one message per error, in order, each beginning with the head of its error
+-- there is one message for each error, in order, and each begins with the head of its error
 abbrev pub TellFaults : (JobError → List ℕ) → List JobError → List (List ℕ) → Type 0
 TellFaults head faults messages = TellEach (λ fault message. BeginsWith (head fault) message) faults messages
 
--- that many lines have been appended
+-- the text went from `before` to `after` by appending this many lines
 abbrev pub PutsLines : ℕ → List ℕ → List ℕ → Type 0
 PutsLines count before after =
     (messages : List (List ℕ)) × (length messages ≡ count)
     × (after ≡ before ++ flat_map printable_line messages)
 
--- a line for each error has been appended, whose message satisfies the predicate
+-- the text went from `before` to `after` by appending a line for each error, in order, whose message satisfies the predicate
 abbrev pub AppendsLineOfEach : (JobError → List ℕ → Type 0) → List JobError → List ℕ → List ℕ → Type 0
 AppendsLineOfEach Is faults before after =
     (messages : List (List ℕ)) × TellEach Is faults messages
     × (after ≡ before ++ flat_map printable_line messages)
 
--- a line for each error has been appended, beginning with its head
+-- the text went from `before` to `after` by appending a line for each error, in order, whose message begins with the head of the error
 abbrev pub PutsFaultLines : (JobError → List ℕ) → List JobError → List ℕ → List ℕ → Type 0
 PutsFaultLines head faults before after =
     AppendsLineOfEach (λ fault message. BeginsWith (head fault) message) faults before after

@@ -11,73 +11,76 @@ use Rattle.rv_list_errors.specs.declared.message.Message.{Message}
 
 -- ---- a message that grows
 
--- unless an allocation failed, this text has been appended to the message
+-- unless an allocation failed, the message went from `before` to `after` by appending this text
 abbrev pub Adds : Message → Message → List ℕ → Type 0
 Adds before after text = OnOk after.grown (IsOk before.grown × (after.bytes.items ≡ before.bytes.items ++ text))
 
 -- ---- the nearest name
 
--- the edit distance of two texts: the least number of characters inserted, deleted or changed
+-- the edit distance of two texts: the least number of characters to insert, delete or change
 abbrev pub text_distance : List ℕ → List ℕ → ℕ
 text_distance text other = levenshtein_row nat_eq (chars text) (chars other) (length (chars other))
 
--- the distance of a text from a missing name, or of a text longer than a name may be
+-- the distance of a missing name, or of a text that is longer than a name may be
 abbrev pub farthest : ℕ
 farthest = 2 ^ 64 - 1
 
+-- the edit distance of a text from a name, or `farthest` if there is no name or one of them is longer than a name may be
 unfoldable pub name_distance : List ℕ → Option (List ℕ) → ℕ
 name_distance text None = farthest
 name_distance text (Some name) =
     if nat_le (length name) most_name && nat_le (length text) most_name then text_distance text name else farthest
 
+-- the distance of a text from the name at an index
 abbrev pub distance_at : List (Option (List ℕ)) → List ℕ → ℕ → ℕ
 distance_at names text place = name_distance text (slice_index_or names place None)
 
--- no name is nearer than the one at the index, and every earlier one is farther
+-- the name at the index `place` is the first of those nearest to the text
 pub record IsNearestName (names : List (Option (List ℕ))) (text : List ℕ) (place : ℕ) : Type 0 where
   pub within : place < length names
   pub least : (other : ℕ) → other < length names → distance_at names text place ≤ distance_at names text other
   pub first : (other : ℕ) → other < place → distance_at names text place < distance_at names text other
 
--- the name at the index is near the text
+-- the name at the index `place` is near the text: at most a third of its characters differ
 abbrev pub IsNearAt : List (Option (List ℕ)) → List ℕ → ℕ → Type 0
 IsNearAt names text place = (distance_at names text place < farthest)
     × IsNear (distance_at names text place) (unwrap_or (slice_index_or names place None) [])
 
--- the first of the nearest names, if it is near
+-- the first of the nearest names is near the text, and is this name; `None` says that it is not near
 abbrev pub IsNearName : List (Option (List ℕ)) → List ℕ → Option (List ℕ) → Type 0
 IsNearName names text None = (place : ℕ) → IsNearestName names text place → IsNearAt names text place → ⊥
 IsNearName names text (Some name) = (place : ℕ) × IsNearestName names text place × IsNearAt names text place
     × (slice_index_or names place None ≡ Some name)
 
--- ---- names that are told
+-- ---- lists of names
 
--- the names that are present
+-- the names that exist, in order
 unfoldable pub present : List (Option (List ℕ)) → List (List ℕ)
 present [] = []
 present (None ∷ names) = present names
 present (Some name ∷ names) = name ∷ present names
 
--- the maximum number of names listed
+-- the maximum number of names that are listed
 abbrev pub most_told : ℕ
 most_told = 20
 
+-- a name in quotes, as it is shown
 abbrev pub quoted : List ℕ → List ℕ
 quoted name = codes "\"" ++ (printable_value name ++ codes "\"")
 
--- the separator before the name at an index, given the number of names
+-- the separator before the name at an index of `count` names, as a sentence lists them
 abbrev pub separator : ℕ → ℕ → List ℕ
 separator count place = if place == 0 then [] else if place + 1 == count then codes " and " else codes ", "
 
--- the names from an index on, each in quotes
+-- the names in quotes, as a sentence lists them; the first has the index `place` of `count` names
 unfoldable pub names_from : ℕ → ℕ → List (List ℕ) → List ℕ
 names_from count place [] = []
 names_from count place (name ∷ names) = separator count place ++ (quoted name ++ names_from count (place + 1) names)
 
--- the number of names not listed
+-- how many more names there are than are listed, or nothing if all are listed
 abbrev pub left_text : ℕ → List ℕ
 left_text count = if nat_lt most_told count then codes " and " ++ (decimal (count - most_told) ++ codes " more") else []
 
--- the first names, and how many more there are
+-- the first names in quotes, as a sentence lists them, and how many more there are
 abbrev pub names_text : List (List ℕ) → List ℕ
 names_text names = names_from (length names) 0 (take most_told names) ++ left_text (length names)

@@ -9,37 +9,39 @@ use Rattle.rv_list_errors.specs.FaultHeads.{job_names, job_number_and_name}
 use Rattle.rv_list_errors.specs.Lines.{BeginsWith, printable_line}
 use Rattle.rv_list_locations.specs.Places.{column_at, line_at}
 
--- the line and column of a location in a text
+-- the line and column of the byte at an index of a text, as `:LINE:COLUMN`
 abbrev pub place_text : ℕ → List ℕ → List ℕ
 place_text place text = codes ":" ++ (decimal (line_at place text) ++ (codes ":" ++ decimal (column_at place text)))
 
--- the beginning of the line that reports a job's error at a location: the path, the location, and the job's number and name
+-- the beginning of the line that reports an error of the job with this number at the index `place` of the text: the path, the line and
+-- column, and the job's number and name
 abbrev pub placed_head : List ℕ → List ℕ → List (Option (List ℕ)) → ℕ → ℕ → List ℕ
 placed_head path text names number place = path ++ (place_text place text ++ job_number_and_name names number)
 
--- a message on an error of a job, at some location in the text
+-- the message reports an error of the job with this number, at some line and column of the text
 abbrev pub IsPlacedMessage : List ℕ → List ℕ → List (Option (List ℕ)) → ℕ → List ℕ → Type 0
 IsPlacedMessage path text names number message = (place : ℕ) × BeginsWith (placed_head path text names number place) message
 
--- for a document: a message on an error of the whole list, whose number is 0, or of a job
+-- the message reports this error of the list with these job names, which is an error of the whole list or of a job
 abbrev pub IsToldInList : List ℕ → List ℕ → List (Option (List ℕ)) → JobError → List ℕ → Type 0
 IsToldInList path text names fault message = ((fault.job ≡ 0) × BeginsWith (path ++ codes ": error: ") message)
     ⊎ ((0 < fault.job) × IsPlacedMessage path text names fault.job message)
 
+-- the message reports this error of the list with this path and text; without a document, it only begins with the path
 abbrev pub IsToldInDocument : List ℕ → List ℕ → Option Members → JobError → List ℕ → Type 0
 IsToldInDocument path text None fault message = BeginsWith path message
 IsToldInDocument path text (Some ms) fault message = IsToldInList path text (job_names ms) fault message
 
--- a message that reports an error of the list with a path and a text
+-- the message reports this error of the list with this path and text
 abbrev pub IsToldFault : List ℕ → List ℕ → JobError → List ℕ → Type 0
 IsToldFault path text fault message = IsToldInDocument path text (document_of text) fault message
 
--- one or more lines have been appended, each with a message that satisfies the predicate
+-- the text went from `before` to `after` by appending one or more lines, whose messages satisfy the predicate
 abbrev pub PutsLinesThat : (List ℕ → Type 0) → List ℕ → List ℕ → Type 0
 PutsLinesThat Is before after = (messages : List (List ℕ)) × (0 < length messages) × All Is messages
     × (after ≡ before ++ flat_map printable_line messages)
 
--- the lines of each error in turn have been appended
+-- the text went from `before` to `after` by appending one or more lines for each error, in order, whose messages satisfy the predicate
 abbrev pub PutsEachFault : (JobError → List ℕ → Type 0) → List JobError → List ℕ → List ℕ → Type 0
 PutsEachFault Is [] before after = after ≡ before
 PutsEachFault Is (fault ∷ faults) before after =

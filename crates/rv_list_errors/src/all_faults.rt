@@ -17,9 +17,9 @@ use rv_lists::JobError;
 use rv_text::{Span, push_spans, push_text};
 use std::alloc::{AllocError, Global};
 
-/// Appends all errors of a list's jobs, each on a line with its line and column: the errors of a job in the order of its keys, preceded by
-/// its missing keys, which are reported where the job begins. `file` is the path of the list as the user wrote it, and `faults` are the
-/// errors that `read_faults` of `rv_lists` returns for its text, one for each bad job. The text is parsed again.
+/// Appends a line for each error of a list's jobs, with its line and column: the missing keys of a job where the job begins, and then its
+/// bad values in the order of its keys. `file` is the path of the list as the user wrote it, and `faults` are the errors that `read_faults`
+/// of `rv_lists` returns for its text, one for each bad job. The text is parsed again.
 pub fn push_all_faults<'a>(
     alloc: Global,
     bytes: &mut Vec<u8>,
@@ -52,7 +52,7 @@ pub fn push_all_faults<'a>(
     }
 }
 
-// Error lines with their locations in a list.
+// The values that the lines of errors are made of.
 #[derive(Drop)]
 struct PlacedLines<'a> {
     file: &'a str,
@@ -63,6 +63,7 @@ struct PlacedLines<'a> {
 }
 
 impl<'a> PlacedLines<'a> {
+    // Appends the lines of each error in turn.
     fn push_fault_lines(
         &mut self,
         alloc: Global,
@@ -79,6 +80,7 @@ impl<'a> PlacedLines<'a> {
         Ok(())
     }
 
+    // Appends the line of an error of the whole list, or a line for each error of the bad job.
     fn push_fault(
         &mut self,
         alloc: Global,
@@ -101,7 +103,7 @@ impl<'a> PlacedLines<'a> {
         self.push_found_faults(alloc, bytes, fault.job, found.as_slice())
     }
 
-    // Appends a line for each of a job's errors.
+    // Appends a line for each of these errors of a job.
     fn push_found_faults(
         &mut self,
         alloc: Global,
@@ -125,7 +127,7 @@ impl<'a> PlacedLines<'a> {
         Ok(())
     }
 
-    // Returns the message on an error of a job, after its location.
+    // Returns the message on an error of a job: the path, the line and column, the job's number and name, and the explanation.
     fn placed_message(
         &mut self,
         alloc: Global,
@@ -150,6 +152,7 @@ impl<'a> PlacedLines<'a> {
     }
 }
 
+// Appends a location as `:LINE:COLUMN`.
 fn push_line_and_column(message: &mut Vec<u8>, place: Place) -> Result<(), AllocError>
     ensures { OnOk result (message.new.items ≡ message.old.items
         ++ (codes ":" ++ (decimal place.line ++ (codes ":" ++ decimal place.column)))) }
@@ -165,7 +168,7 @@ fn push_line_and_column(message: &mut Vec<u8>, place: Place) -> Result<(), Alloc
     )
 }
 
-// Appends a message as a line.
+// Appends a message as a line of printable text.
 fn push_message_line(bytes: &mut Vec<u8>, message: &[u8]) -> Result<(), AllocError>
     ensures { OnOk result (bytes.new.items ≡ bytes.old.items ++ printable_line message.now) }
 {

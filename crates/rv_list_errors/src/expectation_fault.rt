@@ -18,7 +18,7 @@ use crate::values::{text_at_key, value_at_key, word_at_key};
 use rv_lists::limits::{MOST_CONSOLE, MOST_PATH};
 use toml::Table;
 
-/// Returns the explanation of a job's bad expectation.
+/// Returns the explanation of a job's first bad expectation.
 pub(crate) fn expectation_explanation(table: &Table) -> Explanation
     ensures { IsExpectationTold (table_view table.now) (explained_key result, explained_words result) }
 {
@@ -29,7 +29,7 @@ pub(crate) fn expectation_explanation(table: &Table) -> Explanation
     }
 }
 
-// Returns the explanation of a bad expectation other than the exit.
+// Returns the explanation of a bad expectation other than `expect_exit`.
 fn reference_or_console_explanation(table: &Table) -> Explanation
     ensures { (explained_key result, explained_words result) ≡ reference_told_of (table_view table.now) }
 {
@@ -40,7 +40,7 @@ fn reference_or_console_explanation(table: &Table) -> Explanation
     )
 }
 
-// Returns the explanation of a bad reference, depending on whether there is a signature, or else that of the rest.
+// Returns the explanation of a bad `expect_signature`, or `rest` if it is missing or good. `is_asked` is whether the job has a signature.
 fn reference_explanation(is_asked: bool, path: Option<&str>, rest: Explanation) -> Explanation
     ensures { (explained_key result, explained_words result)
         ≡ reference_told is_asked (borrowed_name path.entry) (explained_key rest, explained_words rest) }
@@ -52,12 +52,14 @@ fn reference_explanation(is_asked: bool, path: Option<&str>, rest: Explanation) 
     }
 }
 
+// Whether a text may not be a path: it is empty or too long.
 fn is_no_path(path: &str) -> bool
     ensures { result ≡ is_no_path path.now }
 {
     path.is_empty() || MOST_PATH < path.len()
 }
 
+// Returns the explanation of a job's bad `expect_console`, `expect_console_file` or `expect_end`.
 fn console_or_end_explanation(table: &Table) -> Explanation
     ensures { (explained_key result, explained_words result) ≡ console_told_of (table_view table.now) }
 {
@@ -68,6 +70,7 @@ fn console_or_end_explanation(table: &Table) -> Explanation
     )
 }
 
+// Returns the explanation of a bad `expect_console`, `expect_console_file` or `expect_end`, given the texts at these keys.
 fn console_explanation(text: Option<&str>, path: Option<&str>, end: Option<&str>) -> Explanation
     ensures { (explained_key result, explained_words result)
         ≡ console_told (borrowed_name text.entry) (borrowed_name path.entry) (borrowed_name end.entry) }
@@ -80,17 +83,18 @@ fn console_explanation(text: Option<&str>, path: Option<&str>, end: Option<&str>
     }
 }
 
-/// The explanation of a console that is expected twice.
+/// The explanation of a job that sets both `expect_console` and `expect_console_file`.
 pub(crate) const BOTH_CONSOLES: &str =
     "\"expect_console\" and \"expect_console_file\" cannot both be set";
 
-/// Returns the explanation of an invalid end. An exit is expected by a separate key.
+/// Returns the explanation of a job's bad `expect_end`. For `exit`, it names the key to use instead.
 pub(crate) fn end_explanation(table: &Table) -> Explanation
     ensures { (explained_key result, explained_words result) ≡ end_told (text_at_key (codes "expect_end") (table_view table.now)) }
 {
     end_text_explanation(text_at_key(table, "expect_end"))
 }
 
+// Returns the explanation of a bad `expect_end` with this text.
 fn end_text_explanation(end: Option<&str>) -> Explanation
     ensures { (explained_key result, explained_words result) ≡ end_told (borrowed_name end.entry) }
 {

@@ -15,14 +15,14 @@ use rv_lists::limits::{MOST_BUDGET, MOST_CONSOLE, MOST_NAME, MOST_PATH, MOST_SCR
 use rv_machine::FaultKind;
 use toml::Table;
 
-/// The explanation of one key, or of two.
+/// The explanation of a bad value: what is expected of the value of one key, or a text about two keys.
 #[derive(Clone, Copy)]
 pub(crate) enum Explanation {
     Expected(&'static Expected),
     Text(&'static str),
 }
 
-/// What is expected of the value of a key: words, or words around an inserted text.
+/// What is expected of the value of a key: words, possibly around an inserted text.
 pub(crate) struct Expected {
     key: &'static str,
     before: &'static str,
@@ -31,7 +31,7 @@ pub(crate) struct Expected {
     bytes: Bytes,
 }
 
-/// What follows the first words.
+/// The text that is inserted after the first words.
 #[derive(Clone, Copy)]
 enum Rest {
     Nothing,
@@ -41,7 +41,7 @@ enum Rest {
     FaultKinds,
 }
 
-/// Whether the number of a text's bytes is shown if it exceeds the maximum.
+/// Whether and how the number of a text's bytes is shown if it exceeds the maximum.
 #[derive(Clone, Copy)]
 enum Bytes {
     Untold,
@@ -202,7 +202,7 @@ pub(crate) const MISALIGNED: Expected = Expected {
     bytes: Bytes::Untold,
 };
 
-/// Returns what is expected of the value of a key that accepts only a few texts.
+/// Returns what is expected of the value of a key that accepts only a few texts, or `None` for any other key.
 pub(crate) fn taken_texts(key: &str) -> Option<&'static Expected>
     ensures { IfSome result (λ wanted. wanted.now.key.now ≡ key.now) }
 {
@@ -215,7 +215,7 @@ pub(crate) fn taken_texts(key: &str) -> Option<&'static Expected>
     }
 }
 
-/// Appends an explanation.
+/// Appends an explanation of a bad value of a job.
 pub(crate) fn push_explanation(message: &mut Message, table: &Table, told: Explanation)
     ensures { AddsSome message.old message.new (TellsExplanation told (table_view table.now)) }
 {
@@ -233,7 +233,7 @@ fn push_wanted(message: &mut Message, table: &Table, wanted: &Expected)
     push_wanted_words(message, reported_byte_count(table, wanted), wanted);
 }
 
-// Appends the number of bytes, if there are too many, and what is expected.
+// Appends the number of bytes, if it exceeds the maximum, and what is expected.
 fn push_wanted_words(message: &mut Message, bytes: u64, wanted: &Expected)
     ensures { Adds message.old message.new (bytes_text wanted.now.rest bytes ++ (codes ": " ++ wanted_words wanted.now)) }
 {
@@ -244,7 +244,7 @@ fn push_wanted_words(message: &mut Message, bytes: u64, wanted: &Expected)
     message.push(wanted.behind);
 }
 
-// Appends the number of bytes, if it exceeds the maximum.
+// Appends the number of bytes in parentheses, if it exceeds the maximum.
 fn push_byte_count(message: &mut Message, bytes: u64, rest: Rest)
     ensures { Adds message.old message.new (bytes_text rest bytes) }
 {
@@ -254,6 +254,7 @@ fn push_byte_count(message: &mut Message, bytes: u64, rest: Rest)
     }
 }
 
+// Appends the text that is inserted after the first words.
 fn push_rest(message: &mut Message, rest: Rest)
     ensures { Adds message.old message.new (rest_words rest) }
 {
@@ -273,6 +274,7 @@ fn push_fault_kinds(message: &mut Message)
     }
 }
 
+// Appends the name of the fault kind at an index in quotes, with the separator before it.
 fn push_fault_kind(message: &mut Message, place: usize)
     requires { place < length fault_kinds }
     ensures { Adds message.old message.new (kind_text place) }
@@ -285,7 +287,7 @@ fn push_fault_kind(message: &mut Message, place: usize)
     message.push_quoted(FaultKind::ALL[place].name());
 }
 
-// Returns the number of bytes of the text at a key, if it is to be shown.
+// Returns the number of bytes that the text at a key represents, or 0 if it is not to be shown.
 fn reported_byte_count(table: &Table, wanted: &Expected) -> u64
     ensures { result ≡ told_bytes wanted.now.bytes (text_length (text_at_key wanted.now.key.now (table_view table.now))) }
 {

@@ -16,17 +16,16 @@ use rv_text::{Span, push_spans, push_text};
 use std::alloc::{AllocError, Global};
 use toml::de::Error;
 
-/// The result of parsing a list's text again.
+/// A list whose text was parsed again to explain its errors.
 #[derive(Drop)]
 pub(crate) enum FaultView<'a> {
-    /// It is a document.
+    /// The text is a document.
     List(List<'a>),
-    /// It is not a TOML document, for this reason.
+    /// The text is not a TOML document, for this reason.
     NoToml(&'a [u8], Error),
 }
 
-/// Returns the message on an error, without the line end. `file` is the path of the list as the user wrote it; the nearest name to an
-/// unknown one is included if requested.
+/// Returns the message on an error, without the line end. `file` is the path of the list as the user wrote it.
 pub(crate) fn message_of_fault(
     alloc: Global,
     file: &str,
@@ -63,7 +62,7 @@ pub(crate) fn list_fault_message(
     Ok(message)
 }
 
-// Appends the location of an error in the list, as far as its jobs are known.
+// Appends the location of an error of the job with this number, or nothing if the text is not a document.
 fn push_fault_place(message: &mut Vec<u8>, look: &FaultView<'_>, job: u32) -> Result<(), AllocError>
     ensures { OnOk result (message.new.items ≡ message.old.items ++ location_in_view look.now job) }
 {
@@ -73,6 +72,7 @@ fn push_fault_place(message: &mut Vec<u8>, look: &FaultView<'_>, job: u32) -> Re
     }
 }
 
+// Appends the location of an error of the job with this number, or of the whole list if the number is 0.
 fn push_place_in_list(message: &mut Vec<u8>, list: &List<'_>, job: u32) -> Result<(), AllocError>
     ensures { OnOk result (message.new.items ≡ message.old.items
         ++ fault_place list.now.lines.items (borrowed_names list.now.names.items) job) }
@@ -84,7 +84,7 @@ fn push_place_in_list(message: &mut Vec<u8>, list: &List<'_>, job: u32) -> Resul
     }
 }
 
-// Appends the line on which a job begins, its number, and its name if that is a text.
+// Appends the line on which a job begins, its number, and its name if it has one.
 fn push_job_heading(message: &mut Vec<u8>, list: &List<'_>, number: u32) -> Result<(), AllocError>
     requires { 0 < number }
     ensures { OnOk result (message.new.items ≡ message.old.items
@@ -95,7 +95,7 @@ fn push_job_heading(message: &mut Vec<u8>, list: &List<'_>, number: u32) -> Resu
     push_job_number_and_name(message, list, number)
 }
 
-/// Appends the number of a job, and its name if that is a text.
+/// Appends `: error: job NUMBER "NAME": `; without the name if the job has none.
 pub(crate) fn push_job_number_and_name(
     message: &mut Vec<u8>,
     list: &List<'_>,
@@ -113,6 +113,7 @@ pub(crate) fn push_job_number_and_name(
     push_text(message, ": ")
 }
 
+// Appends the line number at an index as `:NUMBER`, or nothing if there is none.
 fn push_line_number(message: &mut Vec<u8>, lines: &[usize], place: usize) -> Result<(), AllocError>
     ensures { OnOk result (message.new.items ≡ message.old.items ++ line_text (slice_get lines.now place)) }
 {
@@ -122,6 +123,7 @@ fn push_line_number(message: &mut Vec<u8>, lines: &[usize], place: usize) -> Res
     }
 }
 
+// Returns the name at an index, or `None` if there is none.
 fn name_at<'a>(names: &[Option<&'a str>], place: usize) -> Option<&'a str>
     ensures { borrowed_name result ≡ slice_index_or (borrowed_names names.now) place None }
 {
@@ -132,6 +134,7 @@ fn name_at<'a>(names: &[Option<&'a str>], place: usize) -> Option<&'a str>
     }
 }
 
+// Appends a space and a name in quotes, or nothing if there is no name.
 fn push_name_in_quotes(message: &mut Vec<u8>, name: Option<&str>) -> Result<(), AllocError>
     ensures { OnOk result (message.new.items ≡ message.old.items ++ name_text (borrowed_name name.entry)) }
 {
@@ -163,6 +166,7 @@ fn fault_explanation(
     }
 }
 
+// Returns the explanation of a text that is not TOML: where the error is, and the reason.
 fn not_toml_explanation(alloc: Global, text: &[u8], error: &Error) -> Result<Vec<u8>, AllocError> {
     let mut message = Message::new(alloc);
     push_not_toml(&mut message, text, error);
@@ -172,6 +176,7 @@ fn not_toml_explanation(alloc: Global, text: &[u8], error: &Error) -> Result<Vec
     message.finish()
 }
 
+// Returns the explanation of an error of a list that is a document.
 fn explanation_in_list(
     alloc: Global,
     list: &List<'_>,

@@ -13,7 +13,7 @@ use rv_lists::JobError;
 use rv_text::{Span, push_spans};
 use std::alloc::{AllocError, Global};
 
-// The number of errors for which the nearest name or key is suggested: the search takes time in proportion to the number of names.
+// The number of errors for which the nearest name or key is suggested. The search takes time in proportion to the number of names.
 const NEAR_TOLD: usize = 64;
 
 /// Appends a line for each error of a list, in order. `file` is the path of the list as the user wrote it, and `faults` are the errors that
@@ -48,6 +48,7 @@ pub fn push_faults(
     }
 }
 
+// Appends a line for each error of a list whose text was parsed again.
 fn push_fault_lines(
     alloc: Global,
     bytes: &mut Vec<u8>,
@@ -66,7 +67,7 @@ fn push_fault_lines(
     Ok(())
 }
 
-/// Returns what is suggested for an unknown job name or key in the error at an index.
+/// Returns whether the nearest name or key is suggested in the error at an index.
 pub(crate) fn suggestion_for_fault(place: usize) -> Suggestion {
     if place < NEAR_TOLD {
         Suggestion::Nearest

@@ -16,16 +16,15 @@ use toml::Value;
 // The maximum number of errors reported for one job.
 const MOST_FAULTS: usize = 64;
 
-/// An error of a job: its offset in the list's text, and its message.
+/// An error of a job: its offset in the list's text, and its explanation.
 #[derive(Drop)]
 pub(crate) struct FoundFault {
     pub(crate) place: usize,
     pub(crate) explanation: Vec<u8>,
 }
 
-/// Returns the errors of a job, of which there is at least one: if no bad key is found, the error that is already known. If there are very
-/// many, returns the first ones, followed by a note that the later keys are not checked. `jobs` are the texts from each job on, of which
-/// the first is the longest.
+/// Returns all errors of a bad job. If no error is found at one of its keys, returns only the error that is already known. If there are
+/// very many, returns the first ones, followed by a note that the later keys are not checked. `jobs` are the texts from each job on.
 pub(crate) fn faults_of_job(
     alloc: Global,
     list: &List<'_>,
@@ -61,7 +60,7 @@ pub(crate) fn faults_of_job(
 }
 
 impl<'a> FaultyJob<'a> {
-    // Records the missing keys of a job, at the location where it begins.
+    // Records the missing keys of a job at the offset where it begins.
     fn find_absent_keys(
         &self,
         alloc: Global,
@@ -101,7 +100,7 @@ impl<'a> FaultyJob<'a> {
         Ok(())
     }
 
-    // Records that the keys from this one on are not checked.
+    // Records at a key that the keys from it on are not checked.
     fn stop_at_key(
         &self,
         alloc: Global,
@@ -116,7 +115,7 @@ impl<'a> FaultyJob<'a> {
         Ok(())
     }
 
-    // Records what is wrong with the value of a key, if anything is.
+    // Records the error of a key's value, if it has one.
     fn find_key_fault(
         &self,
         alloc: Global,

@@ -27,7 +27,7 @@ use crate::values::text_at_key;
 use rv_lists::What;
 use toml::{Table, Value};
 
-/// Appends an error of the job at an index. The nearest job name is suggested if one may be meant and it is requested.
+/// Appends the explanation of an error of the job at an index. The nearest job name is suggested if requested.
 pub(crate) fn push_job_fault(
     message: &mut Message,
     list: &List<'_>,
@@ -55,6 +55,7 @@ pub(crate) fn push_job_fault(
     }
 }
 
+// Returns the element at an index, or `None` if there are not so many.
 fn element_at(elements: &[Value], place: usize) -> Option<&Value>
     ensures { option_map (λ element. view element.now) result ≡ element_at (items_view elements.now) place }
 {
@@ -69,7 +70,7 @@ fn push_no_table(message: &mut Message, element: &Value)
     message.push_value(element);
 }
 
-// Appends an error of a job that is a table.
+// Appends the explanation of an error of a job that is a table.
 fn push_fault_of_table(message: &mut Message, job: FaultyJob<'_>, what: What)
     ensures { AddsSome message.old message.new (TellsFaultOfTable
         (borrowed_names job.entry.list.now.names.items) (table_view job.entry.table.now) what) }
@@ -87,7 +88,7 @@ fn push_fault_of_table(message: &mut Message, job: FaultyJob<'_>, what: What)
     }
 }
 
-/// Appends that an earlier job has the same name.
+/// Appends that an earlier job has the name of the job.
 pub(crate) fn push_taken_name(message: &mut Message, list: &List<'_>, table: &Table)
     ensures { AddsSome message.old message.new
         (TellsName (borrowed_names list.now.names.items) (codes "name") free_words (table_view table.now)) }
@@ -97,7 +98,7 @@ pub(crate) fn push_taken_name(message: &mut Message, list: &List<'_>, table: &Ta
 
 const FREE: &str = "expected a unique name";
 
-// Appends an error that does not depend on the other jobs.
+// Appends the explanation of an error that does not depend on the other jobs.
 fn push_fault_within_job(message: &mut Message, table: &Table, what: What)
     ensures { AddsSome message.old message.new (TellsOwnFault what (table_view table.now)) }
 {
@@ -131,7 +132,7 @@ fn key_explanation(table: &Table, what: What) -> Explanation
     }
 }
 
-/// Returns which part of an instruction set is not simulated, for the sets requested most often.
+/// Returns the explanation of a job's bad `isa`: which part of the set is not simulated, if it is a common one, and the known sets.
 pub(crate) fn isa_explanation(table: &Table) -> Explanation
     ensures { (explained_key result, explained_words result) ≡ isa_told (table_view table.now) }
 {
@@ -141,7 +142,7 @@ pub(crate) fn isa_explanation(table: &Table) -> Explanation
     }
 }
 
-// Returns the explanation of the name of an instruction set.
+// Returns the explanation of an unknown instruction set with this name.
 fn set_explanation(isa: &[u8]) -> Explanation
     ensures key { explained_key result ≡ Some (codes "isa") }
     ensures words { explained_words result ≡ set_words isa.now }
@@ -155,7 +156,7 @@ fn set_explanation(isa: &[u8]) -> Explanation
     }
 }
 
-// Returns the explanation of the letters of a 32-bit instruction set.
+// Returns the explanation of an unknown instruction set with these letters after `rv32`.
 fn letters_explanation(letters: &[u8]) -> Explanation
     ensures key { explained_key result ≡ Some (codes "isa") }
     ensures words { explained_words result ≡ letters_words letters.now }
@@ -167,26 +168,28 @@ fn letters_explanation(letters: &[u8]) -> Explanation
     }
 }
 
-// Returns the first letter that is none of I, M and C.
+// Returns the first letter that names none of the base and the extensions M and C.
 fn unsimulated_letter(letters: &[u8]) -> Option<&u8>
     ensures { option_map (λ letter. letter.now) result ≡ find is_unsimulated letters.now }
 {
     letters.iter().find(|letter| is_unsimulated(**letter))
 }
 
+// Whether a letter names none of the base and the extensions M and C.
 fn is_unsimulated(letter: u8) -> bool
     ensures { result ≡ is_unsimulated letter }
 {
     !(letter == b'i' || letter == b'm' || letter == b'c')
 }
 
-// Returns the explanation of a bad script, given the texts of both its keys.
+// Returns the explanation of a job's bad script.
 fn input_explanation(table: &Table) -> Explanation
     ensures { (explained_key result, explained_words result) ≡ script_told_of (table_view table.now) }
 {
     script_explanation(text_at_key(table, "input"), text_at_key(table, "input_hex"))
 }
 
+// Returns the explanation of a bad script, given the texts of `input` and `input_hex`.
 fn script_explanation(text: Option<&str>, digits: Option<&str>) -> Explanation
     ensures { (explained_key result, explained_words result) ≡ script_told (borrowed_name text.entry) (borrowed_name digits.entry) }
 {
@@ -198,6 +201,7 @@ fn script_explanation(text: Option<&str>, digits: Option<&str>) -> Explanation
     }
 }
 
+// Returns the explanation of a bad `input_hex` with these digits.
 fn digits_explanation(digits: &str) -> Explanation
     ensures { (explained_key result, explained_words result) ≡ script_told None (Some digits.now) }
 {
@@ -208,16 +212,17 @@ fn digits_explanation(digits: &str) -> Explanation
     }
 }
 
-/// The explanation of a script that is set twice.
+/// The explanation of a job that sets both `input` and `input_hex`.
 pub(crate) const BOTH_INPUTS: &str = "\"input\" and \"input_hex\" cannot both be set";
 
-/// Whether digits represent bytes.
+/// Whether a text consists of pairs of hexadecimal digits, which represent bytes.
 pub(crate) fn are_hex_digit_pairs(digits: &str) -> bool
     ensures { result ≡ are_digit_pairs digits.now }
 {
     are_hex_digits(digits.as_bytes()) && digits.len() % 2 == 0
 }
 
+// Whether each byte is a hexadecimal digit.
 fn are_hex_digits(digits: &[u8]) -> bool
     ensures { result ≡ list_all is_ascii_hexdigit digits.now }
 {

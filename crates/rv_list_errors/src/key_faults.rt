@@ -1,4 +1,4 @@
-//! What is wrong with the value of one key of a job, whatever its other keys.
+//! The errors of single keys of a job, whatever its other keys are.
 
 ghost use Rattle.std.specs.Prelude.{◌<◌, IfSome};
 
@@ -23,30 +23,33 @@ use std::alloc::{AllocError, Global};
 use std::collections::BTreeMap;
 use toml::{Table, Value};
 
-/// The keys of a job that have been seen.
+/// The keys of a job that have been checked.
 #[derive(Drop)]
 pub(crate) struct FoundKeys<'k> {
     names: BTreeMap<&'k str, ()>,
 }
 
 impl<'k> FoundKeys<'k> {
+    /// Returns no keys. Does not allocate.
     pub(crate) fn none(alloc: Global) -> FoundKeys<'k> {
         FoundKeys {
             names: BTreeMap::new(alloc),
         }
     }
 
+    /// Whether a key has been checked.
     pub(crate) fn has(&self, name: &str) -> bool {
         self.names.contains_key(name)
     }
 
+    /// Records that a key has been checked.
     pub(crate) fn add(&mut self, name: &'k str) -> Result<(), AllocError> {
         self.names.insert(name, ())?;
         Ok(())
     }
 }
 
-// Returns the index of a key among those that jobs have.
+// Returns the index of a key among those that jobs have, or `None` if jobs do not have it.
 fn place_of_key(name: &str) -> Option<usize>
     ensures { IfSome result (λ place. place < 16) }
 {
@@ -68,7 +71,7 @@ pub(crate) struct FaultyJob<'a> {
     pub(crate) suggestion: Suggestion,
 }
 
-// What is wrong with a value.
+// The error of a key.
 #[derive(Clone, Copy)]
 enum KeyFault {
     Unknown,
@@ -81,8 +84,8 @@ enum KeyFault {
 }
 
 impl<'a> FaultyJob<'a> {
-    /// Appends what is wrong with the value of a key, and returns whether anything is. If two keys cannot be used together, the error is
-    /// reported at the one seen last.
+    /// Appends the explanation of the error of a key, and returns whether it has one. If two keys cannot be used together, the error is
+    /// reported at the one that comes later.
     pub(crate) fn push_key_fault(
         &self,
         message: &mut Message,
@@ -110,7 +113,7 @@ impl<'a> FaultyJob<'a> {
         true
     }
 
-    // Returns what is wrong with the value of a key, if anything is.
+    // Returns the error of a key, or `None` if it is good. `met` are the keys before it.
     fn key_fault(&self, key: &str, met: &FoundKeys<'_>) -> Option<KeyFault> {
         let Some(place) = place_of_key(key) else {
             return Some(KeyFault::Unknown);
@@ -126,7 +129,7 @@ impl<'a> FaultyJob<'a> {
         }
     }
 
-    // Returns what is wrong with a value whose kind is right.
+    // Returns the error of a value of the right type, or `None` if it is good.
     fn value_fault(
         &self,
         kind: Kind,
@@ -144,7 +147,7 @@ impl<'a> FaultyJob<'a> {
         }
     }
 
-    // Returns what is wrong with the text at a key, if anything is.
+    // Returns the error of the text at a key, or `None` if it is good.
     fn text_fault(&self, key: &str, text: &str, met: &FoundKeys<'_>) -> Option<KeyFault> {
         match key {
             "name" => self.name_fault(text),
@@ -155,6 +158,7 @@ impl<'a> FaultyJob<'a> {
         }
     }
 
+    // Returns the error of the name of a job, or `None` if it is good.
     fn name_fault(&self, name: &str) -> Option<KeyFault> {
         if !is_name(name.as_bytes()) {
             Some(KeyFault::Expected(Explanation::Expected(&NAME)))
@@ -165,7 +169,7 @@ impl<'a> FaultyJob<'a> {
         }
     }
 
-    // Whether an earlier job has a valid name equal to this one.
+    // Whether a name is valid, and an earlier job has it.
     fn is_earlier_job(&self, name: &str) -> bool {
         match self.list.job_number_of_name(Some(name)) {
             Some(number) => number <= self.place as u64 && is_name(name.as_bytes()),
@@ -173,6 +177,7 @@ impl<'a> FaultyJob<'a> {
         }
     }
 
+    // Returns the explanation of a bad `input` or `input_hex`, or `None` if it is good.
     fn input_fault(&self, key: &str, text: &str, met: &FoundKeys<'_>) -> Option<Explanation> {
         if key == "input" {
             if MOST_SCRIPT < text.len() {
@@ -189,7 +194,7 @@ impl<'a> FaultyJob<'a> {
         }
     }
 
-    // Returns the explanation if another key with a text value has been seen.
+    // Returns the explanation `both` if the other of two keys that exclude each other comes before and has a text.
     fn told_of_two(&self, other: &str, met: &FoundKeys, both: &'static str) -> Option<Explanation> {
         if met.has(other) && text_at_key(self.table, other).is_some() {
             Some(Explanation::Text(both))
@@ -198,6 +203,7 @@ impl<'a> FaultyJob<'a> {
         }
     }
 
+    // Returns the explanation of a bad expectation, image, or other text at a key, or `None` if it is good.
     fn expectation_or_choice_fault(
         &self,
         key: &str,
@@ -219,6 +225,7 @@ impl<'a> FaultyJob<'a> {
         }
     }
 
+    // Returns the explanation of a bad `expect_signature`, or `None` if it is good.
     fn reference_fault(&self, path: &str) -> Option<Explanation> {
         if value_at_key(self.table, "signature").is_none() {
             Some(Explanation::Expected(&UNASKED))
@@ -229,7 +236,7 @@ impl<'a> FaultyJob<'a> {
         }
     }
 
-    // Returns what is wrong with the value of a key that accepts only a few texts.
+    // Returns the explanation of a bad text at a key that accepts only a few texts, or `None` if it is good.
     fn choice_fault(&self, key: &str, text: &str) -> Option<Explanation> {
         match key {
             "load" if text != "physical" && text != "virtual" => Some(Explanation::Expected(&LOAD)),
@@ -243,6 +250,7 @@ impl<'a> FaultyJob<'a> {
     }
 }
 
+// Returns the error with this explanation, if there is one.
 fn wanted(told: Option<Explanation>) -> Option<KeyFault> {
     match told {
         Some(told) => Some(KeyFault::Expected(told)),
@@ -250,6 +258,7 @@ fn wanted(told: Option<Explanation>) -> Option<KeyFault> {
     }
 }
 
+// Returns the explanation of a bad number at a key, or `None` if it is good.
 fn number_fault(key: &str, number: i64) -> Option<Explanation> {
     if key == "budget" && (number < 1 || i64::from(MOST_BUDGET) < number) {
         Some(Explanation::Expected(&BUDGET))
@@ -260,7 +269,7 @@ fn number_fault(key: &str, number: i64) -> Option<Explanation> {
     }
 }
 
-// Returns what is wrong with an array of texts.
+// Returns the explanation of a bad `signature` with these elements, or `None` if it is good.
 fn signature_fault(names: &[Value]) -> Option<Explanation> {
     let is_good = names.len() == 2 && is_symbol(&names[0]) && is_symbol(&names[1]);
     if is_good {
@@ -270,6 +279,7 @@ fn signature_fault(names: &[Value]) -> Option<Explanation> {
     }
 }
 
+// Whether a value may name a symbol of a signature: a text of 1 to 255 bytes without a zero byte.
 fn is_symbol(name: &Value) -> bool {
     match name.as_str() {
         Some(name) => {
@@ -279,14 +289,17 @@ fn is_symbol(name: &Value) -> bool {
     }
 }
 
+// Whether a text may be a path: it is 1 to 4,096 bytes long.
 fn is_path(text: &str) -> bool {
     1 <= text.len() && text.len() <= MOST_PATH
 }
 
+// Whether a text names an instruction set.
 fn is_set(text: &str) -> bool {
     text == "rv32i" || text == "rv32im" || text == "rv32ic" || text == "rv32imc"
 }
 
+// Whether a text names an expected end: `budget`, or the name of a fault.
 fn is_end(text: &str) -> bool {
     text == "budget" || FaultKind::from_name(text.as_bytes()).is_some()
 }
@@ -294,7 +307,7 @@ fn is_end(text: &str) -> bool {
 /// The keys that every job must have.
 pub(crate) const NEEDED: [&str; 3] = ["name", "image", "budget"];
 
-/// Appends that a job lacks a required key.
+/// Appends that the job lacks this required key, and what is expected of its value.
 pub(crate) fn push_absent_key(message: &mut Message, table: &Table, key: &str) {
     match key {
         "name" => push_explanation(message, table, Explanation::Expected(&NAME)),

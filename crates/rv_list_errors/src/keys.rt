@@ -17,7 +17,7 @@ use crate::values::elements_at_key;
 use rv_lists::{JOB_KEYS, Kind};
 use toml::{Table, Value};
 
-/// The table that keys belong to.
+/// The table that keys belong to: the whole list, a job or a region.
 #[derive(Clone, Copy)]
 pub(crate) enum Owner {
     List,
@@ -25,7 +25,7 @@ pub(crate) enum Owner {
     Region,
 }
 
-/// Returns the first key of a table that its owner does not have.
+/// Returns the first key of a table that its owner does not have, or `None` if there is none.
 pub(crate) fn unknown_key(table: &Table, owner: Owner) -> Option<&str>
     ensures { option_map (λ key. key.now) result
         ≡ first_unknown_key (is_key_of_owner owner) (table_view table.now) }
@@ -36,6 +36,7 @@ pub(crate) fn unknown_key(table: &Table, owner: Owner) -> Option<&str>
     }
 }
 
+// Returns the first key of a table that its owner does not have, as a string of the table.
 fn first_unknown_key(table: &Table, owner: Owner) -> Option<&String>
     ensures { option_map (λ key. string_bytes key.now) result
         ≡ first_unknown_key (is_key_of_owner owner) (table_view table.now) }
@@ -45,6 +46,7 @@ fn first_unknown_key(table: &Table, owner: Owner) -> Option<&String>
         .find(|key| !is_key_of_owner(key.as_str(), owner))
 }
 
+// Whether the whole list, a job or a region has a key with this name.
 fn is_key_of_owner(key: &str, owner: Owner) -> bool
     ensures { result ≡ is_key_of_owner owner key.now }
 {
@@ -55,18 +57,21 @@ fn is_key_of_owner(key: &str, owner: Owner) -> bool
     }
 }
 
+// Whether jobs have a key with this name.
 fn is_job_key(key: &str) -> bool
     ensures { result ≡ is_job_key key.now }
 {
     is_key_among(&JOB_KEYS, key)
 }
 
+// Whether one of these keys has this name.
 fn is_key_among(keys: &[(&str, Kind)], name: &str) -> bool
     ensures { result ≡ list_any (λ key. bytes_eq name.now key.0.now) keys.now }
 {
     keys.iter().any(|key| name == key.0)
 }
 
+// Whether regions have a key with this name.
 fn is_region_key(name: &str) -> bool
     ensures { result ≡ is_region_key name.now }
 {
@@ -87,7 +92,8 @@ pub(crate) fn push_unknown_key(message: &mut Message, key: &str)
     message.push_quoted(key);
 }
 
-/// Appends the first unknown key of a job or of one of its regions, and the known keys: for a job only the nearest one, if one is near.
+/// Appends the first unknown key of a job with the nearest known key, or all known keys if none is near; or, if a region has an unknown
+/// key, that key with the known keys of regions.
 pub(crate) fn push_unknown_job_key(message: &mut Message, table: &Table)
     ensures { AddsSome message.old message.new (TellsUnknownKey (table_view table.now)) }
 {
@@ -97,7 +103,7 @@ pub(crate) fn push_unknown_job_key(message: &mut Message, table: &Table)
     }
 }
 
-/// Appends an unknown key of a job. The nearest known key, or all of them, are suggested if requested.
+/// Says that a job has this unknown key. If suggestions are requested, adds the nearest known key, or all known keys if none is near.
 pub(crate) fn push_unknown_job_key_of(message: &mut Message, key: &str, suggestion: Suggestion)
     ensures { AddsSome message.old message.new (BeginsWith (unknown_key_text key.now)) }
 {
@@ -108,7 +114,7 @@ pub(crate) fn push_unknown_job_key_of(message: &mut Message, key: &str, suggesti
     }
 }
 
-// Appends the nearest key of a job to a text, or all keys if none is near.
+// Appends the key of jobs that is nearest to a text, or all keys if none is near.
 fn push_nearest_key(message: &mut Message, text: &str)
     ensures { AddsSome message.old message.new (BeginsWith []) }
 {
@@ -128,7 +134,7 @@ fn push_nearest_key(message: &mut Message, text: &str)
     }
 }
 
-/// Appends the first unknown key of a region, and the known keys of regions.
+/// Appends the first unknown key of a job's regions, and the known keys of regions.
 pub(crate) fn push_unknown_region_key(message: &mut Message, table: &Table)
     ensures { AddsSome message.old message.new TellsUnknownRegionKey }
 {
@@ -139,7 +145,7 @@ pub(crate) fn push_unknown_region_key(message: &mut Message, table: &Table)
     }
 }
 
-// Returns the index of the first region with an unknown key, and that key.
+// Returns the index of the first region with an unknown key, and the key, or `None` if there is none.
 fn first_unknown_region_key(regions: &[Value]) -> Option<(usize, &str)>
     ensures { IfSome result (λ unknown. unknown.0 < length regions.now) }
 {
@@ -151,6 +157,7 @@ fn first_unknown_region_key(regions: &[Value]) -> Option<(usize, &str)>
     None
 }
 
+// Appends that the region at an index has this unknown key, and the known keys of regions.
 fn push_unknown_key_of_region(message: &mut Message, at: usize, key: &str)
     ensures { at + 1 < 2 ^ 64 → Adds message.old message.new (region_number_text at ++ (codes ": "
         ++ (unknown_key_text key.now ++ codes ": valid keys are \"base\", \"size\" and \"write\""))) }
@@ -171,6 +178,7 @@ pub(crate) fn region_with_unknown_key(table: &Table) -> bool {
     false
 }
 
+// Returns the first unknown key of a region, or `None` if there is none.
 fn unknown_region_key(region: &Value) -> Option<&str> {
     match region {
         Value::Table(table) => unknown_key(table, Owner::Region),

@@ -1,4 +1,4 @@
-//! Values of another TOML kind than their key requires.
+//! Values of another TOML type than their keys require.
 
 ghost use Rattle.std.specs.Prelude.{◌≡◌, ◌+◌, ◌^◌, ◌<◌, IfSome, codes, is_some, length, map, not, option_map, true};
 ghost use Rattle.std.specs.List.{find, list_all, position};
@@ -18,7 +18,7 @@ use crate::values::{elements_at_key, push_expected_value, value_at_key};
 use rv_lists::{JOB_KEYS, Kind};
 use toml::{Table, Value};
 
-/// Appends the first key of a job, in the order of the format, whose value is of another kind, and the expected kind.
+/// Appends the first key of a job, in the order of the format, whose value has the wrong type, and the expected type.
 pub(crate) fn push_wrong_kind(message: &mut Message, table: &Table)
     ensures { AddsSome message.old message.new (TellsWrongKind (table_view table.now)) }
 {
@@ -28,7 +28,7 @@ pub(crate) fn push_wrong_kind(message: &mut Message, table: &Table)
     }
 }
 
-// Returns the first of these keys, by name, whose value is of another kind.
+// Returns the first of these keys whose value has the wrong type, or `None` if there is none.
 fn wrong_key<'k>(
     table: &Table,
     keys: &'k [(&'static str, Kind)],
@@ -39,7 +39,7 @@ fn wrong_key<'k>(
     first_key_of_other_kind(table, keys)
 }
 
-// Returns the first of these keys whose value is of another kind.
+// Returns the first of these keys whose value has the wrong type, or `None` if there is none.
 fn first_key_of_other_kind<'k>(
     table: &Table,
     keys: &'k [(&'static str, Kind)],
@@ -50,7 +50,7 @@ fn first_key_of_other_kind<'k>(
         .find(|known| is_value_of_other_kind(table, known.0, known.1))
 }
 
-// Whether the value at a key is of another kind.
+// Whether there is a value at a key, and it does not have the type of this kind.
 fn is_value_of_other_kind(table: &Table, key: &str, kind: Kind) -> bool
     ensures { result ≡ not (absent_or (is_of_kind kind) key.now (table_view table.now)) }
 {
@@ -60,7 +60,7 @@ fn is_value_of_other_kind(table: &Table, key: &str, kind: Kind) -> bool
     }
 }
 
-/// Whether a value is of a kind.
+/// Whether a value has the type of this kind.
 pub(crate) fn is_of_toml_kind(kind: Kind, value: &Value) -> bool
     ensures { result ≡ is_of_kind kind (view value.now) }
 {
@@ -72,6 +72,7 @@ pub(crate) fn is_of_toml_kind(kind: Kind, value: &Value) -> bool
     }
 }
 
+// Whether a value is an array of texts.
 fn is_array_of_texts(value: &Value) -> bool
     ensures { result ≡ is_text_array (view value.now) }
 {
@@ -81,12 +82,14 @@ fn is_array_of_texts(value: &Value) -> bool
     }
 }
 
+// Whether all values are texts.
 fn are_all_texts(texts: &[Value]) -> bool
     ensures { result ≡ list_all (λ v. is_text (view v)) texts.now }
 {
     texts.iter().all(|text| text.is_str())
 }
 
+// Whether a value is an array of tables whose values have the types that the keys of a region require.
 fn is_array_of_regions(value: &Value) -> bool
     ensures { result ≡ is_region_array (view value.now) }
 {
@@ -96,12 +99,14 @@ fn is_array_of_regions(value: &Value) -> bool
     }
 }
 
+// Whether all values are tables whose values have the types that the keys of a region require.
 fn are_all_regions(regions: &[Value]) -> bool
     ensures { result ≡ list_all (λ v. is_region (view v)) regions.now }
 {
     regions.iter().all(|region| is_region(region))
 }
 
+// Whether a value is a table whose values have the types that the keys of a region require.
 fn is_region(value: &Value) -> bool
     ensures { result ≡ is_region (view value.now) }
 {
@@ -111,7 +116,7 @@ fn is_region(value: &Value) -> bool
     }
 }
 
-// Returns the first key of a region whose value is of another kind, and what is expected of it.
+// Returns the first key of a region whose value has the wrong type, and what is expected of it, or `None` if there is none.
 fn region_key_of_wrong_kind(table: &Table) -> Option<(&'static str, &'static str)>
     ensures { is_some result ≡ not (has_kinds_of_keys region_keys (table_view table.now)) }
 {
@@ -126,6 +131,7 @@ fn region_key_of_wrong_kind(table: &Table) -> Option<(&'static str, &'static str
     }
 }
 
+// Whether there is a value, and it is not an integer.
 fn is_other_than_number(value: Option<&Value>) -> bool
     ensures { result ≡ not (option_map_or is_number (option_map (λ v. view v.now) value.entry) true) }
 {
@@ -135,6 +141,7 @@ fn is_other_than_number(value: Option<&Value>) -> bool
     }
 }
 
+// Whether there is a value, and it is not a Boolean.
 fn is_other_than_boolean(value: Option<&Value>) -> bool
     ensures { result ≡ not (option_map_or is_boolean (option_map (λ v. view v.now) value.entry) true) }
 {
@@ -146,7 +153,7 @@ fn is_other_than_boolean(value: Option<&Value>) -> bool
 
 const NUMBER: &str = "expected an integer";
 
-/// Appends the value of a key that is not of this kind.
+/// Appends a key whose value does not have the type of this kind, its value, and the expected type. For regions, appends the bad region.
 pub(crate) fn push_value_of_wrong_kind(message: &mut Message, table: &Table, key: &str, kind: Kind)
     ensures { AddsSome message.old message.new (TellsOtherKind key.now kind (table_view table.now)) }
 {
@@ -158,7 +165,7 @@ pub(crate) fn push_value_of_wrong_kind(message: &mut Message, table: &Table, key
     }
 }
 
-// Appends the value of a key that expects a text, and the accepted texts if they are few.
+// Appends a key whose value should be a text, its value, and what is expected: the accepted texts, if they are few.
 fn push_text_of_wrong_kind(message: &mut Message, table: &Table, key: &str)
     ensures { AddsSome message.old message.new (BeginsWithValue key.now (table_view table.now)) }
 {
@@ -168,6 +175,7 @@ fn push_text_of_wrong_kind(message: &mut Message, table: &Table, key: &str)
     }
 }
 
+// Appends the first bad region of `region`, or the key and its value if it is not an array.
 fn push_regions_of_wrong_kind(message: &mut Message, table: &Table, key: &str)
     ensures { AddsSome message.old message.new (BeginsWithRegion key.now (table_view table.now)) }
 {
@@ -178,7 +186,7 @@ fn push_regions_of_wrong_kind(message: &mut Message, table: &Table, key: &str)
     }
 }
 
-// Returns the index of the first element that is not a region.
+// Returns the index of the first element that is not a table, or that has a value of the wrong type.
 fn place_of_no_region(elements: &[Value]) -> Option<usize>
     ensures within { IfSome result (λ place. place < length elements.now) }
     ensures first { result ≡ position (λ v. not (is_region (view v))) elements.now }
@@ -186,7 +194,7 @@ fn place_of_no_region(elements: &[Value]) -> Option<usize>
     elements.iter().position(|element| !is_region(element))
 }
 
-// Appends the region at an index that is of another kind.
+// Appends the number of a region that is not a table, or that has a value of the wrong type, and what was expected.
 fn push_region_of_wrong_kind(message: &mut Message, place: usize, region: &Value)
     ensures { place + 1 < 2 ^ 64 → AddsSome message.old message.new (BeginsWith (region_number_text place)) }
 {
@@ -201,6 +209,7 @@ fn push_region_of_wrong_kind(message: &mut Message, place: usize, region: &Value
     }
 }
 
+// Appends the first key of a region whose value has the wrong type, its value, and what is expected.
 fn push_region_table_of_wrong_kind(message: &mut Message, table: &Table)
     ensures { AddsSome message.old message.new (BeginsWith (codes ": ")) }
 {

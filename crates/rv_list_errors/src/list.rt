@@ -1,4 +1,4 @@
-//! A list whose errors are reported, as found by parsing its text again.
+//! A list whose errors are reported, as it is found by parsing its text again.
 
 ghost use Rattle.std.specs.Prelude.{◌≡◌, ◌<◌, IfOk, IfSome, Some, length};
 ghost use Rattle.std.specs.List.{position};
@@ -14,22 +14,22 @@ use rv_list_locations::job_line_numbers;
 use std::alloc::{AllocError, Global};
 use toml::{Table, Value};
 
-/// A list that is a document.
+/// A list whose text is a TOML document.
 #[derive(Drop)]
 pub(crate) struct List<'a> {
     pub(crate) table: &'a Table,
     /// The elements of `job`, or none if it is not an array.
     pub(crate) jobs: &'a [Value],
-    /// The name of each of them, if it is a text.
+    /// The name of each element of `job`, if it is a table with a text at `name`.
     pub(crate) names: Vec<Option<&'a str>>,
-    /// The line on which each of them begins.
+    /// The line on which each job begins.
     pub(crate) lines: Vec<usize>,
     /// The length of the list's text in bytes.
     pub(crate) len: usize,
 }
 
 impl<'a> List<'a> {
-    /// Returns the list of a text and its table.
+    /// Returns the list with this text and this table.
     pub(crate) fn from_table(
         alloc: Global,
         text: &[u8],
@@ -55,7 +55,7 @@ impl<'a> List<'a> {
         self.len.saturating_sub(rest.len())
     }
 
-    /// Returns the number, counted from 1, of the first job with a name.
+    /// Returns the number, counted from 1, of the first job with this name, or `None` if there is no name or no job has it.
     pub(crate) fn job_number_of_name(&self, name: Option<&str>) -> Option<u64>
         ensures { result ≡ number_of_name (borrowed_names self.now.names.items) (borrowed_name name.entry) }
     {
@@ -66,6 +66,7 @@ impl<'a> List<'a> {
     }
 }
 
+// Returns the number, counted from 1, of the first job with this name, or `None` if no job has it.
 fn number_of_present_name(names: &[Option<&str>], name: &str) -> Option<u64>
     ensures { result ≡ number_of_name (borrowed_names names.now) (Some name.now) }
 {
@@ -75,6 +76,7 @@ fn number_of_present_name(names: &[Option<&str>], name: &str) -> Option<u64>
     }
 }
 
+// Returns the index of the first name that equals this one, or `None` if none does.
 fn place_of_name(names: &[Option<&str>], name: &str) -> Option<usize>
     ensures within { IfSome result (λ place. place < length names.now) }
     ensures named { result ≡ position (λ other. is_name_of name.now (borrowed_name other)) names.now }
@@ -82,6 +84,7 @@ fn place_of_name(names: &[Option<&str>], name: &str) -> Option<usize>
     names.iter().position(|other| is_name_of(name, *other))
 }
 
+// Whether there is another name, and it equals this one.
 fn is_name_of(name: &str, other: Option<&str>) -> bool
     ensures { result ≡ is_name_of name.now (borrowed_name other.entry) }
 {
@@ -91,6 +94,7 @@ fn is_name_of(name: &str, other: Option<&str>) -> bool
     }
 }
 
+// Returns the name of each element of `job`, if it has one.
 fn element_names(alloc: Global, jobs: &[Value]) -> Result<Vec<Option<&str>>, AllocError>
     ensures { IfOk result (λ names. borrowed_names names.items ≡ element_names (items_view jobs.now)) }
 {
@@ -101,6 +105,7 @@ fn element_names(alloc: Global, jobs: &[Value]) -> Result<Vec<Option<&str>>, All
     Ok(names)
 }
 
+// Returns the name of an element of `job`, if it is a table with a text at `name`.
 fn element_name(job: &Value) -> Option<&str>
     ensures { borrowed_name result ≡ element_name (view job.now) }
 {

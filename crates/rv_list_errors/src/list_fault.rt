@@ -30,6 +30,7 @@ pub(crate) fn push_not_toml(message: &mut Message, text: &[u8], error: &Error)
     push_reason(message, error.message());
 }
 
+// Appends the reason why a text is not TOML.
 fn push_reason(message: &mut Message, reason: &str)
     ensures { Adds message.old message.new (codes ": error: invalid TOML: " ++ reason.now) }
 {
@@ -37,7 +38,7 @@ fn push_reason(message: &mut Message, reason: &str)
     message.push(reason);
 }
 
-/// Returns the duplicate key of a text, if that is why it is not TOML.
+/// Returns the duplicate key of a text if that is why it is not TOML, or else `None`.
 pub(crate) fn repeated_key_of_error<'a>(
     alloc: Global,
     text: &'a [u8],
@@ -51,7 +52,7 @@ pub(crate) fn repeated_key_of_error<'a>(
     }
 }
 
-/// Appends a duplicate key of a text, and the line of its first occurrence, if that was found.
+/// Appends the duplicate key of a text, and the line of its first occurrence, if that was found.
 pub(crate) fn push_repeated_key(message: &mut Message, text: &[u8], repeated: &RepeatedKey<'_>) {
     message.push(" \"");
     for part in &repeated.key.path {
@@ -66,7 +67,7 @@ pub(crate) fn push_repeated_key(message: &mut Message, text: &[u8], repeated: &R
     }
 }
 
-/// Appends an error of the whole list.
+/// Appends the explanation of an error of the whole list.
 pub(crate) fn push_list_fault(message: &mut Message, list: &List<'_>, what: What) {
     match what {
         What::NoJobs => push_no_jobs(message, list.table),
@@ -79,7 +80,7 @@ pub(crate) fn push_list_fault(message: &mut Message, list: &List<'_>, what: What
 
 const TABLES: &str = "expected an array of tables, [[job]]";
 
-// Appends that a list has no jobs. A key other than `job` is reported too, since it may be meant.
+// Appends that a list has no jobs. A key other than `job` is reported too, since it may be what the user meant.
 fn push_no_jobs(message: &mut Message, table: &Table) {
     if value_at_key(table, "job").is_some() {
         push_expected_value(message, table, "job", "expected at least one [[job]] table");
@@ -92,6 +93,7 @@ fn push_no_jobs(message: &mut Message, table: &Table) {
     }
 }
 
+// Appends that a list has too many jobs, and how many.
 fn push_too_many_jobs(message: &mut Message, jobs: usize)
     ensures { Adds message.old message.new (too_many_jobs_text jobs) }
 {
@@ -103,6 +105,7 @@ fn push_too_many_jobs(message: &mut Message, jobs: usize)
     message.push_number(jobs as u64);
 }
 
+// Appends the first unknown key of the whole list.
 fn push_unknown_list_key(message: &mut Message, table: &Table) {
     match unknown_key(table, Owner::List) {
         Some(key) => {

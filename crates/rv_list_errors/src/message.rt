@@ -15,7 +15,8 @@ use std::fmt::{Display, Formatter};
 use strsim::levenshtein;
 use toml::Value;
 
-/// The text of a message so far. It records the first failed allocation and makes none after it, so that its writers have only one exit.
+/// The text of a message so far. It records the first failed allocation and appends nothing after it, so that its writers have only one
+/// exit.
 #[derive(Drop)]
 pub(crate) struct Message {
     alloc: Global,
@@ -24,6 +25,7 @@ pub(crate) struct Message {
 }
 
 impl Message {
+    /// Returns an empty message. Does not allocate.
     pub(crate) fn new(alloc: Global) -> Message
         ensures grown { IsOk result.grown }
         ensures bytes { result.bytes.items ≡ [] }
@@ -35,7 +37,7 @@ impl Message {
         }
     }
 
-    /// Returns the whole text, unless an allocation failed.
+    /// Returns the whole text, or an error if an allocation failed.
     pub(crate) fn finish(self) -> Result<Vec<u8>, AllocError>
         ensures whole { IfOk result (λ text. text ≡ self.bytes) }
         ensures refused { IsOk result ↔ IsOk self.grown }
@@ -44,6 +46,7 @@ impl Message {
         Ok(self.bytes)
     }
 
+    /// Appends a text unchanged.
     pub(crate) fn push(&mut self, text: &str)
         ensures { Adds self.old self.new text.now }
     {
@@ -52,6 +55,7 @@ impl Message {
         }
     }
 
+    /// Appends a number in decimal.
     pub(crate) fn push_number(&mut self, number: u64)
         ensures { Adds self.old self.new (decimal number) }
     {
@@ -78,7 +82,7 @@ impl Message {
         }
     }
 
-    /// Appends a value: a text in quotes, with its control characters as `\xNN`, and another value as in TOML.
+    /// Appends a value: a text in quotes, as [`push_printable`](Message::push_printable) shows it, or another value as in TOML.
     pub(crate) fn push_value(&mut self, value: &Value)
         ensures { AddsSome self.old self.new (IsShownValue (view value.now)) }
     {
@@ -102,7 +106,7 @@ impl Message {
         }
     }
 
-    /// Appends a text in quotes.
+    /// Appends a text in quotes, as [`push_printable`](Message::push_printable) shows it.
     pub(crate) fn push_quoted(&mut self, text: &str)
         ensures { Adds self.old self.new (quoted text.now) }
     {
@@ -111,7 +115,7 @@ impl Message {
         self.push("\"");
     }
 
-    /// Appends a text without quotes.
+    /// Appends an actual or expected text without quotes: printable, and cut off if it is long.
     pub(crate) fn push_printable(&mut self, text: &str)
         ensures { Adds self.old self.new (printable_value text.now) }
     {
@@ -120,8 +124,8 @@ impl Message {
         }
     }
 
-    /// Returns the number of characters inserted, deleted or changed to turn one text into the other, which takes memory; once an
-    /// allocation has failed, returns more than any two texts differ by.
+    /// Returns the edit distance of two texts: the least number of characters to insert, delete or change. If an allocation fails, or has
+    /// failed before, returns `usize::MAX`.
     pub(crate) fn edit_distance(&mut self, text: &str, other: &str) -> usize
         ensures distance { OnOk self.new.grown (IsOk self.old.grown × (result ≡ text_distance text.now other.now)) }
         ensures unwritten { self.new.bytes ≡ self.old.bytes }

@@ -8,8 +8,8 @@ use rv_lists::limits::MOST_NAME;
 use std::alloc::{AllocError, Global};
 use strsim::levenshtein;
 
-/// Returns the index, counted from 0, of the job that the user probably meant by a text: the one with the nearest name, if at most a third
-/// of the characters of that name differ. A text longer than a name may be is near no name, which bounds the search time.
+/// Returns the index, counted from 0, of the job that the user probably meant by a text, or `None`: the first job with the nearest name, if
+/// at most a third of the characters of that name differ. A text longer than a name may be is near no name, which bounds the search time.
 pub fn near_job(alloc: Global, jobs: &[Job], text: &str) -> Result<Option<usize>, AllocError>
     ensures { IfOk result (λ near. MatchOption near
         ((place : ℕ) → IsNearestJob jobs.now text.now place → IsNearJob jobs.now text.now place → ⊥)
@@ -24,6 +24,7 @@ pub fn near_job(alloc: Global, jobs: &[Job], text: &str) -> Result<Option<usize>
     }
 }
 
+// Whether at most a third of the characters of the name of the job at an index differ from a text.
 fn is_job_near(alloc: Global, jobs: &[Job], text: &str, place: usize) -> Result<bool, AllocError>
     requires { place < length jobs.now }
     ensures { IfOk result (λ near. IsTrue near
@@ -33,15 +34,14 @@ fn is_job_near(alloc: Global, jobs: &[Job], text: &str, place: usize) -> Result<
     Ok(is_near(distance, jobs[place].name.as_str()))
 }
 
-/// Whether the number of differing characters is at most a third of the name's length. A name is ASCII: a byte is a character.
+/// Whether an edit distance is at most a third of the name's length. A name is ASCII: a byte is a character.
 pub(crate) fn is_near(distance: usize, name: &str) -> bool
     ensures { IsTrue result ↔ IsNear distance name.now }
 {
     distance <= name.len() / 3
 }
 
-// Returns the index of the job whose name is nearest to a text: the first of those with the fewest characters inserted, deleted or changed.
-// Returns `None` if there are no jobs.
+// Returns the index of the first job with the nearest name to a text, by the edit distance, or `None` if there are no jobs.
 fn nearest_job(alloc: Global, jobs: &[Job], text: &str) -> Result<Option<usize>, AllocError>
     ensures { IfOk result (λ nearest. MatchOption nearest (length jobs.now ≡ 0)
         (λ place. IsNearestJob jobs.now text.now place)) }
@@ -61,6 +61,7 @@ fn nearest_job(alloc: Global, jobs: &[Job], text: &str) -> Result<Option<usize>,
     Ok(Some(nearest))
 }
 
+// Returns the edit distance of a text from the name of the job at an index.
 fn job_name_distance(
     alloc: Global,
     jobs: &[Job],

@@ -1,4 +1,4 @@
-//! Names of jobs: which job has a name, and which one is probably meant.
+//! Names of jobs: which job has a name, and which name is probably meant.
 
 ghost use Rattle.std.specs.Prelude.{◌≡◌, ◌++◌, ◌∷◌, ◌+◌, ◌-◌, ◌<◌, ◌≤◌, [], IsOk, MatchOption, OnOk, is_some, length, min, take};
 ghost use Rattle.std.specs.List.{count_by};
@@ -18,7 +18,7 @@ use crate::values::{push_key_and_value, text_at_key};
 use rv_lists::limits::MOST_NAME;
 use toml::Table;
 
-/// Appends a key with a name, what is expected, and which job has that name, if any.
+/// Appends the key and its value, then what is expected, and then the number of the first job with this name, if there is one.
 pub(crate) fn push_name_fault(
     message: &mut Message,
     list: &List<'_>,
@@ -35,7 +35,7 @@ pub(crate) fn push_name_fault(
     push_job_of_name(message, list.job_number_of_name(text_at_key(table, key)));
 }
 
-// Appends which job has a name, if any.
+// Appends that the job with this number has the name, or nothing if there is no number.
 fn push_job_of_name(message: &mut Message, number: Option<u64>)
     ensures { Adds message.old message.new (job_of_name_text number) }
 {
@@ -44,7 +44,7 @@ fn push_job_of_name(message: &mut Message, number: Option<u64>)
     }
 }
 
-/// What is suggested for an unknown job name or key.
+/// Whether a name or key is suggested for an unknown one.
 #[derive(Clone, Copy)]
 pub(crate) enum Suggestion {
     /// The nearest existing name. The search takes time in proportion to the number of names.
@@ -52,7 +52,8 @@ pub(crate) enum Suggestion {
     Nothing,
 }
 
-/// Appends that `same_as` of the job at an index is not the name of an earlier job. The nearest name is suggested if requested.
+/// Appends that `same_as` of the job at an index is not the name of an earlier job. The nearest name of an earlier job, or all their names,
+/// are suggested if requested.
 pub(crate) fn push_unknown_same_as(
     message: &mut Message,
     list: &List<'_>,
@@ -81,7 +82,8 @@ pub(crate) fn push_unknown_same_as(
     }
 }
 
-// Appends which of the jobs before an index has the nearest name to an unknown one, or which names they have.
+// Appends the name of a job before an index that is nearest to an unknown name, or all names of these jobs if none is near. Appends nothing
+// if some job has the name.
 fn push_nearest_job(message: &mut Message, list: &List<'_>, wanted: Option<&str>, place: usize)
     ensures { AddsSome message.old message.new (BeginsWith []) }
 {
@@ -101,7 +103,7 @@ fn first_names<'n, 'a>(names: &'n [Option<&'a str>], count: usize) -> &'n [Optio
     &names[..count.min(names.len())]
 }
 
-// Appends which of several names is nearest to an unknown one, or all of them.
+// Appends the name that is nearest to an unknown one, or all names if none is near.
 fn push_nearest_name(message: &mut Message, names: &[Option<&str>], wanted: &str)
     ensures { AddsSome message.old message.new (IsNearestJob (borrowed_names names.now) wanted.now) }
 {
@@ -117,8 +119,8 @@ fn push_nearest_name(message: &mut Message, names: &[Option<&str>], wanted: &str
     }
 }
 
-/// Returns the nearest name to a text, if one is near: the first of those with the fewest characters inserted, deleted or changed. A text
-/// longer than a name may be is near no name, which bounds the search time.
+/// Returns the first of the names that are nearest to a text, if at most a third of its characters differ, or else `None`. A text longer
+/// than a name may be is near no name, which bounds the search time.
 pub(crate) fn near_name<'a>(
     message: &mut Message,
     names: &[Option<&'a str>],
@@ -143,7 +145,7 @@ pub(crate) fn near_name<'a>(
     }
 }
 
-// Returns the name if the distance is at most a third of its length.
+// Returns the name if the edit distance is at most a third of its length, or else `None`.
 fn name_if_near(name: &str, distance: usize) -> Option<&str>
     ensures { MatchOption result (IsNear distance name.now → ⊥) (λ near. (near.now ≡ name.now) × IsNear distance name.now) }
 {
@@ -157,7 +159,7 @@ fn name_if_near(name: &str, distance: usize) -> Option<&str>
 // The maximum number of names listed.
 const MOST_TOLD: usize = 20;
 
-/// Appends names in quotes: only the first if there are many, and how many more there are.
+/// Appends the names that exist, in quotes: only the first ones if there are many, and how many more there are.
 pub(crate) fn push_names(message: &mut Message, names: &[Option<&str>])
     ensures { Adds message.old message.new (names_text (present (borrowed_names names.now))) }
 {
@@ -168,13 +170,14 @@ pub(crate) fn push_names(message: &mut Message, names: &[Option<&str>])
     }
 }
 
+// Returns how many of the names exist.
 fn present_count(names: &[Option<&str>]) -> usize
     ensures { result ≡ count_by is_some names.now }
 {
     names.iter().filter(|name| name.is_some()).count()
 }
 
-// Appends the first of `count` names, and returns how many were listed.
+// Appends the first names that exist, up to the maximum, and returns how many were appended. `count` is the number of all names that exist.
 fn push_first_names(message: &mut Message, names: &[Option<&str>], count: usize) -> usize
     ensures told { result ≡ min (length (present (borrowed_names names.now))) most_told }
     ensures text { Adds message.old message.new (names_from count 0 (take most_told (present (borrowed_names names.now)))) }
@@ -186,7 +189,7 @@ fn push_first_names(message: &mut Message, names: &[Option<&str>], count: usize)
     told
 }
 
-// Appends a name, if it is present, after those already listed, and returns how many are listed now.
+// Appends a name, if it exists and the maximum has not been reached, and returns how many have been appended.
 fn push_next_name(message: &mut Message, name: Option<&str>, told: usize, count: usize) -> usize
     requires { told ≤ most_told }
     ensures told { result ≡ min (told + length (present (borrowed_name name.entry ∷ []))) most_told }
@@ -199,7 +202,7 @@ fn push_next_name(message: &mut Message, name: Option<&str>, told: usize, count:
     }
 }
 
-// Appends a name unless the maximum number has been listed, and returns how many are listed now.
+// Appends a name unless the maximum has been reached, and returns how many have been appended.
 fn push_name_if_few(message: &mut Message, name: &str, told: usize, count: usize) -> usize
     requires { told ≤ most_told }
     ensures told { result ≡ min (told + 1) most_told }
@@ -212,7 +215,7 @@ fn push_name_if_few(message: &mut Message, name: &str, told: usize, count: usize
     told + 1
 }
 
-// Appends the name at an index after those before it.
+// Appends the separator before the name at an index, and the name in quotes.
 fn push_name_of_many(message: &mut Message, name: &str, place: usize, count: usize)
     requires { place < most_told }
     ensures { Adds message.old message.new (separator count place ++ quoted name.now) }
@@ -225,7 +228,7 @@ fn push_name_of_many(message: &mut Message, name: &str, place: usize, count: usi
     message.push_quoted(name);
 }
 
-// Returns the edit distance of a name from a text, or the maximum if the name is missing or one of them is longer than a name may be.
+// Returns the edit distance of a name from a text, or `usize::MAX` if there is no name or one of them is longer than a name may be.
 #[tactic(auto, unfolding(crate::specs::NearNames::name_distance))]
 fn name_distance(message: &mut Message, name: Option<&str>, text: &str) -> usize
     ensures distance { OnOk message.new.grown (IsOk message.old.grown

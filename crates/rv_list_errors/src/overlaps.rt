@@ -18,14 +18,14 @@ const CONSOLE: Region = Region {
     writable: true,
 };
 
-/// Returns the address past the last byte of a region.
+/// Returns the address after the last byte of a region.
 pub(crate) fn region_end(region: &Region) -> u64
     ensures { result ≡ region.now.base + region.now.size }
 {
     u64::from(region.base) + u64::from(region.size)
 }
 
-// Returns the first address that two regions share.
+// Returns the first address that two regions share, or `None` if they share none.
 fn shared_address(region: &Region, other: &Region) -> Option<u32>
     ensures { MatchOption result (AreApart region.now other.now) (λ address. IsFirstShared region.now other.now address) }
 {
@@ -37,7 +37,7 @@ fn shared_address(region: &Region, other: &Region) -> Option<u32>
     }
 }
 
-// Two overlapping regions of a list, and the first address that they share.
+// Two overlapping regions, given by their indices, and the first address that they share.
 #[derive(Clone, Copy)]
 struct Overlap {
     at: usize,
@@ -45,7 +45,7 @@ struct Overlap {
     address: u32,
 }
 
-/// Appends the first two regions that overlap.
+/// Appends the first two regions that overlap, and where.
 pub(crate) fn push_region_overlap(message: &mut Message, regions: &[Region])
     ensures overlap { length regions.now < 2 ^ 64 → (AreAllApart regions.now → ⊥)
         → AddsSome message.old message.new (TellsOverlap regions.now) }
@@ -57,6 +57,7 @@ pub(crate) fn push_region_overlap(message: &mut Message, regions: &[Region])
     }
 }
 
+// Appends that two regions overlap, and where.
 fn push_overlap(message: &mut Message, overlap: Overlap)
     ensures { overlap.at + 1 < 2 ^ 64 → overlap.later + 1 < 2 ^ 64
         → Adds message.old message.new (overlap_text overlap.at overlap.later overlap.address) }
@@ -69,7 +70,7 @@ fn push_overlap(message: &mut Message, overlap: Overlap)
     message.push(": expected disjoint regions");
 }
 
-// Returns the first two regions of a list that overlap.
+// Returns the first two regions of a list that overlap, or `None` if none do.
 fn first_overlap(regions: &[Region]) -> Option<Overlap>
     ensures { MatchOption result (AreAllApart regions.now)
         (λ overlap. IsFirstOverlap regions.now overlap.at overlap.later overlap.address) }
@@ -82,7 +83,7 @@ fn first_overlap(regions: &[Region]) -> Option<Overlap>
     None
 }
 
-// Returns the first later region that overlaps the region at an index.
+// Returns the region at an index and the first later region that overlaps it, or `None` if none does.
 fn overlap_with_later(regions: &[Region], at: usize) -> Option<Overlap>
     requires { at < length regions.now }
     ensures { MatchOption result (IsApartBehind regions.now at)
@@ -97,7 +98,7 @@ fn overlap_with_later(regions: &[Region], at: usize) -> Option<Overlap>
     None
 }
 
-/// Appends the first region that includes an address of the console.
+/// Appends the first region that has an address of the console, and the first such address.
 pub(crate) fn push_console_overlap(message: &mut Message, regions: &[Region])
     ensures { length regions.now < 2 ^ 64 → AddsSome message.old message.new TellsRegions }
 {
@@ -107,7 +108,7 @@ pub(crate) fn push_console_overlap(message: &mut Message, regions: &[Region])
     }
 }
 
-// Returns the index of the first region that includes an address of the console, and the first such address.
+// Returns the index of the first region that has an address of the console, and the first such address, or `None` if no region has one.
 fn first_shared_with_console(regions: &[Region]) -> Option<(usize, u32)>
     ensures { IfSome result (λ shared. shared.0 < length regions.now) }
 {
@@ -119,6 +120,7 @@ fn first_shared_with_console(regions: &[Region]) -> Option<(usize, u32)>
     None
 }
 
+// Appends that the region at an index overlaps the console at an address.
 fn push_shared_with_console(message: &mut Message, at: usize, address: u32)
     ensures { at + 1 < 2 ^ 64 → AddsSome message.old message.new TellsRegions }
 {

@@ -16,14 +16,14 @@ const BASE: &str = "expected a multiple of 4 from 0 to 0xfffffffc";
 
 const SIZE: &str = "expected a multiple of 4 from 4 to 16777216";
 
-/// Appends the number of a region, counted from 1.
+/// Appends the number of the region at an index, counted from 1, as in `region 1`.
 pub(crate) fn push_region_number(message: &mut Message, at: usize)
     ensures { at + 1 < 2 ^ 64 → Adds message.old message.new (region_number_text at) }
 {
     message.push_number_between("region ", (at as u64).saturating_add(1), "");
 }
 
-/// Whether the elements of an array are the regions of a map.
+/// Whether the elements of `region` are the regions of a map.
 pub(crate) fn are_map(elements: &[Value]) -> bool {
     for element in elements {
         if region_of_element(element).is_none() {
@@ -34,7 +34,7 @@ pub(crate) fn are_map(elements: &[Value]) -> bool {
     elements.len() <= regions.len() && Map::of(&regions[..elements.len()]).is_ok()
 }
 
-// Returns the first four regions, some of which may be empty.
+// Returns the regions of the first four elements. A missing or bad element gives an empty region.
 fn first_regions(elements: &[Value]) -> [Region; 4] {
     [
         region_or_empty(elements, 0),
@@ -55,7 +55,7 @@ pub(crate) fn push_region_fault(message: &mut Message, table: &Table)
     }
 }
 
-// Returns the index of the first element whose base and size are not both 32-bit numbers.
+// Returns the index of the first element whose base and size are not both 32-bit numbers, or `None` if there is none.
 fn place_of_unreadable_region(elements: &[Value]) -> Option<usize>
     ensures { IfSome result (λ place. place < length elements.now) }
 {
@@ -64,7 +64,7 @@ fn place_of_unreadable_region(elements: &[Value]) -> Option<usize>
         .position(|element| region_of_element(element).is_none())
 }
 
-// Appends why elements that are regions do not form a map.
+// Appends why elements, each of which is a region, do not form a map.
 fn push_fault_of_regions(message: &mut Message, elements: &[Value])
     ensures { AddsSome message.old message.new TellsRegions }
 {
@@ -76,7 +76,7 @@ fn push_fault_of_regions(message: &mut Message, elements: &[Value])
     }
 }
 
-// Returns the region at an index, or an empty one past the end.
+// Returns the region of the element at an index, or an empty one if it is missing or bad.
 fn region_or_empty(elements: &[Value], at: usize) -> Region {
     let region = match elements.get(at) {
         Some(element) => region_of_element(element),
@@ -89,7 +89,7 @@ fn region_or_empty(elements: &[Value], at: usize) -> Region {
     })
 }
 
-// Returns the region of an element, if its base and size are 32-bit numbers.
+// Returns the region of an element, or `None` if its base and size are not both 32-bit numbers.
 fn region_of_element(element: &Value) -> Option<Region> {
     let Value::Table(table) = element else {
         return None;
@@ -104,7 +104,7 @@ fn region_of_element(element: &Value) -> Option<Region> {
     }
 }
 
-// Appends the base or size of a region that is not a 32-bit number.
+// Appends the base of the region at an index, or its size if the base is good, which is not a 32-bit number.
 fn push_bad_base_or_size(message: &mut Message, at: usize, element: &Value)
     ensures { at + 1 < 2 ^ 64 → AddsSome message.old message.new TellsRegions }
 {
@@ -119,7 +119,7 @@ fn push_bad_base_or_size(message: &mut Message, at: usize, element: &Value)
     }
 }
 
-// Appends why regions do not form a map.
+// Appends why these regions do not form a map.
 fn push_map_error(message: &mut Message, regions: &[Region])
     ensures { AddsSome message.old message.new TellsRegions }
 {
@@ -133,6 +133,7 @@ fn push_map_error(message: &mut Message, regions: &[Region])
     }
 }
 
+// Appends how many regions there are, and how many are expected.
 fn push_region_count(message: &mut Message, count: usize)
     ensures { AddsSome message.old message.new TellsRegions }
 {
@@ -149,6 +150,7 @@ fn push_unaligned_region(message: &mut Message, regions: &[Region])
     }
 }
 
+// Returns the index of the first region whose base or size is not a multiple of 4, or `None` if there is none.
 fn place_of_unaligned_region(regions: &[Region]) -> Option<usize>
     ensures { IfSome result (λ place. place < length regions.now) }
 {
@@ -157,6 +159,7 @@ fn place_of_unaligned_region(regions: &[Region]) -> Option<usize>
         .position(|region| region.base % 4 != 0 || region.size % 4 != 0)
 }
 
+// Appends the base or the size of the region at an index that is not a multiple of 4.
 fn push_unaligned(message: &mut Message, at: usize, region: &Region)
     ensures { at + 1 < 2 ^ 64 → AddsSome message.old message.new TellsRegions }
 {
@@ -169,7 +172,7 @@ fn push_unaligned(message: &mut Message, at: usize, region: &Region)
     }
 }
 
-// Appends the first region that is too small or extends beyond the address space, or that their total size is too large.
+// Appends the first region that is too small or extends past the last address, or that the sizes add up to too much.
 fn push_region_size_fault(message: &mut Message, regions: &[Region])
     ensures { AddsSome message.old message.new TellsRegions }
 {
@@ -179,7 +182,7 @@ fn push_region_size_fault(message: &mut Message, regions: &[Region])
     }
 }
 
-// Returns the index of the first region that is smaller than 4 bytes or extends beyond the address space.
+// Returns the index of the first region that is smaller than 4 bytes or extends past the last address, or `None` if there is none.
 fn place_of_region_without_room(regions: &[Region]) -> Option<usize>
     ensures { IfSome result (λ place. place < length regions.now) }
 {
@@ -191,6 +194,7 @@ fn place_of_region_without_room(regions: &[Region]) -> Option<usize>
 // The number of addresses.
 const ADDRESSES: u64 = 0x1_0000_0000;
 
+// Appends that the region at an index is too small, or extends past the last address.
 fn push_region_without_room(message: &mut Message, at: usize, region: &Region)
     ensures { at + 1 < 2 ^ 64 → AddsSome message.old message.new TellsRegions }
 {
@@ -201,6 +205,7 @@ fn push_region_without_room(message: &mut Message, at: usize, region: &Region)
     }
 }
 
+// Returns the sum of the regions' sizes.
 fn total_size(regions: &[Region]) -> u64 {
     let mut total = 0u64;
     for region in regions {
@@ -209,6 +214,7 @@ fn total_size(regions: &[Region]) -> u64 {
     total
 }
 
+// Appends that the sizes of the regions add up to too much.
 fn push_total_size(message: &mut Message, total: u64)
     ensures { AddsSome message.old message.new TellsRegions }
 {
@@ -219,6 +225,7 @@ fn push_total_size(message: &mut Message, total: u64)
     );
 }
 
+// Appends that the region at an index extends past the last address.
 fn push_region_past_end(message: &mut Message, at: usize, region: &Region)
     ensures { at + 1 < 2 ^ 64 → AddsSome message.old message.new TellsRegions }
 {
@@ -227,6 +234,7 @@ fn push_region_past_end(message: &mut Message, at: usize, region: &Region)
     message.push_number_between(", size = ", u64::from(region.size), wanted);
 }
 
+// Appends the number of the region at an index, and its base.
 fn push_region_base(message: &mut Message, at: usize, base: u32)
     ensures { at + 1 < 2 ^ 64 → AddsSome message.old message.new TellsRegions }
 {
@@ -235,6 +243,7 @@ fn push_region_base(message: &mut Message, at: usize, base: u32)
     message.push_hex_word(base);
 }
 
+// Appends the number of the region at an index, its size, and what is expected of a size.
 fn push_wrong_region_size(message: &mut Message, at: usize, size: u32)
     ensures { at + 1 < 2 ^ 64 → AddsSome message.old message.new TellsRegions }
 {

@@ -10,14 +10,14 @@ ghost use Rattle.rv_list_errors.specs.NearNames.{Adds};
 use crate::message::Message;
 use toml::{Table, Value};
 
-/// Returns the value at a key.
+/// Returns the value at a key, or `None` if there is no such key.
 pub(crate) fn value_at_key<'a>(table: &'a Table, key: &str) -> Option<&'a Value>
     ensures { option_map (λ v. view v.now) result ≡ get_member key.now (table_view table.now) }
 {
     table.get(key)
 }
 
-/// Returns the text at a key.
+/// Returns the text at a key, or `None` if there is no text there.
 pub(crate) fn text_at_key<'a>(table: &'a Table, key: &str) -> Option<&'a str>
     ensures { option_map (λ s. s.now) result ≡ text_at_key key.now (table_view table.now) }
 {
@@ -27,7 +27,7 @@ pub(crate) fn text_at_key<'a>(table: &'a Table, key: &str) -> Option<&'a str>
     }
 }
 
-/// Returns the number at a key, if it has 32 bits.
+/// Returns the number at a key, or `None` if there is no 32-bit number there.
 pub(crate) fn word_at_key(table: &Table, key: &str) -> Option<u32> {
     match value_at_key(table, key) {
         Some(Value::Integer(number)) => u32::try_from(*number).ok(),
@@ -35,7 +35,7 @@ pub(crate) fn word_at_key(table: &Table, key: &str) -> Option<u32> {
     }
 }
 
-/// Returns the elements of the array at a key, or none if there is no array.
+/// Returns the elements of the array at a key, or no elements if there is no array.
 pub(crate) fn elements_at_key<'a>(table: &'a Table, key: &str) -> &'a [Value]
     ensures { items_view result.now ≡ unwrap_or (array_at_key key.now (table_view table.now)) no_items }
 {
@@ -56,6 +56,7 @@ pub(crate) fn push_key_and_value(message: &mut Message, table: &Table, key: &str
     }
 }
 
+// Appends a key and its value.
 fn push_key_with_value(message: &mut Message, key: &str, value: &Value)
     ensures { AddsSome message.old message.new (IsKeyAndValue key.now (Some (view value.now))) }
 {
@@ -64,6 +65,7 @@ fn push_key_with_value(message: &mut Message, key: &str, value: &Value)
     message.push_value(value);
 }
 
+// Appends that a key is missing.
 fn push_missing_key(message: &mut Message, key: &str)
     ensures { Adds message.old message.new (missing_key_text key.now) }
 {
@@ -72,7 +74,7 @@ fn push_missing_key(message: &mut Message, key: &str)
     message.push("\"");
 }
 
-/// Appends a key, its value, and what is expected of it.
+/// Appends a key and its value, or that it is missing, and what is expected of the value.
 pub(crate) fn push_expected_value(message: &mut Message, table: &Table, key: &str, wanted: &str)
     ensures { AddsSome message.old message.new
         (IsExpectedValue key.now (get_member key.now (table_view table.now)) wanted.now) }

@@ -6,21 +6,22 @@ use Rattle.toml.specs.Tables.{array_table}
 use Rattle.rv_list_locations.specs.JobPlaces.{after_comma, after_value}
 use Rattle.rv_list_locations.specs.Places.{line_at}
 
--- a header `[[job]]`, however the key is spelled
+-- the text begins with a header `[[job]]`, however the key is spelled
 abbrev pub BeginsWithJobHeader : List ℕ → Type 0
 BeginsWithJobHeader text = (rest : List ℕ) × (expression text ≡ Some ((([], codes "job"), array_table), rest))
 
--- a suffix of a list's text inside an array `job = [..]`, at an element or at the closing bracket
+-- a suffix of a list's text is inside an array `job = [..]`, at one of its elements or at the closing bracket
 pub data IsInJobArray (list : List ℕ) : List ℕ → Type 0 where
   opened : (place : ℕ) (value : List ℕ) → key_equals (drop place list) ≡ Some (([], codes "job"), value) →
       first value ≡ left_bracket → IsInJobArray list (skip_blank (drop 1 value))
   behind : (element rest : List ℕ) → IsInJobArray list element → after_value element ≡ Some rest →
       IsInJobArray list (after_comma rest)
 
+-- the text, a suffix of the list's text, begins with an element of an array `job = [..]`
 abbrev pub BeginsWithElement : List ℕ → List ℕ → Type 0
 BeginsWithElement list text = IsInJobArray list text × (first text ≢ right_bracket)
 
--- the line of a list on which a `job` header or an element of a `job` array begins
+-- on this line of the list's text, counted from 1, a header `[[job]]` or an element of an array `job = [..]` begins
 abbrev pub IsLineOfJob : List ℕ → ℕ → Type 0
 IsLineOfJob list line = (place : ℕ) × (line ≡ line_at place list)
     × (BeginsWithJobHeader (drop place list) ⊎ BeginsWithElement list (drop place list))

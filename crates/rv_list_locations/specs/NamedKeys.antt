@@ -1,8 +1,8 @@
--- The keys found by scanning a job.
+-- The keys that are found by scanning a job.
 use Rattle.std.specs.Prelude.{string_bytes}
 use Rattle.rv_list_locations.specs.JobKeys.{BeginsWithName}
 use Rattle.rv_list_locations.specs.declared.keys.JobKey.{JobKey}
 
--- the text begins with the key or with the header of its table
+-- the text of the found key begins with a key of its name, or with the header of its table
 abbrev pub IsNamedKey : JobKey → Type 0
 IsNamedKey found = BeginsWithName (string_bytes found.name) found.text.now

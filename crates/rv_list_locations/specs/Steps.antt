@@ -1,4 +1,4 @@
--- How the results of the code relate to the definitions.
+-- How the results of the code represent those of the definitions.
 use Rattle.std.specs.Prelude.{◌≡◌, ℕ, List, Result, MatchResult, map}
 use Rattle.std.specs.Borrow.{Bor}
 use Rattle.toml_parser.specs.declared.error.ParseError.{ParseError}
@@ -8,20 +8,22 @@ use Rattle.rv_list_locations.specs.declared.scan.Step as code
 use Rattle.rv_list_locations.specs.JobPlaces.{Step}
 use Rattle.std.specs.Prelude.{Option}
 
--- the remaining text
+-- the code returned the expected remaining text, or an error if there is none, unless memory ran out
 abbrev pub ReturnsText : Result (Bor (List ℕ)) ParseError → Option (List ℕ) → Type 0
 ReturnsText result expected = Gives (λ rest. rest.now) result expected
 
+-- a scanned header, entry or element of the code, as the definitions have it
 abbrev pub step_view : code.Step → Step
 step_view step = (step.is_job, step.next, step.rest.now)
 
+-- the code returned the expected header, entry or element, or an error if there is none, unless memory ran out
 abbrev pub GivesStep : Result code.Step ParseError → Option Step → Type 0
 GivesStep result expected = Gives step_view result expected
 
--- it holds unless memory ran out
+-- `P` holds, unless the result is that memory ran out
 abbrev pub UnlessMemory : {A : Type 0} → Result A ParseError → Type 0 → Type 0
 UnlessMemory result P = MatchResult result (λ _. P) (λ e. (e ≡ OutOfMemory → ⊥) → P)
 
--- the borrowed texts
+-- the texts that the references in a list point to
 abbrev pub now_texts : List (Bor (List ℕ)) → List (List ℕ)
 now_texts texts = map (λ text. text.now) texts

@@ -5,7 +5,7 @@ ghost use Rattle.rv_list_locations.specs.Places.{column_at, line_at};
 
 use crate::lines::Place;
 
-/// An index into a text up to which lines have been counted, so that each byte is counted once if indices are looked up in order.
+/// An index of a text up to which lines and columns have been counted, so that each byte is counted once if indices are looked up in order.
 #[derive(Clone, Copy)]
 pub struct Cursor<'a> {
     text: &'a [u8],
@@ -18,7 +18,7 @@ pub struct Cursor<'a> {
 }
 
 impl<'a> Cursor<'a> {
-    /// Creates a cursor at the beginning of a text.
+    /// Returns a cursor at the beginning of a text.
     pub fn new(text: &'a [u8]) -> Cursor<'a>
         ensures text { result.text.now ≡ text.now }
         ensures counted { result.counted ≡ 0 }
@@ -31,7 +31,7 @@ impl<'a> Cursor<'a> {
         }
     }
 
-    /// Returns the line and column of an index, or of the end if the text is shorter.
+    /// Returns the line and column of the byte at an index, or of the end of the text if it is shorter.
     pub fn place_at(&mut self, place: usize) -> Place
         ensures text { self.new.text.now ≡ self.old.text.now }
         ensures line { result.line ≡ line_at place self.old.text.now }

@@ -13,7 +13,7 @@ use std::alloc::{AllocError, Global};
 use toml_parser::text::{byte_at, first, skip, skip_ws};
 use toml_parser::{Key, ParseError, dotted_key};
 
-/// A key of a job: its name, and the text from its location on.
+/// A key of a job: its name, and the text from the key, or from the header of its table, on.
 #[derive(Drop)]
 pub struct JobKey<'a> {
     pub name: String,
@@ -23,15 +23,15 @@ pub struct JobKey<'a> {
 /// What comes next in the text of a job.
 #[derive(Clone, Copy)]
 pub(crate) enum Inside {
-    /// An entry of its table, or a header.
+    /// An entry of the job's table, or a header.
     Table,
-    /// An entry of its inline table, or the bracket after the last one.
+    /// An entry of the job's inline table, or the bracket after the last entry.
     Braces,
-    /// An entry of a nested table, or a header.
+    /// An entry of a table below the job's table, or a header.
     Below,
 }
 
-/// The rest of the text after a step, and the job key that the step found.
+/// A scanned entry or header of a job: the name of the job's key, if it has one, what comes next, and the text after it.
 #[derive(Drop)]
 pub(crate) struct KeyStep<'a> {
     pub(crate) name: Option<String>,
@@ -39,8 +39,8 @@ pub(crate) struct KeyStep<'a> {
     pub(crate) rest: &'a str,
 }
 
-/// Returns the keys of the job that a text begins with, in order. A dotted key counts by its first part, and the header of a table in the
-/// job by the part after `job`, so a name may be repeated.
+/// Returns the keys of the job that a text begins with, in order. A dotted key counts as its first part, and the header of a table in the
+/// job as the part after `job`, so a name may occur several times.
 pub fn job_keys<'a>(alloc: Global, job: &'a str) -> Result<Vec<JobKey<'a>>, AllocError>
     ensures { IfOk result (λ keys. All IsNamedKey keys.items) }
 {
@@ -51,6 +51,7 @@ pub fn job_keys<'a>(alloc: Global, job: &'a str) -> Result<Vec<JobKey<'a>>, Allo
     }
 }
 
+// Appends the keys of the job that a text begins with.
 fn note_job_keys<'a>(
     alloc: Global,
     job: &'a str,
@@ -75,7 +76,7 @@ fn note_job_keys<'a>(
     Ok(())
 }
 
-// Skips the header or bracket with which a job begins.
+// Skips the header or bracket with which a job begins. Returns what comes next, and the text after it.
 fn open_job(alloc: Global, job: &str) -> Result<(Inside, &str), ParseError> {
     if first(job) == b'{' {
         return Ok((Inside::Braces, skip_blank_lines(skip(job, 1))));
@@ -84,7 +85,7 @@ fn open_job(alloc: Global, job: &str) -> Result<(Inside, &str), ParseError> {
     Ok((Inside::Table, step.rest))
 }
 
-/// Scans one entry or header in the text of a job.
+/// Scans an entry or a header in the text of a job.
 pub(crate) fn scan_key_step(
     alloc: Global,
     here: &str,
@@ -108,7 +109,7 @@ pub(crate) fn scan_key_step(
     }
 }
 
-// Scans an entry of a job's table, and returns the first part of its key.
+// Scans an entry of a job's table. The name is the first part of its key.
 fn scan_job_entry(alloc: Global, here: &str) -> Result<KeyStep<'_>, ParseError>
     ensures named { IfOk result (λ step. IfSome step.name (λ name. BeginsWithName (string_bytes name) here.now)) }
     ensures shorter { IfOk result (λ step. length step.rest.now < length here.now) }
@@ -122,7 +123,8 @@ fn scan_job_entry(alloc: Global, here: &str) -> Result<KeyStep<'_>, ParseError>
     })
 }
 
-// Scans an entry of an inline table, or the bracket after the last one.
+// Scans an entry of a job's inline table. The name is the first part of its key. Fails at the bracket after the last entry, which ends the
+// job.
 fn scan_inline_entry(alloc: Global, here: &str) -> Result<KeyStep<'_>, ParseError>
     ensures named { IfOk result (λ step. IfSome step.name (λ name. BeginsWithName (string_bytes name) here.now)) }
     ensures shorter { IfOk result (λ step. length step.rest.now < length here.now) }
@@ -146,7 +148,8 @@ fn scan_name(alloc: Global, here: &str) -> Result<(String, &str), ParseError>
     Ok((name, behind))
 }
 
-// Scans a header: of the next job, or of a table in this one.
+// Scans a header after the beginning of a job: that of the next job, which ends the job, or that of a table in it, whose name is the part
+// after `job`.
 fn scan_inner_header(alloc: Global, here: &str) -> Result<KeyStep<'_>, ParseError>
     requires { slice_index here.now 0 ≡ left_bracket }
     ensures named { IfOk result (λ step. IfSome step.name (λ name. BeginsWithName (string_bytes name) here.now)) }
@@ -167,7 +170,7 @@ fn scan_inner_header(alloc: Global, here: &str) -> Result<KeyStep<'_>, ParseErro
     })
 }
 
-// Returns the part after `job` of a header's key.
+// Returns the part after `job` of a header's key, or `None` if the key does not begin with `job`.
 fn scan_table_name(alloc: Global, header: &str) -> Result<Option<String>, ParseError>
     requires { slice_index header.now 0 ≡ left_bracket }
     ensures { IfOk result (λ found. IfSome found (λ name. BeginsWithTable (string_bytes name) header.now)) }
@@ -182,7 +185,7 @@ fn scan_table_name(alloc: Global, header: &str) -> Result<Option<String>, ParseE
     }
 }
 
-/// Returns the text from the key of a header on.
+/// Returns the text from the key of a header on, given the text from the header on.
 #[tactic(auto, unfolding(crate::specs::JobKeys::header_key))]
 pub(crate) fn after_brackets(header: &str) -> &str
     requires { slice_index header.now 0 ≡ left_bracket }
@@ -195,7 +198,7 @@ pub(crate) fn after_brackets(header: &str) -> &str
     }
 }
 
-/// Returns the part of a key at an index, or the last part if the index is past it.
+/// Returns the part of a key at an index, or the last part if the key has fewer parts.
 #[tactic(auto, using(crate::proofs::KeyParts::some_part, crate::proofs::KeyParts::no_part))]
 pub(crate) fn part_or_last(key: &Key, place: usize) -> &str
     ensures { result.now ≡ unwrap_or (slice_get (key_view key.now).0 place) (key_view key.now).1 }

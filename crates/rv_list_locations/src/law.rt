@@ -5,8 +5,8 @@ ghost use Rattle.std.specs.List.{All};
 ghost use Rattle.rv_list_locations.specs.JobBegins.{IsLineOfJob};
 ghost use Rattle.rv_list_locations.specs.JobPlaces.{job_lines};
 
-/// Each job line that [`job_line_numbers`](crate::job_line_numbers) returns is one on which a header `[[job]]` or an element of a `job`
-/// array begins.
+/// Proves that on each line that [`job_line_numbers`](crate::job_line_numbers) returns, a header `[[job]]` or an element of an array `job`
+/// begins.
 pub fn job_lines_are_of_headers_and_elements()
     ensures { (list : List ℕ) → All (IsLineOfJob list) (job_lines list) }
 {}

@@ -1,9 +1,9 @@
 //! Where the jobs of a list are in its text: their lines, their keys and their values.
 //!
-//! [`job_line_numbers`] scans the text with the functions of `toml_parser`: a `job` header counts outside strings and comments, however it
-//! is spelled, and so does each element of a `job` array. [`job_texts`] returns the text from the beginning of each job, [`job_keys`] the
-//! keys of a job, [`repeated_key`] the first key that is set twice, and [`value_spans`] where the values of jobs begin and end.
-//! [`line_and_column`] and [`Cursor`] convert a byte count into a line and a column.
+//! [`job_line_numbers`] scans the text with the functions of `toml_parser`: a job begins at each header `[[job]]` outside strings and
+//! comments, however it is spelled, and at each element of an array `job`. [`job_texts`] returns the text from the beginning of each job
+//! on, [`job_keys`] the keys of a job, [`repeated_key`] the key that is set twice, and [`value_spans`] where the values of jobs begin and
+//! end. [`line_and_column`] and [`Cursor`] convert an index into a line and a column.
 #![tactic(auto)]
 
 mod cursor;

@@ -1,4 +1,4 @@
-//! The lines of locations in a text.
+//! The lines and columns of a text.
 
 ghost use Rattle.std.specs.Prelude.{◌≡◌, ◌≤◌, ◌<◌, ◌-◌, [], ◌∷◌, ◌++◌, OnOk, count_by, length, max};
 ghost use Rattle.std.specs.List.{All, after_last};
@@ -7,7 +7,7 @@ ghost use Rattle.rv_list_locations.specs.Places.{begins_character, column_at, is
 
 use std::alloc::{AllocError, Global};
 
-/// The lines, counted from 1, of locations recorded in text order.
+/// The lines, counted from 1, that were recorded for indices of a text in increasing order.
 #[derive(Drop)]
 pub(crate) struct Lines<'a> {
     text: &'a [u8],
@@ -22,6 +22,7 @@ pub(crate) struct Lines<'a> {
 }
 
 impl<'a> Lines<'a> {
+    /// Returns no recorded lines of a text. Does not allocate.
     pub(crate) fn new(alloc: Global, text: &'a str) -> Lines<'a>
         ensures text { result.text.now ≡ text.now }
         ensures counted { result.counted ≡ 0 }
@@ -35,7 +36,8 @@ impl<'a> Lines<'a> {
         }
     }
 
-    /// Records the line of the location with `left` bytes after it, or of the last location if that is later.
+    /// Records the line of the byte with `left` bytes from it to the end of the text, or the line of the last recorded byte if that is
+    /// later.
     pub(crate) fn note_line(&mut self, left: usize) -> Result<(), AllocError>
         ensures text { self.new.text.now ≡ self.old.text.now }
         ensures counted { self.new.counted ≡ max (length self.old.text.now - left) self.old.counted }
@@ -50,6 +52,7 @@ impl<'a> Lines<'a> {
         Ok(())
     }
 
+    /// Returns the recorded lines.
     pub(crate) fn into_line_numbers(self) -> Vec<usize>
         ensures lines { result.items ≡ self.entry.noted.items }
         ensures rising { IsNonDecreasing result.items }
@@ -60,7 +63,7 @@ impl<'a> Lines<'a> {
     }
 }
 
-/// A location in a text, as people count: from 1.
+/// A location in a text: its line and column, counted from 1.
 #[derive(Clone, Copy)]
 pub struct Place {
     pub line: usize,
@@ -68,7 +71,7 @@ pub struct Place {
     pub column: usize,
 }
 
-/// Returns the location after the first `count` bytes of a text, or its end if it is shorter.
+/// Returns the line and column of the byte at index `count`, or of the end of the text if it is shorter.
 pub fn line_and_column(text: &[u8], count: usize) -> Place
     ensures line { result.line ≡ line_at count text.now }
     ensures column { result.column ≡ column_at count text.now }

@@ -13,18 +13,18 @@ use toml_parser::{Key, ParseError, dotted_key};
 #[derive(Drop)]
 pub struct RepeatedKey<'a> {
     pub key: Key,
-    /// The text from its first occurrence on, if that was found: a table with a header is not searched.
+    /// The text from its first occurrence on, if that was found. For a table with a header it is not looked for.
     pub first: Option<&'a str>,
 }
 
-// The entries of a table.
+// The entries of a table, given by the text from the first on and what comes next there.
 #[derive(Clone, Copy)]
 struct Entries<'a> {
     text: &'a str,
     inside: Inside,
 }
 
-/// Returns the key that is set for the second time at the location with `left` bytes after it.
+/// Returns the key that is set for the second time where `left` bytes of the text remain, or `None` if no key is found there.
 pub fn repeated_key<'a>(
     alloc: Global,
     text: &'a str,
@@ -37,6 +37,8 @@ pub fn repeated_key<'a>(
     }
 }
 
+// Scans the text, which has no byte order mark, up to the header, entry or element where `left` bytes remain, and returns the key that is
+// repeated there.
 fn find_repeated_key<'a>(
     alloc: Global,
     text: &'a str,
@@ -59,7 +61,8 @@ fn find_repeated_key<'a>(
     Ok(None)
 }
 
-// Looks in a header, an entry or an element: for its own key, or one of an inline table in it.
+// Returns the repeated key of a header, an entry or an element: its own key if it begins where `left` bytes remain, or else that of an
+// inline table in it.
 fn repeated_in_step<'a>(
     alloc: Global,
     table: &'a str,
@@ -80,7 +83,7 @@ fn repeated_in_step<'a>(
     Ok(Some(repeated_entry(alloc, entries, step)?))
 }
 
-// Looks in the innermost inline table that is open at the location with `left` bytes after it.
+// Returns the repeated key in the innermost inline table that is open where `left` bytes remain.
 fn repeated_in_braces<'a>(
     alloc: Global,
     step: &'a str,
@@ -111,7 +114,7 @@ fn repeated_in_braces<'a>(
     }
 }
 
-// Returns the key of an entry, and the first entry of its table that has it.
+// Returns the key of an entry, with the first entry of its table whose key begins with all parts of that key.
 fn repeated_entry<'a>(
     alloc: Global,
     entries: Entries<'a>,
@@ -137,7 +140,7 @@ fn repeated_entry<'a>(
     Ok(RepeatedKey { key, first: None })
 }
 
-// Whether the parts of a key begin with all parts of another.
+// Whether the parts of a key begin with all parts of another key.
 fn begins_with_parts(key: &Key, parts: &Key) -> bool {
     let count = parts.path.len();
     if key.path.len() < count {

@@ -17,8 +17,8 @@ use std::alloc::{AllocError, Global};
 use toml_parser::text::{byte_at, first, skip, skip_ws};
 use toml_parser::{ErrorKind, ParseError, dotted_key};
 
-/// Returns the line, counted from 1, on which each job of a list begins: the line of its header, or of the element if the list is an array.
-/// A text that is not TOML is scanned up to where no header, entry or element follows.
+/// Returns the line, counted from 1, on which each job of a list begins: the line of its header, or of its element if the list is an array.
+/// A text that is not TOML is scanned up to the first place that cannot be scanned.
 pub fn job_line_numbers(alloc: Global, text: &str) -> Result<Vec<usize>, AllocError>
     ensures lines { IfOk result (λ lines. lines.items ≡ spec.job_lines text.now) }
     ensures rising { IfOk result (λ lines. IsNonDecreasing lines.items) }
@@ -32,7 +32,7 @@ pub fn job_line_numbers(alloc: Global, text: &str) -> Result<Vec<usize>, AllocEr
     }
 }
 
-/// Returns the text after a byte order mark, if it begins with one.
+/// Returns the text after a byte order mark, or the whole text if it begins with none.
 pub(crate) fn skip_byte_order_mark(text: &str) -> &str
     ensures text { result.now ≡ skip_bom text.now }
     ensures within { length result.now ≤ length text.now }
@@ -40,7 +40,7 @@ pub(crate) fn skip_byte_order_mark(text: &str) -> &str
     text.strip_prefix('\u{feff}').unwrap_or(text)
 }
 
-/// What comes next in a scan.
+/// What the scan expects next.
 #[derive(Clone, Copy)]
 pub(crate) enum Next {
     /// An entry of the whole list, or the first header.
@@ -51,7 +51,7 @@ pub(crate) enum Next {
     Table,
 }
 
-/// A header, an entry or an element that was scanned.
+/// A scanned header, entry or element: whether a job begins at it, what comes next, and the text after it.
 #[derive(Clone, Copy)]
 pub(crate) struct Step<'a> {
     pub(crate) is_job: bool,
@@ -70,6 +70,7 @@ pub fn job_texts<'a>(alloc: Global, text: &'a str) -> Result<Vec<&'a str>, Alloc
     }
 }
 
+// Appends the text from each job on, for a list's text without a byte order mark.
 fn note_job_texts<'a>(
     alloc: Global,
     text: &'a str,
@@ -91,6 +92,7 @@ fn note_job_texts<'a>(
     Ok(())
 }
 
+// Records the line on which each job begins, for a list's text without a byte order mark.
 fn note_job_lines(alloc: Global, text: &str, lines: &mut Lines<'_>) -> Result<(), ParseError>
     requires { lines.old.counted + length text.now ≤ length lines.old.text.now }
     ensures text { lines.new.text.now ≡ lines.old.text.now }
@@ -123,7 +125,7 @@ pub(crate) fn scan_step(alloc: Global, text: &str, next: Next) -> Result<Step<'_
     }
 }
 
-// Scans an element, or the bracket after the last one.
+// Scans an element, or the bracket after the last element.
 #[tactic(auto, unfolding(crate::specs::JobPlaces::element))]
 fn scan_element(alloc: Global, text: &str) -> Result<Step<'_>, ParseError>
     ensures step { GivesStep result (spec.element text.now) }
@@ -144,6 +146,7 @@ fn scan_element(alloc: Global, text: &str) -> Result<Step<'_>, ParseError>
     })
 }
 
+// Scans a header, which begins with `[`.
 fn scan_header(alloc: Global, text: &str) -> Result<Step<'_>, ParseError>
     requires { slice_index text.now 0 ≡ left_bracket }
     ensures step { GivesStep result (spec.header text.now) }
@@ -156,7 +159,7 @@ fn scan_header(alloc: Global, text: &str) -> Result<Step<'_>, ParseError>
     }
 }
 
-// Scans the header of an array-of-tables element, after its opening brackets.
+// Scans the header of an element of an array of tables, after its opening brackets. A job begins there if the key is `job`.
 #[tactic(auto, unfolding(crate::specs::JobPlaces::array_header))]
 fn scan_array_header(alloc: Global, inside: &str) -> Result<Step<'_>, ParseError>
     ensures step { GivesStep result (spec.array_header inside.now) }
@@ -192,7 +195,7 @@ fn scan_table_header(alloc: Global, inside: &str) -> Result<Step<'_>, ParseError
     }
 }
 
-// At the top level a `job` array is the list: its elements come next.
+// Scans an entry. Before the first header, an array `job` is the list, and its elements come next.
 #[tactic(auto, unfolding(crate::specs::JobPlaces::keyed_entry))]
 fn scan_entry(alloc: Global, text: &str, next: Next) -> Result<Step<'_>, ParseError>
     ensures step { GivesStep result (spec.keyed_entry next text.now) }
@@ -215,7 +218,7 @@ fn scan_entry(alloc: Global, text: &str, next: Next) -> Result<Step<'_>, ParseEr
     })
 }
 
-/// Returns the text from the value of an entry on, or an empty text if no equals sign follows the key.
+/// Returns the text from the value of an entry on, given the text after its key, or an empty text if no equals sign follows the key.
 #[tactic(auto, unfolding(crate::specs::JobPlaces::after_equals))]
 pub(crate) fn skip_equals_sign(text: &str) -> &str
     ensures text { result.now ≡ spec.after_equals text.now }
@@ -228,7 +231,7 @@ pub(crate) fn skip_equals_sign(text: &str) -> &str
     }
 }
 
-/// Returns the text from the next element, or from the bracket after the last one, on.
+/// Returns the text from the next element on, or from the bracket after the last element on.
 #[tactic(auto, unfolding(crate::specs::JobPlaces::after_comma))]
 pub(crate) fn skip_comma(text: &str) -> &str
     ensures text { result.now ≡ spec.after_comma text.now }
@@ -242,7 +245,7 @@ pub(crate) fn skip_comma(text: &str) -> &str
     }
 }
 
-// Returns the text from the next header or entry on, or an empty text if the line has anything but a comment left.
+// Returns the text from the next header or entry on, or an empty text if the rest of the line is not a comment.
 #[tactic(auto, unfolding(crate::specs::JobPlaces::after_line))]
 fn skip_line_end(text: &str) -> &str
     ensures text { result.now ≡ spec.after_line text.now }
@@ -256,7 +259,7 @@ fn skip_line_end(text: &str) -> &str
     }
 }
 
-// Returns whether a key is `job`, and the text after it. The key is dropped here, so that it is not alive at any other exit.
+// Scans a key, and returns whether it is `job`, and the text after it. The key is dropped here, so that it is not alive at any other exit.
 fn scan_key(alloc: Global, text: &str) -> Result<(bool, &str), ParseError>
     ensures key { Reads (λ is_job. is_job) result
         (option_map (λ name. (spec.is_job name.0, name.1)) (key text.now)) }

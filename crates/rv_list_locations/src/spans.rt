@@ -10,7 +10,7 @@ use std::alloc::{AllocError, Global};
 use toml_parser::text::first;
 use toml_parser::{ParseError, dotted_key};
 
-/// The location of the value of a job's key in the text of a list.
+/// Where the value of a job's key is in the text of a list.
 #[derive(Drop)]
 pub struct ValueSpan {
     /// The index of the job in the list, counted from 0.
@@ -23,8 +23,8 @@ pub struct ValueSpan {
     pub end: usize,
 }
 
-/// Returns the spans of the values of jobs with a header `[[job]]`, in order. Values in inline tables, at dotted keys and in tables below a
-/// job are not included. A text that is not TOML is scanned up to where that shows.
+/// Returns where the values of the jobs with a header `[[job]]` are, in order. Values in inline tables, at dotted keys and in tables below
+/// a job are not included. A text that is not TOML is scanned up to the first place that cannot be scanned.
 pub fn value_spans(alloc: Global, text: &str) -> Result<Vec<ValueSpan>, AllocError>
     ensures { IfOk result (λ spans. All (IsSpanIn text.now) spans.items) }
 {
@@ -35,6 +35,7 @@ pub fn value_spans(alloc: Global, text: &str) -> Result<Vec<ValueSpan>, AllocErr
     }
 }
 
+// Appends where the values of the jobs with a header `[[job]]` are.
 fn note_value_spans(alloc: Global, text: &str, spans: &mut Vec<ValueSpan>) -> Result<(), ParseError>
     requires { All (IsSpanIn text.now) spans.old.items }
     ensures { All (IsSpanIn text.now) spans.new.items }
@@ -59,7 +60,7 @@ fn note_value_spans(alloc: Global, text: &str, spans: &mut Vec<ValueSpan>) -> Re
     Ok(())
 }
 
-// Whether the text is at a header.
+// Whether the text begins with a header.
 fn is_header(here: &str, what: Next) -> bool {
     match what {
         Next::Element => false,
@@ -67,7 +68,7 @@ fn is_header(here: &str, what: Next) -> bool {
     }
 }
 
-// Records the span of the value of an entry, given the text from the entry on.
+// Appends where the value of an entry is, given the text from the entry on. A dotted key is left out.
 fn note_value_span(
     alloc: Global,
     text: &str,

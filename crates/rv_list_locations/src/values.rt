@@ -24,7 +24,7 @@ pub(crate) fn skip_value(alloc: Global, text: &str) -> Result<&str, ParseError>
     }
 }
 
-// Returns the text after an array or an inline table, that is after the bracket that closes the last open one.
+// Returns the text after an array or an inline table: after the bracket that closes the last open one.
 fn skip_brackets(alloc: Global, text: &str) -> Result<&str, ParseError>
     ensures value { ReturnsText result (after_brackets (suc (length text.now)) 0 text.now) }
     ensures shorter { IfOk result (λ rest. length rest.now < length text.now) }
@@ -49,7 +49,7 @@ pub(crate) fn skip_blank_lines(text: &str) -> &str
     skip_blank(text, true)
 }
 
-// Returns the number of open brackets after a byte.
+// Returns the number of open brackets and braces after a byte, if `depth` are open before it.
 fn bracket_depth_after(depth: usize, byte: u8) -> usize
     ensures { result ≡ min (depth_after depth byte) (2 ^ 64 - 1) }
 {
@@ -87,7 +87,7 @@ fn skip_string_or_word(alloc: Global, text: &str) -> Result<&str, ParseError>
     }
 }
 
-// Returns the text after an unquoted key, or a value that is not a text.
+// Returns the text after a word, which is an unquoted key or a value that is not a string.
 fn skip_word(text: &str) -> Result<&str, ParseError>
     ensures value { ReturnsText result (after_word text.now) }
     ensures shorter { IfOk result (λ rest. length rest.now < length text.now) }
@@ -102,7 +102,7 @@ fn skip_word(text: &str) -> Result<&str, ParseError>
     Ok(rest)
 }
 
-// Whether a word begins or continues here; a space may separate date and time.
+// Whether the text begins with a byte of a word. A space may separate a date from a time.
 fn bare_word_continues(text: &str) -> bool
     ensures { result ≡ is_in_word (slice_index text.now 0) (slice_index text.now 1) }
 {

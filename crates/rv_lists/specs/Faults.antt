@@ -3,6 +3,7 @@ use Rattle.std.specs.Prelude.{ℕ, List, codes}
 use Rattle.rv_lists.specs.declared.error.What.{What}
 use Rattle.rv_lists.specs.declared.error.What.TheVariants as what
 
+-- the name of an error of a list, as messages show it
 abbrev pub what_name : What → List ℕ
 what_name what.NotToml = codes "not-toml"
 what_name what.NoJobs = codes "no-jobs"

@@ -42,62 +42,74 @@ use Rattle.rv_lists.specs.Keys.{boolean_at_key, array_at_key, has_wrong_kind, ha
 
 -- ---- name, image, budget
 
+-- whether a text may be a path of a list: it is 1 to 4,096 bytes long
 abbrev pub is_path : List ℕ → Bool
 is_path t = is_within 1 most_path (length t)
 
+-- the name of a job, or an error if it is missing or invalid
 unfoldable pub name_from_table : Members → Result (List ℕ) What
 name_from_table ms = passing_value is_name what.Name (text_at_key (codes "name") ms)
 
+-- the path of a job's image, or an error if it is missing or invalid
 unfoldable pub image_from_table : Members → Result (List ℕ) What
 image_from_table ms = passing_value is_path what.Image (text_at_key (codes "image") ms)
 
--- a number from low to high, or else the error
+-- an integer if it is from `low` to `high`, or else the error `fault`
 abbrev pub number_or_fault : ℕ → ℕ → What → ℤ → Result ℕ What
 number_or_fault low high fault (pos n) = if is_within low high n then Ok n else Err fault
 number_or_fault low high fault (negsuc n) = Err fault
 
+-- the result of `f` for a value that must exist, or the error `fault` if there is none
 abbrev pub required_value : {X Y : Type 0} → (X → Result Y What) → What → Option X → Result Y What
 required_value f fault None = Err fault
 required_value f fault (Some x) = f x
 
+-- the budget of a job, or an error if it is missing or invalid
 unfoldable pub budget_from_table : Members → Result ℕ What
 budget_from_table ms =
     required_value (number_or_fault 1 most_budget what.Budget) what.Budget (number_at_key (codes "budget") ms)
 
 -- ---- the script
 
+-- the script that consists of these bytes, or an error if it is too long
 abbrev pub script_from_bytes : List ℕ → Result (List ℕ) What
 script_from_bytes bytes = if nat_le (length bytes) most_script then Ok bytes else Err what.Input
 
+-- the script that consists of decoded bytes, or an error if the digits were invalid or it is too long
 abbrev pub script_from_decoded : Result (List ℕ) FromHexError → Result (List ℕ) What
 script_from_decoded (Ok bytes) = script_from_bytes bytes
 script_from_decoded (Err e) = Err what.Input
 
--- the script from `input` or `input_hex`, of which at most one is set
+-- the script of a job from the values of `input` and `input_hex`, of which at most one may be set; empty if neither is
 abbrev pub script_from_either : Option (List ℕ) → Option (List ℕ) → Result (List ℕ) What
 script_from_either None None = Ok []
 script_from_either (Some text) None = script_from_bytes text
 script_from_either None (Some digits) = script_from_decoded (decode_of digits)
 script_from_either (Some text) (Some digits) = Err what.Input
 
+-- the script of a job, or an error if it is invalid
 unfoldable pub script_from_table : Members → Result (List ℕ) What
 script_from_table ms = script_from_either (text_at_key (codes "input") ms) (text_at_key (codes "input_hex") ms)
 
 -- ---- regions
 
+-- the 32-bit number at a key of a region, or an error if it is missing or out of range
 abbrev pub region_word : List ℕ → Members → Result ℕ What
 region_word key ms = required_value (number_or_fault 0 0xffff_ffff what.Region) what.Region (number_at_key key ms)
 
+-- the region of a table; it is writable unless `write` is false
 unfoldable pub region_from_table : Members → Result Region What
 region_from_table ms = do
   base ← region_word (codes "base") ms
   size ← region_word (codes "size") ms
   Ok (record { base = base; size = size; writable = unwrap_or (boolean_at_key (codes "write") ms) true })
 
+-- the region of an element of `region`, or an error if the element is not a table or the region is invalid
 unfoldable pub region_from_element : Data → Result Region What
 region_from_element (table ms) = region_from_table ms
 region_from_element _ = Err what.Region
 
+-- the regions of the elements of `region`, in order, or the error of the first bad one
 unfoldable pub regions_from_elements : Items → Result (List Region) What
 regions_from_elements no_items = Ok []
 regions_from_elements (item d ds) = do
@@ -105,36 +117,42 @@ regions_from_elements (item d ds) = do
   regions ← regions_from_elements ds
   Ok (region ∷ regions)
 
--- the regions, if they form a map
+-- these regions, or an error if they do not form a map, since `map_error` gives some error
 abbrev pub regions_if_map : List Region → Option MapError → Result (List Region) What
 regions_if_map regions None = Ok regions
 regions_if_map regions (Some e) = Err what.Region
 
+-- the regions of the elements of `region`, if they form a map, or else an error
 unfoldable pub map_from_elements : Items → Result (List Region) What
 map_from_elements ds = regions_from_elements ds >>= (λ regions. regions_if_map regions (map_error regions))
 
+-- the regions of a job: those of `region`, or the default ones
 unfoldable pub map_from_table : Members → Result (List Region) What
 map_from_table ms = reading_or_default map_from_elements default_regions (array_at_key (codes "region") ms)
 
 -- ---- where the image is loaded
 
+-- whether segments are loaded at their physical or virtual addresses, from the value of `load`
 abbrev pub load_from_text : List ℕ → Result LoadAt What
 load_from_text t = if bytes_eq t (codes "physical") then Ok Physical
     else if bytes_eq t (codes "virtual") then Ok Virtual
     else Err what.Load
 
+-- whether segments are loaded at their physical or virtual addresses; by default, at the physical ones
 unfoldable pub load_from_table : Members → Result LoadAt What
 load_from_table ms = reading_or_default load_from_text Physical (text_at_key (codes "load") ms)
 
 -- ---- the signature
 
--- whether it is not empty, not too long, and has no zero byte
+-- whether a text may name a symbol of a signature: it is 1 to 255 bytes long and has no zero byte
 unfoldable pub is_signature_symbol : List ℕ → Bool
 is_signature_symbol t = is_within 1 most_symbol (length t) && list_all (λ b. not (b == 0)) t
 
+-- the name at the index `n` of the value of `signature`, or an error if it is missing or invalid
 abbrev pub signature_symbol : ℕ → Items → Result (List ℕ) What
 signature_symbol n ds = passing_value is_signature_symbol what.Signature (option_and_then as_str (get_item n ds))
 
+-- the two symbols of a signature from the value of `signature`, or an error if they are invalid
 unfoldable pub symbols_from_names : Items → Result (Option Symbols) What
 symbols_from_names ds = do
   two ← fault_if (not (item_count ds == 2)) what.Signature
@@ -142,51 +160,59 @@ symbols_from_names ds = do
   end ← signature_symbol 1 ds
   Ok (Some (record { begin = begin; end = end }))
 
+-- the symbols of a job's signature, or `None` if it has none
 unfoldable pub signature_from_table : Members → Result (Option Symbols) What
 signature_from_table ms = reading_or_default symbols_from_names None (array_at_key (codes "signature") ms)
 
--- ---- what is expected
+-- ---- the expected result
 
+-- the expected exit code from the value of `expect_exit`, or an error if it is not a 32-bit number
 abbrev pub exit_from_number : ℤ → Result (Option ℕ) What
 exit_from_number z = number_or_fault 0 0xffff_ffff what.Expect z >>= (λ n. Ok (Some n))
 
+-- the expected exit code of a job, or `None` if it expects none
 unfoldable pub exit_from_table : Members → Result (Option ℕ) What
 exit_from_table ms = reading_or_default exit_from_number None (number_at_key (codes "expect_exit") ms)
 
--- a path, which requires a signature
+-- the path of the expected signature, or an error if it is invalid, or if the job has no signature, so that `asked` is false
 abbrev pub reference_from_path : Bool → List ℕ → Result (Option (List ℕ)) What
 reference_from_path asked path = if asked && is_path path then Ok (Some path) else Err what.Expect
 
+-- the path of the expected signature of a job, or `None` if it expects none; `asked` is whether the job has a signature
 unfoldable pub reference_from_table : Bool → Members → Result (Option (List ℕ)) What
 reference_from_table asked ms = reading_or_default (reference_from_path asked) None (text_at_key (codes "expect_signature") ms)
 
--- the bytes of a text, if the console can hold as many
+-- the expected console with this text, or an error if the console cannot hold so many bytes
 abbrev pub console_from_text : List ℕ → Result (Option ExpectedConsole) What
 console_from_text text =
     if nat_le (length text) most_console then Ok (Some (Text text)) else Err what.Expect
 
+-- the expected console in the file at this path, or an error if the path is invalid
 abbrev pub console_from_path : List ℕ → Result (Option ExpectedConsole) What
 console_from_path path = if is_path path then Ok (Some (File path)) else Err what.Expect
 
--- the console from `expect_console` or `expect_console_file`, of which at most one is set
+-- the expected console of a job from the values of `expect_console` and `expect_console_file`, of which at most one may be set
 abbrev pub console_from_either : Option (List ℕ) → Option (List ℕ) → Result (Option ExpectedConsole) What
 console_from_either None None = Ok None
 console_from_either (Some text) None = console_from_text text
 console_from_either None (Some path) = console_from_path path
 console_from_either (Some text) (Some path) = Err what.Expect
 
+-- the expected console of a job, or `None` if it expects none
 unfoldable pub console_from_table : Members → Result (Option ExpectedConsole) What
 console_from_table ms =
     console_from_either (text_at_key (codes "expect_console") ms) (text_at_key (codes "expect_console_file") ms)
 
+-- the expected end by a fault of this kind, or an error if there is no kind
 abbrev pub end_from_fault_kind : Option FaultKind → Result (Option ExpectedEnd) What
 end_from_fault_kind None = Err what.Expect
 end_from_fault_kind (Some kind) = Ok (Some (expected.Fault kind))
 
--- `budget`, or the name of a fault
+-- the expected end of a run from the value of `expect_end`: `budget`, or the name of a fault
 abbrev pub end_from_text : List ℕ → Result (Option ExpectedEnd) What
 end_from_text t = if bytes_eq t (codes "budget") then Ok (Some expected.Budget) else end_from_fault_kind (fault_named t)
 
+-- the expected end of a job's run, or `None` if it expects none
 unfoldable pub end_from_table : Members → Result (Option ExpectedEnd) What
 end_from_table ms = reading_or_default end_from_text None (text_at_key (codes "expect_end") ms)
 
@@ -194,18 +220,22 @@ end_from_table ms = reading_or_default end_from_text None (text_at_key (codes "e
 abbrev pub names_of_jobs : List Job → List (List ℕ)
 names_of_jobs jobs = map (λ (j : Job). j.name) jobs
 
+-- the index of the job that `same_as` names, or an error if there is no index
 abbrev pub same_as_from_place : Option ℕ → Result (Option ℕ) What
 same_as_from_place None = Err what.SameAs
 same_as_from_place (Some k) = Ok (Some k)
 
+-- the index of the job that `same_as` names, or an error if no earlier job has this name
 abbrev pub same_as_from_name : List (List ℕ) → List ℕ → Result (Option ℕ) What
 same_as_from_name earlier t = same_as_from_place (index_in earlier t)
 
+-- the index of the job whose results a job must have, or `None` if there is no `same_as`; `earlier` are the names of the earlier jobs
 unfoldable pub same_as_from_table : List (List ℕ) → Members → Result (Option ℕ) What
 same_as_from_table earlier ms = reading_or_default (same_as_from_name earlier) None (text_at_key (codes "same_as") ms)
 
 -- ---- the hart
 
+-- the instruction set with this name, or an error if there is none
 abbrev pub isa_from_text : List ℕ → Result Isa What
 isa_from_text t = if bytes_eq t (codes "rv32i") then Ok isa.I
     else if bytes_eq t (codes "rv32im") then Ok isa.Im
@@ -213,20 +243,23 @@ isa_from_text t = if bytes_eq t (codes "rv32i") then Ok isa.I
     else if bytes_eq t (codes "rv32imc") then Ok isa.Imc
     else Err what.Isa
 
+-- the instruction set of a job; by default RV32IMC
 unfoldable pub isa_from_table : Members → Result Isa What
 isa_from_table ms = reading_or_default isa_from_text isa.Imc (text_at_key (codes "isa") ms)
 
+-- whether misaligned accesses are rejected, from the value of `misaligned`
 abbrev pub misaligned_from_text : List ℕ → Result Choice What
 misaligned_from_text t = if bytes_eq t (codes "fault") then Ok Fault
     else if bytes_eq t (codes "allow") then Ok Allow
     else Err what.Misaligned
 
+-- whether misaligned accesses are rejected in a job's run; by default they are
 unfoldable pub misaligned_from_table : Members → Result Choice What
 misaligned_from_table ms = reading_or_default misaligned_from_text Fault (text_at_key (codes "misaligned") ms)
 
 -- ---- a job
 
--- the job of a table that follows jobs with these names, or the first error
+-- the job of a table, or its first error; `earlier` are the names of the earlier jobs
 unfoldable pub job_from_table : List (List ℕ) → Members → Result Job What
 job_from_table earlier ms = do
   known ← fault_if (has_unknown_job_or_region_key ms) what.UnknownKey
@@ -263,13 +296,15 @@ job_from_table earlier ms = do
     misaligned = choice;
   })
 
+-- the job of an element of `job`, or its first error; `earlier` are the names of the earlier jobs
 unfoldable pub job_from_element : List (List ℕ) → Data → Result Job What
 job_from_element earlier (table ms) = job_from_table earlier ms
 job_from_element earlier _ = Err what.WrongType
 
 -- ---- the whole list
 
--- the jobs of the elements, counted from the number n, or the first bad job with its error
+-- the jobs of the elements of `job`, or the first bad job with its error; `n` is the number of the first element, and `earlier` are the
+-- names of the jobs before it
 unfoldable pub jobs_of_elements : ℕ → List (List ℕ) → Items → Result (List Job) JobError
 jobs_of_elements n earlier no_items = Ok []
 jobs_of_elements n earlier (item d ds) = do
@@ -277,21 +312,23 @@ jobs_of_elements n earlier (item d ds) = do
   jobs ← jobs_of_elements (n + 1) (earlier ++ job.name ∷ []) ds
   Ok (job ∷ jobs)
 
--- `job` is missing or an empty array
+-- whether `job` is missing or an empty array
 abbrev pub has_no_jobs : Option Data → Bool
 has_no_jobs None = true
 has_no_jobs (Some (array no_items)) = true
 has_no_jobs _ = false
 
+-- whether `job` is an array of more than 4,096 elements
 abbrev pub has_too_many_jobs : Option Data → Bool
 has_too_many_jobs (Some (array ds)) = nat_lt most_jobs (item_count ds)
 has_too_many_jobs _ = false
 
+-- the elements of a value that is an array, or else an error
 abbrev pub array_elements : Option Data → Result Items What
 array_elements (Some (array ds)) = Ok ds
 array_elements _ = Err what.WrongType
 
--- the elements of `job`, or the first error of the whole list
+-- the elements of `job` in a list, or the first error of the whole list
 unfoldable pub job_elements : Members → Result Items What
 job_elements ms = do
   some ← fault_if (has_no_jobs (get_member (codes "job") ms)) what.NoJobs
@@ -299,14 +336,15 @@ job_elements ms = do
   known ← fault_if (any_unknown_key is_list_key ms) what.UnknownKey
   array_elements (get_member (codes "job") ms)
 
--- the jobs of a document; bytes that are not a document are an error
+-- the jobs of a TOML document, or the first error; `None` is a text that is not a TOML document
 unfoldable pub jobs_of_document : Option Members → Result (List Job) JobError
 jobs_of_document None = Err (record { job = 0; what = what.NotToml })
 jobs_of_document (Some ms) = numbered_reading 0 (job_elements ms) >>= jobs_of_elements 1 []
 
--- the document that bytes represent, if any; text that is not UTF-8 is not a document
+-- the TOML document that a text is, or `None` if it is not UTF-8 or not TOML
 abbrev pub document_of : List ℕ → Option Members
 document_of bytes = if is_utf8 bytes then parse_document bytes else None
 
+-- the jobs of the list with this text, or the number of the first bad job and its error; the number is 0 for an error of the whole list
 unfoldable pub job_list_of : List ℕ → Result (List Job) JobError
 job_list_of bytes = jobs_of_document (document_of bytes)

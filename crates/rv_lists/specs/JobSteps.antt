@@ -11,7 +11,8 @@ use Rattle.rv_lists.specs.JobList.{reference_from_table, console_from_table}
 use Rattle.rv_lists.specs.JobList.{end_from_table, same_as_from_table, isa_from_table, misaligned_from_table}
 use Rattle.rv_lists.specs.Reading.{◌>>=◌}
 
--- how a job runs and should end, given the names of the earlier jobs
+-- the expected end, the job of `same_as`, the instruction set, and the treatment of misaligned accesses of a job, or the first error;
+-- `earlier` are the names of the earlier jobs
 unfoldable pub run_options_from_table : List (List ℕ) → Members → Result RunOptions What
 run_options_from_table earlier ms = do
   expect_end ← end_from_table ms
@@ -20,7 +21,7 @@ run_options_from_table earlier ms = do
   choice ← misaligned_from_table ms
   Ok (record { expect_end = expect_end; same_as = same_as; isa = set; misaligned = choice })
 
--- the initial state of a job
+-- the script, the regions and the load addresses of a job, or the first error
 unfoldable pub setup_from_table : Members → Result Setup What
 setup_from_table ms = do
   script ← script_from_table ms
@@ -28,7 +29,7 @@ setup_from_table ms = do
   load ← load_from_table ms
   Ok (record { script = script; regions = regions; load = load })
 
--- what is collected from a job's run, and what is expected of it
+-- the signature of a job, and its expected exit code, signature and console, or the first error
 unfoldable pub results_from_table : Members → Result Results What
 results_from_table ms = do
   signature ← signature_from_table ms
@@ -37,7 +38,8 @@ results_from_table ms = do
   console ← console_from_table ms
   Ok (record { signature = signature; exit = exit; reference = reference; console = console })
 
--- the job with this name, image and budget
+-- the job with this name, image and budget, and the other keys of a table, or the first error of these keys; `earlier` are the names of the
+-- earlier jobs
 unfoldable pub job_from_remaining_keys : List (List ℕ) → List ℕ → List ℕ → ℕ → Members → Result Job What
 job_from_remaining_keys earlier name image budget ms = do
   setup ← setup_from_table ms

@@ -1,4 +1,4 @@
--- The keys of a job list, and the TOML kinds of their values.
+-- The keys of a job list, and the TOML types of their values.
 use Rattle.std.specs.Prelude.{◌+◌, ℕ, ℤ, Bool, true, false, not, ◌&&◌, ◌||◌, List, [], ◌∷◌}
 use Rattle.std.specs.Prelude.{Option, codes, option_and_then, is_some}
 use Rattle.std.specs.List.{list_all, list_any}
@@ -9,87 +9,97 @@ use Rattle.toml.specs.Data.{get_member, as_str, as_integer, as_bool, as_array}
 
 -- ---- values
 
--- whether some item satisfies the predicate
+-- whether some item satisfies the predicate `p`
 unfoldable pub any_item : (Data → Bool) → Items → Bool
 any_item p no_items = false
 any_item p (item d ds) = p d || any_item p ds
 
--- whether every item satisfies the predicate
+-- whether every item satisfies the predicate `p`
 unfoldable pub all_items : (Data → Bool) → Items → Bool
 all_items p no_items = true
 all_items p (item d ds) = p d && all_items p ds
 
+-- the number of items
 abbrev pub item_count : Items → ℕ
 item_count no_items = 0
 item_count (item d ds) = item_count ds + 1
 
--- the text, the number, the Boolean and the array at a key
+-- the text at a key, or `None` if there is no key or its value is not a text
 abbrev pub text_at_key : List ℕ → Members → Option (List ℕ)
 text_at_key k ms = option_and_then as_str (get_member k ms)
 
+-- the integer at a key, or `None` if there is no key or its value is not an integer
 abbrev pub number_at_key : List ℕ → Members → Option ℤ
 number_at_key k ms = option_and_then as_integer (get_member k ms)
 
+-- the Boolean at a key, or `None` if there is no key or its value is not a Boolean
 abbrev pub boolean_at_key : List ℕ → Members → Option Bool
 boolean_at_key k ms = option_and_then as_bool (get_member k ms)
 
+-- the items of the array at a key, or `None` if there is no key or its value is not an array
 abbrev pub array_at_key : List ℕ → Members → Option Items
 array_at_key k ms = option_and_then as_array (get_member k ms)
 
--- ---- keys, each with its kind
+-- ---- keys, each with its type
 
--- a key, and the predicate of its value's kind
+-- a key, and whether a value has the type that the key requires
 pub record Key : Type 0 where
   pub name : List ℕ
   pub is_of_kind : Data → Bool
 
+-- the key with this name and this predicate for the type of its value
 abbrev pub key : List ℕ → (Data → Bool) → Key
 key name is_of_kind = record { name = name; is_of_kind = is_of_kind }
 
--- whether the key is missing or its value satisfies the predicate
+-- whether the key `k` is missing, or its value satisfies the predicate `p`
 abbrev pub absent_or : (Data → Bool) → List ℕ → Members → Bool
 absent_or p k ms = option_map_or p (get_member k ms) true
 
--- whether each of these keys is missing or its value is of its kind
+-- whether each of these keys is missing, or its value has the required type
 abbrev pub has_kinds_of_keys : List Key → Members → Bool
 has_kinds_of_keys keys ms = list_all (λ (k : Key). absent_or k.is_of_kind k.name ms) keys
 
--- whether one of these keys has the name
+-- whether one of these keys has this name
 abbrev pub is_key_among : List Key → List ℕ → Bool
 is_key_among keys name = list_any (λ (k : Key). bytes_eq name k.name) keys
 
 -- ---- the keys of a region
 
+-- whether a value is an integer
 abbrev pub is_number : Data → Bool
 is_number d = is_some (as_integer d)
 
+-- whether a value is a Boolean
 abbrev pub is_boolean : Data → Bool
 is_boolean d = is_some (as_bool d)
 
+-- the keys of a region
 abbrev pub region_keys : List Key
 region_keys =
     key (codes "base") is_number ∷ key (codes "size") is_number ∷ key (codes "write") is_boolean ∷ []
 
 -- ---- the keys of a job
 
+-- whether a value is a text
 abbrev pub is_text : Data → Bool
 is_text d = is_some (as_str d)
 
--- whether it is an array of texts
+-- whether a value is an array of texts
 abbrev pub is_text_array : Data → Bool
 is_text_array (array ds) = all_items is_text ds
 is_text_array _ = false
 
--- whether it is a table whose values have the kinds of a region's keys
+-- whether a value is a table whose values have the types that the keys of a region require
 abbrev pub is_region : Data → Bool
 is_region (table ms) = has_kinds_of_keys region_keys ms
 is_region _ = false
 
--- whether it is an array of regions
+-- whether a value is an array of such tables
 abbrev pub is_region_array : Data → Bool
 is_region_array (array ds) = all_items is_region ds
 is_region_array _ = false
 
+-- the keys of a job
 abbrev pub job_keys : List Key
 job_keys =
     key (codes "name") is_text
@@ -110,37 +120,39 @@ job_keys =
     ∷ key (codes "misaligned") is_text
     ∷ []
 
--- whether a value has another TOML kind than its key requires, including in a region or a signature
+-- whether a value of a job has another type than its key requires, also in a region or a signature
 unfoldable pub has_wrong_kind : Members → Bool
 has_wrong_kind ms = not (has_kinds_of_keys job_keys ms)
 
 -- ---- unknown keys
 
+-- whether jobs have a key with this name
 abbrev pub is_job_key : List ℕ → Bool
 is_job_key name = is_key_among job_keys name
 
+-- whether regions have a key with this name
 abbrev pub is_region_key : List ℕ → Bool
 is_region_key name = is_key_among region_keys name
 
--- the only key of the whole list
+-- whether the whole list has a key with this name: only `job`
 abbrev pub is_list_key : List ℕ → Bool
 is_list_key name = bytes_eq name (codes "job")
 
--- whether there is an unknown key
+-- whether a table has a key that is not known
 unfoldable pub any_unknown_key : (List ℕ → Bool) → Members → Bool
 any_unknown_key known no_members = false
 any_unknown_key known (member k d ms) = not (known k) || any_unknown_key known ms
 
--- whether it is a table with a key that regions do not have
+-- whether a value is a table with a key that regions do not have
 abbrev pub region_has_unknown_key : Data → Bool
 region_has_unknown_key (table ms) = any_unknown_key is_region_key ms
 region_has_unknown_key _ = false
 
--- whether some region has such a key
+-- whether some region of a job has a key that regions do not have
 abbrev pub regions_have_unknown_key : Members → Bool
 regions_have_unknown_key ms =
     option_map_or (any_item region_has_unknown_key) (array_at_key (codes "region") ms) false
 
--- whether there is a key that jobs do not have, or one in a region that regions do not have
+-- whether a job has a key that jobs do not have, or one of its regions has a key that regions do not have
 unfoldable pub has_unknown_job_or_region_key : Members → Bool
 has_unknown_job_or_region_key ms = any_unknown_key is_job_key ms || regions_have_unknown_key ms

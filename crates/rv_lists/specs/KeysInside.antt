@@ -1,11 +1,11 @@
--- The value kinds in the table of a job's keys.
+-- The value types in the code's table of a job's keys.
 use Rattle.std.specs.Prelude.{Bool}
 use Rattle.toml.specs.Data.{Data}
 use Rattle.rv_lists.specs.declared.keys.Kind.{Kind}
 use Rattle.rv_lists.specs.declared.keys.Kind.TheVariants.{Text, Number, Texts, Regions}
 use Rattle.rv_lists.specs.Keys.{is_text, is_number, is_text_array, is_region_array}
 
--- whether the value is of the kind
+-- whether a value has the type that this kind of key requires
 abbrev pub is_value_of_kind : Kind → Data → Bool
 is_value_of_kind Text = is_text
 is_value_of_kind Number = is_number

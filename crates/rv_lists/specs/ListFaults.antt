@@ -1,4 +1,4 @@
--- All errors of a list: a single one of the whole list, or the first error of each bad job. The name of a bad job counts as taken, so that
+-- All errors of a list: a single one of the whole list, or the first error of each bad job. The name of a bad job is reserved too, so that
 -- an error in one job does not cause another.
 use Rattle.std.specs.Prelude.{◌+◌, ℕ, List, [], ◌∷◌, ◌++◌, Option, Some, None, Result, Ok, Err}
 use Rattle.std.specs.Prelude.{is_some, if◌then◌else◌}
@@ -9,42 +9,43 @@ use Rattle.rv_lists.specs.declared.error.JobError.{JobError}
 use Rattle.rv_lists.specs.JobList.{name_from_table, job_from_element, job_elements, document_of}
 use Rattle.rv_base.specs.Names.{index_in}
 
--- the error of a result, with the number of its job
+-- the error of the job with the number `n`, if the result of reading it is an error, as a list of at most one
 abbrev pub numbered_fault : {A : Type 0} → ℕ → Result A What → List JobError
 numbered_fault n (Ok x) = []
 numbered_fault n (Err w) = record { job = n; what = w } ∷ []
 
--- a name that is not among these
+-- the name that was read, if it is valid and not among these names
 abbrev pub unused_name : List (List ℕ) → Result (List ℕ) What → Option (List ℕ)
 unused_name names (Ok name) = if is_some (index_in names name) then None else Some name
 unused_name names (Err fault) = None
 
--- the name that an element takes, whether its job is good or bad: a valid name that no earlier element has taken
+-- the name that an element reserves, whether its job is good or bad: a valid name that is not among the reserved ones
 unfoldable pub name_taken_by_element : List (List ℕ) → Data → Option (List ℕ)
 name_taken_by_element names (table ms) = unused_name names (name_from_table ms)
 name_taken_by_element names _ = None
 
--- names and one more, if there is one
+-- the reserved names, and the name that one more element reserves, if any
 abbrev pub names_with_taken : List (List ℕ) → Option (List ℕ) → List (List ℕ)
 names_with_taken names None = names
 names_with_taken names (Some name) = names ++ name ∷ []
 
--- the first error of each bad element, counted from the number n, if these names are taken
+-- the first error of each bad element; `n` is the number of the first element, and `names` are the names that earlier elements reserve
 unfoldable pub faults_of_elements : ℕ → List (List ℕ) → Items → List JobError
 faults_of_elements n names no_items = []
 faults_of_elements n names (item d ds) =
     numbered_fault n (job_from_element names d)
     ++ faults_of_elements (n + 1) (names_with_taken names (name_taken_by_element names d)) ds
 
--- the errors of the elements, or the error of the whole list
+-- the errors of the elements of `job`, or the single error of the whole list
 abbrev pub faults_or_list_fault : Result Items What → List JobError
 faults_or_list_fault (Ok ds) = faults_of_elements 1 [] ds
 faults_or_list_fault (Err w) = record { job = 0; what = w } ∷ []
 
--- the errors of a document; bytes that are not a document are an error
+-- the errors of a TOML document; `None` is a text that is not a TOML document
 unfoldable pub faults_of_document : Option Members → List JobError
 faults_of_document None = record { job = 0; what = what.NotToml } ∷ []
 faults_of_document (Some ms) = faults_or_list_fault (job_elements ms)
 
+-- all errors of the list with this text
 unfoldable pub list_faults : List ℕ → List JobError
 list_faults bytes = faults_of_document (document_of bytes)

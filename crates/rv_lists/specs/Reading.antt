@@ -7,38 +7,39 @@ use Rattle.rv_lists.specs.declared.error.JobError.{JobError}
 
 -- the second step, if the first succeeded
 infixl 10 ◌>>=◌
+-- the result of the second step for the value of the first, or the error of the first
 abbrev pub ◌>>=◌ : {F A B : Type 0} → Result A F → (A → Result B F) → Result B F
 (Ok x) >>= f = f x
 (Err e) >>= f = Err e
 
--- an error if the condition holds
+-- the error `fault` if the condition holds
 abbrev pub fault_if : Bool → What → Result (Unit {0}) What
 fault_if b fault = if b then Err fault else Ok tt
 
--- the value if it exists and passes, or else the error
+-- the value if it exists and satisfies `p`, or else the error `fault`
 abbrev pub passing_value : {X : Type 0} → (X → Bool) → What → Option X → Result X What
 passing_value p fault None = Err fault
 passing_value p fault (Some x) = if p x then Ok x else Err fault
 
--- the result of parsing a value, or the default if there is none
+-- the result of `f` for a value that may be missing; the default `y` if it is
 abbrev pub reading_or_default : {X Y : Type 0} → (X → Result Y What) → Y → Option X → Result Y What
 reading_or_default f y None = Ok y
 reading_or_default f y (Some x) = f x
 
--- an error with the number of its job
+-- a result whose error, if it is one, gets the number of its job
 abbrev pub numbered_reading : {A : Type 0} → ℕ → Result A What → Result A JobError
 numbered_reading n (Ok x) = Ok x
 numbered_reading n (Err w) = Err (record { job = n; what = w })
 
--- the parsed values with earlier values in front
+-- the elements `front` and then those of a list that was read, or the error of reading it
 abbrev pub with_front : {F A : Type 0} → List A → Result (List A) F → Result (List A) F
 with_front front (Ok xs) = Ok (front ++ xs)
 with_front front (Err e) = Err e
 
--- a function returned the specified result, unless memory ran out
+-- a function returned `r`, which is the specified result `read`, unless memory ran out
 abbrev pub Gives : {X : Type 0} → Result X What → Result X What → Type 0
 Gives r read = MatchResult r (λ x. read ≡ Ok x) (λ e. (e ≡ OutOfMemory → ⊥) → read ≡ Err e)
 
--- a function on lists returned the specified result, whose error has the number of its job, unless memory ran out
+-- a function on lists returned `r`, which is the specified result `read`, unless memory ran out; errors have the number of their job
 abbrev pub GivesJobs : {X : Type 0} → Result X JobError → Result X JobError → Type 0
 GivesJobs r read = MatchResult r (λ x. read ≡ Ok x) (λ e. (e.what ≡ OutOfMemory → ⊥) → read ≡ Err e)

@@ -20,7 +20,7 @@ use std::alloc::{AllocError, Global};
 use toml::{Table, Value};
 
 /// Returns all errors of a list: a single one of the whole list, with job 0, or the first error of each bad job, in list order. The name of
-/// a bad job counts as taken if it is valid and no earlier job has taken it. Fails only if an allocation fails.
+/// a bad job is reserved if it is valid and not reserved before. Fails only if an allocation fails.
 #[tactic(auto, unfolding(crate::specs::ListFaults::list_faults))]
 pub fn read_faults(alloc: Global, bytes: &[u8]) -> Result<Vec<JobError>, AllocError>
     ensures { IfOk result (λ faults. faults.items ≡ list_faults bytes.now) }
@@ -37,7 +37,7 @@ pub fn read_faults(alloc: Global, bytes: &[u8]) -> Result<Vec<JobError>, AllocEr
     }
 }
 
-/// Returns a single error of the whole list.
+/// Returns this error of the whole list as the only one.
 fn single_list_fault(alloc: Global, what: What) -> Result<Vec<JobError>, AllocError>
     ensures { IfOk result (λ faults. faults.items ≡ record { job = 0; what = what } ∷ []) }
 {
@@ -46,6 +46,7 @@ fn single_list_fault(alloc: Global, what: What) -> Result<Vec<JobError>, AllocEr
     Ok(faults)
 }
 
+// Returns all errors of a list that is a TOML document.
 #[tactic(auto, unfolding(crate::specs::ListFaults::faults_of_document))]
 fn faults_of_table(alloc: Global, table: &Table) -> Result<Vec<JobError>, AllocError>
     ensures { IfOk result (λ faults. faults.items ≡ faults_of_document (Some (table_view table.now))) }
@@ -56,6 +57,7 @@ fn faults_of_table(alloc: Global, table: &Table) -> Result<Vec<JobError>, AllocE
     }
 }
 
+// Returns the first error of each bad element, in order.
 fn faults_of_elements(alloc: Global, elements: &[Value]) -> Result<Vec<JobError>, AllocError>
     requires { length elements.now ≤ most_jobs }
     ensures { IfOk result (λ faults. faults.items ≡ faults_of_elements 1 [] (items_view elements.now)) }
@@ -69,7 +71,7 @@ fn faults_of_elements(alloc: Global, elements: &[Value]) -> Result<Vec<JobError>
     Ok(faults)
 }
 
-/// Adds an element to the jobs read so far, and records its error if it has one.
+/// Adds the job of an element to the jobs read so far, or, if it is bad, reserves its name and records its error.
 fn add_element_or_fault(
     alloc: Global,
     earlier: EarlierJobs,
@@ -94,7 +96,8 @@ fn add_element_or_fault(
     }
 }
 
-/// Adds a bad element to the jobs read so far: if it takes a name, a job with that name represents it.
+/// Reserves the name of a bad element, if it is valid and not reserved before: adds a job with this name and default values to the jobs
+/// read so far.
 fn reserve_bad_job_name(
     alloc: Global,
     earlier: EarlierJobs,
@@ -116,7 +119,7 @@ fn reserve_bad_job_name(
     }
 }
 
-/// Returns the name that an element takes, whether its job is good or bad.
+/// Returns the name that an element reserves, whether its job is good or bad, or `None` if it has no valid name that is not reserved.
 #[tactic(auto, unfolding(crate::specs::ListFaults::name_taken_by_element))]
 fn name_taken_by_element<'a>(earlier: &EarlierJobs, element: &'a Value) -> Option<&'a str>
     ensures value { option_map (λ name. name.now) result
@@ -136,8 +139,8 @@ fn name_taken_by_element<'a>(earlier: &EarlierJobs, element: &'a Value) -> Optio
     }
 }
 
-/// A law of lists, with no code to run: the first of all errors is the one for which a list is rejected, and there is no error exactly if
-/// the list is valid.
+/// Proves that the first of all errors is the one for which a list is rejected, and that there is no error exactly if the list is valid.
+/// There is no code to run.
 pub fn first_fault_refuses_a_list()
     ensures { (bytes : List ℕ) → slice_get (list_faults bytes) 0 ≡ result_err (job_list_of bytes) }
 {}

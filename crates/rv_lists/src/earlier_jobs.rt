@@ -32,6 +32,7 @@ impl Model for EarlierJobs {
 }
 
 impl EarlierJobs {
+    /// Returns no jobs. Does not allocate.
     pub(crate) fn new(alloc: Global) -> EarlierJobs
         ensures { result ≡ [] }
     {
@@ -41,7 +42,7 @@ impl EarlierJobs {
         }
     }
 
-    /// Returns the index of the job with this name.
+    /// Returns the index of the job with this name, or `None` if no job has it.
     pub(crate) fn place_of_name(&self, name: &str) -> Option<usize>
         ensures value { result ≡ index_in (names_of_jobs self.now) name.now }
         ensures within { IfSome result (λ k. k < length self.now) }
@@ -50,7 +51,7 @@ impl EarlierJobs {
         self.places.get(name).copied()
     }
 
-    /// Returns the jobs with one appended.
+    /// Returns the jobs with one more, whose name no other job has.
     pub(crate) fn append_job(self, alloc: Global, job: Job) -> Result<EarlierJobs, AllocError>
         requires fresh { index_in (names_of_jobs self) job.name ≡ None }
         requires good { IsJob (length self) job }
@@ -67,6 +68,7 @@ impl EarlierJobs {
         Ok(EarlierJobs { jobs, places })
     }
 
+    /// Returns the jobs as a list.
     pub(crate) fn into_job_list(self) -> JobList
         ensures { result ≡ self }
     {

@@ -50,7 +50,7 @@ pub enum What {
     Misaligned,
 }
 
-/// An error and its job, counted from 1; 0 is the whole list.
+/// An error of a list, with the number of its job, counted from 1; the number is 0 for an error of the whole list.
 #[derive(Clone, Copy, Debug, PartialEq, Eq)]
 pub struct JobError {
     pub job: u32,
@@ -58,7 +58,7 @@ pub struct JobError {
 }
 
 impl What {
-    /// Returns the error's name in the program's messages.
+    /// Returns the name of this kind of error in messages.
     pub fn name(self) -> &'static str
         ensures { result.now ≡ what_name self }
     {

@@ -1,5 +1,5 @@
-//! What a job of a list expects of its row: the keys `expect_exit`, `expect_end`, `expect_console`,
-//! `expect_console_file` and `expect_signature`.
+//! What a job of a list expects of its row: the keys `expect_exit`, `expect_end`, `expect_console`, `expect_console_file` and
+//! `expect_signature`.
 
 ghost use Rattle.std.specs.Prelude.{◌≡◌};
 ghost use Rattle.toml.specs.View.{table_view};
@@ -17,6 +17,7 @@ use rv_machine::FaultKind;
 use std::alloc::Global;
 use toml::Table;
 
+/// Returns the expected exit code of a job, or `None` if it expects none.
 #[tactic(auto, unfolding(crate::specs::JobList::exit_from_table))]
 pub(crate) fn exit_from_table(table: &Table) -> Result<Option<u32>, What>
     ensures { result ≡ exit_from_table (table_view table.now) }
@@ -33,6 +34,8 @@ pub(crate) fn exit_from_table(table: &Table) -> Result<Option<u32>, What>
     }
 }
 
+/// Returns the path of the expected signature of a job, or `None` if it expects none. `asked` is whether the job has a signature, without
+/// which the key is an error.
 #[tactic(auto, unfolding(crate::specs::JobList::reference_from_table))]
 pub(crate) fn reference_from_table(
     alloc: Global,
@@ -53,6 +56,7 @@ pub(crate) fn reference_from_table(
     }
 }
 
+/// Returns the expected console of a job, or `None` if it expects none.
 #[tactic(auto, unfolding(crate::specs::JobList::console_from_table))]
 pub(crate) fn console_from_table(
     alloc: Global,
@@ -71,6 +75,7 @@ pub(crate) fn console_from_table(
     }
 }
 
+// Returns the expected console with this text, or an error if it is too long.
 fn console_from_text(alloc: Global, text: &[u8]) -> Result<Option<ExpectedConsole>, What>
     ensures { Gives result (console_from_text text.now) }
 {
@@ -82,6 +87,7 @@ fn console_from_text(alloc: Global, text: &[u8]) -> Result<Option<ExpectedConsol
     }
 }
 
+// Returns the expected console in the file at this path, or an error if the path is invalid.
 fn console_from_path(alloc: Global, path: &str) -> Result<Option<ExpectedConsole>, What>
     ensures { Gives result (console_from_path path.now) }
 {
@@ -92,6 +98,7 @@ fn console_from_path(alloc: Global, path: &str) -> Result<Option<ExpectedConsole
     }
 }
 
+/// Returns the expected end of a job's run, or `None` if it expects none.
 #[tactic(auto, unfolding(crate::specs::JobList::end_from_table))]
 pub(crate) fn end_from_table(table: &Table) -> Result<Option<ExpectedEnd>, What>
     ensures { result ≡ end_from_table (table_view table.now) }
@@ -102,7 +109,7 @@ pub(crate) fn end_from_table(table: &Table) -> Result<Option<ExpectedEnd>, What>
     }
 }
 
-// Parses `budget` or the name of a fault.
+// Returns the expected end from the value of `expect_end`: `budget`, or the name of a fault.
 fn end_from_text(text: &str) -> Result<Option<ExpectedEnd>, What>
     ensures { result ≡ end_from_text text.now }
 {

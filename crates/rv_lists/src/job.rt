@@ -12,7 +12,7 @@ use rv_memory::{Map, Misaligned};
 use std::alloc::{AllocError, Global};
 use std::marker::Model;
 
-/// The names of the symbols at the begin and end of a signature, 1 to 255 bytes each.
+/// The names of the symbols at the beginning and the end of a signature, 1 to 255 bytes each.
 #[derive(Debug, Drop)]
 pub struct Symbols {
     pub begin: Text,
@@ -29,7 +29,7 @@ pub enum ExpectedConsole {
 }
 
 impl ExpectedConsole {
-    /// Returns the path of the file, if one is given.
+    /// Returns the path of the file with the expected text, or `None` if the list has the text.
     pub fn path(&self) -> Option<&str>
         ensures { option_map (λ path. path.now) result ≡ console_path (Some self.now) }
     {
@@ -43,7 +43,7 @@ impl ExpectedConsole {
 /// How a run is expected to end.
 #[derive(Clone, Copy, Debug, PartialEq, Eq)]
 pub enum ExpectedEnd {
-    /// The budget is exhausted.
+    /// The budget is used up.
     Budget,
     /// A fault of this kind, wherever it occurs.
     Fault(FaultKind),
@@ -79,7 +79,7 @@ pub struct Job {
 }
 
 impl Job {
-    /// Creates a job from these four values and the defaults of all other keys.
+    /// Returns the job with this name, image, budget and script, and the defaults of all other keys.
     pub(crate) fn job_with_defaults(name: Text, image: Text, budget: u32, script: Bytes) -> Job
         ensures { result ≡ record (single_job image budget script) { name = name } }
     {
@@ -101,12 +101,14 @@ impl Job {
         }
     }
 
+    // Replaces the budget of the job.
     fn set_budget(&mut self, steps: u32)
         ensures { self.new ≡ job_with_budget steps self.old }
     {
         self.budget = steps;
     }
 
+    // Removes the expectations of the job and its `same_as`.
     fn drop_expectations(&mut self)
         ensures { self.new ≡ without_expectations self.old }
     {
@@ -138,7 +140,7 @@ impl Model for JobList {
 }
 
 impl JobList {
-    /// Creates a list of one job named `one`, with the defaults of all other keys.
+    /// Returns a list of one job named `one`, with this image, budget and script, and the defaults of all other keys.
     pub fn single(
         alloc: Global,
         image: &str,
@@ -159,7 +161,7 @@ impl JobList {
         Ok(JobList { items })
     }
 
-    /// Wraps jobs that form a valid list.
+    /// Returns the list of these jobs, which form a valid list.
     pub(crate) fn new(items: Vec<Job>) -> JobList
         requires { AreJobs items.items }
         ensures { result ≡ items.items }
@@ -167,7 +169,7 @@ impl JobList {
         JobList { items }
     }
 
-    /// Overrides each job's budget, if a budget is given. Does not allocate.
+    /// Replaces the budget of each job, if a budget is given. Does not allocate.
     pub fn with_budget(self, budget: Option<u32>) -> JobList
         ensures jobs { result ≡ with_budget budget self }
         ensures count { length result ≡ length self }
@@ -178,7 +180,7 @@ impl JobList {
         }
     }
 
-    // Overrides each job's budget.
+    // Replaces the budget of each job.
     fn with_one_budget(self, steps: u32) -> JobList
         ensures { result ≡ map (job_with_budget steps) self }
     {
@@ -189,6 +191,7 @@ impl JobList {
         JobList { items }
     }
 
+    /// Returns the jobs as a slice.
     pub fn as_slice(&self) -> &[Job]
         ensures value { result.now ≡ self.now }
         ensures jobs { AreJobs self.now }
@@ -207,7 +210,7 @@ impl JobList {
         JobList { items }
     }
 
-    /// Returns the underlying vector without allocating.
+    /// Returns the underlying vector. Does not allocate.
     pub fn into_vec(self) -> Vec<Job>
         ensures value { result.items ≡ self }
         ensures jobs { AreJobs self }

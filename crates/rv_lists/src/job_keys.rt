@@ -23,7 +23,7 @@ use rv_base::{Text, is_name};
 use std::alloc::Global;
 use toml::{Table, Value};
 
-/// Parses an element of a list as a job, given the jobs read so far.
+/// Returns the job of an element of a list, or its first error, given the jobs read so far.
 #[tactic(auto, unfolding(crate::specs::JobList::job_from_element))]
 pub(crate) fn job_from_element(
     alloc: Global,
@@ -40,6 +40,7 @@ pub(crate) fn job_from_element(
     }
 }
 
+// Returns the job of a table, or its first error, given the jobs read so far.
 #[tactic(auto, unfolding(crate::specs::JobList::job_from_table))]
 fn job_from_table(alloc: Global, earlier: &EarlierJobs, table: &Table) -> Result<Job, What>
     ensures value { Gives result (job_from_table (names_of_jobs earlier.now) (table_view table.now)) }
@@ -62,7 +63,8 @@ fn job_from_table(alloc: Global, earlier: &EarlierJobs, table: &Table) -> Result
 }
 
 impl EarlierJobs {
-    /// Parses the remaining keys of a job with a name that no earlier job has, an image and a budget.
+    /// Returns the job with this name, which no earlier job has, this image and this budget, and the other keys of a table, or the first
+    /// error of these keys.
     #[tactic(auto, unfolding(crate::specs::JobSteps::job_from_remaining_keys))]
     fn job_from_remaining_keys(
         &self,
@@ -88,7 +90,7 @@ impl EarlierJobs {
 }
 
 impl Setup {
-    // Assembles a job from the values of its keys.
+    // Returns the job with these values of its keys.
     fn into_job(
         self,
         name: Text,
@@ -133,6 +135,7 @@ impl Setup {
     }
 }
 
+/// Returns the name of a job, or an error if it is missing or invalid.
 #[tactic(auto, unfolding(crate::specs::JobList::name_from_table))]
 pub(crate) fn name_from_table(table: &Table) -> Result<&str, What>
     ensures { MatchResult result (λ name. name_from_table (table_view table.now) ≡ Ok name.now)
@@ -150,6 +153,7 @@ pub(crate) fn name_from_table(table: &Table) -> Result<&str, What>
     }
 }
 
+// Returns the path of a job's image, or an error if it is missing or invalid.
 #[tactic(auto, unfolding(crate::specs::JobList::image_from_table))]
 fn image_from_table(table: &Table) -> Result<&str, What>
     ensures { MatchResult result (λ path. image_from_table (table_view table.now) ≡ Ok path.now)
@@ -167,6 +171,7 @@ fn image_from_table(table: &Table) -> Result<&str, What>
     }
 }
 
+// Returns the budget of a job, or an error if it is missing or invalid.
 #[tactic(auto, unfolding(crate::specs::JobList::budget_from_table))]
 fn budget_from_table(table: &Table) -> Result<u32, What>
     ensures { result ≡ budget_from_table (table_view table.now) }

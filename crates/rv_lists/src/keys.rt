@@ -11,7 +11,7 @@ ghost use Rattle.rv_lists.specs.Keys.{is_job_key, is_region_key, is_list_key, an
 use toml::value::Array;
 use toml::{Table, Value};
 
-/// The TOML kind of the value of a job's key.
+/// The TOML type of the value of a job's key.
 #[derive(Clone, Copy)]
 pub enum Kind {
     Text,
@@ -22,7 +22,7 @@ pub enum Kind {
     Regions,
 }
 
-/// The keys of a job, each with the kind of its value.
+/// The keys of a job, each with the type of its value.
 pub const JOB_KEYS: [(&str, Kind); 16] = [
     ("name", Kind::Text),
     ("image", Kind::Text),
@@ -42,12 +42,14 @@ pub const JOB_KEYS: [(&str, Kind); 16] = [
     ("misaligned", Kind::Text),
 ];
 
+/// Returns the value at a key, or `None` if there is no such key.
 pub(crate) fn value_at_key<'a>(table: &'a Table, key: &str) -> Option<&'a Value>
     ensures { option_map (λ v. view v.now) result ≡ get_member key.now (table_view table.now) }
 {
     table.get(key)
 }
 
+/// Returns the text at a key, or `None` if there is no text there.
 pub(crate) fn text_at_key<'a>(table: &'a Table, key: &str) -> Option<&'a str>
     ensures { option_map (λ s. s.now) result ≡ text_at_key key.now (table_view table.now) }
 {
@@ -57,6 +59,7 @@ pub(crate) fn text_at_key<'a>(table: &'a Table, key: &str) -> Option<&'a str>
     }
 }
 
+/// Returns the integer at a key, or `None` if there is no integer there.
 pub(crate) fn number_at_key(table: &Table, key: &str) -> Option<i64>
     ensures { result ≡ number_at_key key.now (table_view table.now) }
 {
@@ -66,6 +69,7 @@ pub(crate) fn number_at_key(table: &Table, key: &str) -> Option<i64>
     }
 }
 
+/// Returns the Boolean at a key, or `None` if there is no Boolean there.
 pub(crate) fn boolean_at_key(table: &Table, key: &str) -> Option<bool>
     ensures { result ≡ boolean_at_key key.now (table_view table.now) }
 {
@@ -75,6 +79,7 @@ pub(crate) fn boolean_at_key(table: &Table, key: &str) -> Option<bool>
     }
 }
 
+/// Returns the array at a key, or `None` if there is no array there.
 pub(crate) fn array_at_key<'a>(table: &'a Table, key: &str) -> Option<&'a Array>
     ensures { option_map (λ a. array_view a.now) result ≡ array_at_key key.now (table_view table.now) }
 {
@@ -84,14 +89,14 @@ pub(crate) fn array_at_key<'a>(table: &'a Table, key: &str) -> Option<&'a Array>
     }
 }
 
-/// Whether a job has an unknown key.
+/// Whether a job has a key that jobs do not have.
 pub(crate) fn has_unknown_job_key(table: &Table) -> bool
     ensures { result ≡ any_unknown_key is_job_key (table_view table.now) }
 {
     table.keys().any(|key| !is_job_key(key.as_str()))
 }
 
-/// Whether a region has an unknown key.
+/// Whether a region has a key that regions do not have.
 pub(crate) fn has_unknown_region_key(table: &Table) -> bool
     ensures { result ≡ any_unknown_key is_region_key (table_view table.now) }
 {
@@ -105,18 +110,21 @@ pub(crate) fn has_unknown_list_key(table: &Table) -> bool
     table.keys().any(|key| !(key.as_str() == "job"))
 }
 
+// Whether jobs have a key with this name.
 fn is_job_key(name: &str) -> bool
     ensures { result ≡ is_job_key name.now }
 {
     is_key_among(&JOB_KEYS, name)
 }
 
+// Whether one of these keys has this name.
 fn is_key_among(keys: &[(&str, Kind)], name: &str) -> bool
     ensures { result ≡ list_any (λ key. bytes_eq name.now key.0.now) keys.now }
 {
     keys.iter().any(|key| name == key.0)
 }
 
+// Whether regions have a key with this name.
 fn is_region_key(name: &str) -> bool
     ensures { result ≡ is_region_key name.now }
 {

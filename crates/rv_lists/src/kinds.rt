@@ -1,4 +1,4 @@
-//! Whether a table has the keys of a job, with values of the right kinds.
+//! Whether a table has only the keys of a job, with values of the right types.
 
 ghost use Rattle.std.specs.Prelude.{◌≡◌, true, false};
 ghost use Rattle.std.specs.List.{list_all, list_any};
@@ -14,7 +14,7 @@ use crate::keys::{
 };
 use toml::{Table, Value};
 
-/// Whether a job or one of its regions has an unknown key.
+/// Whether a job has a key that jobs do not have, or one of its regions has a key that regions do not have.
 #[tactic(auto, unfolding(crate::specs::Keys::has_unknown_job_or_region_key))]
 pub(crate) fn has_unknown_job_or_region_key(table: &Table) -> bool
     ensures { result ≡ has_unknown_job_or_region_key (table_view table.now) }
@@ -22,7 +22,7 @@ pub(crate) fn has_unknown_job_or_region_key(table: &Table) -> bool
     has_unknown_job_key(table) || regions_have_unknown_key(table)
 }
 
-/// Whether a value has another TOML kind than its key requires, including in a region or a signature.
+/// Whether a value of a job has another type than its key requires, also in a region or a signature.
 #[tactic(auto, unfolding(crate::specs::Keys::has_wrong_kind))]
 pub(crate) fn has_wrong_kind(table: &Table) -> bool
     ensures { result ≡ has_wrong_kind (table_view table.now) }
@@ -30,6 +30,7 @@ pub(crate) fn has_wrong_kind(table: &Table) -> bool
     !has_kinds_of_job_keys(table)
 }
 
+// Whether some region of a job has a key that regions do not have.
 fn regions_have_unknown_key(table: &Table) -> bool
     ensures { result ≡ regions_have_unknown_key (table_view table.now) }
 {
@@ -39,12 +40,14 @@ fn regions_have_unknown_key(table: &Table) -> bool
     }
 }
 
+// Whether one of these values is a table with a key that regions do not have.
 fn any_region_has_unknown_key(regions: &[Value]) -> bool
     ensures { result ≡ list_any (λ v. region_has_unknown_key (view v)) regions.now }
 {
     regions.iter().any(|region| region_has_unknown_key(region))
 }
 
+// Whether a value is a table with a key that regions do not have.
 fn region_has_unknown_key(region: &Value) -> bool
     ensures { result ≡ region_has_unknown_key (view region.now) }
 {
@@ -54,12 +57,14 @@ fn region_has_unknown_key(region: &Value) -> bool
     }
 }
 
+// Whether each value of a job has the type that its key requires.
 fn has_kinds_of_job_keys(table: &Table) -> bool
     ensures { result ≡ has_kinds_of_keys job_keys (table_view table.now) }
 {
     has_kinds_of_keys(table, &JOB_KEYS)
 }
 
+// Whether each of these keys is missing from a table, or its value has the required type.
 fn has_kinds_of_keys(table: &Table, keys: &[(&str, Kind)]) -> bool
     ensures { result ≡ list_all
         (λ key. absent_or (is_value_of_kind key.1) key.0.now (table_view table.now)) keys.now }
@@ -68,7 +73,7 @@ fn has_kinds_of_keys(table: &Table, keys: &[(&str, Kind)]) -> bool
         .all(|key| is_absent_or_kind(table, key.0, key.1))
 }
 
-// Whether the key is missing or its value is of the kind.
+// Whether the key is missing, or its value has the type that this kind requires.
 fn is_absent_or_kind(table: &Table, key: &str, kind: Kind) -> bool
     ensures { result ≡ absent_or (is_value_of_kind kind) key.now (table_view table.now) }
 {
@@ -78,6 +83,7 @@ fn is_absent_or_kind(table: &Table, key: &str, kind: Kind) -> bool
     }
 }
 
+// Whether a value has the type that this kind requires.
 fn is_value_of_kind(kind: Kind, value: &Value) -> bool
     ensures { result ≡ is_value_of_kind kind (view value.now) }
 {
@@ -89,6 +95,7 @@ fn is_value_of_kind(kind: Kind, value: &Value) -> bool
     }
 }
 
+// Whether a value is an array of texts.
 fn is_text_array(value: &Value) -> bool
     ensures { result ≡ is_text_array (view value.now) }
 {
@@ -98,12 +105,14 @@ fn is_text_array(value: &Value) -> bool
     }
 }
 
+// Whether all values are texts.
 fn are_all_texts(texts: &[Value]) -> bool
     ensures { result ≡ list_all (λ v. is_text (view v)) texts.now }
 {
     texts.iter().all(|text| text.is_str())
 }
 
+// Whether a value is an array of tables whose values have the types that the keys of a region require.
 fn is_region_array(value: &Value) -> bool
     ensures { result ≡ is_region_array (view value.now) }
 {
@@ -113,12 +122,14 @@ fn is_region_array(value: &Value) -> bool
     }
 }
 
+// Whether all values are tables whose values have the types that the keys of a region require.
 fn are_all_regions(regions: &[Value]) -> bool
     ensures { result ≡ list_all (λ v. is_region (view v)) regions.now }
 {
     regions.iter().all(|region| is_region(region))
 }
 
+// Whether a value is a table whose values have the types that the keys of a region require.
 fn is_region(value: &Value) -> bool
     ensures { result ≡ is_region (view value.now) }
 {
@@ -128,6 +139,7 @@ fn is_region(value: &Value) -> bool
     }
 }
 
+// Whether each value of a region has the type that its key requires.
 fn has_kinds_of_region_keys(table: &Table) -> bool
     ensures { result ≡ has_kinds_of_keys region_keys (table_view table.now) }
 {
@@ -136,6 +148,7 @@ fn has_kinds_of_region_keys(table: &Table) -> bool
         && is_absent_or_boolean(table, "write")
 }
 
+// Whether the key is missing, or its value is an integer.
 fn is_absent_or_number(table: &Table, key: &str) -> bool
     ensures { result ≡ absent_or is_number key.now (table_view table.now) }
 {
@@ -145,6 +158,7 @@ fn is_absent_or_number(table: &Table, key: &str) -> bool
     }
 }
 
+// Whether the key is missing, or its value is a Boolean.
 fn is_absent_or_boolean(table: &Table, key: &str) -> bool
     ensures { result ≡ absent_or is_boolean key.now (table_view table.now) }
 {

@@ -19,8 +19,8 @@ use std::alloc::Global;
 use toml::value::Array;
 use toml::{Table, Value};
 
-/// Parses bytes as a job list, or returns its first error: errors of the whole list, with job 0, come before all others, followed by that
-/// of the first bad job in list order.
+/// Parses bytes as a job list, or returns the first error: an error of the whole list, with job 0, or else the error of the first bad job
+/// in list order.
 #[tactic(auto, unfolding(crate::specs::JobList::job_list_of))]
 pub fn read_jobs(alloc: Global, bytes: &[u8]) -> Result<JobList, JobError>
     ensures { GivesJobs result (job_list_of bytes.now) }
@@ -37,13 +37,14 @@ pub fn read_jobs(alloc: Global, bytes: &[u8]) -> Result<JobList, JobError>
     }
 }
 
-/// Returns an error of the whole list.
+/// Returns this error of the whole list.
 pub(crate) fn list_error(what: What) -> JobError
     ensures { result ≡ record { job = 0; what = what } }
 {
     JobError { job: 0, what }
 }
 
+// Returns the jobs of a list that is a TOML document, or the first error.
 #[tactic(auto, unfolding(crate::specs::JobList::jobs_of_document))]
 fn jobs_of_table(alloc: Global, table: &Table) -> Result<JobList, JobError>
     ensures { GivesJobs result (jobs_of_document (Some (table_view table.now))) }
@@ -54,7 +55,7 @@ fn jobs_of_table(alloc: Global, table: &Table) -> Result<JobList, JobError>
     }
 }
 
-/// Returns the elements of `job`, if the whole list has no error.
+/// Returns the elements of `job`, or the first error of the whole list.
 #[tactic(auto, unfolding(crate::specs::JobList::job_elements))]
 pub(crate) fn job_elements(table: &Table) -> Result<&Array, What>
     ensures value { MatchResult result (λ a. job_elements (table_view table.now)
@@ -81,6 +82,7 @@ pub(crate) fn job_elements(table: &Table) -> Result<&Array, What>
     }
 }
 
+// Whether `job` is missing or an empty array.
 fn has_no_jobs(value: Option<&Value>) -> bool
     ensures { result ≡ has_no_jobs (option_map (λ v. view v.now) value.entry) }
 {
@@ -93,6 +95,7 @@ fn has_no_jobs(value: Option<&Value>) -> bool
     }
 }
 
+// Whether `job` is an array of more than 4,096 elements.
 fn has_too_many_jobs(value: Option<&Value>) -> bool
     ensures { result ≡ has_too_many_jobs (option_map (λ v. view v.now) value.entry) }
 {
@@ -105,6 +108,7 @@ fn has_too_many_jobs(value: Option<&Value>) -> bool
     }
 }
 
+// Returns the jobs of the elements of `job`, or the first bad job with its error.
 fn jobs_of_elements(alloc: Global, elements: &[Value]) -> Result<JobList, JobError>
     requires { length elements.now ≤ most_jobs }
     ensures { GivesJobs result (jobs_of_elements 1 [] (items_view elements.now)) }

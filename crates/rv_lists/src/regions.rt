@@ -13,7 +13,7 @@ use rv_memory::{Map, Region};
 use std::alloc::Global;
 use toml::{Table, Value};
 
-/// Returns the map of a job's regions, or the default map if it has none.
+/// Returns the regions of a job: those of `region`, or the default map if there is no such key.
 #[tactic(auto, unfolding(crate::specs::JobList::map_from_table))]
 pub(crate) fn map_from_table(alloc: Global, table: &Table) -> Result<Map, What>
     ensures { Gives result (map_from_table (table_view table.now)) }
@@ -24,6 +24,7 @@ pub(crate) fn map_from_table(alloc: Global, table: &Table) -> Result<Map, What>
     }
 }
 
+// Returns the regions of the elements of `region`, or an error if one is invalid or they do not form a map.
 #[tactic(auto, unfolding(crate::specs::JobList::map_from_elements))]
 fn map_from_elements(alloc: Global, elements: &[Value]) -> Result<Map, What>
     ensures { Gives result (map_from_elements (items_view elements.now)) }
@@ -35,6 +36,7 @@ fn map_from_elements(alloc: Global, elements: &[Value]) -> Result<Map, What>
     }
 }
 
+// Returns the regions of the elements of `region`, in order, or the error of the first bad one.
 fn regions_from_elements(alloc: Global, elements: &[Value]) -> Result<Vec<Region>, What>
     ensures { MatchResult result (λ v. regions_from_elements (items_view elements.now) ≡ Ok v.items)
         (λ e. e ≢ OutOfMemory → regions_from_elements (items_view elements.now) ≡ Err e) }
@@ -50,6 +52,7 @@ fn regions_from_elements(alloc: Global, elements: &[Value]) -> Result<Vec<Region
     Ok(regions)
 }
 
+// Returns the region of an element of `region`, or an error if the element is not a table or the region is invalid.
 #[tactic(auto, unfolding(crate::specs::JobList::region_from_element))]
 fn region_from_element(value: &Value) -> Result<Region, What>
     ensures { result ≡ region_from_element (view value.now) }
@@ -60,6 +63,7 @@ fn region_from_element(value: &Value) -> Result<Region, What>
     }
 }
 
+// Returns the region of a table. It is writable unless `write` is false.
 #[tactic(auto, unfolding(crate::specs::JobList::region_from_table))]
 fn region_from_table(table: &Table) -> Result<Region, What>
     ensures { result ≡ region_from_table (table_view table.now) }
@@ -73,7 +77,7 @@ fn region_from_table(table: &Table) -> Result<Region, What>
     })
 }
 
-// Returns the number at a key of a region, which must have 32 bits.
+// Returns the 32-bit number at a key of a region, or an error if it is missing or out of range.
 fn region_word(table: &Table, key: &str) -> Result<u32, What>
     ensures { result ≡ region_word key.now (table_view table.now) }
 {

@@ -13,7 +13,7 @@ use rv_base::Text;
 use std::alloc::Global;
 use toml::Table;
 
-/// What is collected from a run, and what is expected of it.
+/// The signature of a job, and the exit code, the signature and the console that it expects.
 #[derive(Drop)]
 pub(crate) struct Results {
     pub(crate) signature: Option<Symbols>,
@@ -22,7 +22,7 @@ pub(crate) struct Results {
     pub(crate) console: Option<ExpectedConsole>,
 }
 
-/// Parses the signature of a job, and its expected exit code, signature and console.
+/// Returns the signature of a job, and its expected exit code, signature and console, or the first error.
 #[tactic(auto, unfolding(crate::specs::JobSteps::results_from_table))]
 pub(crate) fn results_from_table(alloc: Global, table: &Table) -> Result<Results, What>
     ensures value { Gives result (results_from_table (table_view table.now)) }

@@ -14,7 +14,7 @@ use rv_isa::Isa;
 use rv_memory::Misaligned;
 use toml::Table;
 
-/// How a job runs and should end.
+/// The values of the last four keys of a job: how its run should end, the job whose results it must have, and its hart.
 #[derive(Clone, Copy)]
 pub(crate) struct RunOptions {
     pub(crate) expect_end: Option<ExpectedEnd>,
@@ -23,7 +23,7 @@ pub(crate) struct RunOptions {
     pub(crate) misaligned: Misaligned,
 }
 
-/// Parses the last four keys of a job, given the jobs read so far.
+/// Returns the values of the last four keys of a job, or the first error, given the jobs read so far.
 #[tactic(auto, unfolding(crate::specs::JobSteps::run_options_from_table))]
 pub(crate) fn run_options_from_table(
     earlier: &EarlierJobs,
@@ -45,6 +45,7 @@ pub(crate) fn run_options_from_table(
     })
 }
 
+// Returns the index of the job whose results a job must have, or `None` if there is no `same_as`.
 #[tactic(auto, unfolding(crate::specs::JobList::same_as_from_table))]
 fn same_as_from_table(earlier: &EarlierJobs, table: &Table) -> Result<Option<usize>, What>
     ensures value { result ≡ same_as_from_table (names_of_jobs earlier.now) (table_view table.now) }
@@ -59,6 +60,7 @@ fn same_as_from_table(earlier: &EarlierJobs, table: &Table) -> Result<Option<usi
     }
 }
 
+// Returns the instruction set of a job. The default is RV32IMC.
 #[tactic(auto, unfolding(crate::specs::JobList::isa_from_table))]
 fn isa_from_table(table: &Table) -> Result<Isa, What>
     ensures { result ≡ isa_from_table (table_view table.now) }
@@ -69,6 +71,7 @@ fn isa_from_table(table: &Table) -> Result<Isa, What>
     }
 }
 
+// Returns the instruction set with this name, or an error if there is none.
 fn isa_from_text(text: &str) -> Result<Isa, What>
     ensures { result ≡ isa_from_text text.now }
 {
@@ -85,6 +88,7 @@ fn isa_from_text(text: &str) -> Result<Isa, What>
     }
 }
 
+// Returns whether misaligned accesses are rejected in a job's run. By default they are.
 #[tactic(auto, unfolding(crate::specs::JobList::misaligned_from_table))]
 fn misaligned_from_table(table: &Table) -> Result<Misaligned, What>
     ensures { result ≡ misaligned_from_table (table_view table.now) }
@@ -95,6 +99,7 @@ fn misaligned_from_table(table: &Table) -> Result<Misaligned, What>
     }
 }
 
+// Returns whether misaligned accesses are rejected, from the value of `misaligned`.
 fn misaligned_from_text(text: &str) -> Result<Misaligned, What>
     ensures { result ≡ misaligned_from_text text.now }
 {

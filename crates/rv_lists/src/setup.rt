@@ -20,7 +20,7 @@ use rv_memory::Map;
 use std::alloc::Global;
 use toml::Table;
 
-/// The initial state of a job.
+/// The initial state of a job: its script, its regions, and which addresses of its segments are the load addresses.
 #[derive(Drop)]
 pub(crate) struct Setup {
     pub(crate) script: Bytes,
@@ -28,7 +28,7 @@ pub(crate) struct Setup {
     pub(crate) load: LoadAt,
 }
 
-/// Parses the script, the regions and the choice of load addresses of a job.
+/// Returns the script, the regions and the load addresses of a job, or the first error.
 #[tactic(auto, unfolding(crate::specs::JobSteps::setup_from_table))]
 pub(crate) fn setup_from_table(alloc: Global, table: &Table) -> Result<Setup, What>
     ensures value { Gives result (setup_from_table (table_view table.now)) }
@@ -44,6 +44,7 @@ pub(crate) fn setup_from_table(alloc: Global, table: &Table) -> Result<Setup, Wh
     })
 }
 
+// Returns the script of a job from `input` or `input_hex`, of which at most one may be set. It is empty if neither is.
 #[tactic(auto, unfolding(crate::specs::JobList::script_from_table))]
 fn script_from_table(alloc: Global, table: &Table) -> Result<Bytes, What>
     ensures value { Gives result (script_from_table (table_view table.now)) }
@@ -57,6 +58,7 @@ fn script_from_table(alloc: Global, table: &Table) -> Result<Bytes, What>
     }
 }
 
+// Returns the script that consists of these bytes, or an error if it is too long.
 fn script_from_bytes(alloc: Global, bytes: &[u8]) -> Result<Bytes, What>
     ensures value { Gives result (script_from_bytes bytes.now) }
     ensures short { IfOk result (λ s. length s ≤ most_script) }
@@ -68,6 +70,7 @@ fn script_from_bytes(alloc: Global, bytes: &[u8]) -> Result<Bytes, What>
     }
 }
 
+// Returns the script from its hexadecimal digits, or an error if they are invalid or it is too long.
 fn script_from_hex(alloc: Global, digits: &str) -> Result<Bytes, What>
     ensures value { Gives result (script_from_decoded (decode_of digits.now)) }
     ensures short { IfOk result (λ s. length s ≤ most_script) }
@@ -85,6 +88,7 @@ fn script_from_hex(alloc: Global, digits: &str) -> Result<Bytes, What>
     }
 }
 
+// Returns whether segments are loaded at their physical or virtual addresses. The default is the physical ones.
 #[tactic(auto, unfolding(crate::specs::JobList::load_from_table))]
 fn load_from_table(table: &Table) -> Result<LoadAt, What>
     ensures { result ≡ load_from_table (table_view table.now) }
@@ -95,6 +99,7 @@ fn load_from_table(table: &Table) -> Result<LoadAt, What>
     }
 }
 
+// Returns whether segments are loaded at their physical or virtual addresses, from the value of `load`.
 fn load_from_text(text: &str) -> Result<LoadAt, What>
     ensures { result ≡ load_from_text text.now }
 {

@@ -17,7 +17,7 @@ use rv_base::limits::MOST_SYMBOL;
 use std::alloc::Global;
 use toml::{Table, Value};
 
-/// Parses the symbols of a job's signature, if it has one.
+/// Returns the symbols of a job's signature, or `None` if it has none.
 #[tactic(auto, unfolding(crate::specs::JobList::signature_from_table))]
 pub(crate) fn signature_from_table(alloc: Global, table: &Table) -> Result<Option<Symbols>, What>
     ensures value { Gives result (signature_from_table (table_view table.now)) }
@@ -29,6 +29,7 @@ pub(crate) fn signature_from_table(alloc: Global, table: &Table) -> Result<Optio
     }
 }
 
+// Returns the two symbols of a signature from the value of `signature`, or an error if they are invalid.
 #[tactic(auto, unfolding(crate::specs::JobList::symbols_from_names))]
 fn symbols_from_names(alloc: Global, names: &[Value]) -> Result<Option<Symbols>, What>
     ensures value { Gives result (symbols_from_names (items_view names.now)) }
@@ -42,6 +43,7 @@ fn symbols_from_names(alloc: Global, names: &[Value]) -> Result<Option<Symbols>,
     Ok(Some(Symbols { begin, end }))
 }
 
+// Returns the name at an index of the value of `signature`, or an error if it is invalid.
 fn signature_symbol(alloc: Global, names: &[Value], at: usize) -> Result<Text, What>
     requires { at < length names.now }
     ensures value { Gives result (signature_symbol at (items_view names.now)) }
@@ -59,6 +61,7 @@ fn signature_symbol(alloc: Global, names: &[Value], at: usize) -> Result<Text, W
     }
 }
 
+// Returns the text at an index, or `None` if the value there is not a text.
 fn element_text<'a>(values: &'a [Value], at: usize) -> Option<&'a str>
     requires { at < length values.now }
     ensures { option_map (λ t. t.now) result
@@ -67,7 +70,7 @@ fn element_text<'a>(values: &'a [Value], at: usize) -> Option<&'a str>
     values[at].as_str()
 }
 
-// Whether a text is 1 to 255 bytes without a zero byte.
+// Whether a text may name a symbol of a signature: it is 1 to 255 bytes long and has no zero byte.
 #[tactic(auto, unfolding(crate::specs::JobList::is_signature_symbol))]
 fn is_signature_symbol(text: &str) -> bool
     ensures { result ≡ is_signature_symbol text.now }
@@ -75,6 +78,7 @@ fn is_signature_symbol(text: &str) -> bool
     is_in_bounds(1, MOST_SYMBOL, text.len()) && has_no_zero_byte(text)
 }
 
+// Whether a text has no zero byte.
 fn has_no_zero_byte(text: &str) -> bool
     ensures { result ≡ list_all (λ b. not (b == 0)) text.now }
 {

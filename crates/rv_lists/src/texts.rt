@@ -7,13 +7,14 @@ ghost use Rattle.rv_base.specs.Limits.{is_within};
 
 use rv_base::limits::MOST_PATH;
 
+/// Whether `n` is from `low` to `high`, both included.
 pub(crate) fn is_in_bounds(low: usize, high: usize, n: usize) -> bool
     ensures { result ≡ is_within low high n }
 {
     low <= n && n <= high
 }
 
-/// Whether a text is 1 to 4,096 bytes long.
+/// Whether a text may be a path of a list: it is 1 to 4,096 bytes long.
 pub(crate) fn is_path(text: &str) -> bool
     ensures { result ≡ is_path text.now }
 {

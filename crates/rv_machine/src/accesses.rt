@@ -21,7 +21,7 @@ pub(crate) enum Extend {
 }
 
 impl Hart {
-    /// Executes a load: writes the value to its register.
+    /// Executes a load: writes the extended value to its register, and moves the pc to the next instruction.
     #[inline]
     pub(crate) fn load(
         &mut self,
@@ -46,7 +46,7 @@ impl Hart {
         }
     }
 
-    /// Executes a store, and invalidates the cached instructions that it overlaps.
+    /// Executes a store: writes to memory, invalidates the cache entries that it overlaps, and moves the pc to the next instruction.
     #[inline(always)]
     pub(crate) fn store(
         &mut self,
@@ -76,7 +76,7 @@ impl Hart {
     }
 }
 
-// Returns a loaded value as a word, sign- or zero-extended.
+// Returns a loaded value as a word, sign- or zero-extended from the width of the load.
 #[inline]
 fn load_value(value: u32, width: Width, extend: Extend) -> u32
     requires { value < 2 ^ (8 * size_of width) }

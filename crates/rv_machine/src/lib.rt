@@ -1,8 +1,8 @@
 //! One hart on a bus: fetch, execution, and runs within a step budget.
 //!
 //! Callers see a machine as its state (the pc, the 32 registers, the contents of the bus, and the instruction set) and its decode cache.
-//! `step` is one fetch and one effect as the instruction definitions specify, and `run` is as many steps as the budget allows. The cache is
-//! visible only through `kept` and in the run time. A step that ends a run leaves the state unchanged. Nothing here allocates once a
+//! `step` is one fetch and one effect as the instruction definitions specify, and `run` makes as many steps as the budget allows. The cache
+//! is visible only through `kept` and in the run time. A step that ends a run leaves the state unchanged. Nothing here allocates once a
 //! machine has been created.
 #![tactic(auto)]
 

@@ -12,7 +12,7 @@ use rv_isa::Instr;
 
 impl Hart {
     /// Returns the address after an instruction of `length` bytes. It is computed by a processor branch rather than a sum, so that the next
-    /// entry is looked up before the length is known.
+    /// cache entry is looked up before the length is known.
     #[inline(always)]
     pub(crate) fn following_pc(&mut self, pc: u32, length: u32) -> u32
         requires { (length ≡ 2) ⊎ (length ≡ 4) }
@@ -27,7 +27,7 @@ impl Hart {
         pc.wrapping_add(4)
     }
 
-    /// Executes JALR: the target is read before the link is written, and its lowest bit is cleared.
+    /// Executes JALR: the target is computed before the link is written, and its lowest bit is cleared.
     #[inline]
     pub(crate) fn jump_and_link_register(
         &mut self,
@@ -49,7 +49,7 @@ impl Hart {
         self.jump_and_link(pc, instr, next, target)
     }
 
-    /// Executes a jump: the link is written only if the target is valid.
+    /// Executes a jump to `target`: writes `next` to rd and moves the pc. A misaligned target is an error, and then nothing is written.
     #[inline]
     pub(crate) fn jump_and_link(
         &mut self,
@@ -72,7 +72,7 @@ impl Hart {
         self.complete(pc, instr.rd, next, target)
     }
 
-    /// Executes a branch; `here`, the pc, is the address of its instruction.
+    /// Executes a branch: moves the pc to its target if it is taken, else to `next`. `here`, the pc, is the address of the branch.
     #[inline]
     pub(crate) fn branch(
         &mut self,

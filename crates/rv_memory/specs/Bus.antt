@@ -18,64 +18,62 @@ use Rattle.rv_memory.specs.declared.faults.FetchFault.TheVariants.{Unmapped, Sta
 use Rattle.rv_memory.specs.declared.limits.TheConstants.{CONSOLE_ROOM}
 use Rattle.rv_memory.specs.Regions.{in_one, is_in_writable_region, addresses, tabulate}
 
--- a bus as callers see it
+-- the contents of a bus, as callers see it
 pub record Contents : Type 0 where
   pub regions : List Region
-  -- from the regions' addresses to bytes
+  -- the byte at each address of the regions
   pub memory : fin.FinMap nat_cmp ℕ
-  -- the addresses stored to since the start or the last FENCE.I
+  -- the addresses that were stored to since the start or the last FENCE.I
   pub stored : set.FinSet nat_cmp
-  -- the unread rest of the script
+  -- the bytes of the script that were not read yet
   pub script : List ℕ
   -- the console output so far
   pub output : List ℕ
-  -- how misaligned accesses are handled; never changes
+  -- whether misaligned accesses are rejected; it never changes
   pub misaligned : Choice
 
--- The byte at an address of the regions. Memory has a byte at each of them and no access reads another address, so the default 0 is never
--- read.
+-- the byte of the memory `m` at the address `a`; memory has a byte at each address that is read, so the default 0 is never returned
 abbrev pub byte_at : fin.FinMap nat_cmp ℕ → ℕ → ℕ
 byte_at m a = unwrap_or (fin.get m a) 0
 
--- the little-endian halfword of two bytes
+-- the little-endian halfword of the memory `m` at the address `a`
 abbrev pub half_at : fin.FinMap nat_cmp ℕ → ℕ → ℕ
 half_at m a = byte_at m a + 0x100 * byte_at m (a + 1)
 
--- the little-endian word of four bytes
+-- the little-endian word of the memory `m` at the address `a`
 abbrev pub word_at : fin.FinMap nat_cmp ℕ → ℕ → ℕ
 word_at m a =
     byte_at m a + 0x100 * byte_at m (a + 1) + 0x1_0000 * byte_at m (a + 2)
     + 0x100_0000 * byte_at m (a + 3)
 
--- the number of bytes of an access
+-- the number of bytes of an access of this width
 abbrev pub size_of : Width → ℕ
 size_of Byte = 1
 size_of Half = 2
 size_of Word = 4
 
--- the value of an access's bytes
+-- the little-endian value of the memory `m` at the address `a`, of the access's width
 abbrev pub value_at : fin.FinMap nat_cmp ℕ → ℕ → Width → ℕ
 value_at m a Byte = byte_at m a
 value_at m a Half = half_at m a
 value_at m a Word = word_at m a
 
--- Whether an access is rejected because of its address: `Fault` rejects an address that is not a multiple of the access width, `Allow`
--- none.
+-- whether an access is rejected because its address is misaligned: with `Fault`, if it is not a multiple of the width; with `Allow`, never
 abbrev pub refuses : Choice → ℕ → Width → Bool
 refuses Fault a w = not (a % size_of w == 0)
 refuses Allow a w = false
 
--- whether one of the n bytes from the address on is among the console's 16, 0x1000_0000 to 0x1000_000f
+-- whether one of the `n` bytes from the address `a` on is among the console's 16, 0x1000_0000 to 0x1000_000f
 abbrev pub touches_console : ℕ → ℕ → Bool
 touches_console a n = nat_lt 0x1000_0000 (a + n) && nat_lt a 0x1000_0010
 
--- the value of a script read: the next byte, or all ones at the end
+-- the value that a read of the script returns: its next byte, or all ones at its end
 abbrev pub next_of : List ℕ → ℕ
 next_of [] = 0xffff_ffff
 next_of (b ∷ bs) = b
 
--- A load from the console: a word load at its first address reads a byte of the script, and a word load at the next word returns the number
--- of bytes left. Every other load is rejected.
+-- a load from the console: a word load at 0x1000_0000 reads a byte of the script, a word load at 0x1000_0004 returns the number of script
+-- bytes left, and every other load is rejected
 abbrev pub console_load : Contents → ℕ → Width → Result (ℕ × Contents) BusFault
 console_load c a Byte = Err Access
 console_load c a Half = Err Access
@@ -83,19 +81,19 @@ console_load c a Word =
     if a == 0x1000_0000 then Ok (next_of c.script, record c { script = drop 1 c.script })
     else (if a == 0x1000_0004 then Ok (length c.script, c) else Err Access)
 
--- A load returns an unsigned value and the new contents of the bus. Misaligned loads are rejected first, unless they are allowed; then
--- loads that neither touch the console nor fit in one region.
+-- a load of width `w` at the address `a`: the unsigned value and the new contents of the bus, or the first fault that applies: the address
+-- is misaligned and misaligned accesses are rejected; the console rejects the load; or the bytes are not in one region
 abbrev pub load_from : Contents → ℕ → Width → Result (ℕ × Contents) BusFault
 load_from c a w =
     if refuses c.misaligned a w then Err Misaligned
     else (if touches_console a (size_of w) then console_load c a w
     else (if in_one c.regions a (size_of w) then Ok (value_at c.memory a w, c) else Err Access))
 
--- one byte stored, and marked as stored whatever its previous value
+-- the contents after the byte `b` is stored at the address `a`, which then counts as stored to, even if the byte is unchanged
 abbrev pub with_stored_byte : Contents → ℕ → ℕ → Contents
 with_stored_byte c a b = record c { memory = fin.insert c.memory a b; stored = set.insert c.stored a }
 
--- the low bytes of a value stored, lowest first
+-- the contents after the low bytes of `v` are stored from the address `a` on, lowest first
 abbrev pub put : Contents → ℕ → Width → ℕ → Contents
 put c a Byte v = with_stored_byte c a (v % 0x100)
 put c a Half v = with_stored_byte (with_stored_byte c a (v % 0x100)) (a + 1) (v / 0x100 % 0x100)
@@ -103,7 +101,8 @@ put c a Word v =
     with_stored_byte (with_stored_byte (with_stored_byte (with_stored_byte c a (v % 0x100)) (a + 1) (v / 0x100 % 0x100))
     (a + 2) (v / 0x1_0000 % 0x100)) (a + 3) (v / 0x100_0000 % 0x100)
 
--- A store to the console: a word store at its first address appends its low byte, until the output is full. Every other store is rejected.
+-- a store to the console: a word store at 0x1000_0000 appends its low byte to the output, or is rejected if the output is full; every other
+-- store is rejected
 abbrev pub console_store : Contents → ℕ → Width → ℕ → Result Contents BusFault
 console_store c a Byte v = Err Access
 console_store c a Half v = Err Access
@@ -113,53 +112,53 @@ console_store c a Word v =
     then Ok (record c { output = c.output ++ (v % 0x100) ∷ [] })
     else Err ConsoleFull)
 
--- A store returns the new contents of the bus. Misaligned stores are rejected first, unless they are allowed; then stores that neither
--- touch the console nor fit in one writable region.
+-- a store of the low bytes of `v` at the address `a`: the new contents of the bus, or the first fault that applies: the address is
+-- misaligned and misaligned accesses are rejected; the console rejects the store; or the bytes are not in one writable region
 abbrev pub store_to : Contents → ℕ → Width → ℕ → Result Contents BusFault
 store_to c a w v =
     if refuses c.misaligned a w then Err Misaligned
     else (if touches_console a (size_of w) then console_store c a w v
     else (if is_in_writable_region c.regions a (size_of w) then Ok (put c a w v) else Err Access))
 
--- whether one of the two bytes was stored to since the last FENCE.I
+-- whether one of the two bytes from the address `a` on was stored to since the last FENCE.I
 abbrev pub is_stale : Contents → ℕ → Bool
 is_stale c a = set.contains c.stored a || set.contains c.stored (a + 1)
 
--- a fetch of a halfword, whose two bytes must be in one region and not stored to
+-- a fetch of the halfword at the address `a`: a fault if its two bytes are not in one region, or if one of them was stored to
 abbrev pub fetch_half_from : Contents → ℕ → Result ℕ FetchFault
 fetch_half_from c a =
     if not (in_one c.regions a 2) then Err Unmapped
     else (if is_stale c a then Err Stale else Ok (half_at c.memory a))
 
--- a fetch of a word, if its four bytes are in one region and none was stored to
+-- a fetch of the word at the address `a`: `None` if its four bytes are not in one region, or if one of them was stored to
 abbrev pub fetch_word_from : Contents → ℕ → Option ℕ
 fetch_word_from c a =
     if in_one c.regions a 4 && not (is_stale c a || is_stale c (a + 2))
     then Some (word_at c.memory a)
     else None
 
--- whether a fetch of the halfword would succeed
+-- whether a fetch of the halfword at the address `a` succeeds
 abbrev pub is_clean_half : Contents → ℕ → Bool
 is_clean_half c a = is_ok (fetch_half_from c a)
 
--- whether a fetch of each halfword of the n bytes (2 or 4) from an address on would succeed
+-- whether a fetch of each halfword of the `n` bytes (2 or 4) from the address `a` on succeeds
 unfoldable pub clean_from : Contents → ℕ → ℕ → Bool
 clean_from c a n = is_clean_half c a && (not (n == 4) || is_clean_half c ((a + 2) % 0x1_0000_0000))
 
--- FENCE.I: clears the marks of all stored bytes
+-- the contents after FENCE.I: no address counts as stored to
 abbrev pub without_stored : Contents → Contents
 without_stored c = record c { stored = set.empty }
 
--- the memory with bytes written consecutively from an address on
+-- the memory `m` after bytes are written one after another from the address `a` on
 abbrev pub with_bytes_written : fin.FinMap nat_cmp ℕ → ℕ → List ℕ → fin.FinMap nat_cmp ℕ
 with_bytes_written m a [] = m
 with_bytes_written m a (b ∷ bs) = with_bytes_written (fin.insert m a b) (a + 1) bs
 
--- an image's bytes written from an address on: none of them counts as stored
+-- the contents after an image's bytes are written from the address `a` on; none of these addresses becomes stored to
 abbrev pub with_bytes : Contents → ℕ → List ℕ → Contents
 with_bytes c a bytes = record c { memory = with_bytes_written c.memory a bytes }
 
--- a new bus: zeroed memory, and no byte stored
+-- the contents of a new bus: memory is zero, no address was stored to, and the output is empty
 unfoldable pub new_bus : List Region → List ℕ → Choice → Contents
 new_bus regions script misaligned = record {
   regions = regions;

@@ -24,6 +24,7 @@ pub struct Bus {
     pub(crate) map: Map,
     // The bytes of all regions, concatenated, and their marks.
     pub(crate) bytes: Vec<u8>,
+    /// The mark of each byte.
     pub(crate) marks: Vec<u16>,
     // A byte counts as stored if its mark equals this generation; older marks are below it.
     pub(crate) generation: u16,
@@ -50,7 +51,7 @@ impl Model for Bus {
 }
 
 impl Bus {
-    /// Writes an image's bytes from an address on, in read-only regions too. None of them counts as stored.
+    /// Writes an image's bytes from an address on, even in read-only regions. None of these addresses becomes stored to.
     pub fn place(&mut self, addr: u32, bytes: &[u8])
         requires { IsTrue (in_one self.old.regions addr (length bytes.now)) }
         ensures { self.new ≡ with_bytes self.old addr bytes.now }
@@ -64,7 +65,7 @@ impl Bus {
         self.bytes[place.at..place.at + bytes.len()].copy_from_slice(bytes);
     }
 
-    /// Returns the unsigned value of the bytes at an address.
+    /// Performs a load: returns the unsigned value at an address, or why the load is rejected.
     #[inline]
     pub fn load(&mut self, addr: u32, width: Width) -> Result<u32, BusFault>
         ensures narrow { IfOk result (λ v. v < 2 ^ (8 * size_of width)) }
@@ -86,7 +87,7 @@ impl Bus {
         Ok(read_value(&self.bytes, place.at, width))
     }
 
-    /// Writes the low bytes of a value, and marks them as stored.
+    /// Performs a store: writes the low bytes of a value at an address and marks them as stored to, or returns why the store is rejected.
     #[inline]
     pub fn store(&mut self, addr: u32, width: Width, value: u32) -> Result<(), BusFault>
         // The contents after the store, or a fault that changes nothing.
@@ -114,7 +115,7 @@ impl Bus {
         Ok(())
     }
 
-    // Writes the low bytes of a value at the index of an address, and marks them as stored.
+    // Writes the low bytes of a value at an address whose place in memory is known, and marks them as stored to.
     #[inline(always)]
     fn put(&mut self, place: Place, addr: u32, width: Width, value: u32)
         requires { IsStoredAt self.old.regions addr (size_of width) place.at place.writable }
@@ -126,7 +127,7 @@ impl Bus {
         mark(&mut self.marks, place.at, width, self.generation);
     }
 
-    /// Fetches the halfword at an address, which may be odd.
+    /// Fetches the halfword at an address, which may be odd, or returns why the fetch is rejected.
     #[inline]
     pub fn fetch_half(&self, addr: u32) -> Result<u16, FetchFault>
         ensures { result ≡ fetch_half_from self.now addr }
@@ -143,8 +144,8 @@ impl Bus {
         Ok(u16::from(self.bytes[place.at]) + 0x100 * u16::from(self.bytes[place.at + 1]))
     }
 
-    /// Fetches the word at an address if its four bytes are in one region and none was stored to since the last FENCE.I. Its two halfwords
-    /// are those that [`Bus::fetch_half`] returns.
+    /// Fetches the word at an address, or returns `None` if its four bytes are not in one region, or if one of them was stored to since the
+    /// last FENCE.I. Its two halfwords are those that [`Bus::fetch_half`] returns.
     #[inline]
     pub fn fetch_word(&self, addr: u32) -> Option<u32>
         ensures value { result ≡ fetch_word_from self.now addr }
@@ -159,7 +160,7 @@ impl Bus {
         Some(read_word(&self.bytes, place.at))
     }
 
-    /// Whether [`Bus::fetch_half`] would succeed for each halfword of the 2 or 4 bytes from an address on, which may be odd.
+    /// Whether [`Bus::fetch_half`] succeeds for each halfword of the 2 or 4 bytes from an address on, which may be odd.
     #[tactic(auto, unfolding(crate::specs::Bus::clean_from))]
     pub fn clean(&self, addr: u32, len: u32) -> bool
         requires { (len ≡ 2) ⊎ (len ≡ 4) }
@@ -168,7 +169,7 @@ impl Bus {
         self.fetch_half(addr).is_ok() && (len != 4 || self.fetch_half(addr.wrapping_add(2)).is_ok())
     }
 
-    /// Applies FENCE.I to memory: clears the marks of all stored bytes.
+    /// Performs FENCE.I on memory: no byte counts as stored to any more.
     pub fn sync_code(&mut self)
         ensures { self.new ≡ without_stored self.old }
     {

@@ -14,14 +14,14 @@ const CONSOLE_BYTE: u32 = 0x1000_0000;
 const SCRIPT_LEFT: u32 = 0x1000_0004;
 
 impl Bus {
-    /// Returns the output so far.
+    /// Returns the bytes that were written to the console so far.
     pub fn console(&self) -> &[u8]
         ensures { result.now ≡ self.now.output }
     {
         &self.console
     }
 
-    /// Performs a load whose bytes are not in one region.
+    /// Performs a load whose bytes are not in one region: a load from the console, or one that is rejected.
     #[inline]
     pub(crate) fn load_console(&mut self, addr: u32, width: Width) -> Result<u32, BusFault>
         ensures narrow { IfOk result (λ v. v < 2 ^ (8 * size_of width)) }
@@ -41,7 +41,7 @@ impl Bus {
         Err(BusFault::Access)
     }
 
-    // Reads the next byte of the script, or all ones at its end.
+    // Reads the next byte of the script, and returns it, or all ones at the end of the script.
     #[inline]
     fn take_script_byte(&mut self) -> u32
         ensures value { result ≡ next_of self.old.script }
@@ -55,7 +55,7 @@ impl Bus {
         u32::from(byte)
     }
 
-    /// Performs a store whose bytes are not in one region.
+    /// Performs a store whose bytes are not in one region: a store to the console, or one that is rejected.
     #[inline]
     pub(crate) fn store_console(
         &mut self,

@@ -7,7 +7,7 @@ use crate::limits::CONSOLE_ROOM;
 use std::alloc::{AllocError, Global};
 
 impl Bus {
-    /// Copies the bus into memory of its own: changing one does not affect the other.
+    /// Returns a copy of the bus: changing one does not affect the other.
     pub fn copied(&self, alloc: Global) -> Result<Bus, AllocError>
         ensures { IfOk result (λ bus. bus ≡ self.now) }
     {

@@ -10,7 +10,7 @@ use crate::marks::next_generation;
 use std::alloc::{AllocError, Global};
 
 impl Bus {
-    /// Creates a bus over the regions of a map: zeroed memory, no byte stored, and no output. The script has at most 65,536 bytes.
+    /// Creates a bus over the regions of a map: zeroed memory, no byte stored to, and no output. The script has at most 65,536 bytes.
     // Inlined so that in the callers no branch in the loop of a run ends at a multiple of 32 (docs/PERFORMANCE.md).
     #[inline(always)]
     pub fn new(
@@ -38,8 +38,8 @@ impl Bus {
         })
     }
 
-    /// Creates the bus that [`Bus::new`] would, reusing the memory of `self` if it has the same number of bytes; otherwise that memory is
-    /// freed first.
+    /// Creates the bus that [`Bus::new`] would, in the memory of `self` if it has the right number of bytes; otherwise that memory is freed
+    /// first.
     pub fn new_reusing(
         self,
         alloc: Global,

@@ -7,7 +7,8 @@ ghost use Rattle.std.specs.FinSet as set;
 use crate::bus::Bus;
 
 impl Bus {
-    /// Returns the byte at an address of a region. The console has none: inspecting it does not read the script.
+    /// Returns the byte at an address, or `None` if no region has the address. The console has no bytes: inspecting it does not read the
+    /// script.
     pub fn byte(&self, addr: u32) -> Option<u8>
         ensures { result ≡ fin.get self.now.memory addr }
     {
@@ -17,7 +18,7 @@ impl Bus {
         }
     }
 
-    /// Whether the byte at an address was stored to since the start or the last FENCE.I, so that a fetch of it is stale.
+    /// Whether the byte at an address was stored to since the start or the last FENCE.I, so that fetching it is a fault.
     pub fn is_stored(&self, addr: u32) -> bool
         ensures { result ≡ set.contains self.now.stored addr }
     {

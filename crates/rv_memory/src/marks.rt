@@ -6,7 +6,7 @@ ghost use Rattle.rv_memory.specs.Inside.View.{marked_at, any_marked};
 
 use crate::access::Width;
 
-/// Marks the bytes at an index as stored in a generation.
+/// Marks the bytes of an access at an index as stored to in a generation.
 #[inline]
 pub(crate) fn mark(marks: &mut [u16], at: usize, width: Width, generation: u16)
     requires { at + size_of width ≤ length marks.old }
@@ -27,7 +27,7 @@ pub(crate) fn mark(marks: &mut [u16], at: usize, width: Width, generation: u16)
     }
 }
 
-/// Whether one of the four bytes at an index is marked.
+/// Whether one of the four bytes from an index on is marked as stored to in a generation.
 #[inline]
 pub(crate) fn has_mark(marks: &[u16], at: usize, generation: u16) -> bool
     requires { at + 4 ≤ length marks.now }
@@ -39,7 +39,7 @@ pub(crate) fn has_mark(marks: &[u16], at: usize, generation: u16) -> bool
         || marks[at + 3] == generation
 }
 
-/// Returns the marks with the next generation, in which no byte is marked.
+/// Returns the marks and the next generation, in which no byte is marked. If this was the last generation, all marks are reset.
 pub(crate) fn next_generation(mut marks: Vec<u16>, generation: u16) -> (Vec<u16>, u16)
     requires { (k : ℕ) → slice_index marks.items k ≤ generation }
     ensures length { length result.0.items ≡ length marks.items }

@@ -1,4 +1,4 @@
-//! The indices of an access's bytes in the bytes of all regions.
+//! Where the bytes of an access are in the concatenated bytes of all regions.
 ghost use Rattle.std.specs.Prelude.{◌≡◌, ◌+◌, ◌%◌, ◌<◌, ◌≤◌, IfSome, MatchOption, false, true};
 ghost use Rattle.std.specs.List.{list_any, list_all};
 ghost use Rattle.rv_memory.specs.Bus.{size_of};
@@ -10,7 +10,7 @@ use crate::access::Width;
 use crate::limits::MAP_ROOM;
 use crate::map::{Map, Region};
 
-/// The indices of an access's bytes in the concatenated bytes of all regions.
+/// Where the bytes of an access are in the concatenated bytes of all regions: the index of the first, and whether their region is writable.
 #[derive(Clone, Copy)]
 pub(crate) struct Place {
     pub(crate) at: usize,
@@ -18,7 +18,7 @@ pub(crate) struct Place {
 }
 
 impl Map {
-    /// Returns where the `len` bytes from an address on are stored, if they are in one region.
+    /// Returns where the `len` bytes from an address on are stored, or `None` if they are not in one region.
     ///
     /// Every access goes through here, so the first region is tried without a loop: most maps have only one.
     #[inline]
@@ -37,8 +37,8 @@ impl Map {
         search_regions(&self.regions[1..self.count], first.size as usize, addr, len)
     }
 
-    /// Returns where the bytes are stored if they are in the first region and the address is a multiple of the width: regions begin and end
-    /// at multiples of 4, so one comparison decides it.
+    /// Returns where the bytes of an access are stored if they are in the first region. The address must be a multiple of the width:
+    /// regions begin and end at multiples of 4, so one comparison decides.
     #[inline(always)]
     pub(crate) fn index_in_first_region(&self, addr: u32, width: Width) -> Option<Place>
         requires { addr % size_of width ≡ 0 }
@@ -53,7 +53,8 @@ impl Map {
     }
 }
 
-// Returns where the bytes are stored if they are in one of the regions, whose own bytes begin at index `start`.
+// Returns where the `len` bytes from an address on are stored, or `None` if they are not in one of these regions. The bytes of the first
+// region begin at index `start`.
 #[inline]
 fn search_regions(regions: &[Region], start: usize, addr: u32, len: u32) -> Option<Place>
     requires some { 0 < len }
@@ -75,8 +76,8 @@ fn search_regions(regions: &[Region], start: usize, addr: u32, len: u32) -> Opti
 }
 
 impl Region {
-    // Returns the offset in the region of the `len` bytes from an address on, if it has them all. An address below the base wraps to an
-    // offset past every region's end.
+    // Returns the offset of an address in the region, if the region has all of the `len` bytes from the address on. An address below the
+    // base wraps to an offset after every region's end.
     #[inline]
     fn offset_of(&self, addr: u32, len: u32) -> Option<u32>
         requires some { 0 < len }
@@ -92,7 +93,8 @@ impl Region {
         None
     }
 
-    // Returns the offset in the region of an access whose address is a multiple of its width.
+    // Returns the offset of an address in the region, if the region has all bytes of an access there. The address must be a multiple of the
+    // width.
     #[inline(always)]
     fn offset_of_aligned(&self, addr: u32, width: Width) -> Option<u32>
         requires aligned { is_aligned self.now ≡ true }

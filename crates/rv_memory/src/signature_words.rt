@@ -12,7 +12,7 @@ use std::alloc::{AllocError, Global};
 const WORD: u32 = 4;
 
 impl Bus {
-    /// Returns the current words of memory from `begin` up to `end`.
+    /// Returns the words of memory from `begin` up to `end`.
     pub fn words(&self, alloc: Global, begin: u32, end: u32) -> Result<Vec<u32>, AllocError>
         requires begin { begin % 4 ≡ 0 }
         requires end { end % 4 ≡ 0 }
@@ -28,7 +28,7 @@ impl Bus {
         Ok(words)
     }
 
-    /// Whether these are the current words of memory from `begin` up to `end`. Does not allocate.
+    /// Whether `words` are the words of memory from `begin` up to `end`. Does not allocate.
     pub fn has_words(&self, begin: u32, end: u32, words: &[u32]) -> bool
         requires begin { begin % 4 ≡ 0 }
         requires end { end % 4 ≡ 0 }

@@ -1,4 +1,4 @@
--- What has been gathered from the first n texts.
+-- What has been gathered from the first texts of a merge.
 use Rattle.std.specs.Prelude.{◌≡◌, ◌+◌, ◌-◌, ◌<◌, ◌≤◌, ℕ, true, List, [], ◌∷◌, length, map, Option}
 use Rattle.std.specs.Prelude.{Some, None, is_some, slice_index_or, slice_set, ◌%◌}
 use Rattle.rv_report.specs.declared.row.Row.{Row}
@@ -18,6 +18,7 @@ use Rattle.rv_merge.specs.Refusals.{IsNameTwice}
 
 -- ---- a part
 
+-- the report of a shard, given as a part
 abbrev pub report_of_part : Part → SavedReport
 report_of_part part = record {
   extent = extent.Shard part.shard;
@@ -25,17 +26,18 @@ report_of_part part = record {
   rows = part.rows;
 }
 
+-- the report is valid, and the bytes are its text
 pub record IsTextOf (report : SavedReport) (bytes : List ℕ) : Type 0 where
   pub saved : IsSaved report
   pub text : saved_text report ≡ bytes
 
--- a report that is not that of a shard
+-- the extent is not that of a shard: it is that of a whole list or of chosen jobs, as the flaw says
 abbrev pub IsOtherKind : Flaw → Extent → Type 0
 IsOtherKind flaw.Whole jobs = jobs ≡ extent.Whole
 IsOtherKind flaw.Choice jobs = (count : ℕ) × (jobs ≡ extent.Choice count)
 IsOtherKind _ jobs = ⊥
 
--- a shard of another run
+-- the two shards belong to different runs: they differ in the number of shards, the number of jobs or the stamp, as the flaw says
 abbrev pub IsOtherRun : Flaw → Shard → Shard → Type 0
 IsOtherRun flaw.OtherShards first shard = first.shards ≡ shard.shards → ⊥
 IsOtherRun flaw.OtherJobs first shard = first.jobs ≡ shard.jobs → ⊥
@@ -44,21 +46,21 @@ IsOtherRun _ first shard = ⊥
 
 -- ---- slots
 
--- rows written to the slots of their jobs
+-- the slots after each row was written to the slot of its job number; `numbers` are the job numbers of the rows
 abbrev pub filled_slots : {X : Type 0} → List ℕ → List X → List (Option X) → List (Option X)
 filled_slots [] rows slots = slots
 filled_slots (n ∷ ns) [] slots = slots
 filled_slots (n ∷ ns) (row ∷ rows) slots = filled_slots ns rows (slice_set slots (n - 1) (Some row))
 
--- the rows in filled slots
+-- the rows in the filled slots, in order
 abbrev pub rows_from_slots : {X : Type 0} → List (Option X) → List X
 rows_from_slots [] = []
 rows_from_slots (None ∷ slots) = rows_from_slots slots
 rows_from_slots (Some row ∷ slots) = row ∷ rows_from_slots slots
 
--- ---- what is gathered
+-- ---- the gathered parts
 
--- the text is that of a shard whose source is recorded, and its rows are in the slots of their jobs
+-- the bytes are the text of a shard of the run, which has a source, and each of its rows is in the slot of its job
 pub record IsTaken (run : Run) (sources : List (Option ℕ)) (slots : List (Option Row))
     (bytes : List ℕ) : Type 0 where
   pub n : ℕ
@@ -67,12 +69,13 @@ pub record IsTaken (run : Run) (sources : List (Option ℕ)) (slots : List (Opti
   pub has :
       map (λ m. slice_index_or slots (m - 1) None) of.report.numbers ≡ map Some of.report.rows
 
--- the source of a shard is one of the texts so far, and is that of the shard
+-- the text at the index `at` is one of the first `count` texts, and is that of the shard with the index `k` of the run
 pub record IsSource (run : Run) (texts : List (List ℕ)) (count k at : ℕ) : Type 0 where
   pub within : at < count
   pub of : IsReportOf (extent.Shard (shard_in run (k + 1))) (nth_text texts at)
 
--- this many of the texts have been added; all belong to the run of the first one's shard
+-- the first `count` texts have been added to `sources` and `slots`, and all belong to the run of the shard `shard`, which is that of the
+-- first text
 pub record Holds (texts : List (List ℕ)) (count : ℕ) (shard : Shard)
     (sources : List (Option ℕ)) (slots : List (Option Row)) : Type 0 where
   pub first : IsReportOf (extent.Shard shard) (nth_text texts 0)
@@ -84,6 +87,7 @@ pub record Holds (texts : List (List ℕ)) (count : ℕ) (shard : Shard)
   pub taken :
       (at : ℕ) → at < count → IsTaken (run_of_shard shard) sources slots (nth_text texts at)
 
+-- the first `count` texts have been added to what is gathered
 abbrev pub HoldsIn : List (List ℕ) → ℕ → Gathered → Type 0
 HoldsIn texts count g = Holds texts count g.first g.sources.items g.slots.items
 
@@ -94,20 +98,20 @@ abbrev pub HaveSources : List (Option ℕ) → Type 0
 HaveSources sources =
     (k : ℕ) → k < length sources → is_some (slice_index_or sources k None) ≡ true
 
--- each shard has a source, these are the rows in the slots, and each has a unique name
+-- each shard has a source, `rows` are the rows in the slots, and no two of them have one name
 pub record IsComplete (sources : List (Option ℕ)) (slots : List (Option Row)) (rows : List Row)
     : Type 0 where
   pub all : HaveSources sources
   pub are : rows ≡ rows_from_slots slots
   pub new : are_new [] (row_names rows) ≡ true
 
--- the shard with a number has no source
+-- the shard with the number `n` has no source
 pub record IsWithout (sources : List (Option ℕ)) (n : ℕ) : Type 0 where
   pub low : 0 < n
   pub high : n ≤ length sources
   pub none : slice_index_or sources (n - 1) None ≡ None
 
--- the name of the row of a numbered job occurs in an earlier row, and its shard's text is at an index
+-- the row of the job with the number `n` has the name of an earlier row, and the text of its shard is at the index `at`
 pub record IsNamedTwice (sources : List (Option ℕ)) (slots : List (Option Row)) (n at : ℕ)
     : Type 0 where
   pub all : HaveSources sources
@@ -115,6 +119,7 @@ pub record IsNamedTwice (sources : List (Option ℕ)) (slots : List (Option Row)
   pub there : slice_index_or sources ((n - 1) % length sources) None ≡ Some at
   pub twice : IsNameTwice (rows_from_slots slots) (n - 1)
 
+-- the error says why what is gathered is not a whole list: a shard has no text, or a name is repeated
 abbrev pub IsUnfinished : List (Option ℕ) → List (Option Row) → MergeError → Type 0
 IsUnfinished sources slots error.OutOfMemory = Unit {0}
 IsUnfinished sources slots error.NoTexts = ⊥

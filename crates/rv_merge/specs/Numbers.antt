@@ -19,7 +19,7 @@ abbrev pub HasWords : Option (List ℕ) → Type 0
 HasWords None = Unit {0}
 HasWords (Some words) = AllByRecursion IsWord words
 
--- the numbers of a row have 32 bits, and its console is bytes
+-- the numbers of a row have 32 bits, and its console consists of bytes
 pub record HasNumbers (row : Row) : Type 0 where
   pub ending : EndsInWords row.ending
   pub steps : IsWord row.steps

@@ -1,4 +1,4 @@
--- The results of merging, and what holds of the texts that it rejects.
+-- The results of merging, and the flaws of the texts that it rejects.
 use Rattle.std.specs.Prelude.{◌≡◌, ◌-◌, ◌<◌, ◌≤◌, ℕ, true, List, [], length, take, Some, Result}
 use Rattle.std.specs.Prelude.{Ok, Err, is_some, slice_get}
 use Rattle.std.specs.List.{All}
@@ -23,13 +23,13 @@ abbrev pub AnswersRows : List Row → Result (List Row) MergeError → Type 0
 AnswersRows rows (Ok found) = found ≡ rows
 AnswersRows rows (Err e) = e ≡ error.OutOfMemory
 
--- no report has the text, which agrees with one up to the location in the error
+-- no report has these bytes as its text; they agree with a report before the error `place`
 pub record IsUnread (place : ReadError) (bytes : List ℕ) : Type 0 where
   pub none : (report : SavedReport) → IsSaved report → saved_text report ≡ bytes → ⊥
   pub begins : (report : SavedReport) × IsSaved report × BeginsAlike place (saved_text report) bytes
   pub told : IsSameReadError place (first_read_error (saved_text (lenient_report bytes)) bytes)
 
--- two texts are those of shards that differ in some property
+-- the two texts are those of shards that differ in `what`
 pub record Differ {X : Type 0} (what : Shard → X) (bytes others : List ℕ) : Type 0 where
   pub shard : Shard
   pub other : Shard
@@ -37,20 +37,21 @@ pub record Differ {X : Type 0} (what : Shard → X) (bytes others : List ℕ) : 
   pub of : IsReportOf (extent.Shard other) others
   pub differ : what shard ≡ what other → ⊥
 
--- two texts belong to one shard, and differ
+-- the two texts are those of one shard, and differ
 pub record AreTwo (bytes others : List ℕ) : Type 0 where
   pub shard : Shard
   pub is : IsReportOf (extent.Shard shard) bytes
   pub of : IsReportOf (extent.Shard shard) others
   pub differ : bytes ≡ others → ⊥
 
--- the name of the row at an index is that of an earlier row
+-- an earlier row has the name of the row at the index `place`
 pub record IsNameTwice (rows : List Row) (place : ℕ) : Type 0 where
   pub row : Row
   pub at : slice_get rows place ≡ Some row
   pub twice : is_some (index_in (row_names (take place rows)) row.name) ≡ true
 
--- the texts are the parts of a run of some rows, in which the name of a job is that of an earlier one, and the text has its row
+-- the texts are the parts of a run of some rows, of which the row of the job with the number `n` has the name of an earlier row, and is in
+-- the text `bytes`
 pub record HasNameTwice (texts : List (List ℕ)) (bytes : List ℕ) (n : ℕ) : Type 0 where
   pub rows : List Row
   pub run : Run
@@ -61,7 +62,7 @@ pub record HasNameTwice (texts : List (List ℕ)) (bytes : List ℕ) (n : ℕ) :
   pub place : ℕ
   pub there : slice_get of.report.numbers place ≡ Some n
 
--- the text at an index has a flaw
+-- the text at the index `at` has this flaw
 abbrev pub HasFlaw : List (List ℕ) → ℕ → Flaw → Type 0
 HasFlaw texts at (flaw.Line line) = IsUnread (read.Line line) (nth_text texts at)
 HasFlaw texts at flaw.CutOff = IsUnread read.CutOff (nth_text texts at)
@@ -77,12 +78,12 @@ HasFlaw texts at (flaw.OtherText earlier) =
     (earlier < at) × AreTwo (nth_text texts earlier) (nth_text texts at)
 HasFlaw texts at (flaw.NameTwice n) = HasNameTwice texts (nth_text texts at) n
 
--- the text is that of a shard of a run, but not of the shard with this number
+-- the bytes are the text of a shard of the run other than the one with the number `n`
 abbrev pub IsOtherPart : Run → ℕ → List ℕ → Type 0
 IsOtherPart run n bytes =
     (other : ℕ) × IsReportOf (extent.Shard (shard_in run other)) bytes × (other ≡ n → ⊥)
 
--- each text is that of a shard of one run, and none is that of the shard with this number
+-- each text is that of a shard of one run, and none is that of the shard with the number `n`
 pub record IsMissing (n : ℕ) (texts : List (List ℕ)) : Type 0 where
   pub run : Run
   pub low : 0 < n
@@ -90,7 +91,7 @@ pub record IsMissing (n : ℕ) (texts : List (List ℕ)) : Type 0 where
   pub each : All (IsOtherPart run n) texts
   pub some : 0 < length texts
 
--- the error is justified
+-- the error is true of the texts
 abbrev pub IsRefused : List (List ℕ) → MergeError → Type 0
 IsRefused texts error.OutOfMemory = Unit {0}
 IsRefused texts error.NoTexts = texts ≡ []

@@ -14,19 +14,19 @@ use Rattle.rv_report.specs.declared.saved.SavedReport.{SavedReport}
 use Rattle.rv_report.specs.Saved.{saved_text}
 use Rattle.rv_merge.specs.Parts.{Run, shard_in}
 
--- whether the shard with a number, of a number of shards, has the job at an index, counted from 0
+-- whether the shard with the number `n` of `shards` shards has the job at the index `place`, counted from 0
 abbrev pub is_in_shard : ℕ → ℕ → ℕ → Bool
 is_in_shard shards n place = place % shards == n - 1
 
--- the selection of a shard's jobs: a flag for each job of the list
+-- whether the shard with the number `n` of `shards` shards has each of these jobs, in list order
 abbrev pub shard_selection : ℕ → ℕ → ℕ → List Bool
 shard_selection shards n jobs = map (is_in_shard shards n) (range_with_len 0 jobs)
 
--- the indices of its jobs in a list with a number of jobs
+-- the indices of the jobs of the shard with the number `n` of `shards` shards, in a list with this many jobs
 abbrev pub shard_places : ℕ → ℕ → ℕ → List ℕ
 shard_places shards n jobs = filter (is_in_shard shards n) (range_with_len 0 jobs)
 
--- the report of a shard that ran from a plan
+-- the report of the shard with the number `n` of a run, which ran from this plan
 abbrev pub shard_report : Run → ℕ → Planned → SavedReport
 shard_report run n plan = record {
   extent = extent.Shard (shard_in run n);
@@ -34,14 +34,15 @@ shard_report run n plan = record {
   rows = rows_at plan (shard_places run.shards n run.jobs);
 }
 
--- a run of the jobs, in up to 4,096 shards, under a valid name
+-- the run is one of this list, in up to `most_jobs` shards and with a valid stamp
 pub record IsRunOf (list : List Job) (run : Run) : Type 0 where
   pub jobs : run.jobs ≡ length list
   pub some : 0 < run.shards
   pub few : run.shards ≤ most_jobs
   pub stamp : is_name run.stamp ≡ true
 
--- the text is the report of the shard with a number, run where each path that its jobs need has the same result
+-- the bytes are the text of the report of the shard with the number `n`, which ran from a plan that has the same result as `answers` for
+-- each path that its jobs need
 pub record IsTextFrom (list : List Job) (answers : List Answer) (run : Run) (n : ℕ)
     (bytes : List ℕ) : Type 0 where
   pub low : 0 < n
@@ -50,7 +51,7 @@ pub record IsTextFrom (list : List Job) (answers : List Answer) (run : Run) (n :
   pub same : All (HaveSameResults kept answers) (jobs_needed_for list (shard_places run.shards n run.jobs))
   pub text : bytes ≡ saved_text (shard_report run n (plan_of_jobs list kept))
 
--- each text is that of a shard, and each shard's text is among them
+-- each text is that of a shard which ran as `IsTextFrom` says, and each shard of the run has a text
 pub record AreTextsFrom (list : List Job) (answers : List Answer) (run : Run)
     (texts : List (List ℕ)) : Type 0 where
   pub each : All (λ bytes. (n : ℕ) × IsTextFrom list answers run n bytes) texts

@@ -6,7 +6,7 @@ ghost use Rattle.rv_merge.specs.declared.error.MergeError.TheVariants.{OutOfMemo
 use std::alloc::AllocError;
 use thiserror::Error;
 
-/// Why texts are not the parts of one run. Texts are identified by their indices among those given, from 0.
+/// Why texts are not the parts of one run. A text is identified by its index among those given, counted from 0.
 #[derive(Clone, Copy, Debug, Error)]
 pub enum MergeError {
     /// An allocation failed.

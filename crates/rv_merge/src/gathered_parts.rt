@@ -19,13 +19,13 @@ use std::alloc::{AllocError, Global};
 pub(crate) struct Gathered {
     /// The shard of the first text.
     pub(crate) first: Shard,
-    /// For each shard, the index of its text, if there was one.
+    /// For each shard, the index of its text, if it has one so far.
     pub(crate) sources: Vec<Option<usize>>,
-    /// For each job, its row, if there was one.
+    /// For each job, its row, if it has one so far.
     pub(crate) slots: Vec<Option<Row>>,
 }
 
-/// Returns an empty collection for the run of a shard.
+/// Returns what is gathered before the first text of a shard's run: no row.
 pub(crate) fn no_parts_of_run(alloc: Global, shard: &Shard) -> Result<Gathered, AllocError>
     ensures first { IfOk result (λ g. g.first ≡ shard.now) }
     ensures sources { IfOk result (λ g. g.sources.items ≡ replicate shard.now.shards None) }
@@ -57,7 +57,8 @@ fn vacant_slots<T: Drop>(alloc: Global, count: u32) -> Result<Vec<Option<T>>, Al
     Ok(slots)
 }
 
-/// Adds the rows of the part whose text is at an index, unless there was an identical text before.
+/// Adds the rows of the part whose text is at an index, unless its shard had an identical text before. Fails if it belongs to another run,
+/// or if its shard had another text.
 pub(crate) fn add_part(
     gathered: &mut Gathered,
     texts: &[&[u8]],
@@ -86,7 +87,7 @@ pub(crate) fn add_part(
     }
 }
 
-// Returns how the run of a shard differs from that of the first text.
+// Returns how the run of a shard differs from that of the first text, or `None` if it is the same run.
 fn other_run_flaw(first: &Shard, shard: &Shard) -> Option<Flaw>
     ensures { MatchOption result (run_of_shard shard.now ≡ run_of_shard first.now)
         (λ flaw. IsOtherRun flaw first.now shard.now) }
@@ -103,6 +104,7 @@ fn other_run_flaw(first: &Shard, shard: &Shard) -> Option<Flaw>
     None
 }
 
+// Whether the texts at two indices are equal.
 fn are_same_texts(texts: &[&[u8]], place: usize, other: usize) -> bool
     requires place { place < length texts.now }
     requires other { other < length texts.now }
@@ -112,7 +114,7 @@ fn are_same_texts(texts: &[&[u8]], place: usize, other: usize) -> bool
     texts[place] == texts[other]
 }
 
-// Writes rows to the slots of their jobs.
+// Writes each row to the slot of its job number.
 fn fill_slots(slots: &mut Vec<Option<Row>>, numbers: &[u32], rows: Vec<Row>)
     requires numbers { All (λ n. (0 < n) × (n ≤ vec_len slots.old)) numbers.now }
     requires counted { length numbers.now ≡ vec_len rows }

@@ -10,9 +10,8 @@ ghost use Rattle.rv_merge.specs.Shards.{AreTextsFrom, IsRunOf};
 
 use rv_rows::parts_have_the_rows_of_the_whole;
 
-/// If a list's shards ran separately, and each obtained the same results for the paths that its jobs need as one machine does for the whole
-/// list, the texts of their reports are the parts of the rows that this machine computes. So these rows are what
-/// [`merge_parts`](crate::merge_parts) returns.
+/// Proves that the texts of a list's shards are the parts of the rows that a single machine computes, if each machine reads the same as the
+/// single one at the paths that its jobs need. So [`merge_parts`](crate::merge_parts) returns these rows.
 pub fn shards_give_the_parts_of_the_whole()
     ensures { (list : List Job) (answers : List Answer) (run : Run) (texts : List (List ℕ))
         → AreListed (rows_of (plan_of_jobs list answers)) → IsRunOf list run

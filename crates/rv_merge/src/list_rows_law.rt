@@ -1,4 +1,4 @@
-//! The rows that a machine computes for a list that was read.
+//! A law of the rows that a machine computes for a list that was read, with no code to run.
 
 ghost use Rattle.std.specs.Prelude.{◌≡◌, ◌<◌, ◌^◌, ℕ, List, Ok};
 ghost use Rattle.std.specs.List.{All, AllByRecursion};
@@ -15,9 +15,8 @@ ghost use Rattle.rv_merge.specs.Numbers.{EndsInWords, HasNumbers, HasWords};
 use rv_jobs::Bytes;
 use rv_rows::{Row, RowEnd, Words};
 
-/// The rows that a machine computes for a list that was read, whatever the results for the list's paths, are those of a list: up to 4,096,
-/// with distinct names that are valid in lists, numbers of 32 bits, consoles of bytes, signatures of at most 65,536 words, and no refusal
-/// for lack of memory.
+/// Proves that the rows of a list that was read may be those of a list, whatever the results for its paths are: there are up to 4,096, with
+/// distinct valid names, numbers of 32 bits, consoles of bytes, signatures of at most 65,536 words, and no refusal for lack of memory.
 pub fn rows_are_those_of_a_list(rows: &[Row])
     ensures { (bytes : List ℕ) (list : List Job) (answers : List Answer)
         → job_list_of bytes ≡ Ok list → rows.now ≡ rows_of (plan_of_jobs list answers)
@@ -26,6 +25,7 @@ pub fn rows_are_those_of_a_list(rows: &[Row])
     rows_have_word_numbers(rows);
 }
 
+// Proves that the numbers of all rows have 32 bits, and that their consoles consist of bytes.
 fn rows_have_word_numbers(rows: &[Row])
     ensures { All HasNumbers rows.now }
 {
@@ -34,6 +34,7 @@ fn rows_have_word_numbers(rows: &[Row])
     }
 }
 
+// Proves that the numbers of a row have 32 bits, and that its console consists of bytes.
 fn row_has_word_numbers(row: &Row)
     ensures { HasNumbers row.now }
 {
@@ -43,6 +44,7 @@ fn row_has_word_numbers(row: &Row)
     prove_signature_is_words(&row.signature);
 }
 
+// Proves that the numbers of an ending have 32 bits.
 fn ending_has_word_numbers(ending: RowEnd)
     ensures { EndsInWords ending }
 {
@@ -56,24 +58,28 @@ fn ending_has_word_numbers(ending: RowEnd)
     }
 }
 
+// Proves that a `u32` has 32 bits.
 fn prove_number_is_word(number: u32)
     ensures { IsWord number }
 {
     let _read = number;
 }
 
+// Proves that a console consists of bytes.
 fn prove_console_is_bytes(console: &Bytes)
     ensures { IsBytes console.now }
 {
     prove_slice_is_bytes(console.as_slice());
 }
 
+// Proves that a slice of `u8` consists of bytes.
 fn prove_slice_is_bytes(bytes: &[u8])
     ensures { IsBytes bytes.now }
 {
     let _read = bytes;
 }
 
+// Proves that the words of a signature have 32 bits.
 fn prove_signature_is_words(signature: &Option<Words>)
     ensures { HasWords signature.now }
 {
@@ -82,6 +88,7 @@ fn prove_signature_is_words(signature: &Option<Words>)
     }
 }
 
+// Proves that the elements of a slice of `u32` have 32 bits.
 fn prove_slice_is_words(words: &[u32])
     ensures { AllByRecursion IsWord words.now }
 {

@@ -1,4 +1,4 @@
-//! Merging: the rows of the texts that are the parts of one run.
+//! Merging: from the texts of the parts of one run to the rows of the whole list.
 
 ghost use Rattle.std.specs.Prelude.{◌≡◌, ◌<◌, ◌+◌, ◌%◌, List, IfOk, IfErr, MatchOption, None, length};
 ghost use Rattle.std.specs.Prelude.{slice_index_or};
@@ -15,8 +15,8 @@ use crate::part::part_at;
 use rv_rows::{Row, Rows};
 use std::alloc::{AllocError, Global};
 
-/// Returns the rows of the list whose parts these texts are, in any order and possibly repeated. Takes memory for the rows, and for reading
-/// one text after another.
+/// Returns the rows of the list whose parts these texts are, in any order and possibly repeated, or why they are not the parts of one run.
+/// Takes memory for the rows, and for reading one text after another.
 pub fn merge_parts(alloc: Global, texts: &[&[u8]]) -> Result<Rows, MergeError>
     // The texts are the parts of one run of these rows.
     ensures found { IfOk result (λ rows. AreParts rows (bytes_of_texts texts.now)) }
@@ -32,7 +32,7 @@ pub fn merge_parts(alloc: Global, texts: &[&[u8]]) -> Result<Rows, MergeError>
     rows_of_parts(alloc, gathered)
 }
 
-// Gathers the rows of all texts.
+// Gathers the rows of all texts, or returns the first error of a text.
 fn gather_parts(alloc: Global, texts: &[&[u8]]) -> Result<Gathered, MergeError>
     requires { 0 < length texts.now }
     ensures holds { IfOk result (λ g. HoldsIn (bytes_of_texts texts.now) (length texts.now) g) }
@@ -48,7 +48,7 @@ fn gather_parts(alloc: Global, texts: &[&[u8]]) -> Result<Gathered, MergeError>
     Ok(gathered)
 }
 
-// Returns the gathered rows, if none is missing and each has a unique name.
+// Returns the gathered rows, or an error if a shard has no text or a name is repeated.
 fn rows_of_parts(alloc: Global, gathered: Gathered) -> Result<Rows, MergeError>
     requires { 0 < length gathered.sources.items }
     ensures rows { IfOk result (λ rows. IsComplete gathered.sources.items gathered.slots.items
@@ -65,7 +65,7 @@ fn rows_of_parts(alloc: Global, gathered: Gathered) -> Result<Rows, MergeError>
     }
 }
 
-// Returns the index of the first shard without a text.
+// Returns the index of the first shard without a text, or `None` if each has one.
 fn first_missing_shard(sources: &[Option<usize>]) -> Option<usize>
     ensures { MatchOption result (HaveSources sources.now)
         (λ at. (at < length sources.now) × (slice_index_or sources.now at None ≡ None)) }
@@ -78,7 +78,7 @@ fn first_missing_shard(sources: &[Option<usize>]) -> Option<usize>
     None
 }
 
-// Returns the error if the name of the row at an index is that of an earlier row.
+// Returns the error for the row at an index, whose name an earlier row has.
 fn repeated_name_error(sources: &[Option<usize>], place: usize) -> MergeError
     requires some { 0 < length sources.now }
     requires place { place < usize.MAX }
@@ -93,7 +93,7 @@ fn repeated_name_error(sources: &[Option<usize>], place: usize) -> MergeError
     }
 }
 
-// Returns the rows in filled slots.
+// Returns the rows in the filled slots, in order.
 fn rows_from_slots(alloc: Global, slots: Vec<Option<Row>>) -> Result<Vec<Row>, AllocError>
     ensures { IfOk result (λ rows. rows.items ≡ rows_from_slots slots.items) }
 {

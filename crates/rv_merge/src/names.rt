@@ -1,4 +1,4 @@
-//! Names that occur in two rows.
+//! Names that two rows have.
 
 ghost use Rattle.std.specs.Prelude.{◌≡◌, ◌<◌, [], true, IfOk, IfSome, MatchOption};
 ghost use Rattle.rv_report.specs.Saved.{are_new, row_names};
@@ -8,7 +8,7 @@ use rv_rows::Row;
 use std::alloc::{AllocError, Global};
 use std::collections::BTreeMap;
 
-/// Returns the index of the first row whose name is that of an earlier row, if any.
+/// Returns the index of the first row whose name an earlier row has, or `None` if there is none.
 pub(crate) fn first_repeated_name(alloc: Global, rows: &[Row]) -> Result<Option<usize>, AllocError>
     ensures twice { IfOk result (λ place. MatchOption place (are_new [] (row_names rows.now) ≡ true)
         (IsNameTwice rows.now)) }

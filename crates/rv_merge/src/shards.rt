@@ -6,8 +6,8 @@ ghost use Rattle.rv_merge.specs.Shards.{shard_selection, shard_places};
 
 use std::alloc::{AllocError, Global};
 
-/// Returns a flag for each job, which is set if the job belongs to the shard with this number: if its index, from 0, modulo the number of
-/// shards is one less than the number.
+/// Returns for each job, in list order, whether the shard with this number has it: if its index, counted from 0, leaves the remainder
+/// `number - 1` when divided by the number of shards.
 pub fn shard_selection(
     alloc: Global,
     jobs: usize,

@@ -1,4 +1,4 @@
-//! From a list's text to the report that its shards are merged into.
+//! A law from a list's text to the report that its shards are merged into, with no code to run.
 
 ghost use Rattle.std.specs.Prelude.{◌≡◌, ℕ, List, Ok};
 ghost use Rattle.rv_jobs.specs.declared.answers.Answer.{Answer};
@@ -13,9 +13,10 @@ use crate::law::shards_give_the_parts_of_the_whole;
 use crate::list_rows_law::rows_are_those_of_a_list;
 use rv_rows::Row;
 
-/// If a list that was read ran in shards, and each machine obtained the same results for the paths that its jobs need as one machine does
-/// for the whole list, the texts of their reports are the parts of the rows that this machine computes, as `run_fleet` does for every
-/// number of workers and every group size: they are what [`merge_parts`](crate::merge::merge_parts) returns.
+/// Proves that the shards of a list merge into its whole report. Suppose a list that was read runs in shards, and each machine reads the
+/// same at the paths that its jobs need as a single machine would. Then the texts of their reports are the parts of the rows that the
+/// single machine computes with `run_fleet`, for every number of workers and every chunk size, and
+/// [`merge_parts`](crate::merge::merge_parts) returns these rows.
 pub fn shards_give_the_whole(rows: &[Row])
     ensures { (bytes : List ℕ) (list : List Job) (answers : List Answer) (run : Run)
         (texts : List (List ℕ))

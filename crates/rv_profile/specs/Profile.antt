@@ -8,15 +8,18 @@ use Rattle.rv_call_tree.specs.Trees.{own_in}
 use Rattle.rv_call_tree.specs.declared.spot.Spot.{Spot}
 use Rattle.rv_profile.specs.declared.function.FunctionProfile.{FunctionProfile}
 
--- a function with its name; its own steps: those of the nodes that end in it; its inclusive steps: those of the nodes whose path has it,
--- each counted once; and how often a run entered it
+-- the counts of a function: its own steps, those of the nodes that end in it; its inclusive steps, those of the nodes whose path has it,
+-- each node counted once; and how often runs entered it
 pub record Profiled : Type 0 where
   pub name : List ℕ
+  -- the address of the function
   pub function : ℕ
   pub own : ℕ
   pub inclusive : ℕ
+  -- the number of calls
   pub arrivals : ℕ
 
+-- the counts of a function with a name, in a call tree
 abbrev pub profiled : List Spot → FunctionName → Profiled
 profiled spots named = record {
   name = named.name;
@@ -26,28 +29,30 @@ profiled spots named = record {
   arrivals = arrivals_in named.function spots;
 }
 
--- more own steps come first; with equally many, the lower address
+-- whether a function comes before another in a profile: it has more own steps, or as many and a lower address
 abbrev pub goes_before : Profiled → Profiled → Bool
 goes_before p q = nat_lt q.own p.own || ((p.own == q.own) && nat_lt p.function q.function)
 
--- exactly the functions of the nodes, each with its name and once, in this order
+-- `found` has the counts of each function with a name in the call tree, once, sorted as `goes_before` says
 pub record IsProfileOf (spots : List Spot) (names : List FunctionName) (found : List Profiled) : Type 0 where
   pub each : IsPermutation (map (profiled spots) names) found
   pub order : IsSortedBy goes_before found
 
--- the own steps of functions
+-- the sum of the own steps of the functions
 abbrev pub own_steps : List Profiled → ℕ
 own_steps found = sum_by (λ p. p.own) found
 
--- no share exceeds the total
+-- neither the own nor the inclusive steps of the function exceed `steps`, the steps of all nodes
 abbrev pub IsWithin : ℕ → Profiled → Type 0
 IsWithin steps p = (p.own ≤ steps) × (p.inclusive ≤ steps)
 
+-- neither the own nor the inclusive steps of any of the functions exceed `steps`, the steps of all nodes
 abbrev pub AreWithin : ℕ → List Profiled → Type 0
 AreWithin steps ps = All (IsWithin steps) ps
 
--- ---- as the program has it
+-- ---- profiles as the code has them
 
+-- the counts of a function in the code as contracts see them
 abbrev pub profile_of : FunctionProfile → Profiled
 profile_of function = record {
   name = function.name.now;
@@ -57,5 +62,6 @@ profile_of function = record {
   arrivals = function.steps.arrivals;
 }
 
+-- the counts of functions in the code as contracts see them, in order
 abbrev pub profiles_of : List FunctionProfile → List Profiled
 profiles_of functions = map profile_of functions

@@ -1,4 +1,4 @@
--- The profile report of images, from a table's call trees: a header for tools, then the profile of each image.
+-- The profile report of images, from a table's call trees: a header if the format is CSV, and then the profile of each image.
 use Rattle.std.specs.Prelude.{◌≡◌, ◌++◌, ℕ, if◌then◌else◌, List, [], ◌∷◌}
 use Rattle.rv_count_tables.specs.declared.table.CountTable.{CountTable}
 use Rattle.rv_cover_view.specs.JobImages.{FileImage}
@@ -9,25 +9,26 @@ use Rattle.rv_profile.specs.Text.{first_of, image_lines}
 use Rattle.rv_profile.specs.declared.format.ProfileFormat.{ProfileFormat}
 use Rattle.rv_profile.specs.declared.sums.Sums.{Sums}
 
--- an image's profile, as rows for tools or as lines
+-- the profile of the image with this path: as CSV rows, or as lines
 abbrev pub image_text : ProfileFormat → List ℕ → Sums → List Profiled → List ℕ
 image_text format path sums ps = if format.csv then csv_rows path (first_of format.top ps) else image_lines format.top path sums ps
 
+-- the header of the report, which only CSV has
 abbrev pub head_text : ProfileFormat → List ℕ
 head_text format = if format.csv then csv_head else []
 
--- the text shows an image's profile by a table's call tree
+-- the text is the profile of an image by a table's call tree
 pub record IsShownOf (format : ProfileFormat) (table : CountTable) (image : FileImage) (text : List ℕ) : Type 0 where
   pub functions : List Profiled
   pub profile : IsProfileOf (spots_of table image.bytes) (names_of table image.bytes) functions
   pub shown : text ≡ image_text format image.path (sums_of (spots_of table image.bytes)) functions
 
--- the text shows the profile of each image, one after another
+-- the text is the profile of each image by a table's call trees, in order
 abbrev pub AreShown : ProfileFormat → CountTable → List FileImage → List ℕ → Type 0
 AreShown format table [] text = text ≡ []
 AreShown format table (image ∷ images) text = (first : List ℕ) × (IsShownOf format table image first
     × ((rest : List ℕ) × (AreShown format table images rest × (text ≡ first ++ rest))))
 
--- the text is a header for tools followed by the profiles of the images
+-- the text is the profiles of all images, in order, after the CSV header if the format is CSV
 abbrev pub IsProfileText : ProfileFormat → CountTable → List FileImage → List ℕ → Type 0
 IsProfileText format table images text = (lines : List ℕ) × (AreShown format table images lines × (text ≡ head_text format ++ lines))

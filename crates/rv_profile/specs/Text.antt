@@ -11,10 +11,11 @@ use Rattle.rv_profile.specs.declared.sums.Sums.{Sums}
 
 -- ---- columns
 
--- the width of a column: the given one, or two more than the digits of its greatest number if that is wider
+-- the width of a column: `least`, or two more than the digits of its greatest number if that is more
 abbrev pub places : ℕ → ℕ → ℕ
 places least greatest = max least (2 + length (decimal greatest))
 
+-- the widths of the columns of an image whose steps and calls have these sums
 abbrev pub columns_of : Sums → Columns
 columns_of sums = record {
   own = places 13 sums.steps;
@@ -22,67 +23,74 @@ columns_of sums = record {
   arrivals = places 10 sums.arrivals;
 }
 
--- a word, right-aligned in a column
+-- a word with leading spaces up to a width of `places`
 unfoldable pub right_word : ℕ → List ℕ → List ℕ
 right_word places word = replicate (places - length word) 32 ++ word
 
--- the header above numbers and their percentages
+-- the header above a column of numbers and their percentages
 unfoldable pub share_head : ℕ → List ℕ → List ℕ
 share_head places word = right_word places word ++ codes "       %"
 
+-- the header with the names of the columns
 unfoldable pub columns_head : Columns → List ℕ
 columns_head c = share_head c.own (codes "self") ++ share_head c.inclusive (codes "inclusive")
     ++ right_word c.arrivals (codes "calls") ++ codes "  function\n"
 
 -- ---- shares
 
--- hundredths of a percent, rounded to nearest, ties up
+-- the share of a part in a whole, in hundredths of a percent, rounded to the nearest, ties up; 0 if the whole is 0
 abbrev pub hundredths : ℕ → ℕ → ℕ
 hundredths part whole = if whole == 0 then 0 else (20_000 * part + whole) / (2 * whole)
 
--- hundredths of a percent as text, eight characters wide
+-- hundredths of a percent as a percentage with two decimals, eight characters wide
 unfoldable pub percent : ℕ → List ℕ
 percent count = right 4 (count / 100) ++ codes "." ++ decimal (count / 10 % 10) ++ decimal (count % 10) ++ codes "%"
 
--- a part of a whole, and its percentage
+-- a part of a whole, right-aligned, and its percentage
 unfoldable pub share : ℕ → ℕ → ℕ → List ℕ
 share places part whole = right places part ++ percent (hundredths part whole)
 
 -- ---- lines
 
+-- the word for steps after their number, with a line feed
 abbrev pub steps_word : ℕ → List ℕ
 steps_word count = if count == 1 then codes " step\n" else codes " steps\n"
 
+-- the line of the image with this path: the path and the number of steps
 unfoldable pub steps_line : List ℕ → ℕ → List ℕ
 steps_line path steps = printable_text path ++ codes ": " ++ decimal steps ++ steps_word steps
 
--- the line of a function, given the total steps of its image
+-- the line of a function, given the widths of the columns and the steps of its image
 unfoldable pub function_line : Columns → ℕ → Profiled → List ℕ
 function_line c steps p = share c.own p.own steps ++ share c.inclusive p.inclusive steps ++ right c.arrivals p.arrivals
     ++ codes "  " ++ printable_name p.name ++ codes "\n"
 
+-- the lines of functions, given the widths of the columns and the steps of their image
 abbrev pub function_lines : Columns → ℕ → List Profiled → List ℕ
 function_lines c steps ps = flat_map (function_line c steps) ps
 
+-- the words for further functions after their number, with a line feed
 abbrev pub functions_word : ℕ → List ℕ
 functions_word count = if count == 1 then codes " more function\n" else codes " more functions\n"
 
--- the number of functions without a line; no line if there are none
+-- the line with the number of functions that have no line, or no line if there are none
 abbrev pub more_line : ℕ → List ℕ
 more_line left = if left == 0 then [] else decimal left ++ functions_word left
 
 -- ---- an image
 
--- the first n elements, or all
+-- the first elements of a list, as many as given, or all
 abbrev pub first_of : {X : Type 0} → Option ℕ → List X → List X
 first_of None xs = xs
 first_of (Some count) xs = take count xs
 
--- the header and the shown functions, after the line of the image; no header if there are no functions
+-- the lines after that of the image: a header, the first `top` functions, or all, and how many more there are; nothing if there are no
+-- functions
 abbrev pub functions_text : Option ℕ → Sums → List Profiled → List ℕ
 functions_text top sums [] = []
 functions_text top sums (p ∷ ps) = columns_head (columns_of sums) ++ function_lines (columns_of sums) sums.steps (first_of top (p ∷ ps))
     ++ more_line (length (p ∷ ps) - length (first_of top (p ∷ ps)))
 
+-- the lines of the image with this path, these sums and these functions, of which the first `top` are shown, or all
 abbrev pub image_lines : Option ℕ → List ℕ → Sums → List Profiled → List ℕ
 image_lines top path sums ps = steps_line path sums.steps ++ functions_text top sums ps

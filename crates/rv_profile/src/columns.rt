@@ -7,7 +7,7 @@ use crate::sums::Sums;
 use rv_text::push_number;
 use std::alloc::{AllocError, Global};
 
-/// The widths of an image's columns.
+/// The widths of the columns of an image.
 #[derive(Clone, Copy)]
 pub(crate) struct Columns {
     pub(crate) own: usize,
@@ -15,7 +15,7 @@ pub(crate) struct Columns {
     pub(crate) arrivals: usize,
 }
 
-/// Returns the columns of an image whose steps and calls have these sums.
+/// Returns the widths of the columns of an image whose steps and calls have these sums.
 pub(crate) fn columns_of(alloc: Global, sums: Sums) -> Result<Columns, AllocError>
     ensures { IfOk result (λ columns. columns ≡ columns_of sums) }
 {
@@ -26,7 +26,7 @@ pub(crate) fn columns_of(alloc: Global, sums: Sums) -> Result<Columns, AllocErro
     })
 }
 
-// Returns the width of a column: two more than a number has digits, but at least `least`.
+// Returns the width of a column: `least`, or two more than the digits of its greatest number if that is more.
 fn places(alloc: Global, least: usize, greatest: u64) -> Result<usize, AllocError>
     ensures { IfOk result (λ count. count ≡ places least greatest) }
 {

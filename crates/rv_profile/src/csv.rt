@@ -1,4 +1,4 @@
-//! Profiles of images for tools: comma-separated values (RFC 4180), each line terminated by a line feed.
+//! The profiles of images for tools: comma-separated values (RFC 4180), each line ended by a line feed.
 
 ghost use Rattle.std.specs.Prelude.{◌≡◌, ◌++◌, OnOk};
 ghost use Rattle.rv_profile.specs.Csv.{csv_head, csv_numbers, csv_row, csv_rows};
@@ -31,6 +31,7 @@ pub(crate) fn push_csv_rows(
     Ok(())
 }
 
+// Appends the row of a function of the image with this path.
 #[tactic(auto, unfolding(crate::specs::Csv::csv_row))]
 fn push_csv_row(
     bytes: &mut Vec<u8>,
@@ -45,6 +46,7 @@ fn push_csv_row(
     push_csv_numbers(bytes, function)
 }
 
+// Appends the fields for the address and the counts of a function.
 #[tactic(auto, unfolding(crate::specs::Csv::csv_numbers))]
 fn push_csv_numbers(bytes: &mut Vec<u8>, function: &FunctionProfile<'_>) -> Result<(), AllocError>
     ensures { OnOk result (bytes.new.items ≡ bytes.old.items ++ csv_numbers (profile_of function.now)) }

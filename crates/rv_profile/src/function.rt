@@ -1,4 +1,4 @@
-//! What runs did in a named function.
+//! The counts of a function with its name.
 
 ghost use Rattle.std.specs.Prelude.{◌≡◌};
 ghost use Rattle.rv_profile.specs.Profile.{profile_of, profiled};
@@ -6,7 +6,7 @@ ghost use Rattle.rv_profile.specs.Profile.{profile_of, profiled};
 use rv_call_tree::{FunctionSteps, SpotIndex};
 use rv_count_tables::FunctionName;
 
-/// What runs did in a function.
+/// The counts of a function with its name.
 #[derive(Clone, Copy)]
 pub(crate) struct FunctionProfile<'a> {
     pub(crate) name: &'a str,
@@ -15,7 +15,7 @@ pub(crate) struct FunctionProfile<'a> {
     pub(crate) steps: FunctionSteps,
 }
 
-/// Returns the counts of a named function. Takes time linear in the number of the function's nodes.
+/// Returns the counts of a function with a name. Takes time linear in the number of nodes that end in the function.
 pub(crate) fn profile_of_function<'a>(
     index: &SpotIndex<'_>,
     named: &'a FunctionName,

@@ -1,4 +1,4 @@
-//! The functions of an image, those with the most steps first.
+//! The functions of an image, those with the most own steps first.
 
 ghost use Rattle.std.specs.Prelude.{◌≡◌, IfOk, map, true};
 ghost use Rattle.rv_profile.specs.ImageStacks.{are_few, sums_of};
@@ -10,8 +10,8 @@ use crate::image_stacks::ImageStacks;
 use rv_call_tree::SpotIndex;
 use std::alloc::{AllocError, Global};
 
-/// Returns the functions of an image from its call tree, sorted by own steps in descending order, then by address. Takes the time to sort
-/// the nodes and the functions.
+/// Returns the functions of an image with their counts in its call tree, sorted by own steps in descending order, and then by address.
+/// Takes the time to sort the nodes and the functions.
 pub(crate) fn functions_by_own_steps<'t>(
     alloc: Global,
     stacks: ImageStacks<'t>,
@@ -25,7 +25,7 @@ pub(crate) fn functions_by_own_steps<'t>(
     Ok(functions)
 }
 
-// Returns the functions of an image from its call tree, sorted by address.
+// Returns the functions of an image with their counts in its call tree, sorted by address.
 fn functions_of_stacks<'t>(
     alloc: Global,
     stacks: ImageStacks<'t>,

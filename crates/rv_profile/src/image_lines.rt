@@ -11,7 +11,7 @@ use crate::text::{push_columns_head, push_function_line, push_more_line, push_st
 use crate::top::first_of;
 use std::alloc::{AllocError, Global};
 
-/// Appends the lines of the image with this path: its first `top` functions, or all.
+/// Appends the lines of the image with this path, with its first `top` functions, or all.
 pub(crate) fn push_image_lines(
     alloc: Global,
     bytes: &mut Vec<u8>,
@@ -26,7 +26,7 @@ pub(crate) fn push_image_lines(
     push_functions(alloc, bytes, top, profile)
 }
 
-// Appends the lines of functions, after a header if there are any.
+// Appends a header, the lines of the first `top` functions, or all, and how many more there are. Appends nothing if there are no functions.
 fn push_functions(
     alloc: Global,
     bytes: &mut Vec<u8>,

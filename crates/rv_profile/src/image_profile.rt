@@ -14,7 +14,7 @@ use std::alloc::{AllocError, Global};
 /// The profile of an image.
 #[derive(Drop)]
 pub(crate) struct ImageProfile<'t> {
-    /// The sums over all functions.
+    /// The steps and the calls of all nodes together.
     pub(crate) sums: Sums,
     /// The functions, those with the most own steps first.
     pub(crate) functions: Vec<FunctionProfile<'t>>,

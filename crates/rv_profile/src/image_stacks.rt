@@ -16,12 +16,12 @@ use rv_cover_view::{ImageFile, counted_image};
 #[derive(Clone, Copy)]
 pub(crate) struct ImageStacks<'t> {
     pub(crate) spots: &'t [Spot],
-    /// The names of its functions, sorted by function address.
+    /// The names of the functions in it, sorted by function address.
     pub(crate) names: &'t [FunctionName],
     ghost rising: { names_rise 0 names.now ≡ true },
 }
 
-/// Returns a table's call tree of the image with the digest of a file. It is empty if the table has no such image.
+/// Returns a table's call tree of the image with the digest of these bytes, which is empty if the table has no such image.
 pub(crate) fn stacks_of<'t>(table: &'t CountTable, bytes: &[u8]) -> ImageStacks<'t>
     requires { IsTable table.now }
     ensures spots { result.spots.now ≡ spots_of table.now bytes.now }
@@ -34,6 +34,7 @@ pub(crate) fn stacks_of<'t>(table: &'t CountTable, bytes: &[u8]) -> ImageStacks<
     }
 }
 
+// Returns the call tree of an image of a table.
 fn stacks_of_image(counted: &ImageCounts) -> ImageStacks<'_>
     requires { IsImage counted.now }
     ensures spots { result.spots.now ≡ counted.now.spots }
@@ -46,6 +47,7 @@ fn stacks_of_image(counted: &ImageCounts) -> ImageStacks<'_>
     }
 }
 
+// Returns an empty call tree.
 #[tactic(auto, unfolding(rv_count_tables::specs::Table::names_rise))]
 fn no_stacks<'t>() -> ImageStacks<'t>
     ensures spots { result.spots.now ≡ [] }
@@ -58,20 +60,21 @@ fn no_stacks<'t>() -> ImageStacks<'t>
     }
 }
 
-/// Whether a table has call paths of some image.
+/// Whether a table has a call tree for some image.
 pub fn has_stacks(table: &CountTable) -> bool
     ensures { result ≡ has_stacks table.now }
 {
     table.images.as_slice().iter().any(has_spots)
 }
 
+// Whether an image of a table has a call tree.
 fn has_spots(counted: &ImageCounts) -> bool
     ensures { result ≡ is_some_spot counted.now.spots }
 {
     !counted.spots.as_slice().is_empty()
 }
 
-/// Returns the path of the first image whose steps or calls in a table add up to 2^64 or more.
+/// Returns the path of the first image whose steps or calls in a table add up to 2^64 or more, or `None` if there is none.
 pub fn image_past_64_bits<'a>(table: &CountTable, images: &[ImageFile<'a>]) -> Option<&'a str>
     ensures { option_map (λ path. path.now) result ≡ image_past_64_bits table.now (images_of_files images.now) }
 {
@@ -81,6 +84,7 @@ pub fn image_past_64_bits<'a>(table: &CountTable, images: &[ImageFile<'a>]) -> O
     }
 }
 
+// Returns the first image whose steps or calls in a table add up to 2^64 or more, or `None` if there is none.
 fn first_past_64_bits<'i, 'a>(
     table: &CountTable,
     images: &'i [ImageFile<'a>],
@@ -91,6 +95,7 @@ fn first_past_64_bits<'i, 'a>(
     images.iter().find(|image| is_past_64_bits(table, image))
 }
 
+// Whether the steps or calls of the image in a table add up to 2^64 or more.
 fn is_past_64_bits(table: &CountTable, image: &ImageFile<'_>) -> bool
     ensures { result ≡ is_past_64_bits table.now (image_of_file image.now) }
 {

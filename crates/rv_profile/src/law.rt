@@ -1,4 +1,4 @@
-//! A law about profiles; it is not executed.
+//! A law on profiles, with no code to run.
 
 ghost use Rattle.std.specs.Prelude.{◌≡◌, ℕ, List};
 ghost use Rattle.rv_count_tables.specs.Table.{IsTable};
@@ -9,7 +9,7 @@ ghost use Rattle.rv_call_tree.specs.Trees.{all_steps};
 
 use rv_call_tree::own_steps_sum_to_all;
 
-/// The own steps of all functions of an image add up to the steps of its call tree.
+/// Proves that the own steps of all functions of an image add up to the steps of its call tree.
 pub fn own_steps_sum_to_all_steps()
     ensures { (table : ATable) (bytes : List ℕ) (found : List Profiled) → IsTable table
         → IsProfileOf (spots_of table bytes) (names_of table bytes) found

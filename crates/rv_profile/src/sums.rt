@@ -1,11 +1,11 @@
-//! Sums over call-tree nodes.
+//! Sums over the nodes of a call tree.
 
 ghost use Rattle.std.specs.Prelude.{◌≡◌};
 ghost use Rattle.rv_profile.specs.ImageStacks.{fitting, sums_of, with_spot};
 
 use rv_call_tree::Spot;
 
-/// How many instructions were executed in nodes, and how often runs entered them.
+/// How many instructions were executed in all nodes, and how often runs entered them.
 #[derive(Clone, Copy)]
 pub(crate) struct Sums {
     pub(crate) steps: u64,
@@ -13,7 +13,7 @@ pub(crate) struct Sums {
 }
 
 impl Sums {
-    // Adds a node's counts, if both sums fit in 64 bits.
+    // Returns the sums with the counts of one more node, or `None` if one of them does not fit in 64 bits.
     fn with_spot(self, spot: Spot) -> Option<Sums>
         ensures { result ≡ fitting (with_spot self spot) }
     {
@@ -24,7 +24,7 @@ impl Sums {
     }
 }
 
-/// Returns the sums over all nodes, if both fit in 64 bits.
+/// Returns the sums over all nodes, or `None` if one of them does not fit in 64 bits.
 pub(crate) fn sums_of(spots: &[Spot]) -> Option<Sums>
     ensures { result ≡ fitting (sums_of spots.now) }
 {

@@ -10,7 +10,7 @@ use rv_cover_view::{push_right, push_spaces};
 use rv_text::{Span, push_number, push_spans, push_text};
 use std::alloc::{AllocError, Global};
 
-/// Appends the line of an image: its path and its steps.
+/// Appends the line of the image with this path: the path and the number of steps.
 #[tactic(auto, unfolding(crate::specs::Text::steps_line))]
 pub(crate) fn push_steps_line(
     bytes: &mut Vec<u8>,
@@ -30,13 +30,14 @@ pub(crate) fn push_steps_line(
     )
 }
 
+// Returns the word for steps after their number, with a line feed.
 fn steps_word(count: u64) -> &'static str
     ensures { result.now ≡ steps_word count }
 {
     if count == 1 { " step\n" } else { " steps\n" }
 }
 
-/// Appends the names of the columns.
+/// Appends the header with the names of the columns.
 #[tactic(auto, unfolding(crate::specs::Text::columns_head))]
 pub(crate) fn push_columns_head(bytes: &mut Vec<u8>, columns: Columns) -> Result<(), AllocError>
     ensures { OnOk result (bytes.new.items ≡ bytes.old.items ++ columns_head columns) }
@@ -47,7 +48,7 @@ pub(crate) fn push_columns_head(bytes: &mut Vec<u8>, columns: Columns) -> Result
     push_text(bytes, "  function\n")
 }
 
-// Appends the header above numbers and their percentages.
+// Appends the header above a column of numbers and their percentages.
 #[tactic(auto, unfolding(crate::specs::Text::share_head))]
 fn push_share_head(bytes: &mut Vec<u8>, places: usize, word: &str) -> Result<(), AllocError>
     ensures { OnOk result (bytes.new.items ≡ bytes.old.items ++ share_head places word.now) }
@@ -56,7 +57,7 @@ fn push_share_head(bytes: &mut Vec<u8>, places: usize, word: &str) -> Result<(),
     push_text(bytes, "       %")
 }
 
-// Appends a word, right-aligned in a column of width `places`.
+// Appends a word with leading spaces up to a width of `places`.
 #[tactic(auto, unfolding(crate::specs::Text::right_word))]
 fn push_right_word(bytes: &mut Vec<u8>, places: usize, word: &str) -> Result<(), AllocError>
     ensures { OnOk result (bytes.new.items ≡ bytes.old.items ++ right_word places word.now) }
@@ -91,7 +92,7 @@ pub(crate) fn push_function_line(
     )
 }
 
-// Appends a part of a whole, and its percentage.
+// Appends a part of a whole, right-aligned, and its percentage.
 #[tactic(auto, unfolding(crate::specs::Text::share))]
 fn push_share(
     alloc: Global,
@@ -136,7 +137,7 @@ fn push_percent(alloc: Global, bytes: &mut Vec<u8>, count: u64) -> Result<(), Al
     )
 }
 
-/// Appends the number of further functions, if there are any.
+/// Appends the number of functions that have no line, if there are any.
 pub(crate) fn push_more_line(bytes: &mut Vec<u8>, left: usize) -> Result<(), AllocError>
     ensures { OnOk result (bytes.new.items ≡ bytes.old.items ++ more_line left) }
 {
@@ -147,6 +148,7 @@ pub(crate) fn push_more_line(bytes: &mut Vec<u8>, left: usize) -> Result<(), All
     push_text(bytes, functions_word(left))
 }
 
+// Returns the words for further functions after their number, with a line feed.
 fn functions_word(count: usize) -> &'static str
     ensures { result.now ≡ functions_word count }
 {

@@ -1,5 +1,5 @@
 -- Which line of a text is the first that no report has there: some report begins with the lines before it, and none with these lines and
--- it.
+-- this line.
 use Rattle.std.specs.Prelude.{◌≡◌, ◌==◌, ◌-◌, ℕ, if◌then◌else◌, List, [], ◌∷◌, ◌++◌}
 use Rattle.rv_report.specs.declared.read.ReadError.{ReadError}
 use Rattle.rv_report.specs.declared.read.ReadError.TheVariants.{OutOfMemory, Line, CutOff}
@@ -7,7 +7,7 @@ use Rattle.rv_report.specs.declared.saved.SavedReport.{SavedReport}
 use Rattle.rv_report.specs.Saved.{IsSaved, saved_text}
 use Rattle.rv_report.specs.Differences.{count_of_line_feeds}
 
--- the first n lines of a text, each with its line feed if it has one
+-- the first `count` lines of a text, each with its line feed if it has one
 unfoldable pub first_lines : ℕ → List ℕ → List ℕ
 first_lines count [] = []
 first_lines count (b ∷ bs) =
@@ -17,12 +17,13 @@ first_lines count (b ∷ bs) =
 abbrev pub BeginsReport : List ℕ → Type 0
 BeginsReport bytes = (report : SavedReport) × (rest : List ℕ) × IsSaved report × (saved_text report ≡ bytes ++ rest)
 
--- some report begins with the lines before this one, and none with these lines and this one
+-- some report begins with the lines of the bytes before this one, and no report begins with these lines and this line
 pub record IsLeastRefusedLine (line : ℕ) (bytes : List ℕ) : Type 0 where
   pub before : BeginsReport (first_lines (line - 1) bytes)
   pub refused : BeginsReport (first_lines line bytes) → ⊥
 
--- the line in the error is the first rejected one; if the text is cut off, a report begins with the lines that end with a line feed
+-- the line in the error is the first that no report has there; if the bytes are cut off, some report begins with their lines that end with
+-- a line feed
 abbrev pub IsLeast : ReadError → List ℕ → Type 0
 IsLeast OutOfMemory bytes = Unit {0}
 IsLeast (Line line) bytes = IsLeastRefusedLine line bytes

@@ -1,4 +1,5 @@
--- The content of a text's lines. Any text has some content: whether it is a report is found by writing that content and comparing.
+-- The report that is read from a text leniently: any text gives one. Whether the text is a report is found by writing the lenient report
+-- and comparing.
 use Rattle.std.specs.Prelude.{◌==◌, if◌then◌else◌, ◌+◌, ◌-◌, ◌*◌, ◌^◌, ◌&&◌, ◌||◌, ℕ, zero, suc}
 use Rattle.std.specs.Prelude.{nat_lt, nat_le, min, Bool, true, false, not, List, [], ◌∷◌, ◌++◌}
 use Rattle.std.specs.Prelude.{length, replicate, take, drop, slice_index, Option, Some, None}
@@ -28,53 +29,63 @@ use Rattle.rv_report.specs.Saved.{matches_job_numbers, row_names, most_words}
 
 -- ---- lines, and the parts of a line
 
--- the lines without their line feeds
+-- the lines of a text, without their line feeds
 unfoldable pub lines : List ℕ → List (List ℕ)
 lines [] = []
 lines (b ∷ bs) = if b == 10 then [] ∷ lines bs else onto_first b (lines bs)
 
--- the index of a byte, or the length if it does not occur
+-- the index of the first occurrence of a byte in a text, or the length of the text if the byte does not occur
 unfoldable pub place_of_byte : ℕ → List ℕ → ℕ
 place_of_byte byte [] = 0
 place_of_byte byte (b ∷ bs) = if b == byte then 0 else place_of_byte byte bs + 1
 
+-- the text before the first occurrence of a byte, or the whole text if the byte does not occur
 abbrev pub text_before_byte : ℕ → List ℕ → List ℕ
 text_before_byte byte text = take (place_of_byte byte text) text
 
+-- the text after the first occurrence of a byte, or an empty text if the byte does not occur
 abbrev pub text_after_byte : ℕ → List ℕ → List ℕ
 text_after_byte byte text = drop (place_of_byte byte text + 1) text
 
--- ---- numbers and words; what is too large is the greatest
+-- ---- numbers and words; numbers saturate at 2^32 - 1
 
+-- the greatest number that is read
 abbrev pub most : ℕ
 most = 2 ^ 32 - 1
 
+-- the number `value` with one more digit in this base, or `most` if that is too large
 abbrev pub with_digit : ℕ → ℕ → ℕ → ℕ
 with_digit base value digit = min (min (value * base) most + digit) most
 
+-- the number that begins with the digits of `value` and continues with this text of decimal digits
 unfoldable pub decimal_number_on : ℕ → List ℕ → ℕ
 decimal_number_on value [] = value
 decimal_number_on value (b ∷ bs) = decimal_number_on (with_digit 10 value (b - 48)) bs
 
+-- the number that a text of decimal digits is read as
 abbrev pub decimal_number : List ℕ → ℕ
 decimal_number text = decimal_number_on 0 text
 
+-- the value of a lower-case hexadecimal digit
 abbrev pub hex_digit_value : ℕ → ℕ
 hex_digit_value b = if nat_lt b 97 then b - 48 else b - 87
 
+-- the number that begins with the digits of `value` and continues with this text of hexadecimal digits
 unfoldable pub hex_number : ℕ → List ℕ → ℕ
 hex_number value [] = value
 hex_number value (b ∷ bs) = hex_number (with_digit 16 value (hex_digit_value b)) bs
 
--- a value with several zero digits appended
+-- the number `value` with this many hexadecimal zeros appended
 unfoldable pub with_zero_digits : ℕ → ℕ → ℕ
 with_zero_digits zero value = value
 with_zero_digits (suc count) value = with_zero_digits count (with_digit 16 value 0)
 
--- missing digits of the eight are read as zeros, so a truncated word differs from its report after the truncation
+-- the word that the first eight bytes of a text are read as, which should be hexadecimal digits; missing digits are read as zeros, so that
+-- a truncated word differs from its report only after the truncation
 unfoldable pub hex_word : List ℕ → ℕ
 hex_word text = with_zero_digits (8 - length (take 8 text)) (hex_number 0 (take 8 text))
 
+-- whether a byte is a lower-case hexadecimal digit
 abbrev pub is_hex_digit : ℕ → Bool
 is_hex_digit b = (nat_le 48 b && nat_le b 57) || (nat_le 97 b && nat_le b 102)
 
@@ -83,51 +94,53 @@ unfoldable pub are_hex_digits : List ℕ → Bool
 are_hex_digits [] = true
 are_hex_digits (b ∷ bs) = is_hex_digit b && are_hex_digits bs
 
--- whether the line is a word or a prefix of one, unlike any other line of a report
+-- whether a line can be a word of a signature, or the beginning of one: it is not empty, and has only lower-case hexadecimal digits
 abbrev pub is_hex_word : List ℕ → Bool
 is_hex_word line = nat_lt 0 (length line) && are_hex_digits line
 
+-- the decoded bytes, or no bytes if the digits were invalid
 abbrev pub bytes_if_decoded : Result (List ℕ) FromHexError → List ℕ
 bytes_if_decoded (Ok bytes) = bytes
 bytes_if_decoded (Err error) = []
 
--- a dash is not hexadecimal text, and is read as no bytes
+-- the bytes that a text of hexadecimal digits is read as; an invalid text, such as a dash, is read as no bytes
 unfoldable pub hex_bytes : List ℕ → List ℕ
 hex_bytes text = bytes_if_decoded (decode_of text)
 
 -- ---- names
 
--- the text itself if it is a valid name, or else a dash
+-- the text if it is a valid name, or else a dash
 abbrev pub name_or_dash : List ℕ → List ℕ
 name_or_dash text = if is_name text then text else codes "-"
 
--- the fault with this name, or an arbitrary one
+-- the kind of fault, or an arbitrary one if there is none
 abbrev pub fault_or_first : Option FaultKind → FaultKind
 fault_or_first (Some kind) = kind
 fault_or_first None = fault.FetchAccess
 
--- the refusal with this name, or an arbitrary one
+-- the refusal, or an arbitrary one if there is none
 abbrev pub refusal_or_first : Option Refusal → Refusal
 refusal_or_first (Some why) = why
 refusal_or_first None = refusal.ImageUnreadable
 
--- ---- what each line says; the byte that tells it from others is enough
+-- ---- the values of single lines; the byte that distinguishes a line from others decides how it is read
 
--- job NUMBER NAME
+-- the job number in a line `job NUMBER NAME`
 abbrev pub job_number_of_line : List ℕ → ℕ
 job_number_of_line line = decimal_number (text_before_byte 32 (drop 4 line))
 
+-- the job name in a line `job NUMBER NAME`, or a dash if it is not a valid name
 unfoldable pub job_name_of_line : List ℕ → List ℕ
 job_name_of_line line = name_or_dash (text_after_byte 32 (drop 4 line))
 
--- KIND pc=WORD value=WORD
+-- the ending in a text `KIND pc=WORD value=WORD`
 unfoldable pub fault_ending_of_text : List ℕ → RowEnd
 fault_ending_of_text text =
     let words = text_after_byte 32 text in
     ending.Fault (fault_or_first (fault_named (text_before_byte 32 text))) (hex_word (take 8 (drop 3 words)))
     (hex_word (drop 18 words))
 
--- end ..
+-- the ending in a line `end ..`; the first byte after `end ` decides which ending it is
 unfoldable pub row_ending_of_line : List ℕ → RowEnd
 row_ending_of_line line =
     let kind = slice_index line 4 in
@@ -136,7 +149,7 @@ row_ending_of_line line =
     else if kind == 98 then ending.Budget
     else ending.Refused (refusal_or_first (refusal_named (drop 12 line)))
 
--- verdict ..
+-- the verdict in a line `verdict ..`; the first byte after `verdict ` decides which verdict it is
 unfoldable pub verdict_of_line : List ℕ → Verdict
 verdict_of_line line =
     let first = slice_index line 8 in
@@ -144,7 +157,7 @@ verdict_of_line line =
     else if first == 112 then verdict.Pass
     else verdict.Fail
 
--- SHARD/SHARDS stamp STAMP
+-- the shard in a text `SHARD/SHARDS stamp STAMP`, of a list with this many jobs
 unfoldable pub shard_of_text : ℕ → List ℕ → Extent
 shard_of_text jobs text =
     let shards = text_after_byte 47 text in
@@ -155,7 +168,7 @@ shard_of_text jobs text =
       stamp = name_or_dash (drop 6 (text_after_byte 32 shards));
     })
 
--- part ROWS of JOBS, and more for a shard
+-- the extent in a line `part ROWS of JOBS`, which a shard continues with `shard SHARD/SHARDS stamp STAMP`
 unfoldable pub part_extent_of_line : List ℕ → Extent
 part_extent_of_line line =
     let jobs = drop 3 (text_after_byte 32 (drop 5 line)) in
@@ -163,10 +176,9 @@ part_extent_of_line line =
     if length shard == 0 then extent.Choice (decimal_number (text_before_byte 32 jobs))
     else shard_of_text (decimal_number (text_before_byte 32 jobs)) shard
 
--- ---- what lines say together
+-- ---- the values of all lines
 
--- The rows so far and the numbers of their jobs, the last line, and what is known of the next row. The stage determines which line comes
--- next.
+-- the rows that were read so far with the numbers of their jobs, the extent in the last line, and the values of the unfinished row
 pub record Gathered : Type 0 where
   pub numbers : List ℕ
   pub rows : List Row
@@ -179,10 +191,12 @@ pub record Gathered : Type 0 where
   pub signed : Bool
   pub count : ℕ
   pub words : List ℕ
+  -- whether a row is unfinished
   pub begun : Bool
+  -- which line comes next
   pub stage : Stage
 
--- rows with their numbers and the content of the last line, with no row begun
+-- these rows with the numbers of their jobs and this extent, without an unfinished row
 unfoldable pub gathering_between_rows : List ℕ → List Row → Extent → Gathered
 gathering_between_rows numbers rows extent = record {
   numbers = numbers;
@@ -200,10 +214,12 @@ gathering_between_rows numbers rows extent = record {
   stage = stage.Between;
 }
 
--- missing words are read as zeros, so a truncated signature differs from its report after the truncation
+-- the words of a signature, with zeros for missing ones up to `count`, so that a truncated signature differs from its report only after the
+-- truncation
 unfoldable pub padded_words : ℕ → List ℕ → List ℕ
 padded_words count words = words ++ replicate (count - length words) 0
 
+-- the unfinished row, finished with this verdict
 unfoldable pub row_so_far : Verdict → Gathered → Row
 row_so_far verdict g = record {
   name = g.name;
@@ -214,16 +230,16 @@ row_so_far verdict g = record {
   verdict = verdict;
 }
 
--- the row in progress added to the rows
+-- the state after the unfinished row is finished with this verdict and added to the rows
 unfoldable pub with_finished_row : Verdict → Gathered → Gathered
 with_finished_row verdict g =
     gathering_between_rows (g.numbers ++ g.number ∷ []) (g.rows ++ row_so_far verdict g ∷ []) g.extent
 
--- a line that cannot come next: the rest is ignored
+-- the state after a line that cannot come next: all later lines are ignored
 abbrev pub with_stage_over : Gathered → Gathered
 with_stage_over g = record g { stage = stage.Over }
 
--- the first line of a job, if there may be one more, or the last line of all
+-- the state after a line between rows: the first line of a row, unless there are too many, or the last line of the report
 unfoldable pub at_job_or_last_line : List ℕ → Gathered → Gathered
 at_job_or_last_line line g =
     if (slice_index line 0 == 106) && nat_lt (length g.rows) most_jobs then
@@ -231,24 +247,27 @@ at_job_or_last_line line g =
     else if slice_index line 0 == 112 then with_stage_over (record g { extent = part_extent_of_line line })
     else with_stage_over g
 
+-- the state after the line that should have the ending of a row
 unfoldable pub at_ending : List ℕ → Gathered → Gathered
 at_ending line g =
     if slice_index line 0 == 101 then record g { ending = row_ending_of_line line; stage = stage.Steps }
     else with_stage_over g
 
+-- the state after the line that should have the steps of a row
 unfoldable pub at_steps : List ℕ → Gathered → Gathered
 at_steps line g =
     if (slice_index line 0 == 115) && (slice_index line 1 == 116) then
     record g { steps = decimal_number (drop 6 line); stage = stage.Console }
     else with_stage_over g
 
+-- the state after the line that should have the console of a row
 unfoldable pub at_console : List ℕ → Gathered → Gathered
 at_console line g =
     if slice_index line 0 == 99 then
     record g { console = hex_bytes (drop 8 line); stage = stage.Signature }
     else with_stage_over g
 
--- a dash represents no signature, and is read as 0 words
+-- the state after the line that should have the number of words of a row's signature; a dash, for no signature, is read as 0 words
 unfoldable pub at_signature : List ℕ → Gathered → Gathered
 at_signature line g =
     if ((slice_index line 0 == 115) && (slice_index line 1 == 105))
@@ -261,7 +280,7 @@ at_signature line g =
     }
     else with_stage_over g
 
--- a word of the signature, or the verdict if all words have been read
+-- the state after the line that should have a word of the signature, or the verdict if all words have been read
 unfoldable pub at_words : List ℕ → Gathered → Gathered
 at_words line g =
     if is_hex_word line && nat_lt (length g.words) g.count then
@@ -270,6 +289,7 @@ at_words line g =
     with_finished_row (verdict_of_line line) g
     else with_stage_over g
 
+-- the state after one more line at this stage
 abbrev pub with_line_at : Stage → List ℕ → Gathered → Gathered
 with_line_at stage.Between line g = at_job_or_last_line line g
 with_line_at stage.Ending line g = at_ending line g
@@ -279,40 +299,43 @@ with_line_at stage.Signature line g = at_signature line g
 with_line_at stage.Words line g = at_words line g
 with_line_at stage.Over line g = g
 
+-- the state after one more line
 unfoldable pub with_line : List ℕ → Gathered → Gathered
 with_line line g = with_line_at g.stage line g
 
+-- the state after these lines
 unfoldable pub with_lines : List (List ℕ) → Gathered → Gathered
 with_lines [] g = g
 with_lines (line ∷ lines) g = with_lines lines (with_line line g)
 
--- a row that is incomplete at the end is included
+-- the state after an unfinished row is finished, if there is one
 unfoldable pub with_unfinished_row : Gathered → Gathered
 with_unfinished_row g =
     if g.begun then with_finished_row verdict.Unasked (record g { words = padded_words g.count g.words }) else g
 
+-- the state after all lines of a text, with an unfinished row finished
 unfoldable pub gather_rows : List ℕ → Gathered
 gather_rows text = with_unfinished_row (with_lines (lines text) (gathering_between_rows [] [] extent.Whole))
 
--- ---- and up to the first row that can't stand there
+-- ---- the rows before the first row that no report has at its index
 
--- the number of leading job numbers that increase, up to the maximum number of jobs in a list
+-- the number of leading job numbers that increase from above `text_before_byte`, and are at most `most_jobs`
 unfoldable pub rising_count : ℕ → List ℕ → ℕ
 rising_count text_before_byte [] = 0
 rising_count text_before_byte (n ∷ ns) =
     if nat_lt text_before_byte n && nat_le n most_jobs then rising_count n ns + 1 else 0
 
--- the number of texts before the first repeated one
+-- the number of leading texts that equal neither an earlier one nor one of `earlier`
 unfoldable pub count_before_repeated_name : List (List ℕ) → List (List ℕ) → ℕ
 count_before_repeated_name earlier [] = 0
 count_before_repeated_name earlier (text ∷ texts) =
     if is_some (index_in earlier text) then 0 else count_before_repeated_name (earlier ++ text ∷ []) texts + 1
 
--- the given extent if the numbers fit it, or else any extent that they fit
+-- the extent `e` if the job numbers fit it, or else `Choice most_jobs`, which all increasing job numbers fit
 unfoldable pub extent_or_choice : Extent → List ℕ → Extent
 extent_or_choice e numbers = if matches_job_numbers e numbers then e else extent.Choice most_jobs
 
--- the content of a text
+-- the report that is read from a text leniently: its rows up to the first whose job number does not increase or whose name is repeated
 unfoldable pub lenient_report : List ℕ → SavedReport
 lenient_report text =
     let g = gather_rows text in

@@ -7,7 +7,7 @@ use Rattle.rv_report.specs.Saved.{IsSaved, numbered_text, saved_text}
 use Rattle.rv_report.specs.declared.saved.Extent.TheVariants as extent
 use Rattle.rv_report.specs.declared.saved.SavedReport.{SavedReport}
 
--- a text begins with another one
+-- the text begins with `beginning`
 abbrev pub BeginsWith : List ℕ → List ℕ → Type 0
 BeginsWith text beginning = (rest : List ℕ) × (text ≡ beginning ++ rest)
 
@@ -15,7 +15,8 @@ BeginsWith text beginning = (rest : List ℕ) × (text ≡ beginning ++ rest)
 abbrev pub whole_lines : List ℕ → List ℕ
 whole_lines bytes = first_lines (count_of_line_feeds bytes) bytes
 
--- the first n rows of a report, as a report of selected jobs
+-- the report of chosen jobs with the first `count` rows; since a truncated report may not say how many jobs its list has, this is taken to
+-- be `most_jobs`
 abbrev pub rows_up_to_failure : ℕ → SavedReport → SavedReport
 rows_up_to_failure count report = record {
   extent = extent.Choice most_jobs;
@@ -23,11 +24,11 @@ rows_up_to_failure count report = record {
   rows = take count report.rows;
 }
 
--- the text of the first n rows
+-- the text of the first `count` rows of a report
 abbrev pub first_rows_text : ℕ → SavedReport → List ℕ
 first_rows_text count report = numbered_text (take count report.numbers) (take count report.rows)
 
--- some report begins with the complete lines of the text, which contain exactly this many complete rows
+-- this report begins with the complete lines of the bytes, and exactly its first `count` rows are complete in the bytes
 pub record HasWholeRows (bytes : List ℕ) (report : SavedReport) (count : ℕ) : Type 0 where
   pub saved : IsSaved report
   pub begun : BeginsWith (saved_text report) (whole_lines bytes)
@@ -39,7 +40,8 @@ pub record HasWholeRows (bytes : List ℕ) (report : SavedReport) (count : ℕ) 
 abbrev pub IsNoReport : List ℕ → Type 0
 IsNoReport bytes = (report : SavedReport) → IsSaved report → saved_text report ≡ bytes → ⊥
 
--- the result for a text that may be truncated: either the report with this text, or, if no report has it, its complete rows
+-- `read` is the result for bytes that may be cut off: if the Boolean is false, the report with this text; if it is true, no report has this
+-- text, and `read` has its complete rows
 abbrev pub IsReadAs : List ℕ → Bool → SavedReport → Type 0
 IsReadAs bytes false read = IsSaved read × (saved_text read ≡ bytes)
 IsReadAs bytes true read = IsNoReport bytes

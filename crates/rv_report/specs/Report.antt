@@ -1,4 +1,4 @@
--- The text of a report: six parts per row, each of whole lines, and a last line.
+-- The text of a report: six parts for each row, each of whole lines, and a last line.
 use Rattle.std.specs.Prelude.{◌==◌, if◌then◌else◌, ◌+◌, ℕ, List, [], ◌∷◌, ◌++◌, length, Option}
 use Rattle.std.specs.Prelude.{Some, None, codes, map}
 use Rattle.std.specs.List.{flat_map, find}
@@ -17,11 +17,11 @@ use Rattle.rv_report.specs.declared.row.RowEnd.TheVariants as ending
 use Rattle.rv_report.specs.declared.row.Verdict.{Verdict}
 use Rattle.rv_report.specs.declared.row.Verdict.TheVariants as verdict
 
--- a line, ended by a line feed
+-- the text as a line, which ends with a line feed
 abbrev pub line : List ℕ → List ℕ
 line text = text ++ 10 ∷ []
 
--- the reason why there is no run; no row is refused for lack of memory, so that name of an image error never occurs here
+-- the name of a refusal in a report; no row is refused for lack of memory, so the name of that image error never occurs here
 abbrev pub refusal_name : Refusal → List ℕ
 refusal_name refusal.ImageUnreadable = codes "image-unreadable"
 refusal_name refusal.ImageTooLong = codes "image-too-long"
@@ -39,11 +39,11 @@ row_refusals = refusal.ImageUnreadable ∷ refusal.ImageTooLong ∷ refusal.Refe
     ∷ image.SectionTable ∷ image.NoSymbols ∷ image.SymbolTable ∷ image.StringTable ∷ image.NoBegin
     ∷ image.NoEnd ∷ image.SignatureRange ∷ [])
 
--- the refusal with this name
+-- the refusal with this name, or `None` if there is none
 abbrev pub refusal_named : List ℕ → Option Refusal
 refusal_named name = find (λ r. bytes_eq name (refusal_name r)) row_refusals
 
--- how the run ended
+-- the line `end ..`, which says how a job ended
 unfoldable pub end_line : RowEnd → List ℕ
 end_line (ending.Exit code) = line (codes "end exit " ++ decimal code)
 end_line (ending.Fault kind pc value) =
@@ -52,30 +52,31 @@ end_line (ending.Fault kind pc value) =
 end_line ending.Budget = line (codes "end budget")
 end_line (ending.Refused why) = line (codes "end refused " ++ refusal_name why)
 
--- a dash if the text is empty
+-- the text, or a dash if it is empty
 abbrev pub dash_if_empty : List ℕ → List ℕ
 dash_if_empty text = if length text == 0 then codes "-" else text
 
--- the console's bytes as lower-case hexadecimal digits
+-- the line `console ..` with the bytes of the console as lower-case hexadecimal digits
 unfoldable pub console_line : List ℕ → List ℕ
 console_line bytes = line (codes "console " ++ dash_if_empty (encode_lower bytes))
 
--- a word of a signature on its own line
+-- the line of a word of a signature
 abbrev pub word_line : ℕ → List ℕ
 word_line word = line (word_digits word)
 
--- the number of words in the signature, and a line for each; or a dash if none was requested
+-- the line `signature ..` with the number of words and a line for each word, or with a dash if no signature is requested
 unfoldable pub signature_lines : Option (List ℕ) → List ℕ
 signature_lines None = line (codes "signature -")
 signature_lines (Some words) = line (codes "signature " ++ decimal (length words))
     ++ flat_map word_line words
 
+-- the name of a verdict in a report
 abbrev pub verdict_name : Verdict → List ℕ
 verdict_name verdict.Unasked = codes "none"
 verdict_name verdict.Pass = codes "pass"
 verdict_name verdict.Fail = codes "fail"
 
--- the row at an index; indices count from 0, and the printed number from 1
+-- the text of a row at an index of the list; the index counts from 0, and the printed job number from 1
 unfoldable pub row_text : ℕ → Row → List ℕ
 row_text place row = line (codes "job " ++ decimal (place + 1) ++ codes " " ++ row.name)
     ++ end_line row.ending
@@ -84,15 +85,15 @@ row_text place row = line (codes "job " ++ decimal (place + 1) ++ codes " " ++ r
     ++ signature_lines row.signature
     ++ line (codes "verdict " ++ verdict_name row.verdict)
 
--- rows from an index on
+-- the text of rows, of which the first is at the index `place` of the list
 unfoldable pub rows_text : ℕ → List Row → List ℕ
 rows_text place [] = []
 rows_text place (row ∷ rows) = row_text place row ++ rows_text (place + 1) rows
 
--- the last line gives the number of rows
+-- the last line of the report of a whole list, with the number of rows
 unfoldable pub done_line : ℕ → List ℕ
 done_line count = line (codes "done " ++ decimal count)
 
--- the rows in order, and their number
+-- the text of the report of a whole list with these rows
 unfoldable pub report_text : List Row → List ℕ
 report_text rows = rows_text 0 rows ++ done_line (length rows)

@@ -20,23 +20,24 @@ use Rattle.rv_report.specs.declared.saved.SavedReport.{SavedReport}
 
 -- ---- which jobs
 
--- job numbers that increase, from above one number up to another
+-- whether the job numbers increase strictly, are all greater than `before`, and are at most `last`
 unfoldable pub are_rising : ℕ → ℕ → List ℕ → Bool
 are_rising before last [] = true
 are_rising before last (n ∷ ns) = nat_lt before n && (nat_le n last && are_rising n last ns)
 
--- this number and each one `step` greater, up to the last
+-- whether the job numbers are `next` and each number that is `step` greater than the one before, up to `last`
 unfoldable pub are_evenly_spaced : ℕ → ℕ → ℕ → List ℕ → Bool
 are_evenly_spaced next step last [] = nat_lt last next
 are_evenly_spaced next step last (n ∷ ns) =
     (n == next) && (nat_le n last && are_evenly_spaced (next + step) step last ns)
 
--- a shard's number is from 1 to the number of shards, and its stamp is a valid name
+-- whether a shard is valid: its number is from 1 to the number of shards, that number and the number of jobs are at most `most_jobs`, and
+-- its stamp is a valid name
 unfoldable pub is_valid_shard : Shard → Bool
 is_valid_shard s = nat_le 1 s.number && (nat_le s.number s.shards && (nat_le s.shards most_jobs
     && (nat_le s.jobs most_jobs && is_name s.stamp)))
 
--- the numbers are those of a whole list, of some of its jobs, or of a shard
+-- whether job numbers fit an extent: they are those of a whole list, of some jobs of a list, or of a shard
 unfoldable pub matches_job_numbers : Extent → List ℕ → Bool
 matches_job_numbers extent.Whole ns = are_evenly_spaced 1 1 (length ns) ns
 matches_job_numbers (extent.Choice jobs) ns = nat_le jobs most_jobs && are_rising 0 jobs ns
@@ -44,35 +45,38 @@ matches_job_numbers (extent.Shard s) ns = is_valid_shard s && are_evenly_spaced 
 
 -- ---- the text
 
--- rows under the numbers of their jobs
+-- the text of rows under the numbers of their jobs
 unfoldable pub numbered_text : List ℕ → List Row → List ℕ
 numbered_text (n ∷ ns) (row ∷ rows) = row_text (n - 1) row ++ numbered_text ns rows
 numbered_text [] rows = []
 numbered_text (n ∷ ns) [] = []
 
--- the number of rows, and the number of jobs in the list
+-- the words `part ROWS of JOBS`, with the number of rows and the number of jobs of the list
 abbrev pub part_words : ℕ → ℕ → List ℕ
 part_words count jobs = codes "part " ++ decimal count ++ codes " of " ++ decimal jobs
 
+-- the words ` shard SHARD/SHARDS stamp STAMP`
 abbrev pub shard_words : Shard → List ℕ
 shard_words s = codes " shard " ++ decimal s.number ++ codes "/" ++ decimal s.shards
     ++ codes " stamp " ++ s.stamp
 
--- the last line after that many rows
+-- the last line of a report with this extent and this many rows
 unfoldable pub extent_line : Extent → ℕ → List ℕ
 extent_line extent.Whole count = done_line count
 extent_line (extent.Choice jobs) count = line (part_words count jobs)
 extent_line (extent.Shard s) count = line (part_words count s.jobs ++ shard_words s)
 
+-- the text of a report
 unfoldable pub saved_text : SavedReport → List ℕ
 saved_text r = numbered_text r.numbers r.rows ++ extent_line r.extent (length r.rows)
 
--- ---- good reports
+-- ---- valid reports
 
+-- the number has 32 bits
 abbrev pub IsWord : ℕ → Type 0
 IsWord word = word < 2 ^ 32
 
--- no row is refused for lack of memory
+-- the ending may be in a row: its numbers have 32 bits, and it is not a refusal for lack of memory
 abbrev pub IsEnd : RowEnd → Type 0
 IsEnd (ending.Exit code) = IsWord code
 IsEnd (ending.Fault kind pc value) = IsWord pc × IsWord value
@@ -83,11 +87,12 @@ IsEnd (ending.Refused why) = why ≡ refusal.Image image.OutOfMemory → ⊥
 abbrev pub most_words : ℕ
 most_words = 65536
 
+-- the signature, if there is one, has at most `most_words` words of 32 bits each
 abbrev pub AreWords : Option (List ℕ) → Type 0
 AreWords None = Unit {0}
 AreWords (Some words) = (length words ≤ most_words) × AllByRecursion IsWord words
 
--- a row whose name is 1 to 64 letters, digits, `.`, `_` and `-`, and whose numbers have 32 bits
+-- the row is valid: its name is valid, its numbers have 32 bits, and its console consists of bytes
 pub record IsRow (row : Row) : Type 0 where
   pub name : is_name row.name ≡ true
   pub ending : IsEnd row.ending
@@ -95,16 +100,17 @@ pub record IsRow (row : Row) : Type 0 where
   pub console : IsBytes row.console
   pub signature : AreWords row.signature
 
--- no text equals one of the earlier ones, or one before it
+-- whether no text in a list equals an earlier one or one of `earlier`
 unfoldable pub are_new : List (List ℕ) → List (List ℕ) → Bool
 are_new earlier [] = true
 are_new earlier (text ∷ texts) =
     not (is_some (index_in earlier text)) && are_new (earlier ++ text ∷ []) texts
 
+-- the names of the rows, in order
 abbrev pub row_names : List Row → List (List ℕ)
 row_names rows = map (λ (row : Row). row.name) rows
 
--- its rows are those of up to 4,096 jobs, each with a unique name
+-- the rows are those of at most `most_jobs` jobs: they have increasing job numbers that fit the extent, and valid names without repetitions
 pub record IsListed (r : SavedReport) : Type 0 where
   pub counted : length r.numbers ≡ length r.rows
   pub rising : are_rising 0 most_jobs r.numbers ≡ true
@@ -112,7 +118,7 @@ pub record IsListed (r : SavedReport) : Type 0 where
   pub names : list_all is_name (row_names r.rows) ≡ true
   pub new : are_new [] (row_names r.rows) ≡ true
 
--- a valid report
+-- the report is valid: its rows are those of jobs of one list, and each row is valid
 pub record IsSaved (r : SavedReport) : Type 0 where
   pub listed : IsListed r
   pub rows : AllByRecursion IsRow r.rows

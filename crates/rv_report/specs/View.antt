@@ -1,8 +1,9 @@
--- The gathered rows, independent of how they are stored in memory.
+-- The state of reading a report, independent of how it is stored in memory.
 use Rattle.std.specs.Prelude.{string_bytes}
 use Rattle.rv_report.specs.declared.gathering.Gathering.{Gathering}
 use Rattle.rv_report.specs.LenientReport.{Gathered}
 
+-- the state of reading a report that the fields of `Gathering` represent
 abbrev pub gathering_view : Gathering → Gathered
 gathering_view g = record {
   numbers = g.numbers.items;

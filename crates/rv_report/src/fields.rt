@@ -20,7 +20,7 @@ pub fn leading_bytes(text: &[u8], count: usize) -> &[u8]
     }
 }
 
-/// Returns the index of a byte, or the length if it does not occur.
+/// Returns the index of the first occurrence of a byte, or the length of the text if it does not occur.
 pub(crate) fn place_of_byte(byte: u8, text: &[u8]) -> usize
     ensures place { result ≡ place_of_byte byte text.now }
     ensures within { result ≤ length text.now }
@@ -33,19 +33,21 @@ pub(crate) fn place_of_byte(byte: u8, text: &[u8]) -> usize
     text.len()
 }
 
+/// Returns the text before the first occurrence of a byte, or the whole text if it does not occur.
 pub(crate) fn text_before_byte(byte: u8, text: &[u8]) -> &[u8]
     ensures { result.now ≡ text_before_byte byte text.now }
 {
     leading_bytes(text, place_of_byte(byte, text))
 }
 
+/// Returns the text after the first occurrence of a byte, or an empty text if it does not occur.
 pub(crate) fn text_after_byte(byte: u8, text: &[u8]) -> &[u8]
     ensures { result.now ≡ text_after_byte byte text.now }
 {
     tail_from(text, place_of_byte(byte, text) + 1)
 }
 
-/// Returns the value of decimal digits.
+/// Returns the number that a text of decimal digits is read as. A number that is too large is read as `u32::MAX`.
 pub(crate) fn decimal_number(text: &[u8]) -> u32
     ensures { result ≡ decimal_number text.now }
 {
@@ -58,13 +60,14 @@ pub(crate) fn decimal_number(text: &[u8]) -> u32
     value
 }
 
+// Returns the value of a lower-case hexadecimal digit.
 fn hex_digit_value(b: u8) -> u8
     ensures { result ≡ hex_digit_value b }
 {
     if b < 97 { b.saturating_sub(48) } else { b - 87 }
 }
 
-/// Returns the word that begins with up to eight hexadecimal digits; missing digits are zeros.
+/// Returns the word that the first eight bytes of a text are read as, which should be hexadecimal digits. Missing digits are read as zeros.
 #[tactic(auto, unfolding(crate::specs::LenientReport::hex_word))]
 pub(crate) fn hex_word(text: &[u8]) -> u32
     ensures { result ≡ hex_word text.now }
@@ -77,6 +80,7 @@ pub(crate) fn hex_word(text: &[u8]) -> u32
     value
 }
 
+// Returns the number that a text of hexadecimal digits is read as.
 fn hex_number(digits: &[u8]) -> u32
     ensures { result ≡ hex_number 0 digits.now }
 {
@@ -89,19 +93,21 @@ fn hex_number(digits: &[u8]) -> u32
     value
 }
 
+// Whether a byte is a lower-case hexadecimal digit.
 fn is_hex_digit(b: u8) -> bool
     ensures { result ≡ is_hex_digit b }
 {
     (48 <= b && b <= 57) || (97 <= b && b <= 102)
 }
 
-/// Whether it is a word in lower-case hexadecimal digits, or a prefix of one.
+/// Whether a line can be a word of a signature, or the beginning of one: it is not empty, and has only lower-case hexadecimal digits.
 pub(crate) fn is_hex_word(text: &[u8]) -> bool
     ensures { result ≡ is_hex_word text.now }
 {
     !text.is_empty() && are_hex_digits(text)
 }
 
+// Whether each byte is a lower-case hexadecimal digit.
 fn are_hex_digits(text: &[u8]) -> bool
     ensures { result ≡ are_hex_digits text.now }
 {
@@ -113,7 +119,7 @@ fn are_hex_digits(text: &[u8]) -> bool
     true
 }
 
-/// Returns the bytes that hexadecimal digits represent, or none if they represent none.
+/// Returns the bytes that a text of hexadecimal digits is read as. An invalid text, such as a dash, is read as no bytes.
 #[tactic(auto, unfolding(crate::specs::LenientReport::hex_bytes))]
 pub(crate) fn hex_bytes(alloc: Global, text: &[u8]) -> Result<Vec<u8>, AllocError>
     ensures { IfOk result (λ bytes. bytes.items ≡ hex_bytes text.now) }
@@ -125,7 +131,7 @@ pub(crate) fn hex_bytes(alloc: Global, text: &[u8]) -> Result<Vec<u8>, AllocErro
     }
 }
 
-/// Returns the text itself if it is a valid name, or else a dash.
+/// Returns the text if it is a valid name, or else a dash.
 pub(crate) fn name_or_dash(alloc: Global, text: &[u8]) -> Result<String, AllocError>
     ensures { IfOk result (λ name. string_bytes name ≡ name_or_dash text.now) }
 {

@@ -1,4 +1,4 @@
-//! The content of all lines of a text: rows with the numbers of their jobs, and a last line.
+//! Reading all lines of a text: rows with the numbers of their jobs, and a last line.
 
 ghost use Rattle.std.specs.Prelude.{◌≡◌, ◌++◌, ◌∷◌, [], OnOk, IfOk, string_bytes};
 ghost use Rattle.rv_report.specs.LenientReport.{lines, gathering_between_rows, with_finished_row, with_stage_over, at_job_or_last_line, at_ending, at_steps, at_console};
@@ -20,7 +20,7 @@ use rv_text::{byte_at, tail_from};
 use std::alloc::{AllocError, Global};
 use std::mem;
 
-/// The rows so far and the numbers of their jobs, the last line, and what is known of the next row.
+/// The rows that were read so far with the numbers of their jobs, the extent in the last line, and the values of the unfinished row.
 #[derive(Drop)]
 pub struct Gathering {
     pub numbers: Vec<u32>,
@@ -56,7 +56,7 @@ pub(crate) enum Stage {
 /// The maximum number of words in a signature.
 const MOST_WORDS: u32 = 65_536;
 
-/// Reads the content of a text's lines.
+/// Reads all lines of a text, up to the first that cannot come next. A row that is unfinished at the end is included.
 #[tactic(auto, unfolding(crate::specs::LenientReport::gather_rows))]
 pub fn gather_rows(alloc: Global, text: &[u8]) -> Result<Gathering, AllocError>
     ensures { IfOk result (λ g. gathering_view g ≡ gather_rows text.now) }
@@ -72,6 +72,7 @@ pub fn gather_rows(alloc: Global, text: &[u8]) -> Result<Gathering, AllocError>
     Ok(gathering)
 }
 
+// Returns the state before the first line.
 #[tactic(auto, unfolding(crate::specs::LenientReport::gathering_between_rows))]
 fn empty_gathering(alloc: Global) -> Result<Gathering, AllocError>
     ensures { IfOk result (λ g. gathering_view g ≡ gathering_between_rows [] [] Extent.Whole) }
@@ -94,6 +95,7 @@ fn empty_gathering(alloc: Global) -> Result<Gathering, AllocError>
     })
 }
 
+// Reads the next line.
 #[tactic(auto, unfolding(crate::specs::LenientReport::with_line))]
 fn add_line(alloc: Global, gathering: &mut Gathering, line: &[u8]) -> Result<(), AllocError>
     ensures { OnOk result (gathering_view gathering.new ≡ with_line line.now (gathering_view gathering.old)) }
@@ -109,7 +111,7 @@ fn add_line(alloc: Global, gathering: &mut Gathering, line: &[u8]) -> Result<(),
     }
 }
 
-// Reads the first line of a job, or the last line of all.
+// Reads a line between rows: the first line of a row, or the last line of the report.
 #[tactic(auto, unfolding(crate::specs::LenientReport::at_job_or_last_line))]
 fn add_job_or_last_line(
     alloc: Global,
@@ -134,6 +136,7 @@ fn add_job_or_last_line(
     Ok(())
 }
 
+// Reads the line that should have the ending of a row.
 #[tactic(auto, unfolding(crate::specs::LenientReport::at_ending))]
 fn add_end_line(gathering: &mut Gathering, line: &[u8])
     ensures { gathering_view gathering.new ≡ at_ending line.now (gathering_view gathering.old) }
@@ -146,6 +149,7 @@ fn add_end_line(gathering: &mut Gathering, line: &[u8])
     }
 }
 
+// Reads the line that should have the steps of a row.
 #[tactic(auto, unfolding(crate::specs::LenientReport::at_steps))]
 fn add_steps_line(gathering: &mut Gathering, line: &[u8])
     ensures { gathering_view gathering.new ≡ at_steps line.now (gathering_view gathering.old) }
@@ -158,6 +162,7 @@ fn add_steps_line(gathering: &mut Gathering, line: &[u8])
     }
 }
 
+// Reads the line that should have the console of a row.
 #[tactic(auto, unfolding(crate::specs::LenientReport::at_console))]
 fn add_console_line(alloc: Global, gathering: &mut Gathering, line: &[u8]) -> Result<(), AllocError>
     ensures { OnOk result (gathering_view gathering.new ≡ at_console line.now (gathering_view gathering.old)) }
@@ -171,6 +176,7 @@ fn add_console_line(alloc: Global, gathering: &mut Gathering, line: &[u8]) -> Re
     Ok(())
 }
 
+// Reads the line that should have the number of words of a row's signature.
 #[tactic(auto, unfolding(crate::specs::LenientReport::at_signature))]
 fn add_signature_line(gathering: &mut Gathering, line: &[u8])
     ensures { gathering_view gathering.new ≡ at_signature line.now (gathering_view gathering.old) }
@@ -186,7 +192,7 @@ fn add_signature_line(gathering: &mut Gathering, line: &[u8])
     }
 }
 
-// Reads a word of the signature, or the verdict if all words have been read.
+// Reads a line that should have a word of the signature, or the verdict if all words have been read.
 #[tactic(auto, unfolding(crate::specs::LenientReport::at_words))]
 fn add_word_or_verdict_line(
     alloc: Global,
@@ -206,7 +212,7 @@ fn add_word_or_verdict_line(
     }
 }
 
-// Includes a row that is incomplete at the end.
+// Finishes an unfinished row, if there is one.
 #[tactic(auto, unfolding(crate::specs::LenientReport::with_unfinished_row))]
 fn close_unfinished_row(alloc: Global, gathering: &mut Gathering) -> Result<(), AllocError>
     ensures { OnOk result (gathering_view gathering.new ≡ with_unfinished_row (gathering_view gathering.old)) }
@@ -218,7 +224,7 @@ fn close_unfinished_row(alloc: Global, gathering: &mut Gathering) -> Result<(), 
     close_row(alloc, gathering, Verdict::Unasked)
 }
 
-// Fills in missing words with zeros.
+// Appends zeros for missing words, up to `count`.
 #[tactic(auto, unfolding(crate::specs::LenientReport::padded_words))]
 fn pad_signature_words(words: &mut Vec<u32>, count: u32) -> Result<(), AllocError>
     ensures { OnOk result (words.new.items ≡ padded_words count words.old.items) }
@@ -229,7 +235,7 @@ fn pad_signature_words(words: &mut Vec<u32>, count: u32) -> Result<(), AllocErro
     Ok(())
 }
 
-// Finishes the row in progress and adds it to the rows.
+// Finishes the unfinished row with this verdict, and adds it to the rows.
 #[tactic(auto, unfolding(crate::specs::LenientReport::with_finished_row, crate::specs::LenientReport::gathering_between_rows, crate::specs::LenientReport::row_so_far))]
 fn close_row(alloc: Global, gathering: &mut Gathering, verdict: Verdict) -> Result<(), AllocError>
     ensures { OnOk result (gathering_view gathering.new ≡ with_finished_row verdict (gathering_view gathering.old)) }
@@ -240,7 +246,7 @@ fn close_row(alloc: Global, gathering: &mut Gathering, verdict: Verdict) -> Resu
     Ok(())
 }
 
-// Takes the row in progress, so that no row is begun.
+// Returns the unfinished row, finished with this verdict, and leaves no unfinished row.
 #[tactic(auto, unfolding(crate::specs::LenientReport::gathering_between_rows, crate::specs::LenientReport::row_so_far))]
 fn take_row(alloc: Global, gathering: &mut Gathering, verdict: Verdict) -> Result<Row, AllocError>
     ensures row { IfOk result (λ row. row ≡ row_so_far verdict (gathering_view gathering.old)) }

@@ -9,19 +9,20 @@ ghost use Rattle.rv_report.specs.Differences.{count_of_line_feeds};
 ghost use Rattle.rv_report.specs.LenientReport.{lenient_report};
 ghost use Rattle.rv_report.specs.LeastLine.{first_lines, BeginsReport};
 
-/// Two reports with the same text are equal.
+/// Proves that two valid reports with one text are equal.
 pub fn one_text_one_report()
     ensures { (report other : SavedReport) → IsSaved report → IsSaved other
         → saved_text report ≡ saved_text other → report ≡ other }
 {}
 
-/// The text of a whole report is that of its rows, as written by `write_report`.
+/// Proves that the text of the report of a whole list is the text that `write_report` writes for its rows.
 pub fn whole_text_is_report_text()
     ensures { (report : SavedReport) → IsSaved report → report.extent ≡ Whole
         → saved_text report ≡ report_text report.rows }
 {}
 
-/// If some report begins with whole lines of a text, then so does the report of the text's content.
+/// Proves that if some report begins with the first lines of a text, then the report that `lenient_report` reads from the text begins with
+/// these lines, too.
 pub fn lines_of_a_report_stay()
     ensures { (bytes : List ℕ) → (count : ℕ) → count ≤ count_of_line_feeds bytes → BeginsReport (first_lines count bytes)
         → (rest : List ℕ) × (saved_text (lenient_report bytes) ≡ first_lines count bytes ++ rest) }

@@ -1,4 +1,4 @@
-//! The content of a text: its lines, up to the first row that cannot be there.
+//! The report that is read from a text leniently: its lines, up to the first row that no report has there.
 
 ghost use Rattle.std.specs.Prelude.{◌≡◌, ◌≤◌, IfOk, length};
 ghost use Rattle.rv_report.specs.LenientReport.{rising_count, extent_or_choice, lenient_report};
@@ -12,7 +12,7 @@ use crate::saved::{Extent, Numbers, SavedReport};
 use rv_base::limits::MOST_JOBS;
 use std::alloc::{AllocError, Global};
 
-/// Reads the content of a text.
+/// Reads a report from a text leniently: its rows up to the first whose job number does not increase or whose name is repeated.
 #[tactic(auto, unfolding(crate::specs::LenientReport::lenient_report))]
 pub(crate) fn lenient_report(alloc: Global, text: &[u8]) -> Result<SavedReport, AllocError>
     ensures value { IfOk result (λ report. report ≡ lenient_report text.now) }
@@ -33,7 +33,7 @@ pub(crate) fn lenient_report(alloc: Global, text: &[u8]) -> Result<SavedReport, 
     })
 }
 
-// Returns the given extent if the numbers fit it, or else any extent that they fit.
+// Returns the given extent if the job numbers fit it, and otherwise `Extent::Choice(MOST_JOBS)`, which all job numbers fit.
 #[tactic(auto, unfolding(crate::specs::LenientReport::extent_or_choice))]
 fn extent_or_choice(extent: Extent, numbers: &[u32]) -> Extent
     requires { length numbers.now ≤ most_jobs }
@@ -46,7 +46,7 @@ fn extent_or_choice(extent: Extent, numbers: &[u32]) -> Extent
     }
 }
 
-// Returns how many leading numbers increase, up to the maximum number of jobs in a list.
+// Returns how many leading job numbers increase and are at most the maximum number of jobs in a list.
 fn rising_count(numbers: &[u32]) -> usize
     ensures { result ≡ rising_count 0 numbers.now }
 {

@@ -1,4 +1,4 @@
-//! The content of single lines of a report. Any line has some content: the byte that distinguishes it from others is enough.
+//! The values of single lines of a report. Any line has some value: the byte that distinguishes a line from others decides how it is read.
 
 ghost use Rattle.std.specs.Prelude.{◌≡◌, IfOk, string_bytes};
 ghost use Rattle.rv_report.specs.LenientReport.{job_number_of_line, job_name_of_line, fault_or_first, refusal_or_first, fault_ending_of_text, row_ending_of_line};
@@ -16,14 +16,14 @@ use rv_machine::FaultKind;
 use rv_text::{byte_at, tail_from};
 use std::alloc::{AllocError, Global};
 
-/// Returns the number of a job.
+/// Returns the job number in a line `job NUMBER NAME`.
 pub(crate) fn job_number_of_line(line: &[u8]) -> u32
     ensures { result ≡ job_number_of_line line.now }
 {
     decimal_number(text_before_byte(b' ', tail_from(line, 4)))
 }
 
-/// Returns the name of a job.
+/// Returns the job name in a line `job NUMBER NAME`, or a dash if it is not a valid name.
 #[tactic(auto, unfolding(crate::specs::LenientReport::job_name_of_line))]
 pub(crate) fn job_name_of_line(alloc: Global, line: &[u8]) -> Result<String, AllocError>
     ensures { IfOk result (λ name. string_bytes name ≡ job_name_of_line line.now) }
@@ -31,7 +31,7 @@ pub(crate) fn job_name_of_line(alloc: Global, line: &[u8]) -> Result<String, All
     name_or_dash(alloc, text_after_byte(b' ', tail_from(line, 4)))
 }
 
-/// Returns how a job ended.
+/// Returns the ending in a line `end ..`. The first byte after `end ` decides which ending it is.
 #[tactic(auto, unfolding(crate::specs::LenientReport::row_ending_of_line))]
 pub(crate) fn row_ending_of_line(line: &[u8]) -> RowEnd
     ensures { result ≡ row_ending_of_line line.now }
@@ -44,6 +44,7 @@ pub(crate) fn row_ending_of_line(line: &[u8]) -> RowEnd
     }
 }
 
+// Returns the ending in a text `KIND pc=WORD value=WORD`.
 #[tactic(auto, unfolding(crate::specs::LenientReport::fault_ending_of_text))]
 fn fault_ending_of_text(text: &[u8]) -> RowEnd
     ensures { result ≡ fault_ending_of_text text.now }
@@ -55,14 +56,14 @@ fn fault_ending_of_text(text: &[u8]) -> RowEnd
     RowEnd::Fault(kind, pc, value)
 }
 
-// Returns the refusal with this name, or an arbitrary one.
+// Returns the refusal with this name, or an arbitrary one if there is none.
 fn refusal_or_unreadable(name: &[u8]) -> Refusal
     ensures { result ≡ refusal_or_first (refusal_named name.now) }
 {
     Refusal::from_name(name).unwrap_or(Refusal::ImageUnreadable)
 }
 
-/// Returns the verdict on a job.
+/// Returns the verdict in a line `verdict ..`. The first byte after `verdict ` decides which verdict it is.
 #[tactic(auto, unfolding(crate::specs::LenientReport::verdict_of_line))]
 pub(crate) fn verdict_of_line(line: &[u8]) -> Verdict
     ensures { result ≡ verdict_of_line line.now }
@@ -74,7 +75,7 @@ pub(crate) fn verdict_of_line(line: &[u8]) -> Verdict
     }
 }
 
-/// Returns which jobs a part has rows for, from its last line.
+/// Returns the extent in a last line `part ROWS of JOBS`, which a shard continues with `shard SHARD/SHARDS stamp STAMP`.
 #[tactic(auto, unfolding(crate::specs::LenientReport::part_extent_of_line))]
 pub(crate) fn part_extent_of_line(alloc: Global, line: &[u8]) -> Result<Extent, AllocError>
     ensures { IfOk result (λ extent. extent ≡ part_extent_of_line line.now) }
@@ -89,6 +90,7 @@ pub(crate) fn part_extent_of_line(alloc: Global, line: &[u8]) -> Result<Extent, 
     }
 }
 
+// Returns the shard in a text `SHARD/SHARDS stamp STAMP`, of a list with this many jobs.
 #[tactic(auto, unfolding(crate::specs::LenientReport::shard_of_text))]
 fn shard_of_text(alloc: Global, jobs: u32, text: &[u8]) -> Result<Extent, AllocError>
     ensures { IfOk result (λ extent. extent ≡ shard_of_text jobs text.now) }

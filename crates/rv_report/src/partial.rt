@@ -15,10 +15,10 @@ use crate::saved::{Extent, Numbers, SavedReport};
 use rv_base::limits::MOST_JOBS;
 use std::alloc::{AllocError, Global};
 
-/// A report read from a text that may be truncated.
+/// A report that was read from a text that may be truncated.
 #[derive(Drop)]
 pub struct PartialReport {
-    /// The report with this text; or, if the text is truncated, its complete rows, as a report of selected jobs.
+    /// The report with this text; or, if the text is truncated, its complete rows, as a report of chosen jobs.
     pub report: SavedReport,
     /// Whether the text ends before its report does.
     pub is_cut_off: bool,
@@ -49,7 +49,7 @@ pub fn read_partial_report(alloc: Global, bytes: &[u8]) -> Result<PartialReport,
     }
 }
 
-// Returns the complete rows in the bytes, among those of their content.
+// Returns the complete rows of a truncated text, as a report of chosen jobs.
 fn read_whole_rows(alloc: Global, bytes: &[u8]) -> Result<SavedReport, AllocError>
     ensures rows { IfOk result (λ report. (count : ℕ) × (report ≡ rows_up_to_failure count (lenient_report bytes.now))
         × (count ≤ length (lenient_report bytes.now).rows)
@@ -62,7 +62,7 @@ fn read_whole_rows(alloc: Global, bytes: &[u8]) -> Result<SavedReport, AllocErro
     Ok(rows_up_to_failure(said, count))
 }
 
-// Returns how many rows of a report the bytes begin with.
+// Returns with how many whole rows of a report the bytes begin.
 fn whole_row_count(alloc: Global, report: &SavedReport, bytes: &[u8]) -> Result<usize, AllocError>
     requires { IsListed report.now }
     ensures within { IfOk result (λ count. count ≤ length report.now.rows) }
@@ -84,7 +84,8 @@ fn whole_row_count(alloc: Global, report: &SavedReport, bytes: &[u8]) -> Result<
     Ok(rows.len())
 }
 
-// Returns the first `count` rows of a report, as a report of selected jobs.
+// Returns the report of chosen jobs with the first `count` rows of a report. Its list is taken to have the maximum number of jobs, since a
+// truncated report may not say how many.
 fn rows_up_to_failure(report: SavedReport, count: usize) -> SavedReport
     ensures { result ≡ rows_up_to_failure count report }
 {

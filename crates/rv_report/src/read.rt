@@ -1,4 +1,4 @@
-//! Reading: the content of a text is written as a report, and the two texts are compared.
+//! Reading a report: it is read leniently and written again, and the two texts are compared.
 
 ghost use Rattle.std.specs.Prelude.{◌≡◌, ◌==◌, ◌≤◌, ◌^◌, ◌<◌, IfOk, IfErr, string_bytes, length, not};
 ghost use Rattle.rv_report.specs.declared.saved.SavedReport.{SavedReport as Saved};
@@ -17,7 +17,7 @@ use crate::saved_report_text::saved_text;
 use std::alloc::{AllocError, Global};
 use thiserror::Error;
 
-/// Why a text could not be read.
+/// Why a text could not be read as a report.
 #[derive(Clone, Copy, Debug, Error)]
 pub enum ReadError {
     /// An allocation failed.
@@ -40,7 +40,7 @@ impl From<AllocError> for ReadError {
     }
 }
 
-/// Returns the report with this text, whether of a whole list, of selected jobs or of a shard. Takes memory for its rows, and again for its
+/// Returns the report with this text, whether of a whole list, of chosen jobs or of a shard. Takes memory for its rows, and again for its
 /// text; if the text is not a report, for at most 4,096 rows and one more signature of 65,536 words.
 pub fn read_report(alloc: Global, bytes: &[u8]) -> Result<SavedReport, ReadError>
     // The result has this text, and is a valid report.
@@ -69,7 +69,7 @@ pub fn read_report(alloc: Global, bytes: &[u8]) -> Result<SavedReport, ReadError
     }
 }
 
-// Returns the first difference of the bytes from the text.
+// Returns the error at the first difference of the bytes from the text.
 fn first_read_error(text: &[u8], bytes: &[u8]) -> ReadError
     ensures { result ≡ read_error_from 1 word.Ahead text.now bytes.now }
 {
@@ -90,7 +90,7 @@ fn first_read_error(text: &[u8], bytes: &[u8]) -> ReadError
     ReadError::CutOff
 }
 
-// Returns the error if the remaining bytes differ from a text in their first byte.
+// Returns the error if the remaining bytes differ from a text, whose next byte is `other`, in their first byte.
 fn read_error_at(line: usize, met: FirstWord, other: u8, rest: &[u8]) -> ReadError
     ensures { result ≡ read_error_at line met other rest.now }
 {
@@ -101,6 +101,7 @@ fn read_error_at(line: usize, met: FirstWord, other: u8, rest: &[u8]) -> ReadErr
     }
 }
 
+// Whether a text has a line feed.
 fn has_line_feed(text: &[u8]) -> bool
     ensures { result ≡ not (count_of_line_feeds text.now == 0) }
 {
@@ -121,7 +122,7 @@ pub(crate) enum FirstWord {
 }
 
 impl FirstWord {
-    // Returns the state after one more byte.
+    // Returns how much of the first word of a line has been read after one more byte.
     fn word_after_byte(self, b: u8) -> FirstWord
         ensures { result ≡ word_after_byte self b }
     {
@@ -132,7 +133,7 @@ impl FirstWord {
         }
     }
 
-    // Returns the state after one more letter of the line.
+    // Returns how much of the first word of a line has been read after one more letter of the line.
     fn word_after_letter(self) -> FirstWord
         ensures { result ≡ word_after_letter self }
     {
@@ -142,7 +143,7 @@ impl FirstWord {
         }
     }
 
-    // Whether the first word of a line may begin a line of a report, although the line differs from the expected text.
+    // Whether the line that differs from the expected text can still be the beginning of a report's line, judging by its first word.
     fn can_begin_report_line(self, other: u8, rest: &[u8]) -> bool
         ensures { result ≡ can_begin_report_line self other rest.now }
     {
@@ -161,7 +162,7 @@ fn begins_last_line(b: u8) -> bool
     b == b'd' || b == b'p'
 }
 
-// Whether a row begins with this text, as far as the text goes.
+// Whether a row can begin with this text, as far as the text goes.
 fn begins_row(text: &[u8]) -> bool
     ensures { result ≡ begins_row text.now }
 {

@@ -1,4 +1,4 @@
-//! Reports and their text, sent in few large writes.
+//! Reports and their text, written to a sink in few large writes.
 
 ghost use Rattle.std.specs.Prelude.{◌≡◌, ◌++◌, ◌+◌, ◌<◌, ◌^◌, ◌-◌, [], OnOk, OnErr, IfErr, map, option_map};
 ghost use Rattle.std.specs.Prelude.{string_bytes};
@@ -19,13 +19,13 @@ use thiserror::Error;
 /// Rows in list order, seen by contracts as a list.
 pub type Rows = Sequence<Row>;
 
-/// The result of a fleet: one row per job.
+/// The report of a whole list: one row for each job.
 #[derive(Debug, Drop)]
 pub struct Report {
     pub rows: Rows,
 }
 
-/// Why a report could not be written, or not completely.
+/// Why a report was not written completely.
 #[derive(Clone, Copy, Debug, Error, PartialEq, Eq)]
 pub enum WriteError {
     /// An allocation failed.
@@ -55,7 +55,7 @@ impl From<SinkFailed> for WriteError {
 // Buffered text is written once it has this many bytes.
 const ENOUGH: usize = 32_768;
 
-/// Appends the report's text to the sink; on failure, a prefix of it.
+/// Writes the text of the report of a whole list to a sink. If it fails, a prefix of the text has been written.
 pub fn write_report<W: Sink>(alloc: Global, report: &Report, out: &mut W) -> Result<(), WriteError>
     ensures appended { OnOk result
         (Appends (W.taken out.old) (W.taken out.new) (report_text report.now.rows)) }
@@ -73,7 +73,7 @@ pub fn write_report<W: Sink>(alloc: Global, report: &Report, out: &mut W) -> Res
     Ok(())
 }
 
-// Writes the rows' text: the first part is sent, the rest remains buffered in `text`.
+// Writes the text of the rows: its beginning is sent to the sink, and the rest remains in `text`.
 fn put_rows<W: Sink>(
     alloc: Global,
     rows: &[Row],
@@ -97,7 +97,7 @@ fn put_rows<W: Sink>(
     Ok(())
 }
 
-/// Writes the buffered text if there is enough for a large write.
+/// Writes the buffered text and clears the buffer, if there is enough for a large write.
 pub(crate) fn put_text_if_enough<W: Sink>(text: &mut String, out: &mut W) -> Result<(), WriteError>
     ensures under_way { OnOk result
         (IsPartlySent (W.taken out.old) (W.taken out.new)
@@ -130,7 +130,7 @@ pub(crate) fn flush_text<W: Sink>(text: &mut String, out: &mut W) -> Result<(), 
     Ok(())
 }
 
-/// Appends the last line of a report with this many rows.
+/// Appends the last line of the report of a whole list with this many rows.
 #[tactic(auto, unfolding(crate::specs::Report::done_line))]
 pub(crate) fn push_done_line(text: &mut String, count: usize) -> Result<(), AllocError>
     ensures { OnOk result (string_bytes text.new ≡ string_bytes text.old ++ done_line count) }
@@ -138,7 +138,7 @@ pub(crate) fn push_done_line(text: &mut String, count: usize) -> Result<(), Allo
     write!(text, "done {count}\n")
 }
 
-/// Appends the report text of the row at an index, counted from 0.
+/// Appends the text of the row of the job at an index, counted from 0.
 #[tactic(auto, unfolding(crate::specs::Report::row_text))]
 pub fn push_row(alloc: Global, text: &mut String, place: usize, row: &Row) -> Result<(), AllocError>
     requires { place < 2 ^ 64 - 1 }
@@ -157,6 +157,7 @@ pub fn push_row(alloc: Global, text: &mut String, place: usize, row: &Row) -> Re
     write!(text, "verdict {verdict}\n")
 }
 
+// Appends the line `end ..`, which says how a job ended.
 #[tactic(auto, unfolding(crate::specs::Report::end_line))]
 fn push_end_line(alloc: Global, text: &mut String, ending: RowEnd) -> Result<(), AllocError>
     ensures { OnOk result (string_bytes text.new ≡ string_bytes text.old ++ end_line ending) }
@@ -179,6 +180,7 @@ fn push_end_line(alloc: Global, text: &mut String, ending: RowEnd) -> Result<(),
     }
 }
 
+// Appends the line `console ..` with the bytes of the console in hexadecimal.
 #[tactic(auto, unfolding(crate::specs::Report::console_line))]
 fn push_console_line(alloc: Global, text: &mut String, console: &[u8]) -> Result<(), AllocError>
     ensures { OnOk result (string_bytes text.new
@@ -189,12 +191,14 @@ fn push_console_line(alloc: Global, text: &mut String, console: &[u8]) -> Result
     write!(text, "console {shown}\n")
 }
 
+// Returns the text, or a dash if it is empty.
 fn dash_if_empty(text: &str) -> &str
     ensures { result.now ≡ dash_if_empty text.now }
 {
     if text.is_empty() { "-" } else { text }
 }
 
+// Returns the words of a row's signature, if it has one.
 fn row_signature(row: &Row) -> Option<&[u32]>
     ensures { option_map (λ words. words.now) result ≡ row.now.signature }
 {
@@ -204,6 +208,7 @@ fn row_signature(row: &Row) -> Option<&[u32]>
     }
 }
 
+// Appends the line `signature ..` and a line for each word.
 #[tactic(auto, unfolding(crate::specs::Report::signature_lines))]
 fn push_signature_lines(
     alloc: Global,

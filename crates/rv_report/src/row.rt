@@ -1,4 +1,4 @@
-//! A row: the report on one job.
+//! A row: the result of one job.
 
 ghost use Rattle.std.specs.Prelude.{◌≡◌, option_map};
 ghost use Rattle.std.specs.List.{find};
@@ -59,7 +59,7 @@ const REFUSALS: [Refusal; 27] = [
 ];
 
 impl Refusal {
-    /// Returns the refusal with this name, as given by [`name`](Refusal::name). The bytes need not be UTF-8.
+    /// Returns the refusal with this [`name`](Refusal::name), or `None` if there is none. The name need not be UTF-8.
     pub fn from_name(name: &[u8]) -> Option<Refusal>
         ensures { result ≡ refusal_named name.now }
     {
@@ -69,7 +69,7 @@ impl Refusal {
         }
     }
 
-    /// Returns the refusal's name in a report.
+    /// Returns the name of the refusal in a report.
     pub fn name(self) -> &'static str
         ensures { result.now ≡ refusal_name self }
     {
@@ -83,6 +83,7 @@ impl Refusal {
     }
 }
 
+// Returns the first of these refusals with this name, or `None` if none has it.
 fn find_refusal<'a>(refusals: &'a [Refusal], name: &[u8]) -> Option<&'a Refusal>
     ensures { option_map (λ refusal. refusal.now) result
         ≡ find (λ refusal. bytes_eq name.now (refusal_name refusal)) refusals.now }
@@ -97,18 +98,18 @@ fn find_refusal<'a>(refusals: &'a [Refusal], name: &[u8]) -> Option<&'a Refusal>
 pub enum RowEnd {
     /// The exit call, with its code.
     Exit(u32),
-    /// A fault, with the address of its instruction and its value.
+    /// A fault, with the address of its instruction and the fault's value.
     Fault(FaultKind, u32, u32),
-    /// The budget was exhausted.
+    /// The budget was used up.
     Budget,
     /// The job did not run.
     Refused(Refusal),
 }
 
-/// Whether a job met the expectations of its list.
+/// Whether a job meets its expectations.
 #[derive(Clone, Copy, Debug, PartialEq, Eq)]
 pub enum Verdict {
-    /// Nothing is expected.
+    /// The job has no expectations.
     Unasked,
     /// All expectations are met.
     Pass,
@@ -117,7 +118,7 @@ pub enum Verdict {
 }
 
 impl Verdict {
-    /// Returns the verdict's name in a report.
+    /// Returns the name of the verdict in a report.
     pub fn name(self) -> &'static str
         ensures { result.now ≡ verdict_name self }
     {
@@ -129,7 +130,7 @@ impl Verdict {
     }
 }
 
-/// One job's part of a report. A refused row has 0 steps, no console bytes and no signature.
+/// The result of one job. The row of a refused job has 0 steps, no console bytes and no signature.
 #[derive(Debug, Drop)]
 pub struct Row {
     pub name: Text,
@@ -138,7 +139,7 @@ pub struct Row {
     pub steps: u32,
     /// The console output of the run.
     pub console: Bytes,
-    /// The words between the two symbols of the signature, if one is requested.
+    /// The words between the two symbols of the signature, if a signature is requested.
     pub signature: Option<Words>,
     pub verdict: Verdict,
 }

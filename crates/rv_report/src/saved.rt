@@ -1,4 +1,4 @@
-//! Reports in files: rows under the numbers of their jobs, and which jobs of a list these are.
+//! Reports in files: rows under the numbers of their jobs, and which jobs of a list they are.
 
 ghost use Rattle.std.specs.Prelude.{◌≡◌, ◌≤◌, length};
 ghost use Rattle.rv_base.specs.Limits.{most_jobs};
@@ -22,7 +22,7 @@ pub enum Extent {
     Shard(Shard),
 }
 
-/// One of several shards of a list, which are run separately but belong to one run.
+/// One of the shards of a list, which run separately but belong to one run.
 #[derive(Drop)]
 pub struct Shard {
     /// The number of jobs in the list, up to 4,096.
@@ -35,17 +35,17 @@ pub struct Shard {
     pub stamp: Text,
 }
 
-/// A report, or a part of one, as stored in a file.
+/// The report of a whole list or of a part of it, as stored in a file.
 #[derive(Drop)]
 pub struct SavedReport {
     pub extent: Extent,
-    /// The number of each row's job in its list, from 1: increasing, one per row.
+    /// The number of each row's job in its list, counted from 1. The numbers increase.
     pub numbers: Numbers,
     pub rows: Rows,
 }
 
 impl Extent {
-    /// Whether these job numbers, in list order, are the ones that it has.
+    /// Whether a report of this extent can have rows with these job numbers.
     #[tactic(auto, unfolding(crate::specs::Saved::matches_job_numbers))]
     pub fn matches_job_numbers(&self, numbers: &[u32]) -> bool
         requires { length numbers.now ≤ most_jobs }
@@ -60,6 +60,7 @@ impl Extent {
 }
 
 impl Shard {
+    // Whether the shard is valid, and these are the numbers of its jobs.
     #[tactic(auto, unfolding(crate::specs::Saved::matches_job_numbers))]
     fn matches_job_numbers(&self, numbers: &[u32]) -> bool
         ensures { result ≡ matches_job_numbers (Extent.Shard self.now) numbers.now }
@@ -73,6 +74,7 @@ impl Shard {
             )
     }
 
+    // Whether the shard's number, number of shards, number of jobs and stamp are valid.
     #[tactic(auto, unfolding(crate::specs::Saved::is_valid_shard))]
     fn is_valid_shard(&self) -> bool
         ensures { result ≡ is_valid_shard self.now }
@@ -85,7 +87,7 @@ impl Shard {
     }
 }
 
-// Whether job numbers increase from above `before` up to `last`.
+// Whether the job numbers increase strictly, are all greater than `before`, and are at most `last`.
 fn are_rising(before: u32, last: u32, numbers: &[u32]) -> bool
     ensures { result ≡ are_rising before last numbers.now }
 {
@@ -99,7 +101,7 @@ fn are_rising(before: u32, last: u32, numbers: &[u32]) -> bool
     true
 }
 
-// Whether the numbers are `first` and each one `step` greater, up to `last`.
+// Whether the job numbers are `first` and each number that is `step` greater than the one before, up to `last`.
 fn are_evenly_spaced(first: usize, step: usize, last: usize, numbers: &[u32]) -> bool
     requires first { first ≤ most_jobs }
     requires step { step ≤ most_jobs }

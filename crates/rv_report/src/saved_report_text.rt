@@ -22,6 +22,7 @@ pub(crate) fn saved_text(alloc: Global, report: &SavedReport) -> Result<String, 
     Ok(text)
 }
 
+// Appends the text of rows under the numbers of their jobs.
 fn push_numbered_rows(
     alloc: Global,
     text: &mut String,
@@ -39,7 +40,7 @@ fn push_numbered_rows(
     Ok(())
 }
 
-/// Appends the last line after this many rows.
+/// Appends the last line of a report with this many rows: `done ROWS`, or `part ROWS of JOBS ..` if it does not have all jobs.
 #[tactic(auto, unfolding(crate::specs::Saved::extent_line))]
 pub fn push_extent_line(text: &mut String, extent: &Extent, count: usize) -> Result<(), AllocError>
     ensures { OnOk result (string_bytes text.new
@@ -52,6 +53,7 @@ pub fn push_extent_line(text: &mut String, extent: &Extent, count: usize) -> Res
     }
 }
 
+// Appends the last line of the report of a shard with this many rows.
 #[tactic(auto, unfolding(crate::specs::Saved::extent_line))]
 fn push_shard_line(text: &mut String, shard: &Shard, count: usize) -> Result<(), AllocError>
     ensures { OnOk result (string_bytes text.new

@@ -1,4 +1,4 @@
-//! The text of a saved report, sent in few large writes.
+//! The text of a saved report, written to a sink in few large writes.
 
 ghost use Rattle.std.specs.Prelude.{◌≡◌, ◌++◌, ◌≤◌, ◌<◌, ◌^◌, [], true, IfErr, OnErr, OnOk, string_bytes, length};
 ghost use Rattle.std.specs.Io.KnownBytes.{Appends};
@@ -15,8 +15,8 @@ use crate::saved_report_text::push_extent_line;
 use rv_base::Sink;
 use std::alloc::Global;
 
-/// Appends the text of a report to the sink, or on failure a prefix of it: the text that [`read_report`](crate::read_report) reads, whether
-/// of a whole list, of selected jobs or of a shard.
+/// Writes the text of a report to a sink, whether of a whole list, of chosen jobs or of a shard. If it fails, a prefix of the text has been
+/// written. [`read_report`](crate::read_report) reads the text back.
 pub fn write_saved_report<W: Sink>(
     alloc: Global,
     report: &SavedReport,
@@ -40,7 +40,7 @@ pub fn write_saved_report<W: Sink>(
     Ok(())
 }
 
-// Writes the rows' text: the first part is sent, the rest remains buffered in `text`.
+// Writes the text of the rows: its beginning is sent to the sink, and the rest remains in `text`.
 fn put_numbered_rows<W: Sink>(
     alloc: Global,
     numbers: &[u32],

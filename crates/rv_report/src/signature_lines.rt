@@ -1,5 +1,5 @@
-//! The lines of a signature: each word as eight lower-case hexadecimal digits and a line feed. A report contains them, and a reference is
-//! compared with them.
+//! The lines of a signature: each word as eight lower-case hexadecimal digits and a line feed. A report has them, and a file with an
+//! expected signature is compared with them.
 
 ghost use Rattle.std.specs.Prelude.{◌≡◌, ◌++◌, OnOk, bytes_eq, string_bytes};
 ghost use Rattle.std.specs.List.{flat_map};
@@ -11,7 +11,7 @@ use std::alloc::{AllocError, Global};
 /// The length of a word's line in bytes: eight digits and a line feed.
 pub const LINE: usize = 9;
 
-/// Appends a word's digits, most significant first.
+/// Appends a word as eight lower-case hexadecimal digits, most significant first.
 #[tactic(auto, unfolding(rv_text::specs::Words::word_digits))]
 pub(crate) fn push_word_digits(
     alloc: Global,
@@ -24,7 +24,7 @@ pub(crate) fn push_word_digits(
     text.push_str(digits.as_str())
 }
 
-/// Appends a line for each word.
+/// Appends the line of each word.
 pub(crate) fn push_word_lines(
     alloc: Global,
     text: &mut String,
@@ -40,7 +40,7 @@ pub(crate) fn push_word_lines(
     Ok(())
 }
 
-/// Whether these bytes are the words' lines, compared without building the text of the lines.
+/// Whether these bytes are the lines of the words. The text of the lines is not built.
 pub fn are_word_lines(bytes: &[u8], words: &[u32]) -> bool
     ensures { result ≡ bytes_eq bytes.now (flat_map word_line words.now) }
 {
@@ -54,7 +54,7 @@ pub fn are_word_lines(bytes: &[u8], words: &[u32]) -> bool
     rest.is_empty()
 }
 
-/// Returns the line of a word.
+/// Returns the line of a word: its eight digits and a line feed.
 #[tactic(auto, unfolding(rv_text::specs::Words::word_digits))]
 pub fn word_line(word: u32) -> [u8; LINE]
     ensures { result ≡ word_line word }

@@ -1,4 +1,4 @@
--- The result of a job before anything is copied: its console output and signature are still in the bus.
+-- The result of a job before it is copied: its console output and signature are still in the bus.
 use Rattle.std.specs.Prelude.{◌≡◌, ⊤, IfSome, option_map}
 use Rattle.rv_elf.specs.Rows.{accepted}
 use Rattle.rv_elf.specs.Symbols.{signature_check}
@@ -8,12 +8,12 @@ use Rattle.rv_rows.specs.declared.outcome.EndedRun.{EndedRun}
 use Rattle.rv_rows.specs.declared.outcome.Outcome.{Outcome}
 use Rattle.rv_rows.specs.Outcome.{refused_outcome, signature_words_between}
 
--- the signature's range, if one is requested, has been checked against the map
+-- the signature of an ended run, if one is requested, is in a valid range of its bus
 abbrev pub HasSignature : EndedRun → Type 0
 HasSignature run = IfSome run.range
     (λ range. signature_check range.begin range.end run.bus.regions ≡ accepted)
 
--- the outcome of a run, as held in the bus
+-- the outcome of an ended run, read from its bus
 abbrev pub outcome_in_bus : EndedRun → Outcome
 outcome_in_bus run = record {
   ending = run.ending;
@@ -22,12 +22,12 @@ outcome_in_bus run = record {
   signature = option_map (signature_words_between run.bus) run.range;
 }
 
--- the signature of a run can be read from its bus
+-- the signature of this result, if it is that of a run, can be read from its bus
 abbrev pub IsReadable : Attempt → Type 0
 IsReadable (Refused why) = ⊤
 IsReadable (Ran run) = HasSignature run
 
--- the outcome that a copy of it has
+-- the outcome that a copy of this result has
 abbrev pub outcome_of_attempt : Attempt → Outcome
 outcome_of_attempt (Refused why) = refused_outcome why
 outcome_of_attempt (Ran run) = outcome_in_bus run

@@ -14,33 +14,34 @@ use Rattle.rv_report.specs.declared.row.Verdict.TheVariants as verdict
 use Rattle.rv_rows.specs.Outcome.{outcome_of_run, refused_outcome}
 use Rattle.rv_rows.specs.Rows.{row_of_outcome}
 
--- the maximum size of a flat image in bytes: that of the region
+-- the maximum size of a flat image in bytes, which is the size of the default region
 abbrev pub image_room : ℕ
 image_room = 0x10_0000
 
--- the bytes written from 0x8000_0000 on, in zeroed memory; the script is empty, and misaligned accesses are rejected
+-- the contents of the bus for a flat image: its bytes from 0x8000_0000 on in zeroed memory, an empty script, and misaligned accesses
+-- rejected
 abbrev pub flat_contents : List ℕ → Contents
 flat_contents bytes = with_bytes (new_bus default_regions [] Fault) 0x8000_0000 bytes
 
--- byte k of the image is at 0x8000_0000 + k, and every other byte of memory is 0
+-- the byte at an address of a flat image's memory: byte `k` of the image is at 0x8000_0000 + `k`, and every other byte is 0
 abbrev pub flat_byte : List ℕ → ℕ → ℕ
 flat_byte bytes address =
     if leb 0x8000_0000 address then get_or bytes (address - 0x8000_0000) 0 else 0
 
--- the hart of RV32IMC at reset, with its pc at the image's first byte
+-- the state in which the run of a flat image begins: a hart of RV32IMC at reset, with its pc at the first byte
 abbrev pub flat_state : List ℕ → State
 flat_state bytes = at_reset (flat_contents bytes) 0x8000_0000 Imc
 
--- the name in every flat image's row
+-- the name in the row of every flat image
 abbrev pub flat_name : List ℕ
 flat_name = codes "raw"
 
--- the outcome of these bytes within a step budget
+-- the outcome of a flat image of these bytes within a step budget: a refusal if it is too large
 abbrev pub flat_outcome_of : List ℕ → ℕ → Outcome
 flat_outcome_of bytes budget =
     if nat_lt image_room (length bytes) then refused_outcome refusal.ImageTooLong
     else outcome_of_run (run_of budget (flat_state bytes)) None
 
--- the row of these bytes within a step budget
+-- the row of a flat image of these bytes within a step budget
 unfoldable pub flat_row_of : List ℕ → ℕ → Row
 flat_row_of bytes budget = row_of_outcome flat_name (flat_outcome_of bytes budget) verdict.Unasked

@@ -6,6 +6,7 @@ use Rattle.rv_jobs.specs.Plans.{kept_for}
 use Rattle.rv_report.specs.declared.row.Refusal.{Refusal}
 use Rattle.rv_rows.specs.Outcome.{outcome_of, refusal_in}
 
--- the refusal of the job as if it were not compared with any file
+-- why a job is refused because of its image, given the results for paths, or `None` if it is not; files with expected results are
+-- disregarded
 abbrev pub image_refusal_in : List Answer → Job → Option Refusal
 image_refusal_in answers job = refusal_in (outcome_of job (kept_for answers job.image) None None).ending

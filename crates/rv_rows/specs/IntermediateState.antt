@@ -4,7 +4,8 @@ use Rattle.rv_machine.specs.Run.{run_of}
 use Rattle.rv_machine.specs.State.{State}
 use Rattle.rv_report.specs.declared.row.Refusal.{Refusal}
 
--- The run starts and completes this many steps, at most the budget; the state is the one after them.
+-- a run that begins in the state `start` completes at least `steps` steps, and `state` is the state after them; `steps` is at most the
+-- budget
 pub record IsIntermediateState (start : Result State Refusal) (budget steps : ℕ) (state : State) : Type 0 where
   pub first : State
   pub starts : start ≡ Ok first

@@ -1,4 +1,4 @@
--- Plans that differ in the instruction set of one job, and the endings that a larger set does not change.
+-- Plans that differ in the instruction set of one job, and the endings that a larger instruction set does not change.
 use Rattle.std.specs.Prelude.{ℕ, zero, suc, Bool, true, false, not, List, [], ◌∷◌}
 use Rattle.rv_isa.specs.declared.sets.Isa.TheVariants.{Imc}
 use Rattle.rv_jobs.specs.declared_job.Job.{Job}
@@ -7,21 +7,22 @@ use Rattle.rv_machine.specs.Sets.{is_of_set}
 use Rattle.rv_report.specs.declared.row.RowEnd.{RowEnd}
 use Rattle.rv_report.specs.declared.row.RowEnd.TheVariants.{Exit, Fault, Budget, Refused}
 
--- the job with its set changed to RV32IMC
+-- the job with RV32IMC as its instruction set
 abbrev pub widened_job : Job → Job
 widened_job job = record job { isa = Imc }
 
--- the jobs, with the set of the one at an index changed to RV32IMC
+-- the jobs, where the one at an index has RV32IMC as its instruction set
 abbrev pub widened_jobs : ℕ → List Job → List Job
 widened_jobs place [] = []
 widened_jobs zero (job ∷ jobs) = widened_job job ∷ jobs
 widened_jobs (suc place) (job ∷ jobs) = job ∷ widened_jobs place jobs
 
--- the plan of these jobs, with the same results
+-- the plan, where the job at an index has RV32IMC as its instruction set
 abbrev pub widened_plan : ℕ → Planned → Planned
 widened_plan place plan = record plan { jobs = widened_jobs place plan.jobs }
 
--- the image was not refused, and the run did not end in a fault due to something that the set lacks: `illegal` or `fetch-misaligned`
+-- whether a larger instruction set does not change how a job ended: it was not refused, and did not end with the fault `illegal` or
+-- `fetch-misaligned`
 abbrev pub is_end_of_any_set : RowEnd → Bool
 is_end_of_any_set (Exit code) = true
 is_end_of_any_set (Fault kind pc value) = not (is_of_set kind)

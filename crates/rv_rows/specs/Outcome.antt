@@ -28,20 +28,21 @@ use Rattle.rv_report.specs.declared.row.RowEnd.TheVariants as ending
 
 -- ---- the files of a job
 
--- the bytes recorded for a path, or the refusal of an unreadable or too long file
+-- the bytes of a file, given the result of reading it, or the refusal if it is unreadable or too long
 abbrev pub content_or_refusal : Kept → Refusal → Refusal → Result (List ℕ) Refusal
 content_or_refusal (kept.Content bytes) unreadable long = Ok bytes
 content_or_refusal kept.Unreadable unreadable long = Err unreadable
 content_or_refusal kept.TooLong unreadable long = Err long
 
--- a reference, if one is named: that of a signature, or that of a console
+-- the bytes of a file with expected results, if the job names one, or the refusal if it was not read
 abbrev pub reference_or_refusal : Option Kept → Result (Option (List ℕ)) Refusal
 reference_or_refusal None = Ok None
 reference_or_refusal (Some kept) = do
   bytes ← content_or_refusal kept refusal.ReferenceUnreadable refusal.ReferenceTooLong
   Ok (Some bytes)
 
--- the image's bytes, if the references of the signature and of the console were read too
+-- the bytes of a job's image, or the refusal of the first of its files that was not read: the image, the expected signature, and the
+-- expected console
 unfoldable pub image_file_or_refusal : Kept → Option Kept → Option Kept → Result (List ℕ) Refusal
 image_file_or_refusal image reference console = do
   file ← content_or_refusal image refusal.ImageUnreadable refusal.ImageTooLong
@@ -51,17 +52,17 @@ image_file_or_refusal image reference console = do
 
 -- ---- the image and the signature's range
 
--- a missing second name is reported as a missing end
+-- the error of looking up the symbol at a signature's end, given that of `symbol_of`: a missing symbol is a missing end
 abbrev pub end_symbol_error : ImageError → ImageError
 end_symbol_error image.NoBegin = image.NoEnd
 end_symbol_error why = why
 
--- the address of the second name, or why there is none
+-- the address of the symbol at a signature's end, or why there is none
 abbrev pub end_of_signature : Result ℕ ImageError → Result ℕ ImageError
 end_of_signature (Ok address) = Ok address
 end_of_signature (Err why) = Err (end_symbol_error why)
 
--- the addresses of the two symbols, which must enclose a valid signature
+-- the addresses of the two symbols of a signature, or an error if one is missing or they do not enclose a valid signature
 unfoldable pub signature_range : List ℕ → List Region → Symbols → Result SignatureRange ImageError
 signature_range file regions names = do
   begin ← symbol_of file names.begin
@@ -69,7 +70,7 @@ signature_range file regions names = do
   unit ← signature_check begin end regions
   Ok (record { begin = begin; end = end })
 
--- the range, if a signature is requested
+-- the addresses of the two symbols of a signature, if one is requested, or why they are not valid
 abbrev pub range_if_asked : List ℕ → List Region → Option Symbols
     → Result (Option SignatureRange) ImageError
 range_if_asked file regions None = Ok None
@@ -77,7 +78,8 @@ range_if_asked file regions (Some names) = do
   range ← signature_range file regions names
   Ok (Some range)
 
--- the image of a file, if the job's map accepts it, and the range of the signature, if one is requested
+-- the image of a job's file and the range of its signature, if one is requested, or the first error: of the image, of the map, or of the
+-- signature
 unfoldable pub loadable_image : Job → List ℕ → Result Loadable ImageError
 loadable_image job file = do
   image ← image_of job.isa file
@@ -87,18 +89,18 @@ loadable_image job file = do
 
 -- ---- the run
 
--- memory with the image loaded and no byte stored, and the script
+-- the contents of the bus in which the run of a job begins: its image is loaded, no byte counts as stored to, and its script is unread
 abbrev pub loaded_contents : Job → List ℕ → Image → Contents
 loaded_contents job file image =
     record (new_bus job.regions job.script job.misaligned) {
       memory = initial_memory job.regions image.segments file job.load;
     }
 
--- the hart at reset, with its pc at the image's entry
+-- the state in which the run of a job begins: its hart at reset, with its pc at the entry of the image
 abbrev pub loaded_state : Job → List ℕ → Image → State
 loaded_state job file image = at_reset (loaded_contents job file image) image.entry job.isa
 
--- the ending of a machine as that of a row
+-- how a job's run ended, given the ending of the machine
 abbrev pub row_end : Ending → RowEnd
 row_end (machine.Exit code) = ending.Exit code
 row_end (machine.Fault kind pc value) = ending.Fault kind pc value
@@ -108,7 +110,7 @@ row_end machine.Budget = ending.Budget
 abbrev pub signature_words_between : Contents → SignatureRange → List ℕ
 signature_words_between bus range = words_of bus.memory range.begin range.end
 
--- the result of a run, with the signature in its final state
+-- the outcome of a run, whose signature, if one is requested, is read in its final state
 abbrev pub outcome_of_run : Ran → Option SignatureRange → Outcome
 outcome_of_run ran range = record {
   ending = row_end ran.ending;
@@ -117,46 +119,48 @@ outcome_of_run ran range = record {
   signature = option_map (signature_words_between ran.state.bus) range;
 }
 
--- a refusal has no steps, no console bytes and no signature
+-- the outcome of a refused job: no steps, no console bytes and no signature
 abbrev pub refused_outcome : Refusal → Outcome
 refused_outcome why =
     record { ending = ending.Refused why; steps = 0; console = []; signature = None }
 
--- the refusal, if the ending is one
+-- the refusal of a job, given how it ended, or `None` if it ran
 abbrev pub refusal_in : RowEnd → Option Refusal
 refusal_in (ending.Refused why) = Some why
 refusal_in _ = None
 
--- the outcome of a loadable image, or of its refusal
+-- the outcome of a job, given its image and signature range, or their error
 abbrev pub outcome_if_loadable : Job → List ℕ → Result Loadable ImageError → Outcome
 outcome_if_loadable job file (Ok loadable) =
     outcome_of_run (run_of job.budget (loaded_state job file loadable.image)) loadable.range
 outcome_if_loadable job file (Err why) = refused_outcome (refusal.Image why)
 
--- the outcome given the image's bytes
+-- the outcome of a job whose image's file has these bytes
 unfoldable pub file_outcome_of : Job → List ℕ → Outcome
 file_outcome_of job file = outcome_if_loadable job file (loadable_image job file)
 
--- the outcome given the image's bytes, or of the refusal of a file
+-- the outcome of a job, given the bytes of its image's file, or the refusal of a file
 abbrev pub outcome_if_readable : Job → Result (List ℕ) Refusal → Outcome
 outcome_if_readable job (Ok file) = file_outcome_of job file
 outcome_if_readable job (Err why) = refused_outcome why
 
--- the outcome of a job, given the results for the paths of its image, of its reference and of the file with its expected console text
+-- the outcome of a job, given the results of reading its image, its expected signature, and the file with its expected console text
 unfoldable pub outcome_of : Job → Kept → Option Kept → Option Kept → Outcome
 outcome_of job image reference console = outcome_if_readable job (image_file_or_refusal image reference console)
 
 -- ---- the state in which a run begins
 
--- the initial state of a loadable image, or its refusal
+-- the state in which the run of a job begins, given its image and signature range, or why it is refused
 abbrev pub start_if_loadable : Job → List ℕ → Result Loadable ImageError → Result State Refusal
 start_if_loadable job file (Ok loadable) = Ok (loaded_state job file loadable.image)
 start_if_loadable job file (Err why) = Err (refusal.Image why)
 
+-- the state in which the run of a job begins, given the bytes of its image's file, or why it is refused
 abbrev pub start_if_readable : Job → Result (List ℕ) Refusal → Result State Refusal
 start_if_readable job (Ok file) = start_if_loadable job file (loadable_image job file)
 start_if_readable job (Err why) = Err why
 
--- the initial state of a job, given the results for these paths, or why it does not run
+-- the state in which the run of a job begins, given the results of reading its image, its expected signature, and the file with its
+-- expected console text, or why it is refused
 unfoldable pub start_of : Job → Kept → Option Kept → Option Kept → Result State Refusal
 start_of job image reference console = start_if_readable job (image_file_or_refusal image reference console)

@@ -5,11 +5,11 @@ use Rattle.rv_rows.specs.declared.outcome.Outcome.{Outcome}
 use Rattle.rv_rows.specs.declared.recent_outcomes.RecentOutcome.{RecentOutcome}
 use Rattle.rv_rows.specs.Rows.{outcome_in}
 
--- the outcome of the job at an index
+-- the outcome of the job at an index of a plan, or `None` if there is no such job
 abbrev pub outcome_at : Planned → ℕ → Option Outcome
 outcome_at plan place = option_map (outcome_in plan.answers) (slice_get plan.jobs place)
 
--- each is the outcome of the job at its index
+-- each cached outcome is that of the job at its index
 abbrev pub AreOutcomes : Planned → List RecentOutcome → Type 0
 AreOutcomes plan recent =
     All (λ (kept : RecentOutcome). outcome_at plan kept.place ≡ Some kept.outcome) recent

@@ -19,46 +19,47 @@ use Rattle.rv_report.specs.declared.row.Verdict.{Verdict}
 use Rattle.rv_rows.specs.Outcome.{outcome_of, start_of}
 use Rattle.rv_rows.specs.Verdict.{verdict_of}
 
--- the outcome of a job, given a plan's results
+-- the outcome of a job, given the results for the paths of a plan
 abbrev pub outcome_in : List Answer → Job → Outcome
 outcome_in answers job =
     outcome_of job (kept_for answers job.image) (option_map (kept_for answers) job.expect_signature)
     (option_map (kept_for answers) (console_path job.expect_console))
 
--- the state in which the run of a job begins, given a plan's results, or why there is none
+-- the state in which the run of a job begins, given the results for the paths of a plan, or why the job is refused
 abbrev pub start_in : List Answer → Job → Result State Refusal
 start_in answers job =
     start_of job (kept_for answers job.image) (option_map (kept_for answers) job.expect_signature)
     (option_map (kept_for answers) (console_path job.expect_console))
 
--- the bytes of a reference, if it was read
+-- the bytes of a file, if the job names one and it was read
 abbrev pub content_if_read : Option Kept → Option (List ℕ)
 content_if_read (Some (kept.Content bytes)) = Some bytes
 content_if_read _ = None
 
--- the image that the bytes represent, if they were read and are one
+-- the image of a file, if its bytes were read and are an image
 abbrev pub image_if_read : Isa → Option (List ℕ) → Option Image
 image_if_read isa None = None
 image_if_read isa (Some file) = result_ok (image_of isa file)
 
--- the image of a job
+-- the image of a job, if its file was read and is an image
 abbrev pub image_in : List Answer → Job → Option Image
 image_in answers job = image_if_read job.isa (content_if_read (Some (kept_for answers job.image)))
 
--- the bytes of a job's reference, if it has one and it was read
+-- the bytes of the file with a job's expected signature, if it names one and it was read
 abbrev pub signature_reference_bytes : List Answer → Job → Option (List ℕ)
 signature_reference_bytes answers job = content_if_read (option_map (kept_for answers) job.expect_signature)
 
+-- the bytes of the file with a job's expected console text, if it names one and it was read
 abbrev pub expected_console_bytes : List Answer → Job → Option (List ℕ)
 expected_console_bytes answers job =
     content_if_read (option_map (kept_for answers) (console_path job.expect_console))
 
--- the outcome (not the verdict) of the job that a job names
+-- the outcome of the job that a job's `same_as` names, if it names one
 abbrev pub named_job_outcome : Planned → Job → Option Outcome
 named_job_outcome plan job =
     option_map (outcome_in plan.answers) (option_and_then (slice_get plan.jobs) job.same_as)
 
--- a row from a name, an outcome and a verdict
+-- the row with this name, outcome and verdict
 abbrev pub row_of_outcome : List ℕ → Outcome → Verdict → Row
 row_of_outcome name outcome verdict = record {
   name = name;
@@ -77,11 +78,11 @@ row_of plan job =
     (verdict_of job outcome (signature_reference_bytes plan.answers job) (expected_console_bytes plan.answers job)
     (named_job_outcome plan job))
 
--- one row per job, in list order
+-- the rows of all jobs of a plan, in list order
 unfoldable pub rows_of : Planned → List Row
 rows_of plan = map (row_of plan) plan.jobs
 
--- the rows of the jobs at several indices
+-- the rows of the jobs at these indices of a plan
 unfoldable pub rows_at : Planned → List ℕ → List Row
 rows_at plan places =
     map (λ i. row_of plan (slice_index_or plan.jobs i (single_job [] 0 []))) places

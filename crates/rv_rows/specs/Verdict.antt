@@ -18,7 +18,7 @@ use Rattle.rv_report.specs.declared.row.Verdict.{Verdict}
 use Rattle.rv_report.specs.declared.row.Verdict.TheVariants as verdict
 use Rattle.rv_report.specs.Report.{word_line}
 
--- whether a job has any expectations
+-- whether a job has expectations
 abbrev pub expects_anything : Job → Bool
 expects_anything job =
     is_some job.expect_exit || (is_some job.expect_end || (is_some job.expect_console
@@ -26,63 +26,65 @@ expects_anything job =
 
 -- ---- kinds of faults
 
--- two faults are of the same kind: `==` on kinds
+-- whether two faults are of one kind, compared with `==`
 abbrev pub is_same_kind : FaultKind → FaultKind → Bool
 is_same_kind kind other = sameb the_type kind other
 
 -- ---- the exit code
 
--- the run ended by the exit call with this code
+-- whether a run ended by the exit call with this code
 abbrev pub exits_with : ℕ → RowEnd → Bool
 exits_with code (ending.Exit n) = n == code
 exits_with code (ending.Fault kind pc value) = false
 exits_with code ending.Budget = false
 exits_with code (ending.Refused why) = false
 
--- the run ended with the expected code, if there is one
+-- whether a run ended by the exit call with the expected code, if one is expected
 abbrev pub has_expected_exit : Option ℕ → RowEnd → Bool
 has_expected_exit None end = true
 has_expected_exit (Some code) end = exits_with code end
 
 -- ---- the end
 
--- the run ended in this way: by its budget, or by a fault of this kind
+-- whether a run ended as expected: by using up its budget, or with a fault of this kind
 abbrev pub ends_by : ExpectedEnd → RowEnd → Bool
 ends_by expected.Budget ending.Budget = true
 ends_by (expected.Fault kind) (ending.Fault met pc value) = is_same_kind kind met
 ends_by _ _ = false
 
--- the run ended as expected, if there is an expectation
+-- whether a run ended as expected, if an end is expected
 abbrev pub has_expected_end : Option ExpectedEnd → RowEnd → Bool
 has_expected_end None end = true
 has_expected_end (Some how) end = ends_by how end
 
 -- ---- the console
 
--- every ending other than a refusal is that of a run
+-- whether a job ran, rather than being refused
 abbrev pub did_run : RowEnd → Bool
 did_run (ending.Refused why) = false
 did_run _ = true
 
--- the job ran, and its console output equals these bytes
+-- whether the job ran and its console output is these bytes
 abbrev pub ran_with_console : List ℕ → Outcome → Bool
 ran_with_console bytes outcome = did_run outcome.ending && bytes_eq bytes outcome.console
 
--- the console output equals the job's own text, or the file that it names, which was read
+-- whether the job ran and its console output is the expected text of the list, or that of the file, which was read; true if no console is
+-- expected
 abbrev pub has_expected_console : Option ExpectedConsole → Option (List ℕ) → Outcome → Bool
 has_expected_console None bytes outcome = true
 has_expected_console (Some (Text text)) bytes outcome = ran_with_console text outcome
 has_expected_console (Some (File path)) None outcome = false
 has_expected_console (Some (File path)) (Some bytes) outcome = ran_with_console bytes outcome
 
--- ---- the reference
+-- ---- the reference signature
 
--- the words of a signature, one per line
+-- the lines of a signature's words, one for each; none if there is no signature
 abbrev pub lines_of_signature : Option (List ℕ) → List ℕ
 lines_of_signature None = []
 lines_of_signature (Some words) = flat_map word_line words
 
--- the job ran, and the bytes of the reference, which was read, are its signature's lines
+-- whether the job ran and the bytes of the file with its expected signature, which was read, are the lines of its signature; true if none
+-- is expected
 abbrev pub has_expected_signature : Option (List ℕ) → Option (List ℕ) → Outcome → Bool
 has_expected_signature None bytes outcome = true
 has_expected_signature (Some path) None outcome = false
@@ -91,33 +93,34 @@ has_expected_signature (Some path) (Some bytes) outcome = did_run outcome.ending
 
 -- ---- another job
 
--- two runs ended alike: with the same code, with the same kind of fault, or both by their budgets
+-- whether two jobs ended alike: with one exit code, with one kind of fault, or both by using up their budgets
 abbrev pub are_alike_endings : RowEnd → RowEnd → Bool
 are_alike_endings (ending.Exit m) (ending.Exit n) = m == n
 are_alike_endings (ending.Fault kind pc value) (ending.Fault other at met) = is_same_kind kind other
 are_alike_endings ending.Budget ending.Budget = true
 are_alike_endings _ _ = false
 
--- neither has a signature, or both have the same words
+-- whether two signatures have the same words, or both are missing
 abbrev pub are_same_signatures : Option (List ℕ) → Option (List ℕ) → Bool
 are_same_signatures None None = true
 are_same_signatures (Some words) (Some others) = bytes_eq words others
 are_same_signatures _ _ = false
 
--- two outcomes are equal except for steps, addresses and values; a refused one equals no other, not even itself
+-- whether two outcomes are equal except for steps, addresses and values of faults; a refusal equals no outcome, not even itself
 abbrev pub are_same_outcomes : Outcome → Outcome → Bool
 are_same_outcomes outcome other = are_alike_endings outcome.ending other.ending
     && (bytes_eq outcome.console other.console && are_same_signatures outcome.signature other.signature)
 
--- the outcome equals that of the job that its job names, if any. The named job is earlier in the list, so its outcome exists
+-- whether an outcome equals that of the job that `same_as` names, as `are_same_outcomes` compares them; true if there is no `same_as`
 abbrev pub is_same_as_named : Option ℕ → Option Outcome → Outcome → Bool
 is_same_as_named None other outcome = true
 is_same_as_named (Some place) None outcome = false
 is_same_as_named (Some place) (Some other) outcome = are_same_outcomes outcome other
 
--- ---- all of them
+-- ---- all expectations
 
--- each expectation is met or absent, given the bytes of the references that were read, and the outcome of the job that it names
+-- whether an outcome meets all expectations of its job, given the bytes of the files with the expected signature and console, if they were
+-- read, and the outcome of the job that `same_as` names
 abbrev pub meets_all_expectations : Job → Outcome → Option (List ℕ) → Option (List ℕ) → Option Outcome → Bool
 meets_all_expectations job outcome reference console other =
     has_expected_exit job.expect_exit outcome.ending
@@ -126,7 +129,8 @@ meets_all_expectations job outcome reference console other =
     && (has_expected_signature job.expect_signature reference outcome
     && is_same_as_named job.same_as other outcome)))
 
--- the verdict, given the same inputs
+-- the verdict on an outcome, given the bytes of the files with the expected signature and console, if they were read, and the outcome of
+-- the job that `same_as` names
 unfoldable pub verdict_of :
     Job → Outcome → Option (List ℕ) → Option (List ℕ) → Option Outcome → Verdict
 verdict_of job outcome reference console other =

@@ -1,14 +1,15 @@
--- Plans of the same jobs, one of which may have read fewer files.
+-- Plans with the same jobs, one of which may have read fewer files.
 use Rattle.std.specs.Prelude.{◌≡◌, List, option_map}
 use Rattle.rv_jobs.specs.declared.answers.Answer.{Answer}
 use Rattle.rv_jobs.specs.declared_job.Job.{Job}
 use Rattle.rv_jobs.specs.Jobs.{console_path}
 use Rattle.rv_jobs.specs.Plans.{Planned, kept_for}
 
+-- the plan of these jobs with these results for paths
 abbrev pub plan_of_jobs : List Job → List Answer → Planned
 plan_of_jobs jobs answers = record { jobs = jobs; answers = answers }
 
--- both have the same result for each path of a job
+-- both lists of results have the same result for each path of the job
 pub record HaveSameResults (some others : List Answer) (job : Job) : Type 0 where
   pub image : kept_for some job.image ≡ kept_for others job.image
   pub reference :

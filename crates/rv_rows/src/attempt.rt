@@ -1,4 +1,4 @@
-//! Computing an outcome: the first refusal that applies, or the run of a job.
+//! Computing the outcome of a job: the first refusal that applies, or the result of its run.
 
 ghost use Rattle.std.specs.Prelude.{◌≡◌, ◌≢◌, ◌<◌, ◌≤◌, IfOk, IfSome, MatchResult, Ok, Err, IsOk, length, option_map};
 ghost use Rattle.rv_elf.specs.declared.error.ImageError.TheVariants.{OutOfMemory};
@@ -22,8 +22,8 @@ use rv_memory::Map;
 use rv_report::{Refusal, RowEnd};
 use std::alloc::{AllocError, Global};
 
-/// Returns the image's bytes, given the results for the paths of the image, of the reference, and of the file with the expected console
-/// text, or the first refusal among them.
+/// Returns the bytes of a job's image, or the refusal of the first of its files that was not read, given the results of reading the image,
+/// the expected signature and the file with the expected console text.
 #[tactic(auto, unfolding(crate::specs::Outcome::image_file_or_refusal))]
 pub(crate) fn image_file_or_refusal<'a>(
     image: &'a Kept,
@@ -44,7 +44,7 @@ pub(crate) fn image_file_or_refusal<'a>(
     Ok(file)
 }
 
-/// Returns why a job is refused, if it is, given the results for these paths. Runs nothing.
+/// Returns why a job is refused, or `None` if it is not, given the results of reading its files. Runs nothing.
 #[tactic(auto, unfolding(crate::specs::Outcome::outcome_of))]
 pub(crate) fn refusal_of_job(
     alloc: Global,
@@ -65,7 +65,7 @@ pub(crate) fn refusal_of_job(
     }
 }
 
-// Returns why a job is refused because of its image's bytes, if it is.
+// Returns why a job is refused because of the bytes of its image, or `None` if it is not.
 #[tactic(auto, unfolding(crate::specs::Outcome::file_outcome_of))]
 fn refusal_over_image(alloc: Global, job: &Job, file: &[u8]) -> Result<Option<Refusal>, AllocError>
     requires { IfSome job.now.signature (λ names. (0 < length names.begin)
@@ -80,7 +80,8 @@ fn refusal_over_image(alloc: Global, job: &Job, file: &[u8]) -> Result<Option<Re
     }
 }
 
-/// Returns the machine in which a job runs, given its image's bytes and the image read from them, or why the job is refused. Runs nothing.
+/// Returns the machine in which a job runs, before its first step, given the bytes of its image and the image read from them, or why the
+/// job is refused. Runs nothing.
 pub(crate) fn machine_over_image(
     alloc: Global,
     job: &Job,
@@ -102,7 +103,7 @@ pub(crate) fn machine_over_image(
     }
 }
 
-// Checks that a file was read, if one is named: the reference, or the file with the expected console text.
+// Checks that a file with expected results was read, if the job names one.
 fn check_file_was_read(file: Option<&Kept>) -> Result<(), Refusal>
     ensures { MatchResult result
         (λ _. IsOk (reference_or_refusal (option_map (λ kept. kept.now) file.entry)))
@@ -115,7 +116,7 @@ fn check_file_was_read(file: Option<&Kept>) -> Result<(), Refusal>
     }
 }
 
-/// Computes the result of a job from its image's bytes.
+/// Runs a job, given the bytes of its image, and returns the result, which may be a refusal.
 #[tactic(auto, unfolding(crate::specs::Outcome::file_outcome_of))]
 pub(crate) fn attempt_over_image(
     alloc: Global,
@@ -141,7 +142,7 @@ pub(crate) fn attempt_over_image(
     }
 }
 
-/// Returns the image and the signature's range, or the first refusal.
+/// Returns the image of a job's file and the range of its signature, if one is requested, or the first error.
 #[tactic(auto, unfolding(crate::specs::Outcome::loadable_image))]
 pub(crate) fn loadable_image(alloc: Global, job: &Job, file: &[u8]) -> Result<Loadable, ImageError>
     requires { IfSome job.now.signature (λ names. (0 < length names.begin)
@@ -154,7 +155,7 @@ pub(crate) fn loadable_image(alloc: Global, job: &Job, file: &[u8]) -> Result<Lo
     Ok(Loadable { image, range })
 }
 
-// Returns the signature's range, given the image that was read from a file, or the first refusal.
+// Checks that an image fits the job's map, and returns the range of the job's signature, if one is requested, or the first error.
 #[tactic(auto, unfolding(crate::specs::Outcome::loadable_image))]
 fn range_if_loadable(
     job: &Job,
@@ -175,6 +176,7 @@ fn range_if_loadable(
     }
 }
 
+// Returns the addresses of the two symbols of a signature, or an error if one is missing or they do not enclose a valid signature.
 #[tactic(auto, unfolding(crate::specs::Outcome::signature_range))]
 fn signature_range(
     image: &Image,
@@ -193,7 +195,7 @@ fn signature_range(
     Ok(SignatureRange { begin, end })
 }
 
-// Finds the symbol at the end of a signature; if it is missing, the error is `NoEnd`.
+// Returns the address of the symbol at the end of a signature. If it is missing, the error is `NoEnd`.
 fn find_end_symbol(image: &Image, file: &[u8], name: &[u8]) -> Result<u32, ImageError>
     requires image { IsImageOf file.now image.now }
     requires named { 0 < length name.now }
@@ -205,7 +207,7 @@ fn find_end_symbol(image: &Image, file: &[u8], name: &[u8]) -> Result<u32, Image
     }
 }
 
-// Returns the machine at reset, with the image loaded in its memory.
+// Returns the machine in which a job runs, before its first step, with the image loaded in its memory.
 fn loaded_machine(
     alloc: Global,
     job: &Job,
@@ -224,13 +226,14 @@ fn loaded_machine(
     Machine::new(alloc, bus, image.entry, job.isa)
 }
 
+// Returns a copy of the bytes.
 fn copy_bytes(alloc: Global, bytes: &[u8]) -> Result<Vec<u8>, AllocError>
     ensures { IfOk result (λ copy. copy.items ≡ bytes.now) }
 {
     bytes.to_vec(alloc)
 }
 
-/// A run that has ended, whose machine this is.
+/// Returns the ended run of this machine.
 pub(crate) fn ended_run(machine: Machine, ran: Outcome, range: Option<SignatureRange>) -> EndedRun
     requires { IfSome range
         (λ range. signature_check range.begin range.end (state_of machine).bus.regions ≡ accepted) }
@@ -246,6 +249,7 @@ pub(crate) fn ended_run(machine: Machine, ran: Outcome, range: Option<SignatureR
     }
 }
 
+// Returns how a job's run ended, given the ending of the machine.
 fn row_end(ending: Ending) -> RowEnd
     ensures { result ≡ row_end ending }
 {

@@ -1,4 +1,4 @@
-//! The row of a flat image.
+//! The row of a flat image: bytes without a header.
 
 ghost use Rattle.std.specs.Prelude.{◌≡◌, ◌≤◌, ℕ, IfOk, length};
 ghost use Rattle.rv_memory.specs.Bus.{byte_at};
@@ -20,8 +20,8 @@ const IMAGE_ROOM: usize = 0x10_0000;
 /// The address of a flat image, which is its entry.
 const ENTRY: u32 = 0x8000_0000;
 
-/// Runs a flat image under the default map with an empty script, for at most `budget` steps. Its first byte is at 0x8000_0000, which is the
-/// entry. More than 1,048,576 bytes are refused.
+/// Runs a flat image for at most `budget` steps, with the default map and an empty script, and returns its row. Its first byte is at
+/// 0x8000_0000, which is the entry. An image of more than 1,048,576 bytes is refused.
 #[tactic(auto, unfolding(crate::specs::Flat::flat_row_of))]
 pub fn flat_row(alloc: Global, bytes: &[u8], budget: u32) -> Result<Row, AllocError>
     ensures { IfOk result (λ row. row ≡ flat_row_of bytes.now budget) }
@@ -30,6 +30,7 @@ pub fn flat_row(alloc: Global, bytes: &[u8], budget: u32) -> Result<Row, AllocEr
     row_of_outcome(alloc, "raw", outcome, Verdict::Unasked)
 }
 
+// Runs a flat image for at most `budget` steps, and returns its outcome.
 fn flat_outcome(alloc: Global, bytes: &[u8], budget: u32) -> Result<Outcome, AllocError>
     ensures { IfOk result (λ outcome. outcome ≡ flat_outcome_of bytes.now budget) }
 {
@@ -41,6 +42,7 @@ fn flat_outcome(alloc: Global, bytes: &[u8], budget: u32) -> Result<Outcome, All
     ended_run(machine, ran, None).outcome(alloc)
 }
 
+// Returns the machine in which a flat image runs, before its first step.
 fn flat_machine(alloc: Global, bytes: &[u8]) -> Result<Machine, AllocError>
     requires { length bytes.now ≤ image_room }
     ensures { IfOk result (λ machine. state_of machine ≡ flat_state bytes.now) }
@@ -48,6 +50,7 @@ fn flat_machine(alloc: Global, bytes: &[u8]) -> Result<Machine, AllocError>
     Machine::new(alloc, flat_bus(alloc, bytes)?, ENTRY, Isa::Imc)
 }
 
+// Returns the bus of a flat image: its bytes from 0x8000_0000 on in zeroed memory.
 fn flat_bus(alloc: Global, bytes: &[u8]) -> Result<Bus, AllocError>
     requires { length bytes.now ≤ image_room }
     ensures contents { IfOk result (λ bus. bus ≡ flat_contents bytes.now) }

@@ -11,9 +11,9 @@ ghost use Rattle.rv_rows.specs.Narrower.{is_end_of_any_set, widened_plan};
 ghost use Rattle.rv_rows.specs.Rows.{rows_at, rows_of};
 ghost use Rattle.rv_rows.specs.Wholes.{HaveSameResults, plan_of_jobs};
 
-/// A law of rows, with no code to run: a smaller instruction set only adds faults and refusals. Take a plan, and the plan with the same
-/// results in which the set of one job is changed to RV32IMC. If the job's row in the first is not refused and is not a fault `illegal` or
-/// `fetch-misaligned`, its row in the second is equal.
+/// Proves that a smaller instruction set only adds faults and refusals. Take a plan, and the plan in which one job has RV32IMC instead of
+/// its own instruction set. If the job's row in the first plan is not a refusal and not a fault `illegal` or `fetch-misaligned`, then the
+/// second plan has the same row.
 pub fn narrower_sets_only_refuse()
     ensures { (plan : Planned) (place : ℕ) (row : Row) → AreJobs plan.jobs
         → slice_get (rows_of plan) place ≡ Some row
@@ -21,9 +21,8 @@ pub fn narrower_sets_only_refuse()
         ≡ Some row }
 {}
 
-/// A law of parts, with no code to run: if two plans have the same jobs, and the same result for each path that is needed for the rows of
-/// the jobs at several indices, they have the same rows there. So a plan gathered only for these indices has the same rows there as one
-/// gathered for all jobs.
+/// Proves that two plans with the same jobs have the same rows at some indices, if they have the same result for each path that these rows
+/// need. So a plan gathered only for these indices has the same rows there as one gathered for all jobs.
 pub fn parts_have_the_rows_of_the_whole()
     ensures { (jobs : List Job) (some others : List Answer) (places : List ℕ)
         → All (HaveSameResults some others) (jobs_needed_for jobs places)

@@ -1,4 +1,4 @@
-//! Outcomes: the results of jobs, apart from their rows or still in the bus of a run.
+//! Outcomes: the results of jobs without their names and verdicts.
 
 ghost use Rattle.std.specs.Prelude.{◌≡◌, IfOk, IfSome, option_map};
 ghost use Rattle.rv_elf.specs.Rows.{accepted};
@@ -32,14 +32,14 @@ pub struct SignatureRange {
     pub end: u32,
 }
 
-/// An image that the job's map accepts, and the range of its signature, if one is requested.
+/// An image that fits the job's map, and the range of the job's signature, if one is requested.
 #[derive(Debug, Drop)]
 pub struct Loadable {
     pub image: Image,
     pub range: Option<SignatureRange>,
 }
 
-/// A completed run. Its console output and the words of its signature are still in its bus.
+/// An ended run. Its console output and the words of its signature are still in its bus.
 #[derive(Drop)]
 pub(crate) struct EndedRun {
     pub ending: RowEnd,
@@ -48,7 +48,7 @@ pub(crate) struct EndedRun {
     pub range: Option<SignatureRange>,
 }
 
-/// The result of a job before anything is copied.
+/// The result of a job before it is copied: a refusal, or an ended run.
 #[derive(Drop)]
 pub(crate) enum Attempt {
     Refused(Refusal),
@@ -56,7 +56,7 @@ pub(crate) enum Attempt {
 }
 
 impl Attempt {
-    /// Copies the outcome.
+    /// Returns a copy of the outcome.
     pub(crate) fn outcome(&self, alloc: Global) -> Result<Outcome, AllocError>
         requires { IsReadable self.now }
         ensures { IfOk result (λ outcome. outcome ≡ outcome_of_attempt self.now) }
@@ -67,7 +67,7 @@ impl Attempt {
         }
     }
 
-    /// Returns the number of bytes of console and signature in a copy.
+    /// Returns the number of bytes that the console and the signature of a copy have.
     pub(crate) fn size(&self) -> usize {
         match self {
             Attempt::Refused(_) => 0,
@@ -77,7 +77,7 @@ impl Attempt {
 }
 
 impl EndedRun {
-    /// Copies the outcome.
+    /// Returns a copy of the outcome.
     pub(crate) fn outcome(&self, alloc: Global) -> Result<Outcome, AllocError>
         requires { HasSignature self.now }
         ensures { IfOk result (λ outcome. outcome ≡ outcome_in_bus self.now) }
@@ -92,6 +92,7 @@ impl EndedRun {
         })
     }
 
+    // Returns the number of bytes of the console and the signature.
     fn size(&self) -> usize {
         let words = match self.range {
             Some(range) => range.end.saturating_sub(range.begin) as usize,
@@ -111,6 +112,7 @@ impl Outcome {
         words.saturating_add(self.console.as_slice().len())
     }
 
+    /// Returns a copy of the outcome.
     pub(crate) fn copy(&self, alloc: Global) -> Result<Outcome, AllocError>
         ensures { IfOk result (λ copy. copy ≡ self.now) }
     {
@@ -128,7 +130,7 @@ impl Outcome {
     }
 }
 
-/// Returns the outcome of a job that did not run.
+/// Returns the outcome of a refused job.
 pub(crate) fn refused_outcome(alloc: Global, why: Refusal) -> Outcome
     ensures { result ≡ refused_outcome why }
 {
@@ -156,6 +158,7 @@ fn signature_if_asked(
     }
 }
 
+// Returns the words of a signature in memory.
 fn signature_words_between(
     alloc: Global,
     bus: &Bus,

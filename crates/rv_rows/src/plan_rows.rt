@@ -25,7 +25,7 @@ use rv_machine::Machine;
 use rv_report::{Refusal, Report, Row, Rows, Verdict};
 use std::alloc::{AllocError, Global};
 
-/// Returns the row of the job at an index, counted from 0.
+/// Returns the row of the job at an index of a plan, counted from 0.
 pub fn row_at(alloc: Global, plan: &Plan, i: usize) -> Result<Row, AllocError>
     requires { i < length plan.now.jobs }
 
@@ -59,7 +59,7 @@ pub fn row_at_with_recent(
     judged_row(alloc, plan, i, outcome, same)
 }
 
-/// Returns the row of the job at an index, given its outcome and whether that equals the outcome of the job that it names.
+/// Returns the row of the job at an index, given its outcome and whether that equals the outcome of the job that its `same_as` names.
 #[tactic(auto, unfolding(crate::specs::Rows::row_of))]
 pub(crate) fn judged_row(
     alloc: Global,
@@ -86,7 +86,7 @@ pub(crate) fn judged_row(
     row_of_outcome(alloc, job.name.as_str(), outcome, verdict)
 }
 
-// Returns the result of the job at an index.
+// Runs the job at an index, unless it is refused, and returns the result.
 #[tactic(auto, unfolding(crate::specs::Outcome::outcome_of))]
 fn attempt_at(
     alloc: Global,
@@ -106,7 +106,7 @@ fn attempt_at(
     }
 }
 
-/// Returns why the job at an index is refused, if its row is that of a refusal. Runs nothing.
+/// Returns why the job at an index is refused, or `None` if it is not. Runs nothing.
 pub fn refusal_at(alloc: Global, plan: &Plan, i: usize) -> Result<Option<Refusal>, AllocError>
     requires { i < length plan.now.jobs }
     ensures { IfOk result (λ why. (d : AJob) → why
@@ -121,7 +121,7 @@ pub fn refusal_at(alloc: Global, plan: &Plan, i: usize) -> Result<Option<Refusal
     )
 }
 
-/// Returns why the job at an index is refused because of its image, whatever its other files. Runs nothing.
+/// Returns why the job at an index is refused because of its image, or `None` if it is not. Its other files are disregarded. Runs nothing.
 pub fn image_refusal_at(alloc: Global, plan: &Plan, i: usize) -> Result<Option<Refusal>, AllocError>
     requires { i < length plan.now.jobs }
     ensures { IfOk result (λ why. (d : AJob) → why
@@ -130,8 +130,8 @@ pub fn image_refusal_at(alloc: Global, plan: &Plan, i: usize) -> Result<Option<R
     refusal_of_job(alloc, plan.job(i), plan.image(i), None, None)
 }
 
-/// Returns the machine in which the job at an index runs, in its state before the first step, or why the job is refused. `image` is the
-/// image that was read from the job's file. Runs nothing.
+/// Returns the machine in which the job at an index runs, before its first step, or why the job is refused. `image` is the image that was
+/// read from the job's file. Runs nothing.
 pub fn machine_at(
     alloc: Global,
     plan: &Plan,
@@ -172,7 +172,7 @@ pub fn machine_at_reusing(
     }
 }
 
-/// Whether an outcome equals that of the job that a job names, if any.
+/// Whether an outcome equals that of the job that `same_as` names, or there is no `same_as`.
 pub(crate) fn is_same_as_named(
     plan: &Plan,
     job: &Job,
@@ -220,7 +220,7 @@ fn is_same_as_job_at(
     Ok(same)
 }
 
-// Caches a copy of a row's outcome if it is small enough and one of the next jobs names it.
+// Caches a copy of the outcome of the job at an index, if it is small enough and one of the next jobs names the job in its `same_as`.
 fn keep_outcome_if_named(
     alloc: Global,
     plan: &Plan,
@@ -239,7 +239,7 @@ fn keep_outcome_if_named(
     Ok(())
 }
 
-// Whether one of the next jobs names the job at an index.
+// Whether one of the next jobs names the job at an index in its `same_as`.
 fn is_named_by_next_jobs(plan: &Plan, i: usize) -> bool
     requires { i < length plan.now.jobs }
 {
@@ -252,7 +252,7 @@ fn is_named_by_next_jobs(plan: &Plan, i: usize) -> bool
     false
 }
 
-/// Returns the bytes of the file with which the signature of the job at an index is compared, if it was read.
+/// Returns the bytes of the file with the expected signature of the job at an index, if it names one and it was read.
 pub fn signature_reference_bytes(plan: &Plan, i: usize) -> Option<&[u8]>
     requires { i < length plan.now.jobs }
     ensures { (d : AJob) → option_map (λ bytes. bytes.now) result
@@ -261,7 +261,7 @@ pub fn signature_reference_bytes(plan: &Plan, i: usize) -> Option<&[u8]>
     content_if_read(plan.reference(i))
 }
 
-/// Returns the bytes of the file with which the console of the job at an index is compared, if it was read.
+/// Returns the bytes of the file with the expected console text of the job at an index, if it names one and it was read.
 pub fn expected_console_bytes(plan: &Plan, i: usize) -> Option<&[u8]>
     requires { i < length plan.now.jobs }
     ensures { (d : AJob) → option_map (λ bytes. bytes.now) result
@@ -270,6 +270,7 @@ pub fn expected_console_bytes(plan: &Plan, i: usize) -> Option<&[u8]>
     content_if_read(plan.console_reference(i))
 }
 
+// Returns the bytes of a file, if the job names one and it was read.
 fn content_if_read(kept: Option<&Kept>) -> Option<&[u8]>
     ensures { option_map (λ bytes. bytes.now) result
         ≡ content_if_read (option_map (λ one. one.now) kept.entry) }
@@ -299,7 +300,7 @@ pub(crate) fn row_of_outcome(
     })
 }
 
-/// Computes all rows, in list order.
+/// Runs all jobs of a plan one after another, and returns their rows in list order.
 #[tactic(auto, unfolding(crate::specs::Rows::rows_of))]
 pub fn run_one(alloc: Global, plan: &Plan) -> Result<Report, AllocError>
     ensures { IfOk result (λ report. report.rows ≡ rows_of plan.now) }

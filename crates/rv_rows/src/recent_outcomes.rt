@@ -1,4 +1,4 @@
-//! The outcomes of a worker's last jobs, cached for the jobs that name them.
+//! The outcomes of a worker's last jobs, cached for the jobs that name these jobs in their `same_as`.
 
 ghost use Rattle.std.specs.Prelude.{◌≡◌, IfSome, OnOk, Some};
 ghost use Rattle.rv_jobs.specs.Plans.{Planned};
@@ -8,7 +8,7 @@ use crate::outcome::Outcome;
 use std::alloc::{AllocError, Global};
 use std::marker::Model;
 
-/// The outcome of the job at an index.
+/// The outcome of the job at an index of a plan.
 #[derive(Drop)]
 pub struct RecentOutcome {
     pub place: usize,
@@ -18,10 +18,10 @@ pub struct RecentOutcome {
 /// The maximum number of cached outcomes.
 pub(crate) const MOST: usize = 8;
 
-/// The maximum total size in bytes of all cached consoles and signatures: with their overhead, less than 64 KiB.
+/// The maximum total size of all cached consoles and signatures, in bytes. With their overhead, this is less than 64 KiB.
 const ROOM: usize = 64_000;
 
-/// A few outcomes, the oldest first.
+/// A cache of a few outcomes, the oldest first.
 #[derive(Drop)]
 pub struct Recent {
     items: Vec<RecentOutcome>,
@@ -37,7 +37,7 @@ impl Model for Recent {
 }
 
 impl Recent {
-    /// Creates an empty cache without allocating.
+    /// Returns an empty cache. Does not allocate.
     pub fn new(alloc: Global) -> Recent
         ensures { (plan : Planned) → AreOutcomes plan result }
     {
@@ -46,7 +46,7 @@ impl Recent {
         }
     }
 
-    /// Returns the allocator that it uses.
+    /// Returns the allocator that the cache uses.
     pub(crate) fn alloc(&self) -> Global {
         *self.items.allocator()
     }
@@ -64,8 +64,8 @@ impl Recent {
         None
     }
 
-    /// Returns whether an outcome whose console and signature have `size` bytes is small enough to be cached. If so, makes room for it by
-    /// dropping the oldest ones.
+    /// Returns whether an outcome whose console and signature have `size` bytes is small enough to be cached. If so, drops the oldest ones
+    /// until there is room for it.
     pub fn make_room(&mut self, size: usize) -> bool
         ensures { (plan : Planned) → AreOutcomes plan self.old → AreOutcomes plan self.new }
     {
@@ -78,7 +78,7 @@ impl Recent {
         true
     }
 
-    /// Caches one more outcome, for which room was made.
+    /// Adds an outcome, for which room was made, to the cache.
     pub fn keep(&mut self, place: usize, outcome: Outcome) -> Result<(), AllocError>
         ensures { (plan : Planned) → AreOutcomes plan self.old → outcome_at plan place
             ≡ Some outcome

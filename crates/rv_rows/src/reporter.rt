@@ -1,9 +1,9 @@
-//! Reporting rows.
+//! Texts for rows.
 
 use rv_report::Row;
 use std::alloc::{AllocError, Global};
 
-/// Produces the text for a job and its row.
+/// Produces a text for each row.
 pub trait RowReporter {
     ghost use Rattle.std.specs.Prelude.{◌≡◌, ◌++◌, ℕ, List, OnOk};
     ghost use Rattle.rv_report.specs.declared.row.Row.{Row};

@@ -24,7 +24,7 @@ use rv_report::{Refusal, Row};
 use std::alloc::{AllocError, Global};
 
 /// Returns the row of the job at an index, counted from 0, whose machine has completed `steps` steps of its run. The row equals that of
-/// [`crate::row_at`], but only the rest of the run is run. A job that it names is run completely.
+/// [`crate::row_at`], but only the rest of the run is executed. The job that its `same_as` names is run completely.
 pub fn row_from(
     alloc: Global,
     plan: &Plan,
@@ -46,7 +46,7 @@ pub fn row_from(
     judged_row(alloc, plan, i, outcome, same)
 }
 
-// Computes the result of the job.
+// Completes the run of a job, unless it is refused, and returns the result.
 #[tactic(auto, unfolding(crate::specs::Outcome::outcome_of))]
 fn attempt_from_machine(
     alloc: Global,
@@ -68,7 +68,7 @@ fn attempt_from_machine(
     }
 }
 
-// Computes the result of the job, given its image's bytes.
+// Completes the run of a job, given the bytes of its image, and returns the result, which may be a refusal.
 #[tactic(auto, unfolding(crate::specs::Outcome::file_outcome_of))]
 fn attempt_over_file(
     alloc: Global,
@@ -95,7 +95,7 @@ fn attempt_over_file(
     }
 }
 
-// Completes a run within a budget, of which `steps` steps have been run.
+// Completes a run within a budget, of which `steps` steps have been executed.
 fn rest_of_run(machine: Machine, steps: u32, budget: u32, range: Option<SignatureRange>) -> EndedRun
     requires within { steps ≤ budget }
     requires range { IfSome range

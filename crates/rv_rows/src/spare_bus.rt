@@ -1,4 +1,4 @@
-//! The memory of a run, reused for the next.
+//! The memory of a run, reused for the next run.
 
 ghost use Rattle.std.specs.Prelude.{◌≡◌, ◌≤◌, IfOk, vec_len};
 ghost use Rattle.rv_memory.specs.Bus.{new_bus};
@@ -8,19 +8,19 @@ use rv_memory::{Bus, Map, Misaligned};
 use std::alloc::{AllocError, Global};
 
 /// The bus of the last run, if any. A worker creates the bus of its next run in the memory of the last one if the maps have the same size:
-/// allocating memory anew for each run costs more than a small run does.
+/// allocating memory for each run costs more than a small run does.
 #[derive(Drop)]
 pub struct Spare {
     bus: Option<Bus>,
 }
 
 impl Spare {
-    /// Creates an empty `Spare`.
+    /// Returns no bus.
     pub fn new() -> Spare {
         Spare { bus: None }
     }
 
-    /// Creates a bus.
+    /// Creates a bus, in the memory of the last run if there is one of the right size.
     pub(crate) fn new_bus(
         &mut self,
         alloc: Global,
@@ -37,14 +37,14 @@ impl Spare {
         }
     }
 
-    /// Keeps the bus of a run whose outcome is no longer needed.
+    /// Keeps the bus of an ended run, whose outcome is no longer needed, for the next run.
     pub(crate) fn keep(&mut self, attempt: Attempt) {
         if let Attempt::Ran(run) = attempt {
             self.keep_bus(run.bus);
         }
     }
 
-    /// Keeps a bus that is no longer needed.
+    /// Keeps a bus that is no longer needed for the next run.
     pub fn keep_bus(&mut self, bus: Bus) {
         self.bus = Some(bus);
     }

@@ -11,8 +11,8 @@ use crate::outcome::{Attempt, EndedRun, Outcome};
 use rv_jobs::{ExpectedConsole, ExpectedEnd, Job, Text};
 use rv_report::{RowEnd, Verdict, Words, are_word_lines};
 
-/// Returns whether an outcome is what the job expects, given the bytes of its references, if they were read, and whether the outcome equals
-/// that of the job that it names, if any.
+/// Returns the verdict on the outcome of a job, given the bytes of the files with the expected signature and console, if they were read,
+/// and whether the outcome equals that of the job that `same_as` names.
 #[tactic(auto, unfolding(crate::specs::Verdict::verdict_of))]
 pub(crate) fn verdict_of(
     job: &Job,
@@ -47,7 +47,7 @@ pub(crate) fn verdict_of(
     Verdict::Pass
 }
 
-/// Whether a job has any expectations.
+/// Whether a job has expectations.
 pub fn expects_anything(job: &Job) -> bool
     ensures { result ≡ expects_anything job.now }
 {
@@ -58,7 +58,7 @@ pub fn expects_anything(job: &Job) -> bool
         || job.same_as.is_some()
 }
 
-/// Whether a run ended with the expected code, if there is one.
+/// Whether a run ended by the exit call with the expected code, if one is expected.
 pub fn has_expected_exit(expected: Option<u32>, ending: RowEnd) -> bool
     ensures { result ≡ has_expected_exit expected ending }
 {
@@ -68,6 +68,7 @@ pub fn has_expected_exit(expected: Option<u32>, ending: RowEnd) -> bool
     }
 }
 
+// Whether a run ended by the exit call with this code.
 fn exits_with(code: u32, ending: RowEnd) -> bool
     ensures { result ≡ exits_with code ending }
 {
@@ -79,7 +80,7 @@ fn exits_with(code: u32, ending: RowEnd) -> bool
     }
 }
 
-/// Whether a run ended as expected, if there is an expectation.
+/// Whether a run ended as expected, if an end is expected.
 pub fn has_expected_end(expected: Option<ExpectedEnd>, ending: RowEnd) -> bool
     ensures { result ≡ has_expected_end expected ending }
 {
@@ -89,7 +90,7 @@ pub fn has_expected_end(expected: Option<ExpectedEnd>, ending: RowEnd) -> bool
     }
 }
 
-// Whether a run ended by its budget, or by a fault of the expected kind.
+// Whether a run ended as expected: by using up its budget, or with a fault of this kind.
 fn ends_by(expected: ExpectedEnd, ending: RowEnd) -> bool
     ensures { result ≡ ends_by expected ending }
 {
@@ -100,7 +101,7 @@ fn ends_by(expected: ExpectedEnd, ending: RowEnd) -> bool
     }
 }
 
-// Whether the job ran, and its console output is the expected one.
+// Whether the job ran and its console output is the expected text of the list or the file. True if no console is expected.
 fn has_expected_console(
     expected: &Option<ExpectedConsole>,
     file: Option<&[u8]>,
@@ -117,13 +118,14 @@ fn has_expected_console(
     }
 }
 
+// Whether the job ran and its console output is these bytes.
 fn ran_with_console(bytes: &[u8], outcome: &Outcome) -> bool
     ensures { result ≡ ran_with_console bytes.now outcome.now }
 {
     did_run(outcome.ending) && bytes == outcome.console.as_slice()
 }
 
-// Whether the job ran, and the reference equals its signature's lines.
+// Whether the job ran and the bytes of the file with its expected signature are the lines of its signature. True if none is expected.
 fn has_expected_signature(
     expected: &Option<Text>,
     reference: Option<&[u8]>,
@@ -142,14 +144,14 @@ fn has_expected_signature(
     did_run(outcome.ending) && are_signature_lines(bytes, &outcome.signature)
 }
 
-/// Whether an ending is that of a run, that is, not a refusal.
+/// Whether a job ran, rather than being refused.
 pub fn did_run(ending: RowEnd) -> bool
     ensures { result ≡ did_run ending }
 {
     !matches!(ending, RowEnd::Refused(_))
 }
 
-// Whether these bytes are the lines of a signature's words.
+// Whether these bytes are the lines of a signature's words. Without a signature there are no lines.
 fn are_signature_lines(bytes: &[u8], signature: &Option<Words>) -> bool
     ensures { result ≡ bytes_eq bytes.now (lines_of_signature signature.now) }
 {
@@ -159,7 +161,7 @@ fn are_signature_lines(bytes: &[u8], signature: &Option<Words>) -> bool
     }
 }
 
-/// Whether two outcomes are equal except for steps, addresses and values.
+/// Whether two outcomes are equal except for steps, addresses and values of faults. A refusal equals no outcome.
 pub fn are_same_outcomes(outcome: &Outcome, other: &Outcome) -> bool
     ensures { result ≡ are_same_outcomes outcome.now other.now }
 {
@@ -172,7 +174,7 @@ pub fn are_same_outcomes(outcome: &Outcome, other: &Outcome) -> bool
     are_same_signatures(&outcome.signature, &other.signature)
 }
 
-/// Whether an outcome equals a result that has not been copied, except for steps, addresses and values.
+/// Whether an outcome equals that of a result which has not been copied, as [`are_same_outcomes`] compares them.
 pub(crate) fn is_same_as_attempt(outcome: &Outcome, other: &Attempt) -> bool
     requires { IsReadable other.now }
     ensures { result ≡ are_same_outcomes outcome.now (outcome_of_attempt other.now) }
@@ -183,6 +185,7 @@ pub(crate) fn is_same_as_attempt(outcome: &Outcome, other: &Attempt) -> bool
     }
 }
 
+// Whether an outcome equals that of an ended run, as [`are_same_outcomes`] compares them.
 fn has_same_outcome_as_run(outcome: &Outcome, run: &EndedRun) -> bool
     requires { HasSignature run.now }
     ensures { result ≡ are_same_outcomes outcome.now (outcome_in_bus run.now) }
@@ -196,7 +199,7 @@ fn has_same_outcome_as_run(outcome: &Outcome, run: &EndedRun) -> bool
     has_run_signature(run, &outcome.signature)
 }
 
-// Whether a run's signature has these words.
+// Whether the signature of an ended run has these words, or both signatures are missing.
 fn has_run_signature(run: &EndedRun, signature: &Option<Words>) -> bool
     requires { HasSignature run.now }
     ensures { result ≡ are_same_signatures signature.now (outcome_in_bus run.now).signature }
@@ -210,7 +213,7 @@ fn has_run_signature(run: &EndedRun, signature: &Option<Words>) -> bool
     }
 }
 
-/// Whether two runs ended alike: with the same code, with the same kind of fault, or both by their budgets.
+/// Whether two jobs ended alike: with one exit code, with one kind of fault, or both by using up their budgets.
 pub fn are_alike_endings(ending: RowEnd, other: RowEnd) -> bool
     ensures { result ≡ are_alike_endings ending other }
 {
@@ -222,7 +225,7 @@ pub fn are_alike_endings(ending: RowEnd, other: RowEnd) -> bool
     }
 }
 
-/// Whether two signatures are equal, or both missing.
+/// Whether two signatures have the same words, or both are missing.
 pub fn are_same_signatures(signature: &Option<Words>, other: &Option<Words>) -> bool
     ensures { result ≡ are_same_signatures signature.now other.now }
 {

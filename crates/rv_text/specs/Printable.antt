@@ -8,8 +8,8 @@ use Rattle.std.specs.List.{All}
 use Rattle.std.specs.Str.{IsUtf8, chars, continuation_len, is_utf8}
 use Rattle.hex.specs.Hex.{encode_lower}
 
--- whether the text begins with a control character: below U+0020, U+007F, or U+0080 to U+009F, which are encoded as 0xC2 followed by the
--- character's number
+-- whether a text begins with a control character: one below U+0020, U+007F, or U+0080 to U+009F, which UTF-8 encodes as 0xC2 and a byte
+-- below 0xA0
 abbrev pub begins_with_control : List ℕ → Bool
 begins_with_control text = let first = slice_index text 0 in
     nat_lt first 0x20 || first == 0x7F || (first == 0xC2 && nat_lt (slice_index text 1) 0xA0)
@@ -27,11 +27,12 @@ is_format c = c == 0xAD || (is_in_range 0x600 0x605 c || (c == 0x61C || (c == 0x
     0x1_10BD || (c == 0x1_10CD || (is_in_range 0x1_3430 0x1_343F c || (is_in_range 0x1_BCA0 0x1_BCA3 c ||
     (is_in_range 0x1_D173 0x1_D17A c || (is_in_range 0xE_0000 0xE_007F c))))))))))))))))))
 
+-- whether there is a character, and it is a format character
 abbrev pub is_format_if_any : Option ℕ → Bool
 is_format_if_any None = false
 is_format_if_any (Some c) = is_format c
 
--- whether the text begins with such a character
+-- whether a text begins with a format character
 unfoldable pub begins_with_format : List ℕ → Bool
 begins_with_format text = let front = front_character_bytes text in
     if is_utf8 front then is_format_if_any (slice_get (chars front) 0) else false
@@ -42,30 +43,33 @@ plain_front_len text =
     if is_utf8 (front_character_bytes text) && not (begins_with_control text || begins_with_format text)
     then length (front_character_bytes text) else 0
 
--- the escape of a byte
+-- the escape of a byte: `\x` and two lower-case hexadecimal digits
 abbrev pub escape : ℕ → List ℕ
 escape byte = codes "\\x" ++ encode_lower (byte ∷ [])
 
--- how the first byte of a text is shown
+-- the beginning of what is shown for a text whose first byte is `byte`: the escape of the byte, or the byte itself if it begins a character
+-- that is shown as it is
 abbrev pub printable_first : List ℕ → ℕ → List ℕ
 printable_first text byte = if plain_front_len text == 0 then escape byte else byte ∷ []
 
--- how a text is shown whose first n bytes still belong to a character that is shown as it is
+-- how a text is shown, if its first `left` bytes belong to a character that is shown as it is and began before the text
 unfoldable pub printable_from : ℕ → List ℕ → List ℕ
 printable_from left [] = []
 printable_from zero (byte ∷ rest) = printable_first (byte ∷ rest) byte
     ++ printable_from (plain_front_len (byte ∷ rest) - 1) rest
 printable_from (suc left) (byte ∷ rest) = byte ∷ printable_from left rest
 
--- how a text is shown
+-- how a text from a file is shown: characters as they are, and each byte of a control character, of a format character or of invalid UTF-8
+-- as its escape
 abbrev pub printable_text : List ℕ → List ℕ
 printable_text text = printable_from 0 text
 
--- the number of characters that the first byte of a text is shown as: one for its character, or the four of an escape
+-- the number of characters that the first character or byte of a text is shown as: one, or the four of an escape
 abbrev pub front_width : List ℕ → ℕ
 front_width text = if plain_front_len text == 0 then 4 else 1
 
--- the text cut off after the last whole character or escape that fits into a number of characters
+-- how a text is shown within `room` characters, cut off after the last whole character or escape that fits; its first `left` bytes belong
+-- to a character that began before the text
 unfoldable pub printable_within : ℕ → ℕ → List ℕ → List ℕ
 printable_within room left [] = []
 printable_within room zero (byte ∷ rest) =
@@ -74,34 +78,36 @@ printable_within room zero (byte ∷ rest) =
     ++ printable_within (room - front_width (byte ∷ rest)) (plain_front_len (byte ∷ rest) - 1) rest
 printable_within room (suc left) (byte ∷ rest) = byte ∷ printable_within room left rest
 
--- the maximum number of characters shown of a value
+-- the maximum number of characters shown of an actual or expected value
 abbrev pub most_shown_characters : ℕ
 most_shown_characters = 80
 
--- how an actual or expected value is shown
+-- how an actual or expected value is shown: like any text, but cut off at `most_shown_characters`
 abbrev pub printable_value : List ℕ → List ℕ
 printable_value text = printable_within most_shown_characters 0 text
 
--- the maximum number of characters shown of a symbol's name
+-- the maximum number of characters shown of the name of a symbol
 abbrev pub most_characters_of_name : ℕ
 most_characters_of_name = 256
 
--- how the name of a symbol is shown
+-- how the name of a symbol is shown: like any text, but cut off at `most_characters_of_name`
 abbrev pub printable_name : List ℕ → List ℕ
 printable_name text = printable_within most_characters_of_name 0 text
 
--- ---- the piece in front: a character that is shown as it is, or one byte
+-- ---- the beginning of a text: a character that is shown as it is, or one byte
 
+-- how the beginning of a text is shown: its first character as it is, or the escape of its first byte
 abbrev pub printable_front : List ℕ → List ℕ
 printable_front text =
     if plain_front_len text == 0 then escape (slice_index text 0) else take (plain_front_len text) text
 
+-- the text after its beginning: without its first character if that is shown as it is, else without its first byte
 abbrev pub behind_printable_front : List ℕ → List ℕ
 behind_printable_front text = if plain_front_len text == 0 then drop 1 text else drop (plain_front_len text) text
 
--- ---- what a terminal takes as text
+-- ---- text that is safe to show on a terminal
 
--- UTF-8 without control or format characters
+-- the text is UTF-8 without control characters and format characters
 pub record IsUtf8WithoutControls (text : List ℕ) : Type 0 where
   pub utf8 : IsUtf8 text
   pub without_controls : All (λ character. (is_control character || is_format character) ≡ false) (chars text)

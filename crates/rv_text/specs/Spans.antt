@@ -6,6 +6,7 @@ use Rattle.rv_text.specs.declared.spans.Span.{Span}
 use Rattle.rv_text.specs.declared.spans.Span.TheVariants as span
 use Rattle.rv_text.specs.Printable.{printable_name, printable_text, printable_value}
 
+-- the text of a span of a line
 abbrev pub span_text : Span → List ℕ
 span_text (span.Text text) = text.now
 span_text (span.Number number) = decimal number

@@ -1,17 +1,17 @@
--- A location relative to a symbol.
+-- A code location, as the name of a symbol and the offset from it.
 use Rattle.std.specs.Prelude.{ℕ, List, [], ◌++◌, Option, Some, None, codes, false}
 use Rattle.std.specs.Fmt.{digits}
 use Rattle.rv_text.specs.Printable.{printable_name}
 
--- lower-case hexadecimal digits without leading zeros
+-- the lower-case hexadecimal digits of a number, without leading zeros
 abbrev pub hexadecimal : ℕ → List ℕ
 hexadecimal number = digits 16 false number
 
--- a location as the name of a symbol and the offset from it
+-- a location as `NAME+0xOFFSET`, from the name of a symbol and the offset from it
 unfoldable pub symbol_text : List ℕ × ℕ → List ℕ
 symbol_text place = printable_name place.0 ++ codes "+0x" ++ hexadecimal place.1
 
--- a code location in brackets, if it has a symbol
+-- a location as ` (NAME+0xOFFSET)`, or nothing if it has no symbol
 abbrev pub symbol_in_brackets : Option (List ℕ × ℕ) → List ℕ
 symbol_in_brackets None = []
 symbol_in_brackets (Some place) = codes " (" ++ symbol_text place ++ codes ")"

@@ -13,91 +13,96 @@ use Rattle.rv_text.specs.declared.xml.Within.TheVariants.{Attribute, Element}
 
 -- ---- characters
 
--- whether a code point is a character of XML 1.0: production Char
+-- whether a code point is a character of XML 1.0, as in its production Char
 abbrev pub is_xml_character : ℕ → Bool
 is_xml_character c = c == 0x9 || (c == 0xA || (c == 0xD || (is_in_range 0x20 0xD7FF c
     || (is_in_range 0xE000 0xFFFD c || is_in_range 0x1_0000 0x10_FFFF c))))
 
--- in an attribute an XML parser replaces tabs and line feeds by spaces unless they are written as references
+-- the reference of a tab or a line feed in an attribute, where an XML parser replaces these characters by spaces; otherwise `None`
 abbrev pub space_reference : Within → ℕ → Option (List ℕ)
 space_reference Attribute c =
     if c == 0x9 then Some (codes "&#9;") else if c == 0xA then Some (codes "&#10;") else None
 space_reference Element c = None
 
--- the reference of a character that is markup, or that an XML parser would change
+-- the reference of a character that is markup, or that an XML parser would change; `None` for any other character
 abbrev pub character_reference : Within → ℕ → Option (List ℕ)
 character_reference within c =
     if c == 60 then Some (codes "&lt;") else if c == 62 then Some (codes "&gt;")
     else if c == 38 then Some (codes "&amp;") else if c == 34 then Some (codes "&quot;")
     else if c == 0xD then Some (codes "&#13;") else space_reference within c
 
--- a character as its reference, or as it is
+-- the reference if there is one, else the character `c` in UTF-8
 abbrev pub reference_or_character : Option (List ℕ) → ℕ → List ℕ
 reference_or_character (Some text) c = text
 reference_or_character None c = encode_utf8 c
 
+-- a character of XML as it is written in an attribute or an element: as its reference, or as it is in UTF-8
 abbrev pub character_text : Within → ℕ → List ℕ
 character_text within c = reference_or_character (character_reference within c) c
 
--- ---- the character in front
+-- ---- the first character
 
 -- the bytes of the character that the first byte begins, or all bytes if there are fewer
 abbrev pub xml_front_bytes : List ℕ → List ℕ
 xml_front_bytes [] = []
 xml_front_bytes (byte ∷ rest) = take (continuation_len byte + 1) (byte ∷ rest)
 
+-- the character if there is one and XML 1.0 has it, else `None`
 abbrev pub filter_xml_character : Option ℕ → Option ℕ
 filter_xml_character None = None
 filter_xml_character (Some c) = if is_xml_character c then Some c else None
 
--- the XML character that the bytes begin with, if any
+-- the XML character that the bytes begin with, or `None` if they begin with no XML character
 unfoldable pub front_xml_character : List ℕ → Option ℕ
 front_xml_character bytes = let front = xml_front_bytes bytes in
     if is_utf8 front then filter_xml_character (slice_get (chars front) 0) else None
 
--- the escape of a byte that is not part of a character
+-- the escape of a byte that is not part of an XML character: `\x` and two lower-case hexadecimal digits
 abbrev pub escape : ℕ → List ℕ
 escape byte = codes "\\x" ++ encode_lower (byte ∷ [])
 
+-- the text of an XML character, or the escape of `byte` if there is none
 abbrev pub character_or_escape : Within → ℕ → Option ℕ → List ℕ
 character_or_escape within byte (Some c) = character_text within c
 character_or_escape within byte None = escape byte
 
--- the number of its bytes after the first
+-- the number of bytes of a character after its first; 0 if there is no character
 abbrev pub more_front_bytes : Option ℕ → ℕ
 more_front_bytes (Some c) = len_utf8 c - 1
 more_front_bytes None = 0
 
 -- ---- the text
 
--- the text of bytes of which the first n belong to the character before them
+-- the bytes as text in XML, where the first `left` bytes are left out, since they belong to a character that began before them
 unfoldable pub xml_text_from : Within → ℕ → List ℕ → List ℕ
 xml_text_from within left [] = []
 xml_text_from within zero (byte ∷ rest) = let front = front_xml_character (byte ∷ rest) in
     character_or_escape within byte front ++ xml_text_from within (more_front_bytes front) rest
 xml_text_from within (suc left) (byte ∷ rest) = xml_text_from within left rest
 
--- bytes as text in XML
+-- the bytes as text in an attribute or an element: each XML character as it is or as its reference, and every other byte as its escape
 abbrev pub xml_text : Within → List ℕ → List ℕ
 xml_text within bytes = xml_text_from within 0 bytes
 
--- ---- the piece in front: a character or one byte
+-- ---- the beginning of the bytes: a character or one byte
 
+-- the text of the first XML character of these bytes, or the escape of the first byte if they begin with none
 abbrev pub xml_front_text : Within → List ℕ → List ℕ
 xml_front_text within bytes = character_or_escape within (slice_index bytes 0) (front_xml_character bytes)
 
+-- the bytes after their first XML character, or after the first byte if they begin with none
 abbrev pub behind_xml_front : List ℕ → List ℕ
 behind_xml_front bytes = drop (more_front_bytes (front_xml_character bytes) + 1) bytes
 
--- ---- what can stand in a document
+-- ---- text of XML documents
 
--- XML characters, each as its reference or as it is
+-- the text consists of XML characters, each as its reference, if it has one, or as it is in UTF-8
 pub record IsXmlText (within : Within) (text : List ℕ) : Type 0 where
   pub characters : List ℕ
   pub taken : list_all is_xml_character characters ≡ true
   pub written : text ≡ flat_map (character_text within) characters
 
--- the UTF-8 encoding of XML characters
+-- the text is the UTF-8 encoding of XML characters
 pub record IsXmlCharacters (text : List ℕ) : Type 0 where
   pub characters : List ℕ
   pub taken : list_all is_xml_character characters ≡ true

@@ -6,14 +6,14 @@ ghost use Rattle.rv_text.specs.declared.xml.Within.{Within};
 ghost use Rattle.rv_text.specs.Printable.{IsUtf8WithoutControls, printable_name, printable_text, printable_value};
 ghost use Rattle.rv_text.specs.Xml.{IsXmlText, xml_text};
 
-/// Whatever the bytes, only characters of XML 1.0 are written, and none of them is markup: each is written as its reference, if it has one,
-/// and otherwise as it is in UTF-8.
+/// Proves that `xml_text` consists of characters of XML 1.0 whatever the bytes, and that none of them is markup: each is written as its
+/// reference, if it has one, and otherwise as it is in UTF-8.
 pub fn escaped_bytes_are_xml()
     ensures { (within : Within) (bytes : List ℕ) → IsBytes bytes
         → IsXmlText within (xml_text within bytes) }
 {}
 
-/// Whatever the bytes, the text shown for them is UTF-8 without control characters.
+/// Proves that the text shown for any bytes is UTF-8 without control and format characters.
 pub fn printable_text_is_utf8_without_controls()
     ensures text { (bytes : List ℕ) → IsBytes bytes → IsUtf8WithoutControls (printable_text bytes) }
     ensures value { (bytes : List ℕ) → IsBytes bytes

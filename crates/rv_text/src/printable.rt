@@ -35,7 +35,8 @@ pub fn push_printable_value(bytes: &mut Vec<u8>, value: &[u8]) -> Result<(), All
     push_printable_within(bytes, VALUE_ROOM, value)
 }
 
-/// Appends the name of a symbol as [`push_printable_value`] does, but within [`NAME_ROOM`] characters.
+/// Appends the name of a symbol as [`push_printable_text`] does, cut off after the last whole character or `\xNN` that fits into
+/// [`NAME_ROOM`] characters.
 pub fn push_printable_name(bytes: &mut Vec<u8>, name: &[u8]) -> Result<(), AllocError>
     ensures { OnOk result (bytes.new.items ≡ bytes.old.items ++ printable_name name.now) }
 {
@@ -63,7 +64,7 @@ fn push_printable_within(
     Ok(())
 }
 
-// Returns the number of characters that the first character or byte is shown as.
+// Returns the number of characters that the first character or byte is shown as: one, or four for `\xNN`.
 fn front_width(text: &[u8]) -> usize
     ensures { result ≡ front_width text.now }
 {
@@ -123,6 +124,7 @@ pub fn is_utf8(text: &[u8]) -> bool
     }
 }
 
+// Whether the text begins with a control character.
 fn begins_with_control(text: &[u8]) -> bool
     ensures { result ≡ begins_with_control text.now }
 {
@@ -130,6 +132,7 @@ fn begins_with_control(text: &[u8]) -> bool
     first < 0x20 || first == 0x7F || (first == 0xC2 && byte_at(text, 1) < 0xA0)
 }
 
+// Whether the text begins with a format character.
 fn begins_with_format(text: &[u8]) -> bool
     ensures { result ≡ begins_with_format text.now }
 {
@@ -139,6 +142,7 @@ fn begins_with_format(text: &[u8]) -> bool
     }
 }
 
+// Whether there is a character, and it is a format character.
 fn is_format_if_any(character: Option<char>) -> bool
     ensures { result ≡ is_format_if_any character }
 {
@@ -162,6 +166,7 @@ fn is_format(character: char) -> bool
     )
 }
 
+// Appends the escape of a byte: `\x` and two lower-case hexadecimal digits.
 fn push_escape(bytes: &mut Vec<u8>, byte: u8) -> Result<(), AllocError>
     ensures { OnOk result (bytes.new.items ≡ bytes.old.items ++ escape byte) }
 {

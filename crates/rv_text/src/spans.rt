@@ -10,10 +10,10 @@ use crate::text_and_numbers::{
 };
 use std::alloc::{AllocError, Global};
 
-/// A span of a line.
+/// A part of a line.
 #[derive(Clone, Copy)]
 pub enum Span<'a> {
-    /// Text, verbatim.
+    /// Text, unchanged.
     Text(&'a str),
     /// A number in decimal.
     Number(u64),
@@ -41,7 +41,7 @@ pub fn push_spans(bytes: &mut Vec<u8>, spans: &[Span<'_>]) -> Result<(), AllocEr
     Ok(())
 }
 
-/// Returns the text of spans.
+/// Returns the text of spans, one after another.
 pub fn text_of_spans(alloc: Global, spans: &[Span<'_>]) -> Result<Vec<u8>, AllocError>
     ensures { IfOk result (λ text. text.items ≡ flat_map span_text spans.now) }
 {
@@ -50,6 +50,7 @@ pub fn text_of_spans(alloc: Global, spans: &[Span<'_>]) -> Result<Vec<u8>, Alloc
     Ok(text)
 }
 
+// Appends the text of a span.
 fn push_span(bytes: &mut Vec<u8>, span: Span<'_>) -> Result<(), AllocError>
     ensures { OnOk result (bytes.new.items ≡ bytes.old.items ++ span_text span.entry) }
 {

@@ -1,4 +1,4 @@
-//! A location relative to a symbol.
+//! A code location, as the name of a symbol and the offset from it.
 
 ghost use Rattle.std.specs.Prelude.{◌≡◌, ◌++◌, OnOk, option_map};
 ghost use Rattle.rv_text.specs.Symbol.{symbol_in_brackets, symbol_text};
@@ -7,7 +7,7 @@ use crate::spans::{Span, push_spans};
 use rv_elf::SymbolAt;
 use std::alloc::{AllocError, Global};
 
-/// Appends a space and a location in brackets, if it has a symbol.
+/// Appends a location as ` (NAME+0xOFFSET)`, or nothing if it has no symbol.
 pub fn push_symbol_in_brackets(
     alloc: Global,
     bytes: &mut Vec<u8>,
@@ -22,7 +22,7 @@ pub fn push_symbol_in_brackets(
     }
 }
 
-/// Appends a location as the name of a symbol, shown as by [`push_printable_name`](crate::printable::push_printable_name), and the offset
+/// Appends a location as the name of a symbol, as [`push_printable_name`](crate::printable::push_printable_name) shows it, and the offset
 /// from it: `main+0x1c`.
 pub fn push_symbol(
     alloc: Global,
@@ -35,7 +35,7 @@ pub fn push_symbol(
     push_symbol_between(alloc, bytes, "", symbol, "")
 }
 
-// Appends a location relative to a symbol between two texts.
+// Appends a text, a location as `NAME+0xOFFSET`, and another text.
 #[tactic(auto, unfolding(crate::specs::Symbol::symbol_text))]
 fn push_symbol_between<'a>(
     alloc: Global,

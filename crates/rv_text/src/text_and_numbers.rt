@@ -6,7 +6,7 @@ ghost use Rattle.rv_text.specs.Words.{count_text, exit_code_text, plural_ending,
 
 use std::alloc::AllocError;
 
-/// Appends a text verbatim.
+/// Appends a text unchanged.
 pub fn push_text(bytes: &mut Vec<u8>, text: &str) -> Result<(), AllocError>
     ensures { OnOk result (bytes.new.items ≡ bytes.old.items ++ text.now) }
 {
@@ -32,13 +32,15 @@ pub fn push_count(bytes: &mut Vec<u8>, number: u64, noun: &str) -> Result<(), Al
     push_text(bytes, plural_ending(number))
 }
 
+// Returns the ending of a noun after a number: nothing after 1, else `s`.
 fn plural_ending(number: u64) -> &'static str
     ensures { result.now ≡ plural_ending number }
 {
     if number == 1 { "" } else { "s" }
 }
 
-/// Appends an exit code. A negative one is written as the program returned it and as a list has it: `-1 (4294967295)`.
+/// Appends an exit code in decimal. If its top bit is set, it is written as a negative number, followed by the number that a list has: `-1
+/// (4294967295)`.
 #[tactic(auto, unfolding(crate::specs::Words::exit_code_text))]
 pub fn push_exit_code(bytes: &mut Vec<u8>, code: u32) -> Result<(), AllocError>
     ensures { OnOk result (bytes.new.items ≡ bytes.old.items ++ exit_code_text code) }

@@ -16,7 +16,7 @@ pub enum Within {
     Element,
 }
 
-/// Appends a text for XML: characters as they are or as references, and each byte that is not part of an XML character as `\xNN`.
+/// Appends bytes as text in XML: each XML character as it is or as its reference, and every other byte as `\xNN`.
 pub fn push_xml_text(
     alloc: Global,
     text: &mut String,
@@ -33,7 +33,7 @@ pub fn push_xml_text(
     Ok(())
 }
 
-// Appends the first character or byte as XML, and returns the remaining bytes.
+// Appends the first XML character of the bytes, or the first byte as `\xNN` if they begin with none, and returns the remaining bytes.
 fn push_xml_front<'a>(
     alloc: Global,
     text: &mut String,
@@ -58,7 +58,7 @@ fn push_xml_front<'a>(
     }
 }
 
-// Returns the XML character that the bytes begin with, if any.
+// Returns the XML character that the bytes begin with, or `None` if they begin with none.
 fn front_xml_character(bytes: &[u8]) -> Option<char>
     ensures { result ≡ front_xml_character bytes.now }
 {
@@ -68,6 +68,7 @@ fn front_xml_character(bytes: &[u8]) -> Option<char>
     }
 }
 
+// Returns the character if there is one and XML 1.0 has it, else `None`.
 fn filter_xml_character(character: Option<char>) -> Option<char>
     ensures { result ≡ filter_xml_character character }
 {
@@ -92,7 +93,7 @@ fn xml_front_bytes(bytes: &[u8]) -> &[u8]
     }
 }
 
-// Whether XML 1.0 allows a character: control characters except three, surrogates, and the two code points after U+FFFD are not allowed.
+// Whether XML 1.0 has a character: it lacks the control characters except three, the surrogates, and the two code points after U+FFFD.
 fn is_xml_character(character: char) -> bool
     ensures { result ≡ is_xml_character character }
 {
@@ -113,7 +114,7 @@ fn push_character(text: &mut String, within: Within, character: char) -> Result<
     }
 }
 
-// Returns the reference of a character that is not written as it is.
+// Returns the reference of a character that is markup or that an XML parser would change, or `None` for any other.
 fn character_reference(within: Within, character: char) -> Option<&'static str>
     ensures { option_map (λ text. text.now) result ≡ character_reference within character }
 {
@@ -129,6 +130,7 @@ fn character_reference(within: Within, character: char) -> Option<&'static str>
     }
 }
 
+// Appends the escape of a byte: `\x` and two lower-case hexadecimal digits.
 fn push_escape(alloc: Global, text: &mut String, byte: u8) -> Result<(), AllocError>
     ensures { OnOk result (string_bytes text.new ≡ string_bytes text.old ++ escape byte) }
 {

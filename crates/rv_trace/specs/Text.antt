@@ -1,4 +1,4 @@
--- The text of a trace: where the run ended, the registers there, and one line per instruction.
+-- The text of a trace: where the run ended, the registers there, and a line for each instruction.
 use Rattle.std.specs.Prelude.{◌==◌, ◌+◌, ◌-◌, ℕ, Bool, true, false, List, [], ◌∷◌, ◌++◌, codes, drop}
 use Rattle.std.specs.Prelude.{if◌then◌else◌, length, replicate, Option, Some, None}
 use Rattle.std.specs.List.{flat_map}
@@ -26,10 +26,11 @@ use Rattle.rv_trace.specs.declared.trace.Trace.{Trace}
 
 -- ---- columns
 
--- a text padded with trailing spaces to a width
+-- a text with trailing spaces up to a width
 unfoldable pub padded_text : ℕ → List ℕ → List ℕ
 padded_text width text = text ++ replicate (width - length text) 32
 
+-- the separator of two columns
 abbrev pub gap : List ℕ
 gap = codes "  "
 
@@ -37,46 +38,48 @@ gap = codes "  "
 abbrev pub margin : List ℕ
 margin = codes "     "
 
--- an address as a symbol and offset; empty if there is no symbol
+-- an address as the name of a symbol and the offset from it, or an empty text if it has no symbol
 abbrev pub symbol_or_none : Option (List ℕ × ℕ) → List ℕ
 symbol_or_none None = []
 symbol_or_none (Some place) = symbol_text place
 
 -- ---- an instruction
 
--- four hexadecimal digits for a halfword, eight for a word
+-- an encoding as hexadecimal digits: four for a halfword, eight for a word
 unfoldable pub code_text : Code → List ℕ
 code_text (Half half) = drop 4 (word_digits half)
 code_text (Word word) = word_digits word
 
+-- the assembly text of an encoding at `pc`
 unfoldable pub assembly : ℕ → Code → List ℕ
 assembly pc (Half half) = assembly16 half pc
 assembly pc (Word word) = assembly32 word pc
 
--- two digits per byte
+-- a stored value as hexadecimal digits, two for each byte
 unfoldable pub stored_value_text : Width → ℕ → List ℕ
 stored_value_text width.Byte value = drop 6 (word_digits value)
 stored_value_text width.Half value = drop 4 (word_digits value)
 stored_value_text width.Word value = word_digits value
 
+-- the text `NAME <- VALUE` for a register and its new value
 abbrev pub register_text : ℕ → ℕ → List ℕ
 register_text number value = register_name number ++ codes " <- " ++ word_digits value
 
--- the text of a loaded value; only the address for a load into x0
+-- the text `NAME <- VALUE ` for a register and its loaded value, or nothing for a load into x0
 abbrev pub loaded_text : ℕ → ℕ → List ℕ
 loaded_text number value = if number == 0 then [] else register_text number value ++ codes " "
 
--- a symbol followed by a space
+-- the name of a symbol and the offset from it, with a space, or nothing if there is no symbol
 abbrev pub symbol_and_space : Option (List ℕ × ℕ) → List ℕ
 symbol_and_space None = []
 symbol_and_space (Some place) = symbol_text place ++ codes " "
 
--- a load's or store's address, after its symbol
+-- the address of a load or a store, after its symbol
 abbrev pub address_text : Image → List ℕ → ℕ → List ℕ
 address_text image file address =
     symbol_and_space (symbol_of_value image file address) ++ word_digits address
 
--- what an instruction wrote
+-- the text for what an instruction wrote
 unfoldable pub wrote_text : Image → List ℕ → WriteEffect → List ℕ
 wrote_text image file wrote.Nothing = []
 wrote_text image file (wrote.Register number value) = register_text number value
@@ -85,22 +88,23 @@ wrote_text image file (wrote.Loaded number value address) =
 wrote_text image file (wrote.Stored address width value) =
     address_text image file address ++ codes " <- " ++ stored_value_text width value
 
--- a text, followed by the effect if there is any
+-- the assembly text, and the text `told` in the next column, unless it is empty
 abbrev pub text_columns : List ℕ → List ℕ → List ℕ
 text_columns text told = if length told == 0 then text else padded_text 24 text ++ gap ++ told
 
--- the encoding, its assembly text, and the effect if there is one
+-- the encoding, its assembly text, and the text `told`, in columns; only `told` if there is no encoding
 unfoldable pub code_columns : Option Code → List ℕ → List ℕ → List ℕ
 code_columns None text told = told
 code_columns (Some code) text told = padded_text 8 (code_text code) ++ gap ++ text_columns text told
 
--- the line of an instruction at an address
+-- the line of an instruction at `pc`, with its symbol, its encoding, its assembly text, and the text `told`
 unfoldable pub instruction_line :
     Option (List ℕ × ℕ) → ℕ → Option Code → List ℕ → List ℕ → List ℕ
 instruction_line symbol pc code text told =
     line (margin ++ word_digits pc ++ gap ++ padded_text 20 (symbol_or_none symbol) ++ gap
     ++ code_columns code text told)
 
+-- the assembly text of an encoding at `pc`, or an empty text if there is none
 abbrev pub assembly_or_none : ℕ → Option Code → List ℕ
 assembly_or_none pc None = []
 assembly_or_none pc (Some code) = assembly pc code
@@ -113,7 +117,7 @@ step_line image file step =
 
 -- ---- the end
 
--- the value that a fault reports: for most kinds an address
+-- the text for the value of a fault, which for most kinds is an address
 unfoldable pub fault_value_text : FaultKind → ℕ → List ℕ
 fault_value_text fault.Illegal value = []
 fault_value_text fault.Breakpoint value = []
@@ -121,55 +125,61 @@ fault_value_text fault.UnknownCall value = codes ", value " ++ word_digits value
 fault_value_text fault.ConsoleFull value = codes ", value " ++ word_digits value
 fault_value_text _ value = codes " at " ++ word_digits value
 
--- how the instruction at the end ended the run
+-- the text for how a run ended, in the line of the instruction at the end
 unfoldable pub end_reason : RowEnd → List ℕ
 end_reason (ending.Exit code) = codes "exit " ++ exit_code_text code
 end_reason (ending.Fault kind pc value) = fault_name kind ++ fault_value_text kind value
 end_reason ending.Budget = codes "not run: the budget is used up"
 end_reason (ending.Refused why) = refusal_name why
 
--- the job's instruction set has no instruction for the encoding at the end
+-- whether a run ended because the job's instruction set has no instruction for the encoding
 abbrev pub ends_by_illegal : RowEnd → Bool
 ends_by_illegal (ending.Fault fault.Illegal pc value) = true
 ends_by_illegal _ = false
 
+-- the description of an encoding that is not an instruction of the job's set
 unfoldable pub illegal_text : Code → List ℕ
 illegal_text (Half half) = illegal_text16 half
 illegal_text (Word word) = illegal_text32 word
 
--- the assembly text of the encoding at the end
+-- the assembly text of the encoding at the end of a run, or its description if it is not an instruction of the job's set; empty if there is
+-- no encoding
 abbrev pub end_assembly : RowEnd → ℕ → Option Code → List ℕ
 end_assembly end pc None = []
 end_assembly end pc (Some code) = if ends_by_illegal end then illegal_text code else assembly pc code
 
+-- the line of the instruction at the end of a run
 unfoldable pub end_instruction_line : Image → List ℕ → ℕ → Option Code → RowEnd → List ℕ
 end_instruction_line image file pc code end =
     instruction_line (symbol_at image file pc) pc code (end_assembly end pc code) (end_reason end)
 
+-- the line that says where a run ended
 unfoldable pub ended_at_line : Image → List ℕ → ℕ → List ℕ
 ended_at_line image file pc =
     line (codes "     ended at " ++ word_digits pc ++ symbol_in_brackets (symbol_at image file pc))
 
 -- ---- the registers
 
--- the symbol that a value points to, appended to the value
+-- the symbol that a value points to, after a gap, or nothing if there is no symbol
 abbrev pub symbol_behind_value : Option (List ℕ × ℕ) → List ℕ
 symbol_behind_value None = []
 symbol_behind_value (Some place) = gap ++ symbol_text place
 
+-- the line of a register with this value
 unfoldable pub register_line : Image → List ℕ → ℕ → ℕ → List ℕ
 register_line image file number value =
     line (margin ++ padded_text 4 (register_name number) ++ gap ++ word_digits value
     ++ symbol_behind_value (symbol_of_value image file value))
 
--- the lines of the registers from a number on
+-- the lines of registers with these values, of which the first has the number `number`
 unfoldable pub register_lines : Image → List ℕ → ℕ → List ℕ → List ℕ
 register_lines image file number [] = []
 register_lines image file number (value ∷ values) =
     register_line image file number value ++ register_lines image file (number + 1) values
 
--- ---- all of it
+-- ---- the whole text
 
+-- the text of a trace of a run that ended so
 unfoldable pub trace_text : Image → List ℕ → Trace → RowEnd → List ℕ
 trace_text image file trace end =
     ended_at_line image file trace.pc ++ register_lines image file 0 trace.registers

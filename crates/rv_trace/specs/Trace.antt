@@ -13,22 +13,23 @@ use Rattle.rv_trace.specs.declared.trace.Trace.{Trace}
 use Rattle.rv_trace.specs.Code.{code_at}
 use Rattle.rv_trace.specs.Steps.{steps_from}
 
--- the job at an index of a plan, or the given one if there is none
+-- the job at an index of a plan, or `other` if there is none
 abbrev pub job_at : Planned → ℕ → Job → Job
 job_at plan place other = slice_index_or plan.jobs place other
 
--- the bytes of a job's image, if they were read
+-- the bytes of a job's image, or `None` if they were not read
 abbrev pub image_bytes : List Answer → Job → Option (List ℕ)
 image_bytes answers job = content_if_read (Some (kept_for answers job.image))
 
--- the state after at most n steps of a run
+-- the state after at most `n` steps of a run from the state `s`
 abbrev pub state_after : ℕ → State → State
 state_after n s = (run_of n s).state
 
+-- the values of the registers x0 to x31 in a state
 unfoldable pub registers_of : State → List ℕ
 registers_of s = map (register s) (range_with_len 0 32)
 
--- some steps, and the state after them
+-- the trace with these instructions, whose run ended in the state `s`
 abbrev pub trace_up_to : List TracedStep → State → Trace
 trace_up_to steps s = record {
   steps = steps;
@@ -37,14 +38,15 @@ trace_up_to steps s = record {
   registers = registers_of s;
 }
 
--- for a run that completes a number of steps from a state on: the last of these, or all if there are fewer, and the state after the last
+-- the trace of a run that begins in the state `s` and completes this many steps: the last `last` instructions, or all if there are fewer,
+-- and the state after them
 unfoldable pub trace_of : ℕ → ℕ → State → Trace
 trace_of steps last s =
     let shown = min steps last in
     let t = state_after (steps - shown) s in
     trace_up_to (steps_from shown t) (state_after shown t)
 
--- the trace of the run of a plan's job, unless the job is refused
+-- the trace of the run of a plan's job that completes this many steps, or `None` if the job is refused
 unfoldable pub trace_in : Planned → Job → ℕ → ℕ → Option Trace
 trace_in plan job steps last =
     option_map (trace_of steps last) (result_ok (start_in plan.answers job))

@@ -7,14 +7,14 @@ ghost use Rattle.rv_trace.specs.Code.{code_at, instr_of, size_of_code};
 use rv_isa::{Instr, Isa, decode16, decode32, is_long};
 use rv_memory::Bus;
 
-/// The encoding of an instruction: a halfword or a word.
+/// An encoding of an instruction: a halfword or a word.
 #[derive(Clone, Copy)]
 pub enum Code {
     Half(u16),
     Word(u32),
 }
 
-/// Returns the encoding that a fetch at an address reads, unless the fetch faults.
+/// Returns the encoding at an address, or `None` if one of its halfwords cannot be fetched.
 #[tactic(auto, unfolding(crate::specs::Code::code_at))]
 pub fn code_at(bus: &Bus, pc: u32) -> Option<Code>
     ensures { result ≡ code_at bus.now pc }
@@ -27,7 +27,7 @@ pub fn code_at(bus: &Bus, pc: u32) -> Option<Code>
     Some(Code::Word(u32::from(low) + 0x1_0000 * u32::from(high)))
 }
 
-/// Returns the instruction of an encoding in RV32IMC, if it has one there.
+/// Returns the instruction of an encoding in RV32IMC, or `None` if it has none.
 pub fn instr_of(code: Code) -> Option<Instr>
     ensures value { result ≡ instr_of code }
     ensures well_formed { IfSome result IsWellFormed }

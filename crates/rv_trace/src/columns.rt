@@ -48,6 +48,7 @@ pub(crate) fn push_instruction_line(
     push_text(bytes, "\n")
 }
 
+// Appends the column of the symbol.
 fn push_symbol_column(
     alloc: Global,
     bytes: &mut Vec<u8>,
@@ -63,6 +64,7 @@ fn push_symbol_column(
     push_padded_text(bytes, 20, &text)
 }
 
+// Appends the columns of the encoding, its assembly text, and its effect. Without an encoding, appends only the effect.
 #[tactic(auto, unfolding(crate::specs::Text::code_columns))]
 fn push_code_columns(
     alloc: Global,
@@ -81,6 +83,7 @@ fn push_code_columns(
     push_text_columns(bytes, text, told)
 }
 
+// Appends the columns of the assembly text and the effect. The last column is not padded.
 fn push_text_columns(bytes: &mut Vec<u8>, text: &[u8], told: &[u8]) -> Result<(), AllocError>
     ensures { OnOk result (bytes.new.items ≡ bytes.old.items ++ text_columns text.now told.now) }
 {
@@ -92,6 +95,7 @@ fn push_text_columns(bytes: &mut Vec<u8>, text: &[u8], told: &[u8]) -> Result<()
     bytes.extend_from_slice(told)
 }
 
+// Appends the column of the encoding.
 fn push_code_column(alloc: Global, bytes: &mut Vec<u8>, code: Code) -> Result<(), AllocError>
     ensures { OnOk result (bytes.new.items ≡ bytes.old.items ++ padded_text 8 (code_text code)) }
 {
@@ -100,6 +104,7 @@ fn push_code_column(alloc: Global, bytes: &mut Vec<u8>, code: Code) -> Result<()
     push_padded_text(bytes, 8, &digits)
 }
 
+// Appends the hexadecimal digits of an encoding: four for a halfword, eight for a word.
 #[tactic(auto, unfolding(crate::specs::Text::code_text))]
 fn push_code_digits(alloc: Global, bytes: &mut Vec<u8>, code: Code) -> Result<(), AllocError>
     ensures { OnOk result (bytes.new.items ≡ bytes.old.items ++ code_text code) }
@@ -137,6 +142,7 @@ pub(crate) fn push_padded_text(
     push_spaces(bytes, width.saturating_sub(text.len()))
 }
 
+// Appends `count` spaces.
 fn push_spaces(bytes: &mut Vec<u8>, count: usize) -> Result<(), AllocError>
     ensures { OnOk result (bytes.new.items ≡ bytes.old.items ++ replicate count 32) }
 {

@@ -1,4 +1,4 @@
-//! A parsed image together with the bytes of its file.
+//! The bytes of an image's file, with the image that was read from them.
 
 ghost use Rattle.std.specs.Prelude.{◌≡◌, Ok, option_map};
 ghost use Rattle.rv_elf.specs.Image.{image_of};
@@ -7,10 +7,10 @@ ghost use Rattle.rv_elf.specs.SymbolSearch.{symbol_at, symbol_of_value};
 use rv_elf::{Image, SymbolAt};
 use rv_isa::Isa;
 
-/// The bytes of an executable file, and the image parsed from them.
+/// The bytes of an image's file, with the image that was read from them.
 #[derive(Clone, Copy)]
 pub struct ElfFile<'a> {
-    /// The instruction set that the file was parsed for.
+    /// The instruction set that the image was read for.
     pub isa: Isa,
     pub image: &'a Image,
     pub bytes: &'a [u8],
@@ -18,7 +18,7 @@ pub struct ElfFile<'a> {
 }
 
 impl<'a> ElfFile<'a> {
-    /// Returns the symbol that a code address belongs to.
+    /// Returns the symbol that a code address belongs to, or `None` if it belongs to none.
     pub(crate) fn symbol_at(&self, address: u32) -> Option<SymbolAt<'a>>
         ensures { option_map (λ s. (s.name.now, s.offset)) result
             ≡ symbol_at self.now.image.now self.now.bytes.now address }
@@ -26,7 +26,7 @@ impl<'a> ElfFile<'a> {
         rv_elf::symbol_at(self.image, self.bytes, address)
     }
 
-    /// Returns the symbol whose address a value is, or into which it points.
+    /// Returns the symbol whose address a value is, or into which it points, or `None` if there is none.
     pub(crate) fn symbol_of_value(&self, value: u32) -> Option<SymbolAt<'a>>
         ensures { option_map (λ s. (s.name.now, s.offset)) result
             ≡ symbol_of_value self.now.image.now self.now.bytes.now value }

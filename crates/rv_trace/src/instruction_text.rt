@@ -1,4 +1,4 @@
-//! The text for an instruction: its assembly, what it wrote, and how it ended the run.
+//! The texts for an instruction: its assembly, what it wrote, and how it ended the run.
 
 ghost use Rattle.std.specs.Prelude.{◌≡◌, ◌++◌, OnOk, option_map};
 ghost use Rattle.rv_disasm.specs.Operands.{register_name};
@@ -18,7 +18,7 @@ use rv_rows::RowEnd;
 use rv_text::{Span, push_spans, push_symbol, push_text, push_word_digits};
 use std::alloc::{AllocError, Global};
 
-/// Appends the assembly text of an encoding at an address, if there is one.
+/// Appends the assembly text of an encoding at an address, or nothing if there is no encoding.
 pub(crate) fn push_assembly(
     alloc: Global,
     bytes: &mut Vec<u8>,
@@ -33,6 +33,7 @@ pub(crate) fn push_assembly(
     }
 }
 
+// Appends the assembly text of an encoding at an address.
 #[tactic(auto, unfolding(crate::specs::Text::assembly))]
 fn push_assembly_of_code(
     alloc: Global,
@@ -75,6 +76,7 @@ pub(crate) fn push_wrote_text(
     }
 }
 
+// Appends `NAME <- VALUE` for a register and its new value.
 fn push_register(bytes: &mut Vec<u8>, number: u8, value: u32) -> Result<(), AllocError>
     ensures { OnOk result (bytes.new.items ≡ bytes.old.items ++ register_text number value) }
 {
@@ -88,6 +90,7 @@ fn push_register(bytes: &mut Vec<u8>, number: u8, value: u32) -> Result<(), Allo
     )
 }
 
+// Appends `NAME <- VALUE ` for a register and its loaded value, or nothing for a load into x0.
 fn push_loaded_text(bytes: &mut Vec<u8>, number: u8, value: u32) -> Result<(), AllocError>
     ensures { OnOk result (bytes.new.items ≡ bytes.old.items ++ loaded_text number value) }
 {
@@ -98,6 +101,7 @@ fn push_loaded_text(bytes: &mut Vec<u8>, number: u8, value: u32) -> Result<(), A
     push_text(bytes, " ")
 }
 
+// Appends the address of a load or a store, after its symbol.
 fn push_address(
     alloc: Global,
     bytes: &mut Vec<u8>,
@@ -111,6 +115,7 @@ fn push_address(
     push_word_digits(bytes, address)
 }
 
+// Appends the name of a symbol and the offset from it, with a space, or nothing if there is no symbol.
 fn push_symbol_and_space(
     alloc: Global,
     bytes: &mut Vec<u8>,
@@ -126,7 +131,7 @@ fn push_symbol_and_space(
     push_text(bytes, " ")
 }
 
-/// Returns the name of a register, empty if there is no such register.
+/// Returns the name of a register, which is empty if there is no such register.
 pub(crate) fn register_name_or_empty(number: u8) -> &'static str
     ensures { result.now ≡ register_name number }
 {
@@ -137,6 +142,7 @@ pub(crate) fn register_name_or_empty(number: u8) -> &'static str
     }
 }
 
+// Appends a stored value as hexadecimal digits, two for each byte.
 #[tactic(auto, unfolding(crate::specs::Text::stored_value_text))]
 fn push_stored_value(
     alloc: Global,
@@ -153,7 +159,8 @@ fn push_stored_value(
     }
 }
 
-/// Appends the assembly text of the encoding at the end of a run, if there is one.
+/// Appends the assembly text of the encoding at the end of a run, or its description if it is not an instruction of the job's set. Appends
+/// nothing if there is no encoding.
 pub(crate) fn push_end_assembly(
     alloc: Global,
     bytes: &mut Vec<u8>,
@@ -170,6 +177,7 @@ pub(crate) fn push_end_assembly(
     }
 }
 
+// Appends the description of an encoding that is not an instruction of the job's set.
 #[tactic(auto, unfolding(crate::specs::Text::illegal_text))]
 fn push_illegal(bytes: &mut Vec<u8>, code: Code) -> Result<(), AllocError>
     ensures { OnOk result (bytes.new.items ≡ bytes.old.items ++ illegal_text code) }
@@ -180,6 +188,7 @@ fn push_illegal(bytes: &mut Vec<u8>, code: Code) -> Result<(), AllocError>
     }
 }
 
+// Whether a run ended because the job's instruction set has no instruction for the encoding.
 fn ends_by_illegal(end: RowEnd) -> bool
     ensures { result ≡ ends_by_illegal end }
 {
@@ -189,7 +198,7 @@ fn ends_by_illegal(end: RowEnd) -> bool
     }
 }
 
-/// Appends how an instruction ended the run.
+/// Appends how a run ended.
 #[tactic(auto, unfolding(crate::specs::Text::end_reason))]
 pub(crate) fn push_end_reason(bytes: &mut Vec<u8>, end: RowEnd) -> Result<(), AllocError>
     ensures { OnOk result (bytes.new.items ≡ bytes.old.items ++ end_reason end) }
@@ -205,6 +214,7 @@ pub(crate) fn push_end_reason(bytes: &mut Vec<u8>, end: RowEnd) -> Result<(), Al
     }
 }
 
+// Appends the value of a fault, which for most kinds is an address.
 #[tactic(auto, unfolding(crate::specs::Text::fault_value_text))]
 fn push_value_of_fault(bytes: &mut Vec<u8>, kind: FaultKind, value: u32) -> Result<(), AllocError>
     ensures { OnOk result (bytes.new.items ≡ bytes.old.items ++ fault_value_text kind value) }

@@ -11,7 +11,7 @@ use rv_isa::Isa;
 use rv_jobs::{Kept, Plan};
 use std::alloc::{AllocError, Global};
 
-/// Returns the bytes of a job's image, if they were read.
+/// Returns the bytes of the image of the job at an index, or `None` if they were not read.
 pub fn image_bytes(plan: &Plan, place: usize) -> Option<&[u8]>
     requires { place < length plan.now.jobs }
     ensures { (d : AJob) → option_map (λ bytes. bytes.now) result
@@ -23,7 +23,7 @@ pub fn image_bytes(plan: &Plan, place: usize) -> Option<&[u8]>
     }
 }
 
-/// Returns the image parsed from bytes, if they are a valid one.
+/// Reads bytes as an image for this instruction set, or returns `None` if they are not one.
 pub fn image_of_bytes(alloc: Global, isa: Isa, bytes: &[u8]) -> Result<Option<Image>, AllocError>
     ensures value { IfOk result (λ image. image ≡ image_if_read isa (Some bytes.now)) }
     ensures read { IfOk result (λ found. IfSome found (λ image. image_of isa bytes.now ≡ Ok image)) }

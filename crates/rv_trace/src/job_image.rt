@@ -7,7 +7,7 @@ ghost use Rattle.rv_rows.specs.Rows.{image_in};
 use rv_elf::Image;
 use rv_jobs::Plan;
 
-/// The job at an index of a plan, and the image parsed from its file.
+/// The job at an index of a plan, with the image that was read from its file.
 #[derive(Clone, Copy)]
 pub struct JobImage<'a> {
     pub plan: &'a Plan,

@@ -1,4 +1,4 @@
-//! Laws about traces; none of them is executed.
+//! Laws on traces, with no code to run.
 
 ghost use Rattle.std.specs.Prelude.{◌≡◌, ℕ, Ok, false};
 ghost use Rattle.rv_isa.specs.declared.instruction.Instr.{Instr};
@@ -17,29 +17,29 @@ ghost use Rattle.rv_trace.specs.Steps.{traced_step};
 ghost use Rattle.rv_trace.specs.Showing.{EndsThere, IsCodeOf, ShowsTheEnd};
 ghost use Rattle.rv_trace.specs.Trace.{trace_of};
 
-/// A trace of as many steps as a run completes shows the end of that run: the pc and the registers of its last state, and the last
-/// instructions in order, each as it was at its state. These completed, and the one at the end did not.
+/// Proves that a trace of as many steps as a run completes shows the end of that run: the pc and the registers of its last state, and the
+/// last instructions in order, each as it was at its state. These completed, and the one at the end did not.
 pub fn traces_show_the_end()
     ensures shown { (budget last : ℕ) (s : State)
         → ShowsTheEnd (trace_of (run_of budget s).steps last s) last (run_of budget s) s }
     ensures ended { (budget : ℕ) (s : State) → EndsThere (run_of budget s) s }
 {}
 
-/// A fetch in a state returns the instruction of the encoding that is shown for the state.
+/// Proves that a fetch in a state returns the instruction of the encoding that is shown for the state.
 pub fn codes_are_fetched()
     ensures { (s : State) (i : Instr) (size : ℕ) → fetch s.isa s.bus s.pc ≡ Ok (i, size)
         → (code : Code) × IsCodeOf s i size code }
 {}
 
-/// The value that a store outside the console is shown to have written is in memory after it. Shown register values are correct by
-/// definition.
+/// Proves that the value which a store outside the console is shown to have written is in memory after it. Shown register values are
+/// correct by definition.
 pub fn stored_values_stand()
     ensures { (s t : State) (a v : ℕ) (w : Width) → step_of s ≡ Ok t
         → (traced_step s t).wrote ≡ Stored a w v → touches_console a (size_of w) ≡ false
         → value_at t.bus.memory a w ≡ v }
 {}
 
-/// For a plan's job that is not refused, the row states how the run in the job's trace ended, and how many steps it completed.
+/// Proves that the row of a plan's job that is not refused says how the run in the job's trace ended, and how many steps it completed.
 pub fn rows_are_of_the_run()
     ensures ending { (plan : Planned) (job : Job) (s : State) → start_in plan.answers job ≡ Ok s
         → (row_of plan job).ending ≡ row_end (run_of job.budget s).ending }

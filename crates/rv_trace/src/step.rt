@@ -23,7 +23,7 @@ pub enum WriteEffect {
     Stored(u32, Width, u32),
 }
 
-/// A completed instruction.
+/// A completed instruction, as a trace shows it.
 #[derive(Clone, Copy)]
 pub struct TracedStep {
     pub pc: u32,
@@ -32,10 +32,10 @@ pub struct TracedStep {
     pub wrote: WriteEffect,
 }
 
-/// Instructions in the order in which they completed; contracts see them as a list.
+/// Completed instructions in order; contracts see them as a list.
 pub type TracedSteps = Sequence<TracedStep>;
 
-/// Executes a machine's next instruction, and returns it if it completes.
+/// Executes a machine's next instruction, and returns it as a trace shows it, or `None` if it does not complete.
 pub(crate) fn trace_next_step(machine: &mut Machine) -> Option<TracedStep>
     ensures { MatchOption result
         ((is_ok (step_of (state_of machine.old)) ≡ false)

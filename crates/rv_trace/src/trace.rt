@@ -20,14 +20,14 @@ pub struct Trace {
     pub steps: TracedSteps,
     /// The pc at the end.
     pub pc: u32,
-    /// The encoding that a fetch reads there, unless it faults.
+    /// The encoding at the pc, or `None` if it cannot be fetched.
     pub code: Option<Code>,
     /// The registers x0 to x31 at the end.
     pub registers: [u32; 32],
 }
 
-/// Returns the last `last` instructions of a run that completes `steps` steps, or all if there are fewer, and where it ends. Takes the time
-/// of that run, and memory for each instruction shown.
+/// Returns the trace of a run that completes `steps` steps: the last `last` instructions, or all if there are fewer, and where it ends.
+/// Takes the time of that run, and memory for each instruction shown.
 #[tactic(auto, unfolding(crate::specs::Trace::trace_of))]
 pub fn trace_run(
     alloc: Global,
@@ -50,7 +50,7 @@ pub fn trace_run(
     })
 }
 
-/// Like [`trace_run`], for a job whose row has this many steps. Returns `None` if the job is refused.
+/// Returns the trace of a job's run that completes this many steps, like [`trace_run`], or `None` if the job is refused.
 #[tactic(auto, unfolding(crate::specs::Trace::trace_in))]
 pub fn trace_job(
     alloc: Global,
@@ -67,7 +67,7 @@ pub fn trace_job(
     }
 }
 
-// Executes the next `count` instructions, as far as they complete, and returns them.
+// Executes the next `count` instructions, as far as they complete, and returns them as a trace shows them.
 fn trace_next_steps(
     alloc: Global,
     machine: &mut Machine,
@@ -87,6 +87,7 @@ fn trace_next_steps(
     Ok(steps)
 }
 
+// Returns the values of the registers x0 to x31.
 fn registers_of(machine: &Machine) -> [u32; 32]
     ensures { result ≡ registers_of (state_of machine.now) }
 {

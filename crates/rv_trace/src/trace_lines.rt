@@ -20,8 +20,8 @@ use rv_text::{Span, push_spans, push_symbol, push_symbol_in_brackets, push_text}
 use std::alloc::{AllocError, Global};
 
 /// Appends the text of a trace: where the run ended, the 32 registers with the symbols that they point to, a line for each completed
-/// instruction, and one for the instruction at the end with how it ended the run. Symbols come from the job's file, and the end from its
-/// row.
+/// instruction, and one for the instruction at the end with how it ended the run. Symbols come from the job's file; how the run ended comes
+/// from the job's row.
 #[tactic(auto, unfolding(crate::specs::Text::trace_text))]
 pub fn push_trace(
     alloc: Global,
@@ -39,6 +39,7 @@ pub fn push_trace(
     push_end_instruction_line(alloc, bytes, elf, trace, end)
 }
 
+// Appends the line that says where the run ended.
 #[tactic(auto, unfolding(crate::specs::Text::ended_at_line))]
 fn push_ended_at_line(
     alloc: Global,
@@ -54,6 +55,7 @@ fn push_ended_at_line(
     push_text(bytes, "\n")
 }
 
+// Appends the symbol of the pc in brackets, or nothing if it has none.
 fn push_symbol_of_pc(
     alloc: Global,
     bytes: &mut Vec<u8>,
@@ -68,6 +70,7 @@ fn push_symbol_of_pc(
 
 // ---- registers
 
+// Appends the lines of the registers x0 to x31.
 fn push_registers(
     alloc: Global,
     bytes: &mut Vec<u8>,
@@ -83,6 +86,7 @@ fn push_registers(
     Ok(())
 }
 
+// Appends the line of a register with this value.
 #[tactic(auto, unfolding(crate::specs::Text::register_line))]
 fn push_register_line(
     alloc: Global,
@@ -101,7 +105,7 @@ fn push_register_line(
     push_text(bytes, "\n")
 }
 
-// Appends the symbol that a value points to.
+// Appends the symbol that a value points to, or nothing if there is none.
 fn push_symbol_of_value(
     alloc: Global,
     bytes: &mut Vec<u8>,
@@ -114,6 +118,7 @@ fn push_symbol_of_value(
     push_symbol_behind_value(alloc, bytes, elf.symbol_of_value(value))
 }
 
+// Appends a gap and a symbol, or nothing if there is no symbol.
 fn push_symbol_behind_value(
     alloc: Global,
     bytes: &mut Vec<u8>,
@@ -131,6 +136,7 @@ fn push_symbol_behind_value(
 
 // ---- instructions
 
+// Appends the lines of completed instructions.
 fn push_steps(
     alloc: Global,
     bytes: &mut Vec<u8>,
@@ -146,6 +152,7 @@ fn push_steps(
     Ok(())
 }
 
+// Appends the line of a completed instruction.
 #[tactic(auto, unfolding(crate::specs::Text::step_line))]
 fn push_step_line(
     alloc: Global,
@@ -170,6 +177,7 @@ fn push_step_line(
     push_instruction_line(alloc, bytes, &shown)
 }
 
+// Appends the line of the instruction at the end of the run.
 #[tactic(auto, unfolding(crate::specs::Text::end_instruction_line))]
 fn push_end_instruction_line(
     alloc: Global,

@@ -1,4 +1,4 @@
-//! The targets of an instruction's write, before it is executed.
+//! The targets of instructions' writes, before they are executed.
 
 ghost use Rattle.std.specs.Prelude.{◌≡◌, ◌%◌, ◌^◌, ◌*◌};
 ghost use Rattle.rv_isa.specs.Words.{IsWellFormed};
@@ -34,6 +34,7 @@ pub(crate) enum WriteTarget {
     Store(u32, Width, u32),
 }
 
+/// Returns how an instruction accesses memory.
 pub(crate) fn access_of(op: Op) -> Access
     ensures { result ≡ access_of op }
 {
@@ -46,7 +47,7 @@ pub(crate) fn access_of(op: Op) -> Access
     }
 }
 
-/// Returns what the instruction of an encoding is about to write.
+/// Returns the target of the write of the instruction with this encoding, which is at the machine's pc.
 pub(crate) fn write_target(machine: &Machine, code: Option<Code>) -> WriteTarget
     requires { code ≡ code_at (state_of machine.now).bus (state_of machine.now).pc }
     ensures value { result ≡ write_target (instr_at (state_of machine.now)) (state_of machine.now) }
@@ -61,6 +62,7 @@ pub(crate) fn write_target(machine: &Machine, code: Option<Code>) -> WriteTarget
     }
 }
 
+// Returns the target of the write of an instruction in the machine's current state.
 fn instruction_write_target(access: Access, instr: Instr, machine: &Machine) -> WriteTarget
     requires { IsWellFormed instr }
     ensures value { result ≡ instruction_write_target access instr (state_of machine.now) }

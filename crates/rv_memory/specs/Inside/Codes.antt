@@ -1,5 +1,5 @@
--- How the prover stores the contents of a bus: a type that is the value of a struct is stored through a type that the prover knows, here
--- nested pairs, and is recovered unchanged. This file has no facts about buses.
+-- How the prover stores the contents of a bus: the contract value of a struct is stored as a type that the prover knows, here nested pairs,
+-- and is recovered unchanged. This file has no facts about buses.
 use Rattle.std.specs.Prelude.{◌≡◌, ℕ, Bool, true, false, List, refl}
 use Rattle.std.specs.Ordering.{nat_cmp}
 use Rattle.std.specs.FinMap as fin
@@ -10,39 +10,39 @@ use Rattle.rv_memory.specs.declared.access.Misaligned.{Misaligned as Choice}
 use Rattle.rv_memory.specs.declared.access.Misaligned.TheVariants.{Fault, Allow}
 use Rattle.rv_memory.specs.Bus.{Contents}
 
--- a region as its base, its size and whether it is writable
+-- how a region is stored: its base, its size and whether it is writable
 abbrev pub region_code : Coded Region
 region_code =
     code_by (ℕ × (ℕ × Bool)) (coded× coded_ℕ (coded× coded_ℕ coded_bool))
     (λ r. (r.base, (r.size, r.writable)))
     (λ p. record { base = p.0; size = p.1.0; writable = p.1.1 }) (λ _. refl)
 
--- a choice as a Boolean: whether it allows misaligned accesses
+-- how the treatment of misaligned accesses is stored: as whether they are allowed
 abbrev pub allows : Choice → Bool
 allows Fault = false
 allows Allow = true
 
--- the choice recovered from the Boolean
+-- the treatment of misaligned accesses, recovered from whether they are allowed
 abbrev pub choice_of : Bool → Choice
 choice_of false = Fault
 choice_of true = Allow
 
--- recovering a choice returns the one that was stored
+-- storing and recovering the treatment of misaligned accesses leaves it unchanged
 abbrev pub choice_round_trips : (m : Choice) → choice_of (allows m) ≡ m
 choice_round_trips Fault = refl
 choice_round_trips Allow = refl
 
--- the encoding of a choice
+-- how the treatment of misaligned accesses is stored, with the proof that it is recovered unchanged
 abbrev pub choice_code : Coded Choice
 choice_code = code_by Bool coded_bool allows choice_of choice_round_trips
 
--- the fields of contents, in order
+-- the fields of a bus's contents as nested pairs, in order
 abbrev pub Parts : Type 0
 Parts =
     List Region
     × (fin.FinMap nat_cmp ℕ × (set.FinSet nat_cmp × (List ℕ × (List ℕ × Choice))))
 
--- the encoding of the fields
+-- how the fields of a bus's contents are stored
 abbrev pub parts_code : Coded Parts
 parts_code =
     coded× (coded_list region_code)
@@ -50,7 +50,7 @@ parts_code =
     (coded× (set.code coded_ℕ)
     (coded× (coded_list coded_ℕ) (coded× (coded_list coded_ℕ) choice_code))))
 
--- contents encoded as their fields
+-- how a bus's contents are stored: as their fields
 abbrev pub contents_code : Coded Contents
 contents_code =
     code_by Parts parts_code
