@@ -33,7 +33,7 @@ met_expectation_text sides expectation.Nothing = codes "exit 0, since no expecta
 -- the line after five spaces, if the expectation is met
 unfoldable pub met_line : Sides → List Unmet → Expectation → List ℕ
 met_line sides unmet one =
-    if is_expectation_met sides.job unmet one then line (codes "     met: " ++ met_expectation_text sides one) else []
+    if is_expectation_met sides.job unmet one then line (codes "     as expected: " ++ met_expectation_text sides one) else []
 
 -- the lines in the order of the expectations
 unfoldable pub met_lines : Sides → List Unmet → List ℕ
