@@ -42,7 +42,7 @@ flaw_message parts path text flaw.OtherStamp = other_run_message parts path (cod
 flaw_message parts path text (flaw.OtherText earlier) =
     two_parts_message path (codes "covers the same shard as \"") (part_path parts earlier) (codes "\", but differs from it\n")
 flaw_message parts path text (flaw.NameTwice number) =
-    path_number_message path (codes ": job ") number (codes " has the name of an earlier job\n")
+    path_number_message path (codes ": job ") number (codes " has the same name as an earlier job\n")
 
 -- the shards with these paths and texts are rejected for an error: the message blames the shard that has it
 abbrev pub IsMergeErrorStop : List (Bor (List ℕ)) → List (List ℕ) → MergeError → Stop → Type 0

@@ -317,7 +317,7 @@ fn part_flaw_message(
             "\", but differs from it\n",
         ),
         Flaw::NameTwice(number) => {
-            let what = " has the name of an earlier job\n";
+            let what = " has the same name as an earlier job\n";
             path_number_message(alloc, path, ": job ", number, what)
         }
     }
