@@ -24,6 +24,7 @@ use Rattle.rv_command.specs.declared.stop.Stop.{Stop}
 use Rattle.rv_command.specs.declared.stop.Stop.TheVariants as why
 use Rattle.rv_command.specs.Messages.{path_message, stop_message}
 use Rattle.rv_command.specs.RefusedLines.{refused_line_message}
+use Rattle.rv_command.specs.declared.refused_line.ResultKind.TheVariants as expected
 use Rattle.rv_command.specs.Texts.{IsReportText, IsTextAt}
 
 -- the status for lines that end a command: 2 if the request is rejected, 3 if the system failed
@@ -132,7 +133,7 @@ IsCutOffStop path stop = IsStop 2 (path_message path (codes "the report is trunc
 
 -- no report has the line with this number at that position: the line is reported or, for a job list, that it is one
 abbrev pub IsLineStop : List ℕ → List ℕ → ℕ → Stop → Type 0
-IsLineStop path bytes line stop = IsStop 2 (refused_line_message (codes "report") path bytes line) stop
+IsLineStop path bytes line stop = IsStop 2 (refused_line_message expected.Report path bytes line) stop
 
 -- a text is not a report: the message names the first line with which no report begins; or it says that the report is truncated, and then
 -- its complete lines are a prefix of some report

@@ -4,53 +4,62 @@ ghost use Rattle.std.specs.Prelude.{◌≡◌, ◌<◌, IfOk, IfSome, length, po
 ghost use Rattle.rv_list_errors.specs.Places.{is_feed};
 ghost use Rattle.rv_command.specs.RefusedLines.{are_faults_of_list, after_line, after_lines, first_line, is_job_list};
 ghost use Rattle.rv_command.specs.RefusedLines.{line_before, line_message, list_message, numbered_line, refused_line_message};
-ghost use Rattle.rv_command.specs.RefusedLines.{expected_after};
+ghost use Rattle.rv_command.specs.RefusedLines.{expected_after, kind_noun, kind_text};
 
 use rv_lists::{JobError, What, read_faults};
 use rv_text::{Span, text_of_spans};
 use std::alloc::{AllocError, Global};
 
-/// Returns the message that the text at a path is not a report, or what `noun` names, because of the numbered line, which is invalid there:
-/// it shows the line and what was expected instead. If the text is a job list, the message says so.
-pub fn refused_line_message<'a>(
+/// What a file with results should be.
+#[derive(Clone, Copy)]
+pub enum ResultKind {
+    /// A report, of a whole list or of a shard.
+    Report,
+    /// The report of a shard.
+    Part,
+}
+
+/// Returns the message that the text at a path is not of the expected kind, because of the numbered line, which is invalid there: it shows
+/// the line and what was expected instead. If the text is a job list, the message says so.
+pub fn refused_line_message(
     alloc: Global,
-    noun: &'a str,
-    path: &'a str,
-    text: &'a [u8],
+    kind: ResultKind,
+    path: &str,
+    text: &[u8],
     number: usize,
 ) -> Result<Vec<u8>, AllocError>
-    ensures { IfOk result (λ told. told.items ≡ refused_line_message noun.now path.now text.now number) }
+    ensures { IfOk result (λ told. told.items ≡ refused_line_message kind path.now text.now number) }
 {
     if is_job_list(alloc, text)? {
-        list_message(alloc, noun, path)
+        list_message(alloc, kind, path)
     } else {
-        line_message(alloc, noun, path, text, number)
+        line_message(alloc, kind, path, text, number)
     }
 }
 
-fn list_message<'a>(alloc: Global, noun: &'a str, path: &'a str) -> Result<Vec<u8>, AllocError>
-    ensures { IfOk result (λ told. told.items ≡ list_message noun.now path.now) }
+fn list_message(alloc: Global, kind: ResultKind, path: &str) -> Result<Vec<u8>, AllocError>
+    ensures { IfOk result (λ told. told.items ≡ list_message kind path.now) }
 {
     text_of_spans(
         alloc,
         &[
             Span::Text("rvtest: "),
             Span::Shown(path.as_bytes()),
-            Span::Text(": this is a job list, not a "),
-            Span::Text(noun),
+            Span::Text(": this is a job list, not "),
+            Span::Text(kind_text(kind)),
             Span::Text("\n"),
         ],
     )
 }
 
-fn line_message<'a>(
+fn line_message(
     alloc: Global,
-    noun: &'a str,
-    path: &'a str,
-    text: &'a [u8],
+    kind: ResultKind,
+    path: &str,
+    text: &[u8],
     number: usize,
 ) -> Result<Vec<u8>, AllocError>
-    ensures { IfOk result (λ told. told.items ≡ line_message noun.now path.now text.now number) }
+    ensures { IfOk result (λ told. told.items ≡ line_message kind path.now text.now number) }
 {
     text_of_spans(
         alloc,
@@ -60,7 +69,7 @@ fn line_message<'a>(
             Span::Text(":"),
             Span::Number(number as u64),
             Span::Text(": invalid "),
-            Span::Text(noun),
+            Span::Text(kind_noun(kind)),
             Span::Text(" line \""),
             Span::Value(numbered_line(text, number)),
             Span::Text("\": expected "),
@@ -68,6 +77,25 @@ fn line_message<'a>(
             Span::Text("\n"),
         ],
     )
+}
+
+fn kind_noun(kind: ResultKind) -> &'static str
+    ensures { result.now ≡ kind_noun kind }
+{
+    match kind {
+        ResultKind::Report => "report",
+        ResultKind::Part => "part",
+    }
+}
+
+// Returns the kind with its article.
+fn kind_text(kind: ResultKind) -> &'static str
+    ensures { result.now ≡ kind_text kind }
+{
+    match kind {
+        ResultKind::Report => "a report",
+        ResultKind::Part => "the report of a shard",
+    }
 }
 
 // Whether a text is a document with jobs, valid or not.
