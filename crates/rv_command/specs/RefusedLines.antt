@@ -77,12 +77,12 @@ expected_after line =
     else if begins line (codes "done ") || begins line (codes "part ") then codes "the end of the file"
     else codes "eight hexadecimal digits or \"verdict\""
 
--- a line of the expected file is called a line of this
+-- the noun that names an invalid line of the expected file
 abbrev pub kind_noun : ResultKind → List ℕ
 kind_noun expected.Report = codes "report"
 kind_noun expected.Part = codes "part"
 
--- the expected file
+-- the expected file, with an article
 abbrev pub kind_text : ResultKind → List ℕ
 kind_text expected.Report = codes "a report"
 kind_text expected.Part = codes "the report of a shard"
