@@ -186,7 +186,8 @@ abbrev pub outside_text : List ℕ → List ℕ → List ℕ → List ℕ → Li
 outside_text head role path directory = outside_head head role ++ outside_path path ++ quoted_text directory
 
 abbrev pub outside_message : List ℕ → List ℕ → List ℕ → List ℕ
-outside_message role path directory = outside_text (codes "rvtest: ") role path directory ++ codes "; use --outside to write it\n"
+outside_message role path directory = outside_text (codes "rvtest: ") role path directory
+    ++ codes "; use --root DIR to resolve relative paths against DIR, or --outside to write it\n"
 
 abbrev pub IsOutsideStop : List ℕ → Stop → Type 0
 IsOutsideStop path why = (role : List ℕ) × (directory : List ℕ) × IsStop 2 (outside_message role path directory) why
