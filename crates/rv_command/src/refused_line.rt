@@ -21,11 +21,11 @@ pub enum ResultKind {
 
 /// Returns the message that the text at a path is not of the expected kind, because of the numbered line, which is invalid there: it shows
 /// the line and what was expected instead. If the text is a job list, the message says so.
-pub fn refused_line_message(
+pub fn refused_line_message<'a>(
     alloc: Global,
     kind: ResultKind,
-    path: &str,
-    text: &[u8],
+    path: &'a str,
+    text: &'a [u8],
     number: usize,
 ) -> Result<Vec<u8>, AllocError>
     ensures { IfOk result (λ told. told.items ≡ refused_line_message kind path.now text.now number) }
@@ -37,7 +37,7 @@ pub fn refused_line_message(
     }
 }
 
-fn list_message(alloc: Global, kind: ResultKind, path: &str) -> Result<Vec<u8>, AllocError>
+fn list_message<'a>(alloc: Global, kind: ResultKind, path: &'a str) -> Result<Vec<u8>, AllocError>
     ensures { IfOk result (λ told. told.items ≡ list_message kind path.now) }
 {
     text_of_spans(
@@ -52,11 +52,11 @@ fn list_message(alloc: Global, kind: ResultKind, path: &str) -> Result<Vec<u8>, 
     )
 }
 
-fn line_message(
+fn line_message<'a>(
     alloc: Global,
     kind: ResultKind,
-    path: &str,
-    text: &[u8],
+    path: &'a str,
+    text: &'a [u8],
     number: usize,
 ) -> Result<Vec<u8>, AllocError>
     ensures { IfOk result (λ told. told.items ≡ line_message kind path.now text.now number) }
