@@ -1,17 +1,17 @@
 # shellcheck shell=bash
-# What the two programs' scripts share, for them to source: finds the program that is asked for, and runs it with the arguments
-# and the standard input given. The first of these is taken:
-#   1. the program in RVFLEET_BIN=DIR, as it is;
-#   2. crates/NAME/out/NAME, where the stamp beside it says that it was built of exactly these sources;
-#   3. programs/NAME, where programs/BUILT says the same, and this machine can run it;
-#   4. one that is built now: each crate is proved once for its sources.
-# Contents count, not times, so a program that a pipeline's cache kept is used in a fresh checkout of the same sources.
-# The program's own name for itself is NAME, wherever it lies: a path that is not UTF-8 would be an argument that it rejects.
-# The status is 3 for every way in which a program cannot be had.
+# Shared by the launchers `rvfleet` and `rvtest`, which source it: finds the requested program and runs it with the given arguments and
+# standard input. It uses the first of these that exists:
+#   1. the program in RVFLEET_BIN=DIR, whatever it was built from;
+#   2. crates/NAME/out/NAME, if the stamp next to it says that it was built from exactly these sources;
+#   3. programs/NAME, if programs/BUILT says the same and this machine can run it;
+#   4. a new build, which proves each crate once for its sources.
+# Sources are compared by contents, not by time, so a program from a pipeline's cache is used in a fresh checkout of the same sources.
+# The program sees NAME as its own name, whatever its path: a path that is not UTF-8 would be an argument that it rejects.
+# If there is no program to run, the status is 3.
 programs=(rvfleet rvtest)
 
-# Finds the clone by this file's own path, without a tool where that is no symbolic link. `$(..)` cuts newlines off the end of what it
-# reads, so the directory is read with a slash behind it. A path that begins with `/` or `./` keeps `cd` from looking into CDPATH.
+# Finds the clone by the path of this file; only a symbolic link needs a tool. `$(..)` strips trailing newlines, so the directory is
+# printed with a slash at its end. `cd` does not search CDPATH for a path that begins with `/` or `./`.
 find_root() {
     root=$1
     if [ -L "$root" ] && ! root=$(readlink -f -- "$root" 2>/dev/null); then
@@ -28,16 +28,16 @@ log=$root/crates/rvfleet/out/build.log
 
 # ---- messages
 
-# A character, or printable ASCII, at the start of a text in UTF-8; and a control or format character there, which a terminal acts on or
-# a reader does not see: C1, Cf, and the separators of lines and paragraphs.
+# Two patterns for the start of a UTF-8 text: printable ASCII or one character; and a control or format character, which a terminal
+# interprets or a reader cannot see: C1, Cf, and the line and paragraph separators.
 character=$'^([\x20-\x7e]+|[\xc2-\xdf][\x80-\xbf]|\xe0[\xa0-\xbf][\x80-\xbf]|[\xe1-\xec\xee\xef][\x80-\xbf]{2}|\xed[\x80-\x9f][\x80-\xbf]'
 character+=$'|\xf0[\x90-\xbf][\x80-\xbf]{2}|[\xf1-\xf3][\x80-\xbf]{3}|\xf4[\x80-\x8f][\x80-\xbf]{2})'
 hidden=$'^(\xc2[\x80-\x9f\xad]|\xd8[\x80-\x85\x9c]|\xdb\x9d|\xdc\x8f|\xe0\xa2[\x90\x91]|\xe0\xa3\xa2|\xe1\xa0\x8e|\xe2\x80[\x8b-\x8f\xa8-\xae]'
 hidden+=$'|\xe2\x81[\xa0-\xaf]|\xef\xbb\xbf|\xef\xbf[\xb9-\xbb]|\xf0\x91\x82\xbd|\xf0\x91\x83\x8d|\xf0\x93\x90[\xb0-\xbf]|\xf0\x9b\xb2[\xa0-\xa3]'
 hidden+=$'|\xf0\x9d\x85[\xb3-\xba]|\xf3\xa0[\x80\x81][\x80-\xbf])'
 
-# Prints a text as the programs show one: each byte of a hidden character, and each that is not UTF-8, as \xNN. Runs in a shell of its own,
-# in which a character is a byte.
+# Prints a text as the programs print it: bytes of hidden characters, and bytes that are not UTF-8, as \xNN. Runs in a subshell whose
+# locale treats each byte as a character.
 printable() (
     LC_ALL=C
     rest=$1
@@ -57,7 +57,7 @@ say() {
     printf '%s: %s\n' "$asked" "$(printable "$1")" >&2
 }
 
-# Says why there is no program, with a likely fix, and ends with status 3.
+# Reports why there is no program, with a likely fix, and exits with status 3.
 #   not_had REASON [HELP]
 not_had() {
     say "error: $1"
@@ -65,7 +65,7 @@ not_had() {
     exit 3
 }
 
-# Ends where one of these tools is not there: what it should have printed would be empty, and taken for an answer.
+# Exits if one of these tools is missing; otherwise, its empty output would be mistaken for a result.
 need() {
     local tool
     for tool in "$@"; do
@@ -73,22 +73,22 @@ need() {
     done
 }
 
-# ---- the sources that a program is of
+# ---- the sources of a program
 
-# The lines of crates.txt of the crates that the programs stand on: each stands behind those that it stands on, and what tests
-# alone use comes behind them all.
+# The lines of crates.txt for the crates that the programs use. Each crate comes after those that it uses; the crates that only tests use
+# come last, and are left out.
 crate_lines() {
     sed -n '/^samples:/q; /^[^#]/p' "$root/crates.txt"
 }
 
-# One line that stands for the sources of both programs: their code, definitions and proofs, and which crate uses which.
+# One line that identifies the sources of both programs: their code, definitions and proofs, and which crate uses which.
 sources() {
     local folders
     mapfile -t folders < <(crate_lines | sed 's/:.*//')
     (cd "$root" && {
         sed '/^samples:/,$d' crates.txt
         cat HANDLES
-        # What a build makes lies in `out`, and has folders of these names too.
+        # A build writes to `out`, where it also makes directories with these names.
         find "${folders[@]/#/crates/}" -name out -prune -o \( -path '*/src/*' -o -path '*/specs/*' -o -path '*/proofs/*' \) -type f -print0 |
             LC_ALL=C sort -z | xargs -0 sha256sum
     } | sha256sum | cut -d ' ' -f 1)
@@ -98,20 +98,20 @@ digest() {
     sha256sum <"$1" | cut -d ' ' -f 1
 }
 
-# The toolchain's name, or nothing where it is not installed: a program that is there needs none.
+# The toolchain's name; empty if it is not installed, since a program that is already built does not need it.
 toolchain() {
     rt version 2>/dev/null || true
 }
 
-# ---- programs that are there
+# ---- existing programs
 
 stamp() {
     echo "$root/crates/$1/out/built"
 }
 
-# Writes beside each program that was built of which sources it is, and by which toolchain. The sources are given, as they were
-# before the build, so that a program whose sources changed meanwhile is stale. The program's own digest is there too, since `rt` may put
-# another program in its place.
+# Writes a stamp next to each built program: its sources, its own digest and the toolchain. The caller passes the sources as they were
+# before the build, so a program whose sources changed in the meantime counts as stale. The digest is there because `rt` may replace the
+# program.
 stamp_programs() {
     local name
     for name in "${programs[@]}"; do
@@ -119,7 +119,7 @@ stamp_programs() {
     done
 }
 
-# Whether crates/NAME/out/NAME was built of these sources, and by the toolchain that is installed, if any.
+# Whether crates/NAME/out/NAME was built from these sources, and by the installed toolchain, if there is one.
 is_built() {
     local lines=() rt file=$root/crates/$1/out/$1
     [ -x "$file" ] && [ -r "$(stamp "$1")" ] || return 1
@@ -129,23 +129,23 @@ is_built() {
     [ -z "$rt" ] || [ "${lines[2]:-}" = "$rt" ]
 }
 
-# Whether programs/NAME is of these sources, by programs/BUILT, and runs on this machine.
+# Whether programs/NAME was built from these sources, according to programs/BUILT, and runs on this machine.
 is_stored() {
     local file=$root/programs/$1 built=$root/programs/BUILT
     [ -x "$file" ] && grep -qsx "sources $2" "$built" && grep -qsx "sha256 $(digest "$file") $1" "$built" || return 1
     starts "$1" "$file"
 }
 
-# Whether a program starts on this machine: it ends with a status of its own, if only to say that memory is short. One that the system or
-# the loader rejects ends with another.
+# Whether a program starts on this machine: it exits with one of its own statuses, even if only because it is out of memory. If the system
+# or the loader rejects it, the status is another one.
 starts() {
     local status=0
     (exec -a "$1" -- "$2" --help) >/dev/null 2>&1 </dev/null || status=$?
     [[ $status = [023] ]]
 }
 
-# The path of a program that is there: rvfleet or rvtest. Fails where there is none. Whoever has the line of the sources gives it, since it
-# takes a fifth of a second.
+# The path of an existing program, rvfleet or rvtest; fails if there is none. A caller that already has the line of the sources passes it,
+# since computing it takes a fifth of a second.
 #   program NAME [SOURCES]
 program() {
     local sources_now=${2:-}
@@ -163,7 +163,7 @@ program() {
     fi
 }
 
-# Why programs/NAME is not taken, for a person.
+# A message on why programs/NAME cannot be used.
 why_not_stored() {
     local built=$root/programs/BUILT
     if ! [ -x "$root/programs/$1" ]; then
@@ -179,9 +179,9 @@ why_not_stored() {
     fi
 }
 
-# ---- a build, of several crates side by side
+# ---- a build of several crates at a time
 
-# How many checks run side by side: as many as there are processors, and 5 GB of memory for each.
+# How many checks to run at a time: one for each processor and each 5 GB of memory.
 lanes() {
     awk -v processors="$(nproc)" '/^MemAvailable:/ {
         lanes = int($2 / 5000000)
@@ -190,7 +190,7 @@ lanes() {
     }' /proc/meminfo
 }
 
-# Copies what the programs are made of into a folder, without tests and must-fail edits: `rt ci` proves and builds all that it finds.
+# Copies the programs' sources into a directory, without tests and must-fail edits: `rt ci` proves and builds everything that it finds.
 copy_sources() {
     local folders
     mapfile -t folders < <(crate_lines | sed 's/:.*//')
@@ -200,9 +200,9 @@ copy_sources() {
         xargs -0 cp --parents -t "$1")
 }
 
-# Proves and builds the crates in a copy, and says now and then how far this is. `rt lib` in several folders would not do: each waits for
-# those that build what it stands on, too. `rt` gives a crate that others wait for the processors that no other crate can use, so it is
-# not held to one processor a crate, as the gate is.
+# Proves and builds the crates in a copy, and reports progress now and then. Running `rt lib` in several directories at a time would not
+# help, since each would wait for those that build the crates it uses. `rt` gives idle processors to a crate that others wait for, so,
+# unlike in the gate, a crate is not limited to one processor.
 prove() {
     local ticks=0 proved seen=0
     set -m
@@ -220,7 +220,7 @@ prove() {
     wait "$building"
 }
 
-# Ends the build, and then this script by the same signal. What `rt` started ends with it.
+# Ends the build with everything that `rt` started, and then this script with the same signal.
 end_build() {
     kill -TERM -- "-$building" 2>/dev/null || true
     wait "$building" 2>/dev/null || true
@@ -258,9 +258,9 @@ build() {
     trap - INT TERM HUP PIPE
 }
 
-# ---- the program that is asked for
+# ---- the requested program
 
-# Rejects what RVFLEET_BIN names where it has no program. A launcher there, this one or another clone's, would start itself for ever.
+# Exits if RVFLEET_BIN does not name a directory with the program. A launcher in it, of this or another clone, would start itself forever.
 check_given() {
     local file=$RVFLEET_BIN/$asked
     if [ ! -f "$file" ] || [ ! -x "$file" ]; then
@@ -292,7 +292,7 @@ launch() {
             path=$(program "$asked") || not_had "the sources below $root changed during the build"
         fi
     fi
-    # A script in its folder that runs this launcher gets the clone's program, and not itself once more.
+    # Without this, a script in the directory of RVFLEET_BIN that runs this launcher would start itself again.
     unset RVFLEET_BIN
     exec -a "$asked" -- "$path" "$@"
 }

@@ -105,7 +105,7 @@ refuses 'another number of jobs' 'rvtest: other-jobs: a list with a different nu
 refuses 'another stamp' 'rvtest: other-stamp: the stamp differs from that of "p1-2"' p1-2 other-stamp
 refuses 'a shard that is missing' 'rvtest: no part for shard 2' p1-2
 refuses 'another text of a shard' 'rvtest: other-text: covers the same shard as "p2-2", but differs from it' p1-2 p2-2 other-text
-refuses 'a name in two rows' 'rvtest: twice: job 2 has the name of an earlier job' p1-2 twice
+refuses 'a name in two rows' 'rvtest: twice: job 2 has the same name as an earlier job' p1-2 twice
 
 merge p1-2 missing
 if [ "$status" != 3 ] || [ -s out ]; then fail "a part that is not there: status $status, $(<err)"; fi

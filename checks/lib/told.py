@@ -72,10 +72,10 @@ def write_second(row, keys):
     return name[1] if name else "b"
 
 
-def check_told(row):
-    """What `run` tells of the second of two jobs, in this detail and by this rule."""
+def check_output(row):
+    """What `run` reports about the second of two jobs, in this detail and by this rule."""
     name = write_second(row, row["keys"])
-    out = told_lines(*lines_in(row["told"])) if row["told"] else ""
+    out = told_lines(*lines_in(row["output"])) if row["output"] else ""
     for words in RULES[row["rule"]]:
         wants_run(row, ["--only", name, *DETAILS[row["detail"]], *words], out, row["last_line"])
 
@@ -222,8 +222,8 @@ def check_unmet(row):
 
 
 FORMS = {
-    "refused": Form(check_told, "detail rule keys told last_line"),
-    "run": Form(check_told, "detail rule keys told last_line"),
+    "refused": Form(check_output, "detail rule keys output last_line"),
+    "run": Form(check_output, "detail rule keys output last_line"),
     "explained": Form(check_explained, "command last keys told last_line"),
     "whole": Form(check_whole, "words list status told"),
     "reasons": Form(check_reason, "told keys image refusal"),

@@ -10,6 +10,8 @@ use Rattle.rv_lists.specs.declared.error.JobError.{JobError}
 use Rattle.rv_lists.specs.declared.error.What.{What}
 use Rattle.rv_lists.specs.declared.error.What.TheVariants as what
 use Rattle.rv_text.specs.Printable.{printable_text, printable_value}
+use Rattle.rv_command.specs.declared.refused_line.ResultKind.{ResultKind}
+use Rattle.rv_command.specs.declared.refused_line.ResultKind.TheVariants as expected
 
 -- ---- the lines of a text
 
@@ -78,17 +80,26 @@ expected_after line =
     else if begins line (codes "done ") || begins line (codes "part ") then codes "the end of the file"
     else codes "eight hexadecimal digits or \"verdict\""
 
--- the message about an invalid line in the file at the path: the line, and what was expected instead
-abbrev pub line_message : List ℕ → List ℕ → List ℕ → ℕ → List ℕ
-line_message noun path text number =
-    codes "rvtest: " ++ printable_text path ++ codes ":" ++ decimal number ++ codes ": invalid " ++ noun ++ codes " line \""
+-- the noun that names an invalid line of the expected file
+abbrev pub kind_noun : ResultKind → List ℕ
+kind_noun expected.Report = codes "report"
+kind_noun expected.Part = codes "part"
+
+-- the expected file, with an article
+abbrev pub kind_text : ResultKind → List ℕ
+kind_text expected.Report = codes "a report"
+kind_text expected.Part = codes "the report of a shard"
+
+abbrev pub line_message : ResultKind → List ℕ → List ℕ → ℕ → List ℕ
+line_message wanted path text number =
+    codes "rvtest: " ++ printable_text path ++ codes ":" ++ decimal number ++ codes ": invalid " ++ kind_noun wanted ++ codes " line \""
     ++ printable_value (numbered_line text number) ++ codes "\": expected " ++ expected_after (line_before text number) ++ codes "\n"
 
--- the message that the file at the path is a job list, and not a report or a part
-abbrev pub list_message : List ℕ → List ℕ → List ℕ
-list_message noun path = codes "rvtest: " ++ printable_text path ++ codes ": this is a job list, not a " ++ noun ++ codes "\n"
+abbrev pub list_message : ResultKind → List ℕ → List ℕ
+list_message wanted path =
+    codes "rvtest: " ++ printable_text path ++ codes ": this is a job list, not " ++ kind_text wanted ++ codes "\n"
 
--- the message about an invalid line of a report or a part, as `noun` says; it is different if the text is a job list
-abbrev pub refused_line_message : List ℕ → List ℕ → List ℕ → ℕ → List ℕ
-refused_line_message noun path text number =
-    if is_job_list text then list_message noun path else line_message noun path text number
+-- the message for the line with a number in the text at a path, which should be a file of the expected kind
+abbrev pub refused_line_message : ResultKind → List ℕ → List ℕ → ℕ → List ℕ
+refused_line_message wanted path text number =
+    if is_job_list text then list_message wanted path else line_message wanted path text number

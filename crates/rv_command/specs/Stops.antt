@@ -24,6 +24,7 @@ use Rattle.rv_command.specs.declared.stop.Stop.{Stop}
 use Rattle.rv_command.specs.declared.stop.Stop.TheVariants as why
 use Rattle.rv_command.specs.Messages.{path_message, stop_message}
 use Rattle.rv_command.specs.RefusedLines.{refused_line_message}
+use Rattle.rv_command.specs.declared.refused_line.ResultKind.TheVariants as expected
 use Rattle.rv_command.specs.Texts.{IsReportText, IsTextAt}
 
 -- the exit status for these lines: 2 if the request is rejected, 3 if the system failed
@@ -132,7 +133,7 @@ IsCutOffStop path stop = IsStop 2 (path_message path (codes "the report is trunc
 
 -- the stop reports the invalid line with this number in a report, or that the file is a job list, or that memory ran out
 abbrev pub IsLineStop : List ℕ → List ℕ → ℕ → Stop → Type 0
-IsLineStop path bytes line stop = IsStop 2 (refused_line_message (codes "report") path bytes line) stop
+IsLineStop path bytes line stop = IsStop 2 (refused_line_message expected.Report path bytes line) stop
 
 -- the stop reports the first error of a text that is not a report: a line with which no report begins, or that the report is truncated, and
 -- then its complete lines are a prefix of some report

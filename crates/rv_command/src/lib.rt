@@ -17,7 +17,7 @@ pub use list::{all_faults_text, list_faults_text, parse_list, read_list_text};
 pub use messages::{
     path_message, path_number_message, put_end_message, put_message, put_results, put_stop_message,
 };
-pub use refused_line::refused_line_message;
+pub use refused_line::{ResultKind, refused_line_message};
 pub use requested_report::{
     RequestedReport, cut_off_note, parse_requested_report, read_requested_report,
 };

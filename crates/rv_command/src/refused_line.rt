@@ -4,41 +4,49 @@ ghost use Rattle.std.specs.Prelude.{◌≡◌, ◌<◌, IfOk, IfSome, length, po
 ghost use Rattle.rv_list_errors.specs.Places.{is_feed};
 ghost use Rattle.rv_command.specs.RefusedLines.{are_faults_of_list, after_line, after_lines, first_line, is_job_list};
 ghost use Rattle.rv_command.specs.RefusedLines.{line_before, line_message, list_message, numbered_line, refused_line_message};
-ghost use Rattle.rv_command.specs.RefusedLines.{expected_after};
+ghost use Rattle.rv_command.specs.RefusedLines.{expected_after, kind_noun, kind_text};
 
 use rv_lists::{JobError, What, read_faults};
 use rv_text::{Span, text_of_spans};
 use std::alloc::{AllocError, Global};
 
-/// Returns the message about the invalid line with this number in a report or a part, as `noun` says: the line, and what was expected
-/// instead. If the text is a job list, the message says so.
+/// What a file with results should be.
+#[derive(Clone, Copy)]
+pub enum ResultKind {
+    /// A report, of a whole list or of a shard.
+    Report,
+    /// The report of a shard.
+    Part,
+}
+
+/// Returns the message that the text at a path is not of the expected kind, because of the numbered line, which is invalid there: it shows
+/// the line and what was expected instead. If the text is a job list, the message says so.
 pub fn refused_line_message<'a>(
     alloc: Global,
-    noun: &'a str,
+    kind: ResultKind,
     path: &'a str,
     text: &'a [u8],
     number: usize,
 ) -> Result<Vec<u8>, AllocError>
-    ensures { IfOk result (λ told. told.items ≡ refused_line_message noun.now path.now text.now number) }
+    ensures { IfOk result (λ told. told.items ≡ refused_line_message kind path.now text.now number) }
 {
     if is_job_list(alloc, text)? {
-        list_message(alloc, noun, path)
+        list_message(alloc, kind, path)
     } else {
-        line_message(alloc, noun, path, text, number)
+        line_message(alloc, kind, path, text, number)
     }
 }
 
-// Returns the message that the file at the path is a job list, and not a report or a part.
-fn list_message<'a>(alloc: Global, noun: &'a str, path: &'a str) -> Result<Vec<u8>, AllocError>
-    ensures { IfOk result (λ told. told.items ≡ list_message noun.now path.now) }
+fn list_message<'a>(alloc: Global, kind: ResultKind, path: &'a str) -> Result<Vec<u8>, AllocError>
+    ensures { IfOk result (λ told. told.items ≡ list_message kind path.now) }
 {
     text_of_spans(
         alloc,
         &[
             Span::Text("rvtest: "),
             Span::Shown(path.as_bytes()),
-            Span::Text(": this is a job list, not a "),
-            Span::Text(noun),
+            Span::Text(": this is a job list, not "),
+            Span::Text(kind_text(kind)),
             Span::Text("\n"),
         ],
     )
@@ -47,12 +55,12 @@ fn list_message<'a>(alloc: Global, noun: &'a str, path: &'a str) -> Result<Vec<u
 // Returns the message about an invalid line in the file at the path: the line, and what was expected instead.
 fn line_message<'a>(
     alloc: Global,
-    noun: &'a str,
+    kind: ResultKind,
     path: &'a str,
     text: &'a [u8],
     number: usize,
 ) -> Result<Vec<u8>, AllocError>
-    ensures { IfOk result (λ told. told.items ≡ line_message noun.now path.now text.now number) }
+    ensures { IfOk result (λ told. told.items ≡ line_message kind path.now text.now number) }
 {
     text_of_spans(
         alloc,
@@ -62,7 +70,7 @@ fn line_message<'a>(
             Span::Text(":"),
             Span::Number(number as u64),
             Span::Text(": invalid "),
-            Span::Text(noun),
+            Span::Text(kind_noun(kind)),
             Span::Text(" line \""),
             Span::Value(numbered_line(text, number)),
             Span::Text("\": expected "),
@@ -72,7 +80,26 @@ fn line_message<'a>(
     )
 }
 
-// Whether a text is a TOML document with jobs, valid or not.
+fn kind_noun(kind: ResultKind) -> &'static str
+    ensures { result.now ≡ kind_noun kind }
+{
+    match kind {
+        ResultKind::Report => "report",
+        ResultKind::Part => "part",
+    }
+}
+
+// Returns the kind with its article.
+fn kind_text(kind: ResultKind) -> &'static str
+    ensures { result.now ≡ kind_text kind }
+{
+    match kind {
+        ResultKind::Report => "a report",
+        ResultKind::Part => "the report of a shard",
+    }
+}
+
+// Whether a text is a document with jobs, valid or not.
 fn is_job_list(alloc: Global, text: &[u8]) -> Result<bool, AllocError>
     ensures { IfOk result (λ is_list. is_list ≡ is_job_list text.now) }
 {

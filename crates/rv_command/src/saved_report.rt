@@ -7,7 +7,7 @@ ghost use Rattle.rv_command.specs.Texts.{IsReportAt, IsReportText};
 
 use crate::files::read_result_file;
 use crate::messages::path_message;
-use crate::refused_line::refused_line_message;
+use crate::refused_line::{ResultKind, refused_line_message};
 use crate::stop::Stop;
 use rv_files::Inputs;
 use rv_report::{ReadError, SavedReport, read_report};
@@ -48,5 +48,6 @@ pub fn parse_report(alloc: Global, path: &str, text: &[u8]) -> Result<SavedRepor
 pub(crate) fn report_line_stop(alloc: Global, path: &str, text: &[u8], line: usize) -> Stop
     ensures { IsLineStop path.now text.now line result }
 {
-    Stop::of_refusal(refused_line_message(alloc, "report", path, text, line))
+    let told = refused_line_message(alloc, ResultKind::Report, path, text, line);
+    Stop::of_refusal(told)
 }

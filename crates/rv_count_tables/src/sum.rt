@@ -21,10 +21,10 @@ pub enum SumError {
     #[error("the count at {0:08x} does not fit in 64 bits")]
     Count(u32),
     /// A number of a node of this function is 2^64 or more, in one image.
-    #[error("a count in the stacks of {0:08x} does not fit in 64 bits")]
+    #[error("a stack count of the function at {0:08x} does not fit in 64 bits")]
     Spot(u32),
     /// The two tables give this function of an image different names.
-    #[error("{0:08x} has two names in one image")]
+    #[error("the function at {0:08x} has two names in one image")]
     Names(u32),
     /// The number of runs is 2^64 or more.
     #[error("the number of runs does not fit in 64 bits")]

@@ -36,7 +36,7 @@ met_expectation_text sides expectation.Nothing = codes "exit 0, since no expecta
 -- the line about an expectation, if it is met; empty otherwise
 unfoldable pub met_line : Sides → List Unmet → Expectation → List ℕ
 met_line sides unmet one =
-    if is_expectation_met sides.job unmet one then line (codes "     met: " ++ met_expectation_text sides one) else []
+    if is_expectation_met sides.job unmet one then line (codes "     as expected: " ++ met_expectation_text sides one) else []
 
 -- the lines about all met expectations
 unfoldable pub met_lines : Sides → List Unmet → List ℕ

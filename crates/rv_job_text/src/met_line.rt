@@ -66,7 +66,7 @@ fn push_met_line(
     if !is_expectation_met(comparison.job, unmet, one) {
         return Ok(());
     }
-    push_text(bytes, "     met: ")?;
+    push_text(bytes, "     as expected: ")?;
     push_met_expectation(bytes, comparison, one)?;
     push_text(bytes, "\n")
 }

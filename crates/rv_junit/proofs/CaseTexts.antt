@@ -2,13 +2,13 @@
 use Rattle.std.proofs.Common.{◌≡◌, ◌∙◌, refl, sym, ap, append_assoc, append-nil, ℕ, List, [], ◌∷◌, ◌++◌, Option}
 use Rattle.std.specs.Prelude.{OnOk, Result, Ok, Err, codes, count_by, if◌then◌else◌, length}
 use Rattle.std.specs.Result.{is_ok}
-use Rattle.std.specs.Fmt.{decimal}
 use Rattle.std.proofs.KnownBytes.{Appends-nil}
 use Rattle.rv_rows.specs.declared_row.Row.{Row}
 use Rattle.rv_rows.specs.Sinks.{AppendsBeginning}
 use Rattle.rv_expect.specs.Judgement.{Judging, judgement}
 use Rattle.rv_stream.specs.Streams.{row_text_list, joined_row_texts}
 use Rattle.rv_text.specs.declared.xml.Within.TheVariants.{Element}
+use Rattle.rv_text.specs.Words.{count_text}
 use Rattle.rv_text.specs.Xml.{xml_text}
 use Rattle.rv_expect.specs.Problem.{is_error, is_failure}
 use Rattle.rv_junit.specs.Pieces.{attribute, number_attribute}
@@ -25,13 +25,14 @@ joined a b c d p o s m x y z = simp (append_assoc, append-nil)
 pub case_whole : (class : List ℕ) (judging : Judging) (row : Row) (lines : List ℕ) →
     ((codes "<testcase" ++ (attribute (codes "classname") class ++ (attribute (codes "name") row.name
     ++ (codes ">\n" ++ [])))) ++ judged_text (judgement judging row) row lines)
-    ++ (codes "<system-out>" ++ (decimal row.steps ++ (codes " steps\n" ++ (xml_text Element row.console
+    ++ (codes "<system-out>" ++ (count_text row.steps (codes "step") ++ (codes "\n" ++ (xml_text Element row.console
     ++ (codes "</system-out>\n</testcase>\n" ++ [])))))
     ≡ test_case_text class judging row lines
 unfolding test_case_text output_text
 case_whole class judging row lines =
     joined (codes "<testcase") (attribute (codes "classname") class) (attribute (codes "name") row.name) (codes ">\n")
-    (judged_text (judgement judging row) row lines) (codes "<system-out>") (decimal row.steps) (codes " steps\n")
+    (judged_text (judgement judging row) row lines) (codes "<system-out>")
+    (count_text row.steps (codes "step")) (codes "\n")
     (xml_text Element row.console) (codes "</system-out>\n") (codes "</testcase>\n")
 
 begun : (a b c d e s f p : List ℕ)

@@ -20,6 +20,7 @@ use Rattle.rv_junit.specs.Junit.{IsWrittenRow, suite_begin_text, test_case_text,
 use Rattle.rv_expect.specs.Problem.{is_error, is_failure}
 use Rattle.rv_junit.specs.Junit.{AreReasonsBytes, HasBytesAsReason, judged_text, junit_text, output_text, problem_element_name, skipped_text}
 use Rattle.rv_junit.specs.Junit.{problem_text, steps_properties, steps_property, text_up_to}
+use Rattle.rv_text.specs.Words.{count_text}
 use Rattle.rv_text.specs.Xml.{IsXmlCharacters}
 use Rattle.rv_junit.proofs.Laws.{all_are_counted}
 use Rattle.rv_text.proofs.Public.{xml_append, xml_decimal, xml_escaped, xml_nil, xml_plain}
@@ -123,12 +124,18 @@ xml_judged failed row lines reason are = xml_problem row lines are
 xml_judged (known why) row lines reason are = xml_skipped why reason
 xml_judged (now_passes path) row lines reason are = xml_problem row lines are
 
+xml_count : (number : ℕ) (noun : List ℕ) → number < 2 ^ 64 → IsXmlCharacters noun → IsXmlCharacters (count_text number noun)
+unfolding count_text
+xml_count number noun fits named =
+    xml_append _ _ (xml_append _ _ (xml_append _ _ (xml_decimal number fits) (xml_plain (codes " ") refl)) named)
+    (xml_either (number == 1) [] (codes "s") xml_nil (xml_plain (codes "s") refl))
+
 xml_output : (row : Row) → IsWrittenRow row → IsXmlCharacters (output_text row)
 unfolding output_text
 xml_output row is =
     xml_append _ _ (xml_append _ _ (xml_append _ _ (xml_append _ _
-    (xml_plain (codes "<system-out>") refl) (xml_decimal row.steps is.steps))
-    (xml_plain (codes " steps\n") refl)) (xml_escaped Element row.console is.console))
+    (xml_plain (codes "<system-out>") refl) (xml_count row.steps (codes "step") is.steps (xml_plain (codes "step") refl)))
+    (xml_plain (codes "\n") refl)) (xml_escaped Element row.console is.console))
     (xml_plain (codes "</system-out>\n") refl)
 
 xml_case : (class : List ℕ) (judging : Judging) (row : Row) (lines : List ℕ) → IsBytes class → AreReasonsBytes judging →

@@ -1,7 +1,6 @@
 -- Rows as JUnit XML: one suite, and one test case per row, in order.
 use Rattle.std.specs.Prelude.{◌==◌, ◌^◌, ◌<◌, ℕ, List, [], ◌∷◌, ◌++◌, Option, Some, None, codes}
 use Rattle.std.specs.Prelude.{IfSome, count_by, if◌then◌else◌, length, position, take}
-use Rattle.std.specs.Fmt.{decimal}
 use Rattle.std.specs.List.{AllByRecursion, flat_map}
 use Rattle.hex.specs.Hex.{IsBytes}
 use Rattle.rv_expect.specs.declared.known_jobs.KnownJob.{KnownJob}
@@ -12,6 +11,7 @@ use Rattle.rv_expect.specs.Judgement.{Judged, Judging, failed, judgement, known,
 use Rattle.rv_job_text.specs.TotalsLine.{known_count}
 use Rattle.rv_expect.specs.Problem.{is_error, is_failure}
 use Rattle.rv_text.specs.declared.xml.Within.TheVariants.{Element}
+use Rattle.rv_text.specs.Words.{count_text}
 use Rattle.rv_text.specs.Xml.{xml_text}
 use Rattle.rv_junit.specs.Pieces.{attribute, number_attribute}
 
@@ -55,7 +55,7 @@ judged_text (now_passes path) row lines = problem_text row lines
 -- the XML element with the steps and the console of a row
 unfoldable pub output_text : Row → List ℕ
 output_text row =
-    codes "<system-out>" ++ decimal row.steps ++ codes " steps\n" ++ xml_text Element row.console
+    codes "<system-out>" ++ count_text row.steps (codes "step") ++ codes "\n" ++ xml_text Element row.console
     ++ codes "</system-out>\n"
 
 -- the test case of a row, with its class name `class` and its lines

@@ -4,6 +4,7 @@ use Rattle.std.specs.Fmt.{decimal}
 use Rattle.rv_junit.specs.declared.pieces.Piece.{Piece}
 use Rattle.rv_junit.specs.declared.pieces.Piece.TheVariants as piece
 use Rattle.rv_text.specs.declared.xml.Within.TheVariants.{Attribute, Element}
+use Rattle.rv_text.specs.Words.{count_text}
 use Rattle.rv_text.specs.Xml.{xml_text}
 
 -- an XML attribute with a name and a text as its value, which is escaped
@@ -17,7 +18,7 @@ number_attribute name number = codes " " ++ name ++ codes "=\"" ++ decimal numbe
 -- a piece of a document, as it is written
 abbrev pub piece_text : Piece → List ℕ
 piece_text (piece.Text text) = text.now
-piece_text (piece.Number number) = decimal number
+piece_text (piece.Count number noun) = count_text number noun.now
 piece_text (piece.Attribute name value) = attribute name.now value.now
 piece_text (piece.NumberAttribute name number) = number_attribute name.now number
 piece_text (piece.Element text) = xml_text Element text.now

@@ -144,8 +144,8 @@ pub(crate) fn push_test_case<'a>(
         text,
         &[
             Piece::Text("<system-out>"),
-            Piece::Number(u64::from(steps)),
-            Piece::Text(" steps\n"),
+            Piece::Count(u64::from(steps), "step"),
+            Piece::Text("\n"),
             Piece::Element(row.console.as_slice()),
             Piece::Text("</system-out>\n</testcase>\n"),
         ],

@@ -3,6 +3,7 @@
 ghost use Rattle.std.specs.Prelude.{◌≡◌, ◌++◌, OnOk, string_bytes};
 ghost use Rattle.std.specs.List.{flat_map};
 ghost use Rattle.rv_junit.specs.Pieces.{attribute, number_attribute, piece_text};
+ghost use Rattle.rv_text.specs.Words.{count_text};
 
 use rv_text::{Within, push_xml_text};
 use std::alloc::{AllocError, Global};
@@ -13,8 +14,8 @@ use std::fmt::Write;
 pub(crate) enum Piece<'a> {
     /// Text as it is, including markup.
     Text(&'a str),
-    /// A number in decimal digits.
-    Number(u64),
+    /// A number and a noun, which is given in the singular: `1 step`, but `2 steps`.
+    Count(u64, &'a str),
     /// An attribute with a name and a value, escaped for XML.
     Attribute(&'a str, &'a [u8]),
     /// An attribute with a name and a number as its value.
@@ -45,14 +46,21 @@ fn push_piece(alloc: Global, text: &mut String, piece: Piece<'_>) -> Result<(), 
 {
     match piece {
         Piece::Text(words) => text.push_str(words),
-        Piece::Number(number) => write!(text, "{number}"),
+        Piece::Count(number, noun) => push_count(text, number, noun),
         Piece::Attribute(name, value) => push_attribute(alloc, text, name, value),
         Piece::NumberAttribute(name, number) => push_number_attribute(text, name, number),
         Piece::Element(bytes) => push_xml_text(alloc, text, Within::Element, bytes),
     }
 }
 
-/// Appends an XML attribute with a name and a text as its value, which is escaped.
+#[tactic(auto, unfolding(rv_text::specs::Words::count_text))]
+fn push_count(text: &mut String, number: u64, noun: &str) -> Result<(), AllocError>
+    ensures { OnOk result (string_bytes text.new ≡ string_bytes text.old ++ count_text number noun.now) }
+{
+    write!(text, "{number} {noun}")?;
+    text.push_str(if number == 1 { "" } else { "s" })
+}
+
 #[tactic(auto, unfolding(crate::specs::Pieces::attribute))]
 pub(crate) fn push_attribute(
     alloc: Global,

@@ -1,11 +1,11 @@
 -- How a bad expectation or an unknown instruction set is explained: the key whose value is shown, if any, and the words.
 use Rattle.std.specs.Prelude.{◌≡◌, ◌⊎◌, ◌==◌, ◌||◌, ◌++◌, ℕ, Bool, true, List, Option, Some, None, codes, drop, if◌then◌else◌, is_some, length}
-use Rattle.std.specs.Prelude.{nat_eq, nat_lt}
+use Rattle.std.specs.Prelude.{ℤ, false, int_lt, nat_eq, nat_lt, pos}
 use Rattle.std.specs.Fmt.{decimal}
 use Rattle.std.specs.List.{starts_with}
 use Rattle.std.specs.Str.{bytes_eq}
 use Rattle.toml.specs.Data.{Members, get_member}
-use Rattle.rv_lists.specs.Keys.{text_at_key}
+use Rattle.rv_lists.specs.Keys.{number_at_key, text_at_key}
 use Rattle.rv_lists.specs.Limits.{most_console, most_path}
 use Rattle.rv_machine.specs.Faults.{fault_kinds}
 use Rattle.rv_list_errors.specs.Explanation.{first_kinds_text, letters_words, sets_words}
@@ -20,9 +20,22 @@ path_words = codes "expected a path of 1 to " ++ (decimal most_path ++ codes " b
 abbrev pub is_no_path : List ℕ → Bool
 is_no_path path = (length path == 0) || nat_lt most_path (length path)
 
--- the explanation of a bad `expect_exit`: the key whose value is shown, and the words
-abbrev pub exit_told : Option (List ℕ) × List ℕ
-exit_told = (Some (codes "expect_exit"), codes "expected an integer from 0 to " ++ (decimal 0xffff_ffff ++ codes ""))
+-- whether there is a number, and it is below 0
+abbrev pub is_negative : Option ℤ → Bool
+is_negative None = false
+is_negative (Some number) = int_lt number (pos 0)
+
+-- how to write a negative exit code, which is an unsigned number in a list
+abbrev pub negative_words : Bool → List ℕ
+negative_words false = codes ""
+negative_words true = codes "; write -1 as 4294967295"
+
+-- given the number of `expect_exit`
+abbrev pub exit_told : Option ℤ → Option (List ℕ) × List ℕ
+exit_told number = (
+  Some (codes "expect_exit"),
+  codes "expected an integer from 0 to " ++ (decimal 0xffff_ffff ++ negative_words (is_negative number)),
+)
 
 -- the explanation of a bad `expect_end`: the key whose value is shown, and the words, which list all kinds of faults
 abbrev pub kinds_told : Option (List ℕ) × List ℕ
@@ -77,7 +90,8 @@ reference_told_of ms = reference_told (is_some (get_member (codes "signature") m
 -- key, or another expectation
 abbrev pub IsExpectationTold : Members → Option (List ℕ) × List ℕ → Type 0
 IsExpectationTold ms told =
-    ((is_some (get_member (codes "expect_exit") ms) ≡ true) × (told ≡ exit_told)) ⊎ (told ≡ reference_told_of ms)
+    ((is_some (get_member (codes "expect_exit") ms) ≡ true) × (told ≡ exit_told (number_at_key (codes "expect_exit") ms)))
+    ⊎ (told ≡ reference_told_of ms)
 
 -- ---- instruction sets
 

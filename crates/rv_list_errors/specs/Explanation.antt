@@ -1,8 +1,8 @@
 -- The explanation of an error, which follows its location.
 use Rattle.std.specs.Prelude.{◌≡◌, ◌+◌, ◌++◌, ℕ, Bool, List, [], Option, Some, None, IsOk, MatchOption, OnOk, codes, if◌then◌else◌}
-use Rattle.std.specs.Prelude.{◌==◌, ◌||◌, zero, suc, false, length, not, slice_index_or}
+use Rattle.std.specs.Prelude.{◌==◌, ◌||◌, ◌∷◌, zero, suc, false, length, nat_eq, not, slice_index_or}
 use Rattle.std.specs.Fmt.{decimal}
-use Rattle.std.specs.List.{find}
+use Rattle.std.specs.List.{find, starts_with}
 use Rattle.toml.specs.Data.{Data, Members, no_members, member, as_str}
 use Rattle.toml.specs.Text.{IsValueText}
 use Rattle.rv_lists.specs.Keys.{is_job_key, is_list_key, is_region_key}
@@ -59,7 +59,17 @@ IsNotToml text place told = (reason : List ℕ) × (told
     ≡ codes ":" ++ (decimal (line_at place text) ++ (codes ":" ++ (decimal (column_at place text)
     ++ (codes ": error: invalid TOML: " ++ reason)))))
 
--- the explanation of a list with too many jobs, given their number
+-- the first bytes of an ELF file
+abbrev pub elf_magic : List ℕ
+elf_magic = 0x7f ∷ 0x45 ∷ 0x4c ∷ 0x46 ∷ []
+
+abbrev pub is_elf_file : List ℕ → Bool
+is_elf_file text = starts_with nat_eq text elf_magic
+
+-- an image given as a list
+abbrev pub elf_file_text : List ℕ
+elf_file_text = codes ": error: this is an ELF file, not a job list"
+
 abbrev pub too_many_jobs_text : ℕ → List ℕ
 too_many_jobs_text count = (codes "too many jobs: expected at most " ++ (decimal most_jobs ++ codes ", found ")) ++ decimal count
 

@@ -5,16 +5,16 @@ ghost use Rattle.std.specs.Prelude.{◌≡◌, codes};
 ghost use Rattle.toml.specs.View.{table_view};
 ghost use Rattle.rv_lists.specs.Keys.{text_at_key};
 ghost use Rattle.rv_list_errors.specs.Expectations.{IsExpectationTold, console_told, console_told_of, end_told, is_no_path};
-ghost use Rattle.rv_list_errors.specs.Expectations.{reference_told, reference_told_of};
+ghost use Rattle.rv_list_errors.specs.Expectations.{exit_told, reference_told, reference_told_of};
 ghost use Rattle.rv_list_errors.specs.FaultHeads.{borrowed_name};
 ghost use Rattle.rv_list_errors.specs.JobFaults.{explained_key};
 ghost use Rattle.rv_list_errors.specs.Explanation.{explained_words};
 
 use crate::explanations::{
     EXPECT_CONSOLE, EXPECT_CONSOLE_FILE, EXPECT_END, EXPECT_EXIT, EXPECT_SIGNATURE, Explanation,
-    UNASKED,
+    NEGATIVE_EXIT, UNASKED,
 };
-use crate::values::{text_at_key, value_at_key, word_at_key};
+use crate::values::{number_at_key, text_at_key, value_at_key, word_at_key};
 use rv_lists::limits::{MOST_CONSOLE, MOST_PATH};
 use toml::Table;
 
@@ -23,13 +23,23 @@ pub(crate) fn expectation_explanation(table: &Table) -> Explanation
     ensures { IsExpectationTold (table_view table.now) (explained_key result, explained_words result) }
 {
     if value_at_key(table, "expect_exit").is_some() && word_at_key(table, "expect_exit").is_none() {
-        Explanation::Expected(&EXPECT_EXIT)
+        exit_explanation(number_at_key(table, "expect_exit"))
     } else {
         reference_or_console_explanation(table)
     }
 }
 
-// Returns the explanation of a bad expectation other than `expect_exit`.
+/// Returns the explanation of a bad exit code, if the value is a number.
+pub(crate) fn exit_explanation(number: Option<i64>) -> Explanation
+    ensures { (explained_key result, explained_words result) ≡ exit_told number }
+{
+    match number {
+        Some(number) if number < 0 => Explanation::Expected(&NEGATIVE_EXIT),
+        _ => Explanation::Expected(&EXPECT_EXIT),
+    }
+}
+
+// Returns the explanation of a bad expectation other than the exit.
 fn reference_or_console_explanation(table: &Table) -> Explanation
     ensures { (explained_key result, explained_words result) ≡ reference_told_of (table_view table.now) }
 {

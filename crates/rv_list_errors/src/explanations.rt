@@ -122,6 +122,14 @@ pub(crate) const EXPECT_EXIT: Expected = Expected {
     bytes: Bytes::Untold,
 };
 
+pub(crate) const NEGATIVE_EXIT: Expected = Expected {
+    key: "expect_exit",
+    before: "expected an integer from 0 to ",
+    rest: Rest::Most(u32::MAX as u64),
+    behind: "; write -1 as 4294967295",
+    bytes: Bytes::Untold,
+};
+
 pub(crate) const UNASKED: Expected = Expected {
     key: "expect_signature",
     before: "cannot be used without \"signature\"",

@@ -1,8 +1,9 @@
 //! The message on an error.
 
-ghost use Rattle.std.specs.Prelude.{◌≡◌, ◌++◌, ◌<◌, IfOk, None, OnOk, codes, slice_get, slice_index_or};
+ghost use Rattle.std.specs.Prelude.{◌≡◌, ◌++◌, ◌<◌, IfOk, IsTrue, None, OnOk, codes, slice_get, slice_index_or};
 ghost use Rattle.rv_list_errors.specs.FaultHeads.{borrowed_name, borrowed_names, fault_place, job_heading, line_text, location_in_view};
 ghost use Rattle.rv_list_errors.specs.FaultHeads.{job_number_and_name, name_text};
+ghost use Rattle.rv_list_errors.specs.Explanation.{elf_file_text, is_elf_file};
 ghost use Rattle.rv_list_errors.specs.JobFaults.{EndsSo, TellsFaultOfList, TellsFoundFault};
 ghost use Rattle.rv_list_errors.specs.Lines.{BeginsWith};
 
@@ -166,8 +167,26 @@ fn fault_explanation(
     }
 }
 
-// Returns the explanation of a text that is not TOML: where the error is, and the reason.
-fn not_toml_explanation(alloc: Global, text: &[u8], error: &Error) -> Result<Vec<u8>, AllocError> {
+// Returns why a text is not TOML, or that it is an ELF file, which cannot be TOML.
+fn not_toml_explanation(alloc: Global, text: &[u8], error: &Error) -> Result<Vec<u8>, AllocError>
+    ensures { IfOk result (λ told. IsTrue (is_elf_file text.now) → told.items ≡ elf_file_text) }
+{
+    if text.starts_with(b"\x7fELF") {
+        elf_file_explanation(alloc)
+    } else {
+        syntax_explanation(alloc, text, error)
+    }
+}
+
+fn elf_file_explanation(alloc: Global) -> Result<Vec<u8>, AllocError>
+    ensures { IfOk result (λ told. told.items ≡ elf_file_text) }
+{
+    let mut text = Vec::new(alloc);
+    push_text(&mut text, ": error: this is an ELF file, not a job list")?;
+    Ok(text)
+}
+
+fn syntax_explanation(alloc: Global, text: &[u8], error: &Error) -> Result<Vec<u8>, AllocError> {
     let mut message = Message::new(alloc);
     push_not_toml(&mut message, text, error);
     if let Some(repeated) = repeated_key_of_error(alloc, text, error)? {

@@ -2,10 +2,10 @@
 
 ghost use Rattle.std.specs.Prelude.{◌<◌, IfSome};
 
-use crate::expectation_fault::{BOTH_CONSOLES, end_explanation};
+use crate::expectation_fault::{BOTH_CONSOLES, end_explanation, exit_explanation};
 use crate::explanations::{
-    BUDGET, EXPECT_CONSOLE, EXPECT_CONSOLE_FILE, EXPECT_EXIT, EXPECT_SIGNATURE, Explanation, IMAGE,
-    INPUT, INPUT_HEX, LOAD, MISALIGNED, NAME, PAIRS, SIGNATURE, UNASKED, push_explanation,
+    BUDGET, EXPECT_CONSOLE, EXPECT_CONSOLE_FILE, EXPECT_SIGNATURE, Explanation, IMAGE, INPUT,
+    INPUT_HEX, LOAD, MISALIGNED, NAME, PAIRS, SIGNATURE, UNASKED, push_explanation,
 };
 use crate::job_fault::{BOTH_INPUTS, are_hex_digit_pairs, isa_explanation, push_taken_name};
 use crate::keys::{push_unknown_job_key_of, push_unknown_region_key, region_with_unknown_key};
@@ -263,7 +263,7 @@ fn number_fault(key: &str, number: i64) -> Option<Explanation> {
     if key == "budget" && (number < 1 || i64::from(MOST_BUDGET) < number) {
         Some(Explanation::Expected(&BUDGET))
     } else if key == "expect_exit" && (number < 0 || 0xffff_ffff < number) {
-        Some(Explanation::Expected(&EXPECT_EXIT))
+        Some(exit_explanation(Some(number)))
     } else {
         None
     }

@@ -8,6 +8,7 @@ ghost use Rattle.rv_list_errors.specs.Explanation.{AddsSome, IsNotToml, too_many
 use crate::keys::{Owner, push_unknown_key, unknown_key};
 use crate::list::List;
 use crate::message::Message;
+use crate::names::near_name;
 use crate::values::{push_expected_value, value_at_key};
 use rv_list_locations::{RepeatedKey, line_and_column, repeated_key};
 use rv_lists::What;
@@ -73,14 +74,25 @@ pub(crate) fn push_list_fault(message: &mut Message, list: &List<'_>, what: What
         What::NoJobs => push_no_jobs(message, list.table),
         What::TooMany => push_too_many_jobs(message, list.jobs.len()),
         What::UnknownKey => push_unknown_list_key(message, list.table),
-        What::WrongType => push_expected_value(message, list.table, "job", TABLES),
+        What::WrongType => push_other_than_tables(message, list.table),
         _ => message.push(what.name()),
     }
 }
 
 const TABLES: &str = "expected an array of tables, [[job]]";
 
-// Appends that a list has no jobs. A key other than `job` is reported too, since it may be what the user meant.
+// Appends that `job` is not an array. The contents of a table are not shown: its header, `[job]`, lacks a pair of brackets.
+fn push_other_than_tables(message: &mut Message, table: &Table) {
+    match value_at_key(table, "job") {
+        Some(value) if value.is_table() => {
+            message.push("\"job\" is a table: ");
+            message.push(TABLES);
+        }
+        _ => push_expected_value(message, table, "job", TABLES),
+    }
+}
+
+// Appends that a list has no jobs. A key other than `job` is reported too, since it may be meant.
 fn push_no_jobs(message: &mut Message, table: &Table) {
     if value_at_key(table, "job").is_some() {
         push_expected_value(message, table, "job", "expected at least one [[job]] table");
@@ -90,6 +102,9 @@ fn push_no_jobs(message: &mut Message, table: &Table) {
     if let Some(key) = unknown_key(table, Owner::List) {
         message.push("; found ");
         push_unknown_key(message, key);
+        if near_name(message, &[Some("job")], key).is_some() {
+            message.push(": a similar key exists: \"job\"");
+        }
     }
 }
 

@@ -3,7 +3,7 @@
 ghost use Rattle.std.specs.Prelude.{◌≡◌, Some, option_map, unwrap_or};
 ghost use Rattle.toml.specs.Data.{get_member, no_items};
 ghost use Rattle.toml.specs.View.{items_view, table_view, view};
-ghost use Rattle.rv_lists.specs.Keys.{array_at_key, text_at_key};
+ghost use Rattle.rv_lists.specs.Keys.{array_at_key, number_at_key, text_at_key};
 ghost use Rattle.rv_list_errors.specs.Explanation.{AddsSome, IsKeyAndValue, IsExpectedValue, missing_key_text};
 ghost use Rattle.rv_list_errors.specs.NearNames.{Adds};
 
@@ -27,7 +27,17 @@ pub(crate) fn text_at_key<'a>(table: &'a Table, key: &str) -> Option<&'a str>
     }
 }
 
-/// Returns the number at a key, or `None` if there is no 32-bit number there.
+/// Returns the number at a key.
+pub(crate) fn number_at_key(table: &Table, key: &str) -> Option<i64>
+    ensures { result ≡ number_at_key key.now (table_view table.now) }
+{
+    match value_at_key(table, key) {
+        Some(value) => value.as_integer(),
+        None => None,
+    }
+}
+
+/// Returns the number at a key, if it has 32 bits.
 pub(crate) fn word_at_key(table: &Table, key: &str) -> Option<u32> {
     match value_at_key(table, key) {
         Some(Value::Integer(number)) => u32::try_from(*number).ok(),

@@ -50,8 +50,8 @@ pub enum Flaw {
     /// It differs from an earlier text of its shard, which is at this index.
     #[error("the same shard as part {0}, but different contents")]
     OtherText(usize),
-    /// Its row of the job with this number has the name of an earlier job.
-    #[error("job {0} has the name of an earlier job")]
+    /// Its row of the job with this number has the same name as an earlier job.
+    #[error("job {0} has the same name as an earlier job")]
     NameTwice(usize),
 }
 

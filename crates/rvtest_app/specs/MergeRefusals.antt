@@ -5,6 +5,7 @@ use Rattle.std.specs.Fmt.{decimal}
 use Rattle.std.specs.Option.{option_map_or}
 use Rattle.rv_command.specs.Messages.{path_message, path_number_message}
 use Rattle.rv_command.specs.RefusedLines.{refused_line_message}
+use Rattle.rv_command.specs.declared.refused_line.ResultKind.TheVariants as expected
 use Rattle.rv_command.specs.Stops.{IsStop}
 use Rattle.rv_command.specs.declared.stop.Stop.{Stop}
 use Rattle.rv_command.specs.declared.stop.Stop.TheVariants as stop
@@ -31,7 +32,7 @@ other_run_message parts path what = two_parts_message path what (part_path parts
 
 -- the message about a part, given its path, its text and what is wrong with it
 abbrev pub flaw_message : List (Bor (List ℕ)) → List ℕ → List ℕ → Flaw → List ℕ
-flaw_message parts path text (flaw.Line number) = refused_line_message (codes "part") path text number
+flaw_message parts path text (flaw.Line number) = refused_line_message expected.Part path text number
 flaw_message parts path text flaw.CutOff = path_message path (codes "the part is truncated")
 flaw_message parts path text flaw.Whole = path_message path (codes "expected a part of a run, found a whole report")
 flaw_message parts path text flaw.Choice =
@@ -42,7 +43,7 @@ flaw_message parts path text flaw.OtherStamp = other_run_message parts path (cod
 flaw_message parts path text (flaw.OtherText earlier) =
     two_parts_message path (codes "covers the same shard as \"") (part_path parts earlier) (codes "\", but differs from it\n")
 flaw_message parts path text (flaw.NameTwice number) =
-    path_number_message path (codes ": job ") number (codes " has the name of an earlier job\n")
+    path_number_message path (codes ": job ") number (codes " has the same name as an earlier job\n")
 
 -- the stop reports this error of the parts, or that memory ran out; `parts` are their paths
 abbrev pub IsMergeErrorStop : List (Bor (List ℕ)) → List (List ℕ) → MergeError → Stop → Type 0

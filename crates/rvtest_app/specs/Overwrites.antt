@@ -197,7 +197,8 @@ outside_text head role path directory = outside_head head role ++ outside_path p
 
 -- the error that a golden file is outside of the directory, which `--outside` allows
 abbrev pub outside_message : List ℕ → List ℕ → List ℕ → List ℕ
-outside_message role path directory = outside_text (codes "rvtest: ") role path directory ++ codes "; use --outside to write it\n"
+outside_message role path directory = outside_text (codes "rvtest: ") role path directory
+    ++ codes "; use --root DIR to resolve relative paths against DIR, or --outside to write it\n"
 
 -- the stop reports that the golden file at the path is outside of the directory, or that memory ran out
 abbrev pub IsOutsideStop : List ℕ → Stop → Type 0

@@ -324,6 +324,9 @@ fn check_bounds<F: Outputs>(
     Ok(())
 }
 
+const OUTSIDE_HELP: &str =
+    "; use --root DIR to resolve relative paths against DIR, or --outside to write it\n";
+
 fn outside_stop(alloc: Global, directory: &str, golden: &ReadPath<'_>) -> Stop
     ensures { IsAcceptOverwriteStop result }
 {
@@ -341,7 +344,7 @@ fn outside_message(
 {
     let mut text = Vec::new(alloc);
     push_outside_text(alloc, &mut text, "rvtest: ", directory, golden)?;
-    push_text(&mut text, "; use --outside to write it\n")?;
+    push_text(&mut text, OUTSIDE_HELP)?;
     Ok(text)
 }
 

@@ -25,7 +25,9 @@ use crate::overwrites::{look_up_files, read_paths_of_words, refuse_overwrite};
 use crate::puts::put_shown;
 use crate::rules::{report_judge, rows_status};
 use crate::whole_files::put_whole_files;
-use rv_command::{Stop, path_message, path_number_message, read_result_file, refused_line_message};
+use rv_command::{
+    ResultKind, Stop, path_message, path_number_message, read_result_file, refused_line_message,
+};
 use rv_files::{Inputs, Outputs};
 use rv_fleet::Rows;
 use rv_job_text::push_totals_line;
@@ -280,7 +282,7 @@ fn part_flaw_message(
 {
     let Part { path, text } = part;
     match flaw {
-        Flaw::Line(line) => refused_line_message(alloc, "part", path, text, line),
+        Flaw::Line(line) => refused_line_message(alloc, ResultKind::Part, path, text, line),
         Flaw::CutOff => path_message(alloc, path, "the part is truncated"),
         Flaw::Whole => path_message(
             alloc,
@@ -318,7 +320,7 @@ fn part_flaw_message(
             "\", but differs from it\n",
         ),
         Flaw::NameTwice(number) => {
-            let what = " has the name of an earlier job\n";
+            let what = " has the same name as an earlier job\n";
             path_number_message(alloc, path, ": job ", number, what)
         }
     }

@@ -23,6 +23,7 @@ use crate::merge::{MergeArgs, merge_request};
 use crate::profile::{ProfileArgs, profile_request};
 use crate::run::{RunArgs, test_run_request};
 use crate::show::{ShowArgs, show_request};
+use crate::tips::FirstWord;
 use crate::words_error::WordsError;
 use clap::ArgMatches;
 use std::alloc::Global;
@@ -112,7 +113,7 @@ fn command_help<'a, T: AsStr>(alloc: Global, words: &[T]) -> Result<Option<Reque
     let command = test_command(alloc)?;
     match command.try_get_matches_from(words) {
         Ok(_) => Ok(None),
-        Err(error) => Err(WordsError::of_clap(alloc, &error)),
+        Err(error) => Err(WordsError::of_clap(alloc, &error, FirstWord::Topic)),
     }
 }
 
@@ -130,7 +131,7 @@ fn read_request<'a, T: AsStr>(
     let command = test_command(alloc)?;
     match command.try_get_matches_from(words) {
         Ok(matches) => matched_request(alloc, &matches),
-        Err(error) => Err(WordsError::of_clap(alloc, &error)),
+        Err(error) => Err(WordsError::of_clap(alloc, &error, FirstWord::Command)),
     }
 }
 

@@ -4,13 +4,29 @@ use crate::arguments::{Argument, Bounds};
 use crate::command::Subcommand;
 use crate::examples;
 use crate::profile::MOST_FUNCTIONS;
-use rv_base::limits::{MOST_BUDGET, MOST_JOBS, MOST_WORKERS};
+use rv_base::limits::{MOST_BUDGET, MOST_GROUP, MOST_JOBS, MOST_WORKERS};
 
 /// The commands of `rvtest`, in the order in which the help lists them.
 pub(crate) const COMMANDS: [Subcommand<'static>; 14] = [
     RUN, LIST, EXPLAIN, CONSOLE, GDB, CHECK, ACCEPT, MERGE, DIFF, SHOW, COUNTS, COVER, PROFILE,
     HELP,
 ];
+
+/// Returns the numbers that an option accepts, given its name.
+pub(crate) fn number_bounds(name: &str) -> Option<Bounds> {
+    if name == "group" {
+        return Some(GROUP_BOUNDS);
+    }
+    for command in &COMMANDS {
+        for argument in command.arguments {
+            match *argument {
+                Argument::Number(option, _, _, bounds, _) if option == name => return Some(bounds),
+                _ => {}
+            }
+        }
+    }
+    None
+}
 
 pub(crate) const RUN: Subcommand<'static> = Subcommand {
     name: "run",
@@ -326,6 +342,11 @@ const LAST: &str = "Show the last N instructions of the job, from 0 to 100000";
 const RUN_LAST: &str = "Show the last N instructions of each failed job, from 0 to 100000";
 
 const BUDGET: &str = "Override every job's step budget, from 1 to 1000000000";
+
+const GROUP_BOUNDS: Bounds = Bounds {
+    least: 1,
+    most: MOST_GROUP as i64,
+};
 
 const BUDGET_BOUNDS: Bounds = Bounds {
     least: 1,

@@ -1,26 +1,41 @@
-//! Tips in the errors of `clap`.
+//! The texts of the errors of `clap`.
 //!
 //! `clap` explains how an unknown word is passed as a value, which no command accepts, and suggests an option that is only slightly similar
-//! when another was meant.
+//! when another was meant. Of a value that is not a number, it does not say which numbers are accepted.
 
+use crate::arguments::Bounds;
+use crate::table::number_bounds;
 use clap::Error;
-use rv_text::push_printable_text;
+use rv_base::is_name;
+use rv_text::{Span, push_spans};
 use std::alloc::{AllocError, Global};
 use strsim::levenshtein;
 
-/// Returns the text of an error of `clap`, with at most one kind of tip: a similar option, of whose letters at most a third differ from the
-/// unknown option. The help and the version are as `clap` writes them.
-pub(crate) fn error_text(alloc: Global, error: &Error) -> Result<String, AllocError> {
+/// What the first word after the program's name should be.
+#[derive(Clone, Copy)]
+pub(crate) enum FirstWord {
+    Command,
+    /// A topic of `help`.
+    Topic,
+}
+
+/// Returns the text of an error. Of `clap`'s tips, only one that suggests an option is kept, and only if at most a third of that option's
+/// letters differ from what was written. The help and the version are as `clap` writes them.
+pub(crate) fn error_text(
+    alloc: Global,
+    error: &Error,
+    first: FirstWord,
+) -> Result<String, AllocError> {
     let told = error.to_string(alloc)?;
     if error.use_stderr() {
-        text_without_tips(alloc, told.as_str())
+        text_with_tips(alloc, told.as_str(), first)
     } else {
         Ok(told)
     }
 }
 
-// Returns the text without misleading tips. The arguments in it may contain any characters, so each line is escaped like text from a file.
-fn text_without_tips(alloc: Global, told: &str) -> Result<String, AllocError> {
+// Returns the text without misleading tips. A word in it may contain any characters, so each line is printed like a text from a file.
+fn text_with_tips(alloc: Global, told: &str, first: FirstWord) -> Result<String, AllocError> {
     let written = refused_option(told);
     let mut text = Vec::new(alloc);
     let mut is_behind_empty = false;
@@ -30,13 +45,91 @@ fn text_without_tips(alloc: Global, told: &str) -> Result<String, AllocError> {
             continue;
         }
         is_behind_empty = is_empty;
-        push_printable_text(&mut text, line.as_bytes())?;
-        text.push(b'\n')?;
+        if line.starts_with("Usage: ") {
+            push_tip(alloc, &mut text, told, line, first)?;
+        }
+        push_line(&mut text, line)?;
     }
     Ok(String::from_utf8(text).unwrap_or(String::new(alloc)))
 }
 
-// Returns the name of the rejected option without its dashes; empty if no option was rejected.
+// Appends a line. What is wrong with a number is replaced by what is expected.
+fn push_line(text: &mut Vec<u8>, line: &str) -> Result<(), AllocError> {
+    match rejected_number(line) {
+        Some((front, option, bounds)) => push_spans(
+            text,
+            &[
+                Span::Shown(front.as_bytes()),
+                Span::Text("' for '--"),
+                Span::Text(option),
+                Span::Text(" <N>': expected an integer from "),
+                Span::Number(bounds.least as u64),
+                Span::Text(" to "),
+                Span::Number(bounds.most as u64),
+                Span::Text("\n"),
+            ],
+        ),
+        None => push_spans(text, &[Span::Shown(line.as_bytes()), Span::Text("\n")]),
+    }
+}
+
+// If a line rejects a number, returns its beginning with the value, the option, and which numbers the option accepts.
+fn rejected_number(line: &str) -> Option<(&str, &str, Bounds)> {
+    let (front, behind) = line.rsplit_once("' for '--")?;
+    let (option, _) = behind.split_once(" <N>': ")?;
+    let bounds = number_bounds(option)?;
+    if front.starts_with("error: invalid value '") {
+        Some((front, option, bounds))
+    } else {
+        None
+    }
+}
+
+// Appends a tip above a usage, if an unknown word is probably the name of a job or the topic `keys`.
+fn push_tip(
+    alloc: Global,
+    text: &mut Vec<u8>,
+    told: &str,
+    usage: &str,
+    first: FirstWord,
+) -> Result<(), AllocError> {
+    let argument = word_between(told, "error: unexpected argument '", "' found\n");
+    if usage.starts_with("Usage: rvtest run ") && is_job_name(argument) {
+        return push_spans(
+            text,
+            &[
+                Span::Text("  tip: to run one job, use '--only "),
+                Span::Text(argument),
+                Span::Text("'\n\n"),
+            ],
+        );
+    }
+    let topic = word_between(told, "error: unrecognized subcommand '", "'\n");
+    if matches!(first, FirstWord::Topic) && levenshtein(alloc, topic, "keys")? == 1 {
+        push_spans(
+            text,
+            &[Span::Text("  tip: a similar topic exists: 'keys'\n\n")],
+        )?;
+    }
+    Ok(())
+}
+
+fn is_job_name(word: &str) -> bool {
+    is_name(word.as_bytes()) && !word.starts_with("-")
+}
+
+// Returns the word between the first words of a text and the next of these words; empty if the text does not begin so.
+fn word_between<'a>(told: &'a str, front: &str, behind: &str) -> &'a str {
+    match told.strip_prefix(front) {
+        Some(rest) => match rest.split_once(behind) {
+            Some((word, _)) => word,
+            None => "",
+        },
+        None => "",
+    }
+}
+
+// Returns the rejected option without its dashes; empty if there is none.
 fn refused_option(told: &str) -> &str {
     match told.split_once("'--") {
         Some((_, behind)) => match behind.split_once("' found") {

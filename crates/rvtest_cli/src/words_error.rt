@@ -4,7 +4,7 @@ ghost use Rattle.std.specs.Prelude.{◌≡◌, IfOk, string_bytes};
 ghost use Rattle.clap.specs.Words.{kind_of};
 ghost use Rattle.rvtest_cli.specs.WordsErrors.{IsToldOfKind, IsUsageError, IsUsageText, usage_error_text};
 
-use crate::tips::error_text;
+use crate::tips::{FirstWord, error_text};
 use clap::error::ErrorKind;
 use clap::{Command, Error};
 use std::alloc::{AllocError, Global};
@@ -19,13 +19,13 @@ pub enum WordsError {
 }
 
 impl WordsError {
-    /// Converts an error of `clap`. Its text is `clap`'s own, without misleading tips; no contract describes it.
-    pub(crate) fn of_clap(alloc: Global, error: &Error) -> WordsError
+    /// Converts an error of `clap`: to its own text, with better tips. No contract of `clap` describes its texts.
+    pub(crate) fn of_clap(alloc: Global, error: &Error, first: FirstWord) -> WordsError
         ensures { IsToldOfKind (kind_of error.now) result }
     {
         match error.kind() {
             ErrorKind::OutOfMemory => WordsError::OutOfMemory,
-            kind => match error_text(alloc, error) {
+            kind => match error_text(alloc, error, first) {
                 Ok(text) => WordsError::Told(kind, text),
                 Err(error) => WordsError::from(error),
             },

@@ -1,6 +1,6 @@
 use Rattle.std.proofs.Common.{◌++◌, ℕ, List, [], codes, string_bytes}
-use Rattle.std.specs.Fmt.{decimal}
 use Rattle.rv_text.specs.declared.xml.Within.TheVariants.{Element}
+use Rattle.rv_text.specs.Words.{count_text}
 use Rattle.rv_text.specs.Xml.{xml_text}
 use Rattle.rv_expect.specs.Judgement.{judgement, judging_of}
 use Rattle.rv_junit.specs.Junit.{judged_text}
@@ -22,7 +22,7 @@ returns c =
     let judging = judging_of c.args.suite.now.judge in
     let judged : List ℕ = judged_text (judgement judging row) row c.args.lines.now in
     let counted = rw c.judgement.ensures at c.in_ok-push_judged.ensures in
-    let last : List ℕ = codes "<system-out>" ++ (decimal row.steps ++ (codes " steps\n"
+    let last : List ℕ = codes "<system-out>" ++ (count_text row.steps (codes "step") ++ (codes "\n"
     ++ (xml_text Element row.console ++ (codes "</system-out>\n</testcase>\n" ++ [])))) in
     told c.push_pieces-2.result old new ((begin ++ judged) ++ last) _
     (case_whole c.args.suite.now.name.now judging row c.args.lines.now)
