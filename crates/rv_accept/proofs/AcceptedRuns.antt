@@ -8,8 +8,8 @@ use Rattle.rv_jobs.specs.Plans.{Planned}
 use Rattle.rv_jobs.specs.declared_job.Job.{Job}
 use Rattle.rv_rows.specs.Rows.{row_of, rows_at}
 use Rattle.rv_rows.specs.declared_row.Row.{Row}
-use Rattle.rv_accept.specs.Meant.{meant_job, intended_jobs}
-use Rattle.rv_accept.specs.Runs.{accepted_row, first_row, is_accepted_run, judged_run, judged_runs, indexed_rows, why_chosen_is_left}
+use Rattle.rv_accept.specs.Meant.{intended_job, intended_jobs}
+use Rattle.rv_accept.specs.Runs.{accepted_row, first_row, is_accepted_run, judged_run, judged_runs, indexed_rows, chosen_skip_reason}
 use Rattle.rv_accept.specs.declared.ends.Acceptance.{Acceptance}
 use Rattle.rv_accept.specs.declared.runs.JobRun.{JobRun}
 use Rattle.rv_accept.specs.declared.standing.Candidate.{Candidate}
@@ -90,7 +90,7 @@ pub record IsAccepted (asked : Acceptance) (job : Job) (candidates : List Candid
   pub candidate : Candidate
   pub stands : slice_get candidates place ≡ Some candidate
   pub row : slice_get rows place ≡ Some (Some run.row)
-  pub kept : why_chosen_is_left asked candidate.standing job run.row ≡ None
+  pub kept : chosen_skip_reason asked candidate.standing job run.row ≡ None
 
 first_judged : (asked : Acceptance) (job : Job) (candidate : Candidate) (candidates : List Candidate)
     (rows : List (Option Row)) (run : JobRun)
@@ -108,7 +108,7 @@ first_judged asked job candidate candidates (Some row ∷ rows) run is accepted 
       candidate = candidate;
       stands = refl;
       row = refl;
-      kept = none_of (why_chosen_is_left asked candidate.standing job row) (rw chosen_is at accepted);
+      kept = none_of (chosen_skip_reason asked candidate.standing job row) (rw chosen_is at accepted);
     })
     go false chosen_is accepted judged = no (rw chosen_is at accepted)
 
@@ -135,7 +135,7 @@ accepted_at asked (other ∷ jobs) (candidate ∷ candidates) rows (suc place) j
 
 pub meant_at : (jobs : List Job) (runs : List (Option JobRun)) (place : ℕ) (job : Job) (run : Option JobRun)
     → slice_get jobs place ≡ Some job → slice_get runs place ≡ Some run
-    → slice_get (intended_jobs jobs runs) place ≡ Some (meant_job job (accepted_row run))
+    → slice_get (intended_jobs jobs runs) place ≡ Some (intended_job job (accepted_row run))
 unfolding intended_jobs
 meant_at [] runs place job run at ran = cc
 meant_at (other ∷ jobs) [] place job run at ran = cc

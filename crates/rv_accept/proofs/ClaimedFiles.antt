@@ -10,7 +10,7 @@ use Rattle.rv_jobs.specs.Jobs.{console_path}
 use Rattle.rv_jobs.specs.declared_job.Job.{Job}
 use Rattle.rv_rows.specs.Verdict.{lines_of_signature}
 use Rattle.rv_accept.proofs.Elements.{all_left, all_right, any_last, any_left, none_passes}
-use Rattle.rv_accept.specs.Claims.{claims_if_named, claims_of_run, golden_texts_of_runs, text_if}
+use Rattle.rv_accept.specs.Claims.{claims_if_named, golden_texts_of_run, golden_texts_of_runs, text_if}
 use Rattle.rv_accept.specs.Fates.{outcome_of_golden_file, names_file}
 use Rattle.rv_accept.specs.Runs.{is_accepted_run}
 use Rattle.rv_accept.specs.Targets.{is_of_accepted, is_target, target_of, with_target}
@@ -26,7 +26,7 @@ module _ (P : GoldenText → Type 0) where
   -- what holds of all claims holds of those of each job
   run_among : (from place : ℕ) (jobs : List Job) (runs : List (Option JobRun)) (job : Job) (run : Option JobRun)
       → All P (golden_texts_of_runs from jobs runs) → slice_get jobs place ≡ Some job → slice_get runs place ≡ Some run
-      → All P (claims_of_run (from + place) job run)
+      → All P (golden_texts_of_run (from + place) job run)
   unfolding golden_texts_of_runs
   run_among from place [] runs job run each at ran = cc
   run_among from place (other ∷ jobs) [] job run each at ran = cc
@@ -34,11 +34,11 @@ module _ (P : GoldenText → Type 0) where
       let same_job : other ≡ job = cc in
       let same_run : first ≡ run = cc in
       let here : from + 0 ≡ from = omega arith in
-      rw (here, ← same_job, ← same_run) (all_left P (claims_of_run from other first) _ each)
+      rw (here, ← same_job, ← same_run) (all_left P (golden_texts_of_run from other first) _ each)
   run_among from (suc place) (other ∷ jobs) (first ∷ runs) job run each at ran =
       let there : from + suc place ≡ from + 1 + place = omega arith in
       rw there (run_among (from + 1) place jobs runs job run
-      (all_right P (claims_of_run from other first) (golden_texts_of_runs (from + 1) jobs runs) each) at ran)
+      (all_right P (golden_texts_of_run from other first) (golden_texts_of_runs (from + 1) jobs runs) each) at ran)
 
   -- and of that on a file that is named
   claim_named : (place : ℕ) (part : Part) (text : Option (List ℕ)) (named : Option (List ℕ)) (path : List ℕ)
@@ -70,7 +70,7 @@ given run text accepted = rw (none_left run accepted) refl
 
 among_first : (P : GoldenText → Type 0) (place : ℕ) (jobs : List Job) (runs : List (Option JobRun)) (job : Job)
     (run : JobRun) → All P (golden_texts_of_runs 0 jobs runs) → slice_get jobs place ≡ Some job
-    → slice_get runs place ≡ Some (Some run) → All P (claims_of_run place job (Some run))
+    → slice_get runs place ≡ Some (Some run) → All P (golden_texts_of_run place job (Some run))
 among_first P place jobs runs job run each at ran =
     let here : 0 + place ≡ place = omega arith in
     rw here at (run_among P 0 place jobs runs job (Some run) each at ran)

@@ -7,7 +7,7 @@ use Rattle.std.proofs.lemmas.List.Elements.{All-append, All-cons, All-head, All-
 use Rattle.std.proofs.lemmas.Slice.Eq.{bytes_eq-Decides}
 use Rattle.rv_jobs.specs.Jobs.{console_path}
 use Rattle.rv_jobs.specs.declared_job.Job.{Job}
-use Rattle.rv_accept.specs.Claims.{claims_if_named, claims_of_run, golden_texts_of_runs}
+use Rattle.rv_accept.specs.Claims.{claims_if_named, golden_texts_of_run, golden_texts_of_runs}
 use Rattle.rv_accept.specs.Sharing.{is_path, names_golden_file}
 use Rattle.rv_accept.specs.Targets.{is_of_accepted, is_target, target_of, with_target}
 use Rattle.rv_accept.specs.declared.claims.GoldenText.{GoldenText}
@@ -41,7 +41,7 @@ if_named jobs place part text (Some path) names =
     All-cons (OfClaim jobs) _ [] (names path refl) (All-nil (OfClaim jobs))
 
 of_run : (jobs : List Job) (place : ℕ) (job : Job) (run : Option JobRun)
-    → All (OfClaim (job ∷ jobs)) (claims_of_run place job run)
+    → All (OfClaim (job ∷ jobs)) (golden_texts_of_run place job run)
 of_run jobs place job None = All-nil (OfClaim (job ∷ jobs))
 of_run jobs place job (Some run) = All-append (OfClaim (job ∷ jobs)) _ _
     (if_named (job ∷ jobs) place _ _ (console_path job.expect_console)

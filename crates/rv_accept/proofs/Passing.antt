@@ -17,11 +17,11 @@ use Rattle.rv_rows.specs.Verdict.{expects_anything, lines_of_signature, verdict_
 use Rattle.rv_accept.proofs.Meeting.{Met, meets_over, met, met_if_ended_well}
 use Rattle.rv_accept.specs.Accepted.{accepted_job, actual_console, actual_end, actual_exit}
 use Rattle.rv_accept.specs.Ends.{is_accepted_end}
-use Rattle.rv_accept.specs.Passing.{EndedWell, is_pass_or_unasked}
-use Rattle.rv_accept.specs.Runs.{takes_from_run, why_chosen_is_left, why_text_is_left}
+use Rattle.rv_accept.specs.Passing.{EndedWell, is_pass_or_none}
+use Rattle.rv_accept.specs.Runs.{takes_from_run, chosen_skip_reason, text_skip_reason}
 use Rattle.rv_accept.specs.declared.ends.Acceptance.{Acceptance}
-use Rattle.rv_accept.specs.declared.runs.RejectReason.{RejectReason}
-use Rattle.rv_accept.specs.declared.runs.RejectReason.TheVariants as why
+use Rattle.rv_accept.specs.declared.runs.SkipReason.{SkipReason}
+use Rattle.rv_accept.specs.declared.runs.SkipReason.TheVariants as why
 use Rattle.rv_accept.specs.declared.standing.CurrentVerdict.{CurrentVerdict}
 use Rattle.rv_accept.specs.declared.standing.CurrentVerdict.TheVariants as standing
 
@@ -63,7 +63,7 @@ unasked job end bytes nothing alone =
 
 -- ---- the end is accepted
 
-end_of_why : (accepted : Bool) (text : Option RejectReason) → (if accepted then text else Some why.End) ≡ None → accepted ≡ true
+end_of_why : (accepted : Bool) (text : Option SkipReason) → (if accepted then text else Some why.End) ≡ None → accepted ≡ true
 end_of_why true text is = refl
 end_of_why false text is = cc
 
@@ -71,7 +71,7 @@ end_of_why false text is = cc
 
 -- a verdict where all expectations are met, or nothing is expected
 no_failure : (asked meets : Bool) → (asked ≡ true → meets ≡ true)
-    → is_pass_or_unasked (if not asked then verdict.Unasked else (if meets then verdict.Pass else verdict.Fail)) ≡ true
+    → is_pass_or_none (if not asked then verdict.Unasked else (if meets then verdict.Pass else verdict.Fail)) ≡ true
 no_failure false meets all = refl
 no_failure true true all = refl
 no_failure true false all = all refl
@@ -79,7 +79,7 @@ no_failure true false all = all refl
 -- a job from whose run nothing is taken, and which names no other, is not asked anything
 pub unasked_passes : (job : Job) (end : RowEnd) (bytes : List ℕ) (outcome : Outcome) (reference console : Option (List ℕ))
     (other : Option Outcome) → takes_from_run job ≡ false → job.same_as ≡ None
-    → is_pass_or_unasked (verdict_of (accepted_job job end bytes) outcome reference console other) ≡ true
+    → is_pass_or_none (verdict_of (accepted_job job end bytes) outcome reference console other) ≡ true
 unfolding verdict_of
 unasked_passes job end bytes outcome reference console other nothing alone =
     no_failure (expects_anything (accepted_job job end bytes)) _
@@ -87,11 +87,11 @@ unasked_passes job end bytes outcome reference console other nothing alone =
 
 -- one that is not left met its end, or what its end becomes
 pub met_if_kept : (acceptance : Acceptance) (stands : CurrentVerdict) (job : Job) (row : Row) → takes_from_run job ≡ true
-    → why_chosen_is_left acceptance stands job row ≡ None → (stands ≡ standing.Passes → EndedWell job row)
+    → chosen_skip_reason acceptance stands job row ≡ None → (stands ≡ standing.Passes → EndedWell job row)
     → Met job.expect_exit job.expect_end row.ending
 met_if_kept acceptance standing.Passes job row takes kept well = met_if_ended_well job row (well refl)
 met_if_kept acceptance standing.Fails job row takes kept well = met acceptance job.expect_exit job.expect_end row.ending
-    (end_of_why (is_accepted_end acceptance job row.ending) (why_text_is_left job row) (rw takes at kept))
+    (end_of_why (is_accepted_end acceptance job row.ending) (text_skip_reason job row) (rw takes at kept))
 met_if_kept acceptance standing.Differs job row takes kept well = cc
 
 -- and then it passes, or is not asked anything
@@ -99,7 +99,7 @@ pub accepted_passes : (job : Job) (outcome : Outcome) (reference console : Optio
     → Met job.expect_exit job.expect_end outcome.ending → job.same_as ≡ None
     → IfSome job.expect_signature (λ path. reference ≡ Some (lines_of_signature outcome.signature))
     → IfSome (console_path job.expect_console) (λ path. console ≡ Some outcome.console)
-    → is_pass_or_unasked (verdict_of (accepted_job job outcome.ending outcome.console) outcome reference console other)
+    → is_pass_or_none (verdict_of (accepted_job job outcome.ending outcome.console) outcome reference console other)
     ≡ true
 unfolding verdict_of
 accepted_passes job outcome reference console other met alone lines bytes =

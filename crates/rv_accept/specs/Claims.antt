@@ -19,18 +19,18 @@ claims_if_named job part text None = []
 claims_if_named job part text (Some path) = record { job = job; part = part; path = path; text = text } ∷ []
 
 -- the texts that a job gives its golden files, first the console's and then the signature's; no texts if it is not accepted
-abbrev pub claims_of : ℕ → Bool → Job → Row → List GoldenText
-claims_of place accepted job row =
+abbrev pub golden_texts_of_job : ℕ → Bool → Job → Row → List GoldenText
+golden_texts_of_job place accepted job row =
     claims_if_named place part.Console (text_if accepted row.console) (console_path job.expect_console)
     ++ claims_if_named place part.Signature (text_if accepted (lines_of_signature row.signature)) job.expect_signature
 
 -- the texts that a job gives its golden files; nothing if it was not run, and no texts if it was skipped
-abbrev pub claims_of_run : ℕ → Job → Option JobRun → List GoldenText
-claims_of_run place job None = []
-claims_of_run place job (Some run) = claims_of place (not (is_some run.left)) job run.row
+abbrev pub golden_texts_of_run : ℕ → Job → Option JobRun → List GoldenText
+golden_texts_of_run place job None = []
+golden_texts_of_run place job (Some run) = golden_texts_of_job place (not (is_some run.left)) job run.row
 
 -- the texts that the jobs give their golden files, in list order; `place` is the index of the first of these jobs
 unfoldable pub golden_texts_of_runs : ℕ → List Job → List (Option JobRun) → List GoldenText
 golden_texts_of_runs place [] runs = []
 golden_texts_of_runs place (job ∷ jobs) [] = []
-golden_texts_of_runs place (job ∷ jobs) (run ∷ runs) = claims_of_run place job run ++ golden_texts_of_runs (place + 1) jobs runs
+golden_texts_of_runs place (job ∷ jobs) (run ∷ runs) = golden_texts_of_run place job run ++ golden_texts_of_runs (place + 1) jobs runs

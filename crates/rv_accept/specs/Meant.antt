@@ -7,12 +7,12 @@ use Rattle.rv_accept.specs.Runs.{accepted_row}
 use Rattle.rv_accept.specs.declared.runs.JobRun.{JobRun}
 
 -- the job with the values of its row, if it is accepted, and otherwise unchanged
-abbrev pub meant_job : Job → Option Row → Job
-meant_job job None = job
-meant_job job (Some row) = accepted_job job row.ending row.console
+abbrev pub intended_job : Job → Option Row → Job
+intended_job job None = job
+intended_job job (Some row) = accepted_job job row.ending row.console
 
 -- the jobs of the list after accepting runs: each accepted job has the values of its row, the others are unchanged
 unfoldable pub intended_jobs : List Job → List (Option JobRun) → List Job
 intended_jobs [] runs = []
 intended_jobs (job ∷ jobs) [] = job ∷ jobs
-intended_jobs (job ∷ jobs) (run ∷ runs) = meant_job job (accepted_row run) ∷ intended_jobs jobs runs
+intended_jobs (job ∷ jobs) (run ∷ runs) = intended_job job (accepted_row run) ∷ intended_jobs jobs runs

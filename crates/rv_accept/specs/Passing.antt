@@ -1,7 +1,7 @@
 -- A run of an accepted job, with its files.
 use Rattle.std.specs.Prelude.{◌≡◌, Bool, true, false, IfSome, IsTrue, List}
 use Rattle.rv_jobs.specs.Jobs.{console_path}
-use Rattle.rv_jobs.specs.Plans.{kept_for}
+use Rattle.rv_jobs.specs.Plans.{result_for_path}
 use Rattle.rv_jobs.specs.declared.answers.Answer.{Answer}
 use Rattle.rv_jobs.specs.declared.kept.Kept.TheVariants as kept
 use Rattle.rv_jobs.specs.declared_job.Job.{Job}
@@ -12,9 +12,9 @@ use Rattle.rv_rows.specs.declared_row.Verdict.{Verdict}
 use Rattle.rv_rows.specs.declared_row.Verdict.TheVariants as verdict
 
 -- whether the verdict is pass, or none since the job has no expectations
-abbrev pub is_pass_or_unasked : Verdict → Bool
-is_pass_or_unasked verdict.Fail = false
-is_pass_or_unasked _ = true
+abbrev pub is_pass_or_none : Verdict → Bool
+is_pass_or_none verdict.Fail = false
+is_pass_or_none _ = true
 
 -- the outcome of the run that a row describes
 abbrev pub outcome_of_row : Row → Outcome
@@ -27,9 +27,9 @@ outcome_of_row row = record {
 
 -- a later run of the job reads the same image, if the job ran, and finds the results of its row in its golden files
 pub record FindsItsFiles (earlier later : List Answer) (job : Job) (row : Row) : Type 0 where
-  pub image : IsTrue (did_run row.ending) → kept_for later job.image ≡ kept_for earlier job.image
-  pub signature : IfSome job.expect_signature (λ path. kept_for later path ≡ kept.Content (lines_of_signature row.signature))
-  pub console : IfSome (console_path job.expect_console) (λ path. kept_for later path ≡ kept.Content row.console)
+  pub image : IsTrue (did_run row.ending) → result_for_path later job.image ≡ result_for_path earlier job.image
+  pub signature : IfSome job.expect_signature (λ path. result_for_path later path ≡ kept.Content (lines_of_signature row.signature))
+  pub console : IfSome (console_path job.expect_console) (λ path. result_for_path later path ≡ kept.Content row.console)
 
 -- the job ran, and ended as it expects
 pub record EndedWell (job : Job) (row : Row) : Type 0 where

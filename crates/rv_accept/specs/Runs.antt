@@ -9,25 +9,25 @@ use Rattle.rv_accept.specs.Values.{is_value_changed}
 use Rattle.rv_accept.specs.declared.ends.Acceptance.{Acceptance}
 use Rattle.rv_accept.specs.declared.ends.Acceptance.TheVariants as acceptance
 use Rattle.rv_accept.specs.declared.runs.JobRun.{JobRun}
-use Rattle.rv_accept.specs.declared.runs.RejectReason.{RejectReason}
-use Rattle.rv_accept.specs.declared.runs.RejectReason.TheVariants as why
+use Rattle.rv_accept.specs.declared.runs.SkipReason.{SkipReason}
+use Rattle.rv_accept.specs.declared.runs.SkipReason.TheVariants as why
 use Rattle.rv_accept.specs.declared.standing.Candidate.{Candidate}
 use Rattle.rv_accept.specs.declared.standing.CurrentVerdict.{CurrentVerdict}
 use Rattle.rv_accept.specs.declared.standing.CurrentVerdict.TheVariants as standing
 use Rattle.rv_accept.specs.declared.values.ValueKey.TheVariants as key
 
 -- the reason to skip a job because of its end; none if the end is accepted
-abbrev pub why_end_is_left : Acceptance → Job → RowEnd → Option RejectReason
-why_end_is_left asked job end = if is_accepted_end asked job end then None else Some why.End
+abbrev pub end_skip_reason : Acceptance → Job → RowEnd → Option SkipReason
+end_skip_reason asked job end = if is_accepted_end asked job end then None else Some why.End
 
 -- the reason to skip a job because of its console: the list contains the expected text, and the actual one is not UTF-8
-abbrev pub why_text_is_left : Job → Row → Option RejectReason
-why_text_is_left job row =
+abbrev pub text_skip_reason : Job → Row → Option SkipReason
+text_skip_reason job row =
     if is_value_changed key.Console job row && not (is_utf8 row.console) then Some why.NoText else None
 
 -- the reason to skip a job because of its end or its console; none if both are accepted
-abbrev pub why_left : Acceptance → Job → Row → Option RejectReason
-why_left asked job row = if is_accepted_end asked job row.ending then why_text_is_left job row else Some why.End
+abbrev pub skip_reason : Acceptance → Job → Row → Option SkipReason
+skip_reason asked job row = if is_accepted_end asked job row.ending then text_skip_reason job row else Some why.End
 
 -- whether a job has an expectation whose value is taken from its run
 abbrev pub takes_from_run : Job → Bool
@@ -35,27 +35,27 @@ takes_from_run job = is_some job.expect_exit || (is_some job.expect_end || (is_s
     || is_some job.expect_signature))
 
 -- the reason to skip a job that differs from its `same_as` job: its end, if it is not accepted, or else the difference
-abbrev pub why_differing_is_left : Acceptance → Job → RowEnd → RejectReason
-why_differing_is_left asked job end = if takes_from_run job && not (is_accepted_end asked job end) then why.End else why.Differs
+abbrev pub differing_skip_reason : Acceptance → Job → RowEnd → SkipReason
+differing_skip_reason asked job end = if takes_from_run job && not (is_accepted_end asked job end) then why.End else why.Differs
 
 -- the reason to skip a chosen job; none if it currently passes, or if it fails and its run can be accepted
-abbrev pub why_chosen_is_left : Acceptance → CurrentVerdict → Job → Row → Option RejectReason
-why_chosen_is_left asked standing.Passes job row = None
-why_chosen_is_left asked standing.Fails job row = if takes_from_run job then why_left asked job row else Some why.End
-why_chosen_is_left asked standing.Differs job row = Some (why_differing_is_left asked job row.ending)
+abbrev pub chosen_skip_reason : Acceptance → CurrentVerdict → Job → Row → Option SkipReason
+chosen_skip_reason asked standing.Passes job row = None
+chosen_skip_reason asked standing.Fails job row = if takes_from_run job then skip_reason asked job row else Some why.End
+chosen_skip_reason asked standing.Differs job row = Some (differing_skip_reason asked job row.ending)
 
 -- the reason to skip a job that is not chosen; none if it currently passes or ended exactly as expected
-abbrev pub why_sharing_is_left : CurrentVerdict → Job → RowEnd → Option RejectReason
-why_sharing_is_left standing.Passes job end = None
-why_sharing_is_left _ job end = why_end_is_left acceptance.Expected job end
+abbrev pub sharing_skip_reason : CurrentVerdict → Job → RowEnd → Option SkipReason
+sharing_skip_reason standing.Passes job end = None
+sharing_skip_reason _ job end = end_skip_reason acceptance.Expected job end
 
 -- the run of a job with this row: whether the job is chosen, and why it is skipped, if it is
 abbrev pub judged_run : Acceptance → Job → Candidate → Row → JobRun
 judged_run asked job candidate row = record {
   row = row;
   is_chosen = candidate.is_chosen;
-  left = if candidate.is_chosen then why_chosen_is_left asked candidate.standing job row
-      else why_sharing_is_left candidate.standing job row.ending;
+  left = if candidate.is_chosen then chosen_skip_reason asked candidate.standing job row
+      else sharing_skip_reason candidate.standing job row.ending;
 }
 
 -- the first of the rows, if the job is selected

@@ -15,28 +15,28 @@ abbrev pub names_golden_file : List ℕ → Job → Bool
 names_golden_file path job = is_path path (console_path job.expect_console) || is_path path job.expect_signature
 
 -- whether a selected job names the golden file at the path
-unfoldable pub is_named_by_marked : List ℕ → List Job → List Bool → Bool
-is_named_by_marked path [] marks = false
-is_named_by_marked path (job ∷ jobs) [] = false
-is_named_by_marked path (job ∷ jobs) (marked ∷ marks) =
-    (marked && names_golden_file path job) || is_named_by_marked path jobs marks
+unfoldable pub is_named_by_selected : List ℕ → List Job → List Bool → Bool
+is_named_by_selected path [] marks = false
+is_named_by_selected path (job ∷ jobs) [] = false
+is_named_by_selected path (job ∷ jobs) (marked ∷ marks) =
+    (marked && names_golden_file path job) || is_named_by_selected path jobs marks
 
 -- whether a path is given, and a selected job names the golden file there
-abbrev pub is_file_of_marked : List Job → List Bool → Option (List ℕ) → Bool
-is_file_of_marked jobs marks None = false
-is_file_of_marked jobs marks (Some path) = is_named_by_marked path jobs marks
+abbrev pub is_file_of_selected : List Job → List Bool → Option (List ℕ) → Bool
+is_file_of_selected jobs marks None = false
+is_file_of_selected jobs marks (Some path) = is_named_by_selected path jobs marks
 
 -- whether a job names a golden file that a selected job names
-abbrev pub shares_with_marked : List Job → List Bool → Job → Bool
-shares_with_marked jobs marks job = is_file_of_marked jobs marks (console_path job.expect_console)
-    || is_file_of_marked jobs marks job.expect_signature
+abbrev pub shares_with_selected : List Job → List Bool → Job → Bool
+shares_with_selected jobs marks job = is_file_of_selected jobs marks (console_path job.expect_console)
+    || is_file_of_selected jobs marks job.expect_signature
 
 -- the selection of the chosen jobs and of those that share a golden file with a chosen one; `all` and `chosen` are for the whole list
 unfoldable pub sharing_marks : List Job → List Bool → List Job → List Bool → List Bool
 sharing_marks all chosen [] marks = []
 sharing_marks all chosen (job ∷ jobs) [] = []
 sharing_marks all chosen (job ∷ jobs) (marked ∷ marks) =
-    (marked || shares_with_marked all chosen job) ∷ sharing_marks all chosen jobs marks
+    (marked || shares_with_selected all chosen job) ∷ sharing_marks all chosen jobs marks
 
 -- whether an index is named and equals `place`
 abbrev pub is_place : ℕ → Option ℕ → Bool

@@ -5,7 +5,7 @@ ghost use Rattle.std.specs.List.{flat_map};
 ghost use Rattle.rv_jobs.specs.Jobs.{console_path};
 ghost use Rattle.rv_rows.specs.Report.{word_line};
 ghost use Rattle.rv_rows.specs.Verdict.{lines_of_signature};
-ghost use Rattle.rv_accept.specs.Claims.{claims_if_named, claims_of, claims_of_run, golden_texts_of_runs, text_if};
+ghost use Rattle.rv_accept.specs.Claims.{claims_if_named, golden_texts_of_job, golden_texts_of_run, golden_texts_of_runs, text_if};
 
 use crate::runs::JobRun;
 use rv_jobs::{Bytes, Job, Text};
@@ -33,14 +33,14 @@ pub struct GoldenText {
 }
 
 // Appends the texts that a job gives its golden files, first the console's and then the signature's; no texts if it is not accepted.
-fn push_claims(
+fn push_golden_texts(
     alloc: Global,
     claims: &mut Vec<GoldenText>,
     place: usize,
     is_accepted: bool,
     ran: (&Job, &Row),
 ) -> Result<(), AllocError>
-    ensures { OnOk result (claims.new.items ≡ claims.old.items ++ claims_of place is_accepted ran.entry.0.now ran.entry.1.now) }
+    ensures { OnOk result (claims.new.items ≡ claims.old.items ++ golden_texts_of_job place is_accepted ran.entry.0.now ran.entry.1.now) }
 {
     let (job, row) = ran;
     if let Some(path) = console_path(job) {
@@ -63,13 +63,13 @@ pub fn golden_texts_of_runs(
     ensures { IfOk result (λ claims. claims.items ≡ golden_texts_of_runs 0 jobs.now runs.now) }
 {
     let mut claims = Vec::new(alloc);
-    push_claims_of_runs(alloc, &mut claims, 0, jobs, runs)?;
+    push_golden_texts_of_runs(alloc, &mut claims, 0, jobs, runs)?;
     Ok(claims)
 }
 
 // Appends the texts that the jobs give their golden files; `place` is the index of the first of these jobs.
 #[tactic(auto, unfolding(crate::specs::Claims::golden_texts_of_runs))]
-fn push_claims_of_runs(
+fn push_golden_texts_of_runs(
     alloc: Global,
     claims: &mut Vec<GoldenText>,
     place: usize,
@@ -81,8 +81,8 @@ fn push_claims_of_runs(
 {
     match (jobs, runs) {
         ([job, jobs @ ..], [run, runs @ ..]) => {
-            push_claims_of_run(alloc, claims, place, job, run)?;
-            push_claims_of_runs(alloc, claims, place + 1, jobs, runs)
+            push_golden_texts_of_run(alloc, claims, place, job, run)?;
+            push_golden_texts_of_runs(alloc, claims, place + 1, jobs, runs)
         }
         ([], _) => Ok(()),
         ([_job, _jobs @ ..], []) => Ok(()),
@@ -90,17 +90,17 @@ fn push_claims_of_runs(
 }
 
 // Appends the texts that a job gives its golden files; nothing if it was not run, and no texts if it was skipped.
-fn push_claims_of_run(
+fn push_golden_texts_of_run(
     alloc: Global,
     claims: &mut Vec<GoldenText>,
     place: usize,
     job: &Job,
     run: &Option<JobRun>,
 ) -> Result<(), AllocError>
-    ensures { OnOk result (claims.new.items ≡ claims.old.items ++ claims_of_run place job.now run.now) }
+    ensures { OnOk result (claims.new.items ≡ claims.old.items ++ golden_texts_of_run place job.now run.now) }
 {
     match run {
-        Some(run) => push_claims(alloc, claims, place, run.left.is_none(), (job, &run.row)),
+        Some(run) => push_golden_texts(alloc, claims, place, run.left.is_none(), (job, &run.row)),
         None => Ok(()),
     }
 }

@@ -2,7 +2,7 @@
 
 ghost use Rattle.std.specs.Prelude.{◌≡◌, IfOk, option_map};
 ghost use Rattle.std.specs.List.{find};
-ghost use Rattle.rv_accept.specs.Fates.{outcome_of_golden_file, fate_of_first, fate_of_given_text, gives_another_text, is_of_left_job, is_text, names_file};
+ghost use Rattle.rv_accept.specs.Fates.{outcome_of_golden_file, outcome_of_first, outcome_of_given_text, gives_another_text, is_of_skipped_job, is_text, names_file};
 
 use crate::claims::GoldenText;
 use rv_jobs::Bytes;
@@ -30,36 +30,36 @@ pub fn outcome_of_golden_file(
 ) -> Result<GoldenFileOutcome, AllocError>
     ensures { IfOk result (λ fate. fate ≡ outcome_of_golden_file path.now claims.now) }
 {
-    match first_of_left_job(path, claims) {
+    match first_of_skipped_job(path, claims) {
         Some(claim) => Ok(GoldenFileOutcome::LeftBy(claim.job)),
-        None => fate_of_first(alloc, path, claims),
+        None => outcome_of_first(alloc, path, claims),
     }
 }
 
 // Returns the outcome for the golden file at the path, given its first golden text; `Unclaimed` if there is none.
-fn fate_of_first(
+fn outcome_of_first(
     alloc: Global,
     path: &str,
     claims: &[GoldenText],
 ) -> Result<GoldenFileOutcome, AllocError>
-    ensures { IfOk result (λ fate. fate ≡ fate_of_first path.now claims.now
+    ensures { IfOk result (λ fate. fate ≡ outcome_of_first path.now claims.now
         (find (names_file path.now) claims.now)) }
 {
     match first_on_file(path, claims) {
-        Some(first) => fate_of_given_text(alloc, path, claims, first),
+        Some(first) => outcome_of_given_text(alloc, path, claims, first),
         None => Ok(GoldenFileOutcome::Unclaimed),
     }
 }
 
 // Returns the outcome for the golden file at the path, given its first golden text.
-fn fate_of_given_text(
+fn outcome_of_given_text(
     alloc: Global,
     path: &str,
     claims: &[GoldenText],
     first: &GoldenText,
 ) -> Result<GoldenFileOutcome, AllocError>
     ensures { IfOk result (λ fate. fate
-        ≡ fate_of_given_text path.now claims.now first.now.job first.now.text) }
+        ≡ outcome_of_given_text path.now claims.now first.now.job first.now.text) }
 {
     let Some(text) = &first.text else {
         return Ok(GoldenFileOutcome::LeftBy(first.job));
@@ -72,10 +72,10 @@ fn fate_of_given_text(
 }
 
 // Returns the first golden text for the file at the path whose job was skipped.
-fn first_of_left_job<'a>(path: &str, claims: &'a [GoldenText]) -> Option<&'a GoldenText>
-    ensures { option_map (λ claim. claim.now) result ≡ find (is_of_left_job path.now) claims.now }
+fn first_of_skipped_job<'a>(path: &str, claims: &'a [GoldenText]) -> Option<&'a GoldenText>
+    ensures { option_map (λ claim. claim.now) result ≡ find (is_of_skipped_job path.now) claims.now }
 {
-    claims.iter().find(|claim| is_of_left_job(path, claim))
+    claims.iter().find(|claim| is_of_skipped_job(path, claim))
 }
 
 /// Returns the first golden text for the file at the path.
@@ -107,8 +107,8 @@ fn names_file(path: &str, claim: &GoldenText) -> bool
 }
 
 // Whether the golden text is for the file at the path, and is missing since its job was skipped.
-fn is_of_left_job(path: &str, claim: &GoldenText) -> bool
-    ensures { result ≡ is_of_left_job path.now claim.now }
+fn is_of_skipped_job(path: &str, claim: &GoldenText) -> bool
+    ensures { result ≡ is_of_skipped_job path.now claim.now }
 {
     names_file(path, claim) && claim.text.is_none()
 }

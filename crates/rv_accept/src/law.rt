@@ -17,8 +17,8 @@ ghost use Rattle.rv_accept.specs.declared.fates.GoldenFileOutcome.TheVariants as
 ghost use Rattle.rv_accept.specs.Accepted.{accepted_job};
 ghost use Rattle.rv_accept.specs.Ends.{is_accepted_end};
 ghost use Rattle.rv_accept.specs.Fates.{outcome_of_golden_file, names_file};
-ghost use Rattle.rv_accept.specs.Passing.{EndedWell, FindsItsFiles, is_pass_or_unasked};
-ghost use Rattle.rv_accept.specs.Runs.{why_chosen_is_left};
+ghost use Rattle.rv_accept.specs.Passing.{EndedWell, FindsItsFiles, is_pass_or_none};
+ghost use Rattle.rv_accept.specs.Runs.{chosen_skip_reason};
 
 /// An accepted job without `same_as` meets all its expectations once they are the results of its run: its golden files contain the
 /// console's bytes and the signature's lines, and the list has the actual values.
@@ -42,9 +42,9 @@ pub fn an_agreed_text_is_given_by_each_job()
 pub fn accepted_jobs_pass_over_their_files()
     ensures { (acceptance : AnAcceptance) (stands : AStanding) (job : Job) (earlier later : Planned) (row : Row)
         → row ≡ row_of earlier (without_expectations job)
-        → why_chosen_is_left acceptance stands job row ≡ None
+        → chosen_skip_reason acceptance stands job row ≡ None
         → (stands ≡ standing.Passes → EndedWell job row)
         → job.same_as ≡ None
         → FindsItsFiles earlier.answers later.answers job row
-        → IsTrue (is_pass_or_unasked (row_of later (accepted_job job row.ending row.console)).verdict) }
+        → IsTrue (is_pass_or_none (row_of later (accepted_job job row.ending row.console)).verdict) }
 {}

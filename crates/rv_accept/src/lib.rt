@@ -28,7 +28,7 @@ pub use law::{
     an_agreed_text_is_given_by_each_job,
 };
 pub use meant::are_intended_jobs;
-pub use runs::{JobRun, RejectReason, indexed_rows, judged_runs};
+pub use runs::{JobRun, SkipReason, indexed_rows, judged_runs};
 pub use sharing::jobs_to_run;
 pub use standing::{Candidate, CurrentVerdict};
 pub use targets::{Target, targets_of};

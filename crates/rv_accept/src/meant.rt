@@ -2,7 +2,7 @@
 
 ghost use Rattle.std.specs.Prelude.{◌≡◌, IsTrue, option_map};
 ghost use Rattle.rv_accept.specs.Accepted.{actual_console, actual_end, actual_exit};
-ghost use Rattle.rv_accept.specs.Meant.{meant_job, intended_jobs};
+ghost use Rattle.rv_accept.specs.Meant.{intended_job, intended_jobs};
 ghost use Rattle.rv_accept.specs.Runs.{accepted_row, row_if_accepted};
 
 use crate::runs::JobRun;
@@ -18,7 +18,7 @@ pub fn are_intended_jobs(jobs: &[Job], runs: &[Option<JobRun>], others: &[Job]) 
     match (jobs, runs, others) {
         ([], _, []) => true,
         ([job, jobs @ ..], [run, runs @ ..], [other, others @ ..]) => {
-            is_meant_job(job, accepted_row(run), other) && are_intended_jobs(jobs, runs, others)
+            is_intended_job(job, accepted_row(run), other) && are_intended_jobs(jobs, runs, others)
         }
         _ => false,
     }
@@ -46,23 +46,23 @@ fn row_if_accepted(run: &JobRun) -> Option<&Row>
 }
 
 // Whether `other` is `job` with the values of its row, if it is accepted, and otherwise unchanged.
-fn is_meant_job(job: &Job, accepted: Option<&Row>, other: &Job) -> bool
-    ensures { IsTrue result → other.now ≡ meant_job job.now (option_map (λ row. row.now) accepted.entry) }
+fn is_intended_job(job: &Job, accepted: Option<&Row>, other: &Job) -> bool
+    ensures { IsTrue result → other.now ≡ intended_job job.now (option_map (λ row. row.now) accepted.entry) }
 {
     is_same_run(job, other)
         && is_same_text_option(&job.expect_signature, &other.expect_signature)
         && job.same_as == other.same_as
-        && are_meant_values(job, accepted, other)
+        && are_intended_values(job, accepted, other)
 }
 
 // Whether `other` expects the end and the console of the row if there is one, and otherwise those that `job` expects.
-fn are_meant_values(job: &Job, accepted: Option<&Row>, other: &Job) -> bool
+fn are_intended_values(job: &Job, accepted: Option<&Row>, other: &Job) -> bool
     ensures exit { IsTrue result → other.now.expect_exit
-        ≡ (meant_job job.now (option_map (λ row. row.now) accepted.entry)).expect_exit }
+        ≡ (intended_job job.now (option_map (λ row. row.now) accepted.entry)).expect_exit }
     ensures end { IsTrue result → other.now.expect_end
-        ≡ (meant_job job.now (option_map (λ row. row.now) accepted.entry)).expect_end }
+        ≡ (intended_job job.now (option_map (λ row. row.now) accepted.entry)).expect_end }
     ensures console { IsTrue result → other.now.expect_console
-        ≡ (meant_job job.now (option_map (λ row. row.now) accepted.entry)).expect_console }
+        ≡ (intended_job job.now (option_map (λ row. row.now) accepted.entry)).expect_console }
 {
     match accepted {
         None => {

@@ -3,7 +3,7 @@
 ghost use Rattle.std.specs.Prelude.{◌≡◌, ◌++◌, IfOk, OnOk, drop, option_map};
 ghost use Rattle.std.specs.Vec.Iter.{into_iter_items};
 ghost use Rattle.rv_accept.specs.Runs.{first_row, is_accepted_run, judged_run, judged_runs, indexed_rows, rest_if, row_if, takes_from_run};
-ghost use Rattle.rv_accept.specs.Runs.{why_chosen_is_left, why_differing_is_left, why_end_is_left, why_left, why_sharing_is_left};
+ghost use Rattle.rv_accept.specs.Runs.{chosen_skip_reason, differing_skip_reason, end_skip_reason, skip_reason, sharing_skip_reason};
 
 use crate::ends::{Acceptance, is_accepted_end};
 use crate::standing::{Candidate, CurrentVerdict};
@@ -16,7 +16,7 @@ use std::vec::IntoIter;
 
 /// Why `accept` skips a job that was run: it accepts none of its results.
 #[derive(Clone, Copy, Debug, PartialEq, Eq)]
-pub enum RejectReason {
+pub enum SkipReason {
     /// It did not end as expected.
     End,
     /// It differs from the job that it names by `same_as`.
@@ -37,7 +37,7 @@ pub struct JobRun {
     /// `same_as`.
     pub is_chosen: bool,
     /// Why the job was skipped; `None` if it was not.
-    pub left: Option<RejectReason>,
+    pub left: Option<SkipReason>,
 }
 
 impl JobRun {
@@ -74,7 +74,7 @@ fn push_placed_rows(
 {
     match marks {
         [marked, marks @ ..] => {
-            let row = next_if(*marked, rows);
+            let row = next_row_if(*marked, rows);
             placed.push(row)?;
             push_placed_rows(placed, marks, rows)
         }
@@ -83,7 +83,7 @@ fn push_placed_rows(
 }
 
 // Returns the next row if the job is selected.
-fn next_if(is_marked: bool, rows: &mut IntoIter<Row>) -> Option<Row>
+fn next_row_if(is_marked: bool, rows: &mut IntoIter<Row>) -> Option<Row>
     ensures row { result ≡ row_if is_marked (into_iter_items rows.old) }
     ensures rest { into_iter_items rows.new ≡ rest_if is_marked (into_iter_items rows.old) }
 {
@@ -165,9 +165,9 @@ fn judged_run(acceptance: Acceptance, job: &Job, candidate: Candidate, row: Row)
         standing,
     } = candidate;
     let left = if is_chosen {
-        why_chosen_is_left(acceptance, standing, job, &row)
+        chosen_skip_reason(acceptance, standing, job, &row)
     } else {
-        why_sharing_is_left(standing, job, row.ending)
+        sharing_skip_reason(standing, job, row.ending)
     };
     JobRun {
         row,
@@ -177,41 +177,41 @@ fn judged_run(acceptance: Acceptance, job: &Job, candidate: Candidate, row: Row)
 }
 
 // Returns the reason to skip a chosen job; `None` if it currently passes, or if it fails and its run can be accepted.
-fn why_chosen_is_left(
+fn chosen_skip_reason(
     acceptance: Acceptance,
     standing: CurrentVerdict,
     job: &Job,
     row: &Row,
-) -> Option<RejectReason>
-    ensures { result ≡ why_chosen_is_left acceptance standing job.now row.now }
+) -> Option<SkipReason>
+    ensures { result ≡ chosen_skip_reason acceptance standing job.now row.now }
 {
     match standing {
         CurrentVerdict::Passes => None,
-        CurrentVerdict::Fails if takes_from_run(job) => why_left(acceptance, job, row),
-        CurrentVerdict::Fails => Some(RejectReason::End),
-        CurrentVerdict::Differs => Some(why_differing_is_left(acceptance, job, row.ending)),
+        CurrentVerdict::Fails if takes_from_run(job) => skip_reason(acceptance, job, row),
+        CurrentVerdict::Fails => Some(SkipReason::End),
+        CurrentVerdict::Differs => Some(differing_skip_reason(acceptance, job, row.ending)),
     }
 }
 
 // Returns the reason to skip a job that differs from its `same_as` job: its end, if it is not accepted, or else the difference.
-fn why_differing_is_left(acceptance: Acceptance, job: &Job, ending: RowEnd) -> RejectReason
-    ensures { result ≡ why_differing_is_left acceptance job.now ending }
+fn differing_skip_reason(acceptance: Acceptance, job: &Job, ending: RowEnd) -> SkipReason
+    ensures { result ≡ differing_skip_reason acceptance job.now ending }
 {
     if takes_from_run(job) && !is_accepted_end(acceptance, job, ending) {
-        RejectReason::End
+        SkipReason::End
     } else {
-        RejectReason::Differs
+        SkipReason::Differs
     }
 }
 
 // Returns the reason to skip a job that is not chosen; `None` if it currently passes or ended exactly as expected.
-fn why_sharing_is_left(standing: CurrentVerdict, job: &Job, ending: RowEnd) -> Option<RejectReason>
-    ensures { result ≡ why_sharing_is_left standing job.now ending }
+fn sharing_skip_reason(standing: CurrentVerdict, job: &Job, ending: RowEnd) -> Option<SkipReason>
+    ensures { result ≡ sharing_skip_reason standing job.now ending }
 {
     match standing {
         CurrentVerdict::Passes => None,
         CurrentVerdict::Fails | CurrentVerdict::Differs => {
-            why_end_is_left(Acceptance::Expected, job, ending)
+            end_skip_reason(Acceptance::Expected, job, ending)
         }
     }
 }
@@ -227,25 +227,25 @@ fn takes_from_run(job: &Job) -> bool
 }
 
 // Returns the reason to skip a job because of its end or its console; `None` if both are accepted.
-fn why_left(acceptance: Acceptance, job: &Job, row: &Row) -> Option<RejectReason>
-    ensures { result ≡ why_left acceptance job.now row.now }
+fn skip_reason(acceptance: Acceptance, job: &Job, row: &Row) -> Option<SkipReason>
+    ensures { result ≡ skip_reason acceptance job.now row.now }
 {
-    if let Some(why) = why_end_is_left(acceptance, job, row.ending) {
+    if let Some(why) = end_skip_reason(acceptance, job, row.ending) {
         Some(why)
     } else if is_value_changed(ValueKey::Console, job, row) && !is_utf8(row.console.as_slice()) {
-        Some(RejectReason::NoText)
+        Some(SkipReason::NoText)
     } else {
         None
     }
 }
 
 // Returns the reason to skip a job because of its end; `None` if the end is accepted.
-fn why_end_is_left(acceptance: Acceptance, job: &Job, ending: RowEnd) -> Option<RejectReason>
-    ensures { result ≡ why_end_is_left acceptance job.now ending }
+fn end_skip_reason(acceptance: Acceptance, job: &Job, ending: RowEnd) -> Option<SkipReason>
+    ensures { result ≡ end_skip_reason acceptance job.now ending }
 {
     if is_accepted_end(acceptance, job, ending) {
         None
     } else {
-        Some(RejectReason::End)
+        Some(SkipReason::End)
     }
 }

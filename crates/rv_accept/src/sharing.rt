@@ -1,8 +1,8 @@
 //! Which jobs run so that the outcome for a golden file is known.
 
 ghost use Rattle.std.specs.Prelude.{◌≡◌, ◌++◌, ◌+◌, ◌^◌, ◌<◌, IfOk, OnOk, length, option_map};
-ghost use Rattle.rv_accept.specs.Sharing.{is_compared_with, is_file_of_marked, is_named_by_marked, is_path, is_place, jobs_to_run};
-ghost use Rattle.rv_accept.specs.Sharing.{marks_with_compared, names_golden_file, shares_with_marked, sharing_marks};
+ghost use Rattle.rv_accept.specs.Sharing.{is_compared_with, is_file_of_selected, is_named_by_selected, is_path, is_place, jobs_to_run};
+ghost use Rattle.rv_accept.specs.Sharing.{marks_with_compared, names_golden_file, shares_with_selected, sharing_marks};
 
 use crate::claims::console_path;
 use rv_jobs::Job;
@@ -79,7 +79,7 @@ fn push_sharing_marks(
 {
     match (jobs, chosen) {
         ([job, jobs @ ..], [is_chosen, chosen @ ..]) => {
-            marks.push(*is_chosen || shares_with_marked(all.0, all.1, job))?;
+            marks.push(*is_chosen || shares_with_selected(all.0, all.1, job))?;
             push_sharing_marks(marks, all, jobs, chosen)
         }
         ([], _) => Ok(()),
@@ -88,31 +88,31 @@ fn push_sharing_marks(
 }
 
 // Whether a job names a golden file that a selected job names.
-fn shares_with_marked(jobs: &[Job], marks: &[bool], job: &Job) -> bool
-    ensures { result ≡ shares_with_marked jobs.now marks.now job.now }
+fn shares_with_selected(jobs: &[Job], marks: &[bool], job: &Job) -> bool
+    ensures { result ≡ shares_with_selected jobs.now marks.now job.now }
 {
-    is_file_of_marked(jobs, marks, console_path(job))
-        || is_file_of_marked(jobs, marks, signature_path(job))
+    is_file_of_selected(jobs, marks, console_path(job))
+        || is_file_of_selected(jobs, marks, signature_path(job))
 }
 
 // Whether a path is given, and a selected job names the golden file there.
-fn is_file_of_marked(jobs: &[Job], marks: &[bool], path: Option<&str>) -> bool
-    ensures { result ≡ is_file_of_marked jobs.now marks.now (option_map (λ path. path.now) path.entry) }
+fn is_file_of_selected(jobs: &[Job], marks: &[bool], path: Option<&str>) -> bool
+    ensures { result ≡ is_file_of_selected jobs.now marks.now (option_map (λ path. path.now) path.entry) }
 {
     match path {
-        Some(path) => is_named_by_marked(path, jobs, marks),
+        Some(path) => is_named_by_selected(path, jobs, marks),
         None => false,
     }
 }
 
 // Whether a selected job names the golden file at the path.
-#[tactic(auto, unfolding(crate::specs::Sharing::is_named_by_marked))]
-fn is_named_by_marked(path: &str, jobs: &[Job], marks: &[bool]) -> bool
-    ensures { result ≡ is_named_by_marked path.now jobs.now marks.now }
+#[tactic(auto, unfolding(crate::specs::Sharing::is_named_by_selected))]
+fn is_named_by_selected(path: &str, jobs: &[Job], marks: &[bool]) -> bool
+    ensures { result ≡ is_named_by_selected path.now jobs.now marks.now }
 {
     match (jobs, marks) {
         ([job, jobs @ ..], [marked, marks @ ..]) => {
-            (*marked && names_golden_file(path, job)) || is_named_by_marked(path, jobs, marks)
+            (*marked && names_golden_file(path, job)) || is_named_by_selected(path, jobs, marks)
         }
         ([], _) => false,
         ([_job, _jobs @ ..], []) => false,

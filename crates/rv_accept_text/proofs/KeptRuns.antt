@@ -3,18 +3,18 @@ use Rattle.std.proofs.Common.{◌≡◌, ◌∷◌, [], ℕ, zero, suc, Bool, tr
 use Rattle.std.specs.Prelude.{slice_get}
 use Rattle.rv_accept.specs.Runs.{is_accepted_run}
 use Rattle.rv_accept.specs.declared.runs.JobRun.{JobRun}
-use Rattle.rv_accept.specs.declared.runs.RejectReason.{RejectReason}
-use Rattle.rv_accept_text.specs.NewLists.{AreLeftFrom, again, left_run, left_runs, once, run_or_none}
+use Rattle.rv_accept.specs.declared.runs.SkipReason.{SkipReason}
+use Rattle.rv_accept_text.specs.NewLists.{AreLeftFrom, again, skipped_run, skipped_runs, once, run_or_none}
 
 no : {A : Type 0} → false ≡ true → A
 no is = cc
 
 -- a run that is accepted though it may be left is the same
-same_run : (why : Option RejectReason) (run : JobRun) → is_accepted_run (left_run why run) ≡ true → left_run why run ≡ run
+same_run : (why : Option SkipReason) (run : JobRun) → is_accepted_run (skipped_run why run) ≡ true → skipped_run why run ≡ run
 same_run why run accepted = go run.is_chosen run.left refl refl why accepted
   where
-    go : (chosen : Bool) (left : Option RejectReason) → run.is_chosen ≡ chosen → run.left ≡ left → (why : Option RejectReason)
-        → is_accepted_run (left_run why run) ≡ true → left_run why run ≡ run
+    go : (chosen : Bool) (left : Option SkipReason) → run.is_chosen ≡ chosen → run.left ≡ left → (why : Option SkipReason)
+        → is_accepted_run (skipped_run why run) ≡ true → skipped_run why run ≡ run
     go false left chosen_is left_is why accepted = rw chosen_is refl
     go true (Some other) chosen_is left_is why accepted = rw (chosen_is, left_is) refl
     go true None chosen_is left_is None accepted = rw (chosen_is, left_is) (rw (← left_is) refl)
@@ -24,20 +24,20 @@ run_behind : (runs : List (Option JobRun)) (place : ℕ) → slice_get (drop 1 r
 run_behind [] place = refl
 run_behind (run ∷ runs) place = refl
 
-first_run : (why : Option RejectReason) (runs : List (Option JobRun)) (run : JobRun)
-    → Some (option_map (left_run why) (run_or_none (slice_get runs 0))) ≡ Some (Some run) → is_accepted_run run ≡ true
+first_run : (why : Option SkipReason) (runs : List (Option JobRun)) (run : JobRun)
+    → Some (option_map (skipped_run why) (run_or_none (slice_get runs 0))) ≡ Some (Some run) → is_accepted_run run ≡ true
     → slice_get runs 0 ≡ Some (Some run)
 first_run why [] run is accepted = cc
 first_run why (None ∷ runs) run is accepted = cc
 first_run why (Some before ∷ runs) run is accepted =
-    let left : left_run why before ≡ run = cc in
+    let left : skipped_run why before ≡ run = cc in
     let same = same_run why before (rw (← left) at accepted) in
     rw (← left) (rw same refl)
 
-kept_run : (whys : List (Option RejectReason)) (runs : List (Option JobRun)) (place : ℕ) (run : JobRun)
-    → slice_get (left_runs whys runs) place ≡ Some (Some run) → is_accepted_run run ≡ true
+kept_run : (whys : List (Option SkipReason)) (runs : List (Option JobRun)) (place : ℕ) (run : JobRun)
+    → slice_get (skipped_runs whys runs) place ≡ Some (Some run) → is_accepted_run run ≡ true
     → slice_get runs place ≡ Some (Some run)
-unfolding left_runs
+unfolding skipped_runs
 kept_run [] runs place run is accepted = cc
 kept_run (why ∷ whys) runs zero run is accepted = first_run why runs run is accepted
 kept_run (why ∷ whys) runs (suc place) run is accepted =
@@ -48,4 +48,4 @@ pub accepted_from_the_first : (before after : List (Option JobRun)) (place : ℕ
     → slice_get before place ≡ Some (Some run)
 accepted_from_the_first before _ place run (once whys) is accepted = kept_run whys before place run is accepted
 accepted_from_the_first before _ place run (again whys more) is accepted =
-    kept_run whys before place run (kept_run more (left_runs whys before) place run is accepted) accepted
+    kept_run whys before place run (kept_run more (skipped_runs whys before) place run is accepted) accepted

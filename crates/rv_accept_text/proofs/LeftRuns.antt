@@ -2,17 +2,17 @@
 use Rattle.std.proofs.Common.{◌≡◌, List, Option, Ok, Err, subst, sym}
 use Rattle.std.specs.Prelude.{IfOk, Result}
 use Rattle.rv_accept.specs.declared.runs.JobRun.{JobRun}
-use Rattle.rv_accept.specs.declared.runs.RejectReason.{RejectReason}
-use Rattle.rv_accept_text.specs.NewLists.{AreLeftFrom, again, left_runs, once}
+use Rattle.rv_accept.specs.declared.runs.SkipReason.{SkipReason}
+use Rattle.rv_accept_text.specs.NewLists.{AreLeftFrom, again, skipped_runs, once}
 use Rattle.rv_accept_text.specs.declared.new_list.NewList.{NewList}
 
-pub left_once : (before : List (Option JobRun)) (whys : List (Option RejectReason)) (after : List (Option JobRun))
-    → after ≡ left_runs whys before → AreLeftFrom before after
+pub left_once : (before : List (Option JobRun)) (whys : List (Option SkipReason)) (after : List (Option JobRun))
+    → after ≡ skipped_runs whys before → AreLeftFrom before after
 left_once before whys after is = subst (AreLeftFrom before) (sym is) (once whys)
 
-pub left_twice : {Y : Type 0} (r : Result NewList Y) (before : List (Option JobRun)) (whys : List (Option RejectReason))
-    (middle : List (Option JobRun)) → middle ≡ left_runs whys before
-    → IfOk r (λ new. (more : List (Option RejectReason)) × (new.runs.items ≡ left_runs more middle))
+pub left_twice : {Y : Type 0} (r : Result NewList Y) (before : List (Option JobRun)) (whys : List (Option SkipReason))
+    (middle : List (Option JobRun)) → middle ≡ skipped_runs whys before
+    → IfOk r (λ new. (more : List (Option SkipReason)) × (new.runs.items ≡ skipped_runs more middle))
     → IfOk r (λ new. AreLeftFrom before new.runs.items)
 left_twice (Ok new) before whys middle is left =
     subst (AreLeftFrom before) (sym (rw is at left.1)) (again whys left.0)

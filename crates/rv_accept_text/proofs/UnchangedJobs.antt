@@ -15,13 +15,13 @@ use Rattle.rv_rows.specs.declared_row.Row.{Row}
 use Rattle.rv_rows.specs.declared_row.RowEnd.{RowEnd}
 use Rattle.rv_rows.specs.declared_row.RowEnd.TheVariants as ending
 use Rattle.rv_accept.specs.Accepted.{accepted_job, actual_console, actual_end, actual_exit}
-use Rattle.rv_accept.specs.Meant.{meant_job, intended_jobs}
+use Rattle.rv_accept.specs.Meant.{intended_job, intended_jobs}
 use Rattle.rv_accept.specs.Runs.{accepted_row, row_if_accepted}
 use Rattle.rv_accept.specs.Values.{has_text, is_value_changed}
 use Rattle.rv_accept.specs.declared.runs.JobRun.{JobRun}
-use Rattle.rv_accept.specs.declared.runs.RejectReason.{RejectReason}
+use Rattle.rv_accept.specs.declared.runs.SkipReason.{SkipReason}
 use Rattle.rv_accept.specs.declared.values.ValueKey.TheVariants as key
-use Rattle.rv_accept_text.specs.NewLists.{left_run, left_runs, why_changed, why_changed_if_run, whys_changed}
+use Rattle.rv_accept_text.specs.NewLists.{skipped_run, skipped_runs, why_changed, why_changed_if_run, whys_changed}
 
 -- ---- one job
 
@@ -52,7 +52,7 @@ of_not true is = refl
 of_not false is = cc
 
 -- each of three tests fails where none of them gives a reason
-all_fail : (a b c : Bool) (x y z : RejectReason)
+all_fail : (a b c : Bool) (x y z : SkipReason)
     → (if a then Some x else if b then Some y else if c then Some z else None) ≡ None
     → (a ≡ false) × (b ≡ false) × (c ≡ false)
 all_fail true b c x y z none = cc
@@ -69,31 +69,31 @@ same_job job row none =
 
 -- ---- one run
 
-meant_if_left : (job : Job) (run : JobRun) (why : Option RejectReason) → why_changed job run.row ≡ why
-    → meant_job job (row_if_accepted (left_run why run)) ≡ job
+meant_if_left : (job : Job) (run : JobRun) (why : Option SkipReason) → why_changed job run.row ≡ why
+    → intended_job job (row_if_accepted (skipped_run why run)) ≡ job
 meant_if_left job run why is = go run.is_chosen run.left refl refl
   where
-    go : (chosen : Bool) (left : Option RejectReason) → run.is_chosen ≡ chosen → run.left ≡ left
-        → meant_job job (row_if_accepted (left_run why run)) ≡ job
+    go : (chosen : Bool) (left : Option SkipReason) → run.is_chosen ≡ chosen → run.left ≡ left
+        → intended_job job (row_if_accepted (skipped_run why run)) ≡ job
     go false left chosen_is left_is = rw chosen_is refl
     go true (Some other) chosen_is left_is = rw (chosen_is, left_is) refl
     go true None chosen_is left_is = at_why why is
       where
-        at_why : (why : Option RejectReason) → why_changed job run.row ≡ why
-            → meant_job job (row_if_accepted (left_run why run)) ≡ job
+        at_why : (why : Option SkipReason) → why_changed job run.row ≡ why
+            → intended_job job (row_if_accepted (skipped_run why run)) ≡ job
         at_why None is = rw (chosen_is, left_is) (same_job job run.row is)
         at_why (Some other) is = rw (chosen_is, left_is) refl
 
 meant_of_run : (job : Job) (run : Option JobRun)
-    → meant_job job (accepted_row (option_map (left_run (why_changed_if_run job run)) run)) ≡ job
+    → intended_job job (accepted_row (option_map (skipped_run (why_changed_if_run job run)) run)) ≡ job
 meant_of_run job None = refl
 meant_of_run job (Some run) = meant_if_left job run _ refl
 
 -- ---- the list
 
 pub changed_are_left : (jobs : List Job) (runs : List (Option JobRun))
-    → intended_jobs jobs (left_runs (whys_changed jobs runs) runs) ≡ jobs
-unfolding intended_jobs left_runs whys_changed
+    → intended_jobs jobs (skipped_runs (whys_changed jobs runs) runs) ≡ jobs
+unfolding intended_jobs skipped_runs whys_changed
 changed_are_left [] runs = refl
 changed_are_left (job ∷ jobs) [] = refl
 changed_are_left (job ∷ jobs) (run ∷ runs) = rw (meant_of_run job run) (rw (changed_are_left jobs runs) refl)

@@ -42,13 +42,13 @@ abbrev pub changed_file_line : List Job → Target → List ℕ → List ℕ →
 changed_file_line jobs target old new = file_head (codes "~ ") jobs target ++ part_change target.part target.path old new
 
 -- the line about a golden file that is created
-abbrev pub made_file_line : List Job → Target → List ℕ → List ℕ
-made_file_line jobs target new = file_head (codes "+ ") jobs target ++ (codes ", " ++ count_text (length new) (codes "byte")
+abbrev pub created_file_line : List Job → Target → List ℕ → List ℕ
+created_file_line jobs target new = file_head (codes "+ ") jobs target ++ (codes ", " ++ count_text (length new) (codes "byte")
     ++ codes "\n")
 
 -- the lines about a golden file that is written: it is created if it has no old contents, and changed otherwise
 abbrev pub written_file_line : List Job → Target → Option (List ℕ) → List ℕ → List ℕ
-written_file_line jobs target None new = made_file_line jobs target new
+written_file_line jobs target None new = created_file_line jobs target new
 written_file_line jobs target (Some old) new = changed_file_line jobs target old new
 
 -- the lines about a golden file that gets this new text; nothing without a new text
@@ -88,19 +88,19 @@ abbrev pub disagreement_text : List Job → List GoldenText → List ℕ → Lis
 disagreement_text jobs claims path = first_claim_text jobs claims path (find (names_file path) claims)
 
 -- the reason why a golden file is skipped, given its outcome
-abbrev pub why_file_is_left : List Job → List GoldenText → List ℕ → GoldenFileOutcome → List ℕ
-why_file_is_left jobs claims path (fate.LeftBy job) = codes "job \"" ++ printable_text (job_name jobs job)
+abbrev pub file_skip_reason : List Job → List GoldenText → List ℕ → GoldenFileOutcome → List ℕ
+file_skip_reason jobs claims path (fate.LeftBy job) = codes "job \"" ++ printable_text (job_name jobs job)
     ++ codes "\" also names this file and was skipped\n"
-why_file_is_left jobs claims path (fate.Differ job other) = disagreement_text jobs claims path
-why_file_is_left jobs claims path (fate.Agreed text) = codes "the list and the images are never overwritten\n"
-why_file_is_left jobs claims path fate.Unclaimed = codes "the list and the images are never overwritten\n"
+file_skip_reason jobs claims path (fate.Differ job other) = disagreement_text jobs claims path
+file_skip_reason jobs claims path (fate.Agreed text) = codes "the list and the images are never overwritten\n"
+file_skip_reason jobs claims path fate.Unclaimed = codes "the list and the images are never overwritten\n"
 
 -- the beginning of the line about a skipped job or golden file
-abbrev pub left_head : List ℕ → List ℕ
-left_head name = codes "skipped " ++ printable_text name ++ codes ": "
+abbrev pub skipped_head : List ℕ → List ℕ
+skipped_head name = codes "skipped " ++ printable_text name ++ codes ": "
 
 -- the line about a skipped golden file; empty if it is not skipped
-unfoldable pub left_file_line : ListFile → List GoldenText → GoldenFile → List ℕ
-left_file_line list claims file = if is_left list file
-    then left_head file.target.path ++ why_file_is_left list.jobs.now claims file.target.path file.target.fate
+unfoldable pub skipped_file_line : ListFile → List GoldenText → GoldenFile → List ℕ
+skipped_file_line list claims file = if is_left list file
+    then skipped_head file.target.path ++ file_skip_reason list.jobs.now claims file.target.path file.target.fate
     else []

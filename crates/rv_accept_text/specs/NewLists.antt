@@ -5,13 +5,13 @@ use Rattle.rv_rows.specs.declared_row.Row.{Row}
 use Rattle.rv_accept.specs.Runs.{is_accepted_run}
 use Rattle.rv_accept.specs.Values.{is_value_changed}
 use Rattle.rv_accept.specs.declared.runs.JobRun.{JobRun}
-use Rattle.rv_accept.specs.declared.runs.RejectReason.{RejectReason}
-use Rattle.rv_accept.specs.declared.runs.RejectReason.TheVariants as why
+use Rattle.rv_accept.specs.declared.runs.SkipReason.{SkipReason}
+use Rattle.rv_accept.specs.declared.runs.SkipReason.TheVariants as why
 use Rattle.rv_accept.specs.declared.values.ValueKey.TheVariants as key
 
 -- the run, skipped for the reason `why` if it was accepted and a reason is given
-abbrev pub left_run : Option RejectReason → JobRun → JobRun
-left_run why run = if is_accepted_run run then record run { left = why } else run
+abbrev pub skipped_run : Option SkipReason → JobRun → JobRun
+skipped_run why run = if is_accepted_run run then record run { left = why } else run
 
 -- the run, if there is one
 abbrev pub run_or_none : Option (Option JobRun) → Option JobRun
@@ -19,31 +19,31 @@ run_or_none None = None
 run_or_none (Some run) = run
 
 -- the runs, in which each accepted run that has a reason is skipped
-unfoldable pub left_runs : List (Option RejectReason) → List (Option JobRun) → List (Option JobRun)
-left_runs [] runs = []
-left_runs (why ∷ whys) runs = option_map (left_run why) (run_or_none (slice_get runs 0)) ∷ left_runs whys (drop 1 runs)
+unfoldable pub skipped_runs : List (Option SkipReason) → List (Option JobRun) → List (Option JobRun)
+skipped_runs [] runs = []
+skipped_runs (why ∷ whys) runs = option_map (skipped_run why) (run_or_none (slice_get runs 0)) ∷ skipped_runs whys (drop 1 runs)
 
 -- these runs are `before` with more accepted runs skipped, in one or two steps
 pub data AreLeftFrom (before : List (Option JobRun)) : List (Option JobRun) → Type 0 where
-  once : (whys : List (Option RejectReason)) → AreLeftFrom before (left_runs whys before)
-  again : (whys more : List (Option RejectReason)) → AreLeftFrom before (left_runs more (left_runs whys before))
+  once : (whys : List (Option SkipReason)) → AreLeftFrom before (skipped_runs whys before)
+  again : (whys more : List (Option SkipReason)) → AreLeftFrom before (skipped_runs more (skipped_runs whys before))
 
 -- ---- jobs with changed values, if the list is not changed
 
 -- the reason to skip a job of which a value changes: the first value that does; none if no value changes
-abbrev pub why_changed : Job → Row → Option RejectReason
+abbrev pub why_changed : Job → Row → Option SkipReason
 why_changed job row =
     if is_value_changed key.Exit job row then Some (why.NoPlace key.Exit)
     else if is_value_changed key.End job row then Some (why.NoPlace key.End)
     else if is_value_changed key.Console job row then Some (why.NoPlace key.Console) else None
 
 -- the reason to skip a job of which a value changes; none if it was not run
-abbrev pub why_changed_if_run : Job → Option JobRun → Option RejectReason
+abbrev pub why_changed_if_run : Job → Option JobRun → Option SkipReason
 why_changed_if_run job None = None
 why_changed_if_run job (Some run) = why_changed job run.row
 
 -- for each run, the reason to skip its job because a value changes; none if no value changes
-unfoldable pub whys_changed : List Job → List (Option JobRun) → List (Option RejectReason)
+unfoldable pub whys_changed : List Job → List (Option JobRun) → List (Option SkipReason)
 whys_changed [] runs = []
 whys_changed (job ∷ jobs) [] = []
 whys_changed (job ∷ jobs) (run ∷ runs) = why_changed_if_run job run ∷ whys_changed jobs runs

@@ -5,9 +5,9 @@ use Rattle.std.specs.List.{count_by, flat_map}
 use Rattle.rv_jobs.specs.declared_job.Job.{Job}
 use Rattle.rv_text.specs.Words.{count_text}
 use Rattle.rv_accept.specs.declared.runs.JobRun.{JobRun}
-use Rattle.rv_accept_text.specs.FileLines.{file_line, left_file_line}
+use Rattle.rv_accept_text.specs.FileLines.{file_line, skipped_file_line}
 use Rattle.rv_accept_text.specs.GoldenFiles.{is_left, new_text}
-use Rattle.rv_accept_text.specs.JobLines.{left_job_line, value_line}
+use Rattle.rv_accept_text.specs.JobLines.{skipped_job_line, value_line}
 use Rattle.rv_accept_text.specs.declared.accepting.AcceptSummary.{AcceptSummary}
 use Rattle.rv_accept_text.specs.declared.accepting.Writing.{Writing}
 use Rattle.rv_accept_text.specs.declared.accepting.Writing.TheVariants as writing
@@ -28,17 +28,17 @@ value_line_in told value = value_line_of told.list.path.now value (slice_get tol
     (slice_get told.runs.now value.job)
 
 -- the lines about the skipped jobs; `list` are all jobs of the list
-unfoldable pub left_job_lines : List Job → List Job → List (Option JobRun) → List ℕ
-left_job_lines list [] runs = []
-left_job_lines list (job ∷ jobs) [] = []
-left_job_lines list (job ∷ jobs) (run ∷ runs) = left_job_line list job run ++ left_job_lines list jobs runs
+unfoldable pub skipped_job_lines : List Job → List Job → List (Option JobRun) → List ℕ
+skipped_job_lines list [] runs = []
+skipped_job_lines list (job ∷ jobs) [] = []
+skipped_job_lines list (job ∷ jobs) (run ∷ runs) = skipped_job_line list job run ++ skipped_job_lines list jobs runs
 
 -- the lines that `accept` prints: changed golden files, changed values of the list, skipped jobs, and skipped golden files
 abbrev pub told_lines : AcceptSummary → List ℕ
 told_lines told = flat_map (file_line told.list) told.files.now
     ++ flat_map (value_line_in told) told.new.now.values.items
-    ++ left_job_lines told.list.jobs.now told.list.jobs.now told.runs.now
-    ++ flat_map (left_file_line told.list told.claims.now) told.files.now
+    ++ skipped_job_lines told.list.jobs.now told.list.jobs.now told.runs.now
+    ++ flat_map (skipped_file_line told.list told.claims.now) told.files.now
 
 -- ---- the last line
 
@@ -56,13 +56,13 @@ abbrev pub changed_count : AcceptSummary → ℕ
 changed_count told = count_by (is_changed told.list) told.files.now + one_if (is_some told.new.now.text)
 
 -- whether there is a run, and its job is chosen and was skipped
-abbrev pub is_left_job : Option JobRun → Bool
-is_left_job None = false
-is_left_job (Some run) = run.is_chosen && is_some run.left
+abbrev pub is_skipped_job : Option JobRun → Bool
+is_skipped_job None = false
+is_skipped_job (Some run) = run.is_chosen && is_some run.left
 
 -- the number of chosen jobs and of golden files that were skipped
 abbrev pub left_count : AcceptSummary → ℕ
-left_count told = count_by is_left_job told.runs.now + count_by (is_left told.list) told.files.now
+left_count told = count_by is_skipped_job told.runs.now + count_by (is_left told.list) told.files.now
 
 -- whether files were written or would be, in words
 abbrev pub writing_word : Writing → List ℕ

@@ -2,14 +2,14 @@
 
 ghost use Rattle.std.specs.Prelude.{◌≡◌, ◌≤◌, ◌<◌, ◌+◌, ◌^◌, ◌++◌, OnOk, is_some, length, min, option_map};
 ghost use Rattle.std.specs.List.{count_by, flat_map};
-ghost use Rattle.rv_accept_text.specs.FileLines.{file_line, left_file_line};
+ghost use Rattle.rv_accept_text.specs.FileLines.{file_line, skipped_file_line};
 ghost use Rattle.rv_accept_text.specs.GoldenFiles.{is_left};
-ghost use Rattle.rv_accept_text.specs.Told.{changed_count, count_line, is_changed, is_left_job, left_count, left_job_lines};
+ghost use Rattle.rv_accept_text.specs.Told.{changed_count, count_line, is_changed, is_skipped_job, left_count, skipped_job_lines};
 ghost use Rattle.rv_accept_text.specs.Told.{one_if, told_lines, value_line_in, value_line_of, writing_word};
 
-use crate::file_lines::{push_file_line, push_left_file_line};
+use crate::file_lines::{push_file_line, push_skipped_file_line};
 use crate::golden_file::{GoldenFile, ListFile};
-use crate::job_lines::{push_left_job_line, push_value_line};
+use crate::job_lines::{push_skipped_job_line, push_value_line};
 use crate::new_list::{ChangedValue, NewList};
 use rv_accept::{GoldenText, JobRun};
 use rv_jobs::Job;
@@ -44,8 +44,8 @@ impl<'a> AcceptSummary<'a> {
     {
         self.push_file_lines(out)?;
         self.push_value_lines(out)?;
-        push_left_job_lines(alloc, out, self.list.jobs, self.list.jobs, self.runs)?;
-        self.push_left_file_lines(out)
+        push_skipped_job_lines(alloc, out, self.list.jobs, self.list.jobs, self.runs)?;
+        self.push_skipped_file_lines(out)
     }
 
     fn push_file_lines(&self, out: &mut Vec<u8>) -> Result<(), AllocError>
@@ -81,12 +81,12 @@ impl<'a> AcceptSummary<'a> {
         )
     }
 
-    fn push_left_file_lines(&self, out: &mut Vec<u8>) -> Result<(), AllocError>
+    fn push_skipped_file_lines(&self, out: &mut Vec<u8>) -> Result<(), AllocError>
         ensures { OnOk result (out.new.items ≡ out.old.items
-            ++ flat_map (left_file_line self.now.list self.now.claims.now) self.now.files.now) }
+            ++ flat_map (skipped_file_line self.now.list self.now.claims.now) self.now.files.now) }
     {
         for file in self.files {
-            push_left_file_line(out, &self.list, self.claims, file)?;
+            push_skipped_file_line(out, &self.list, self.claims, file)?;
         }
         Ok(())
     }
@@ -108,10 +108,10 @@ impl<'a> AcceptSummary<'a> {
     pub fn left_count(&self) -> usize
         ensures { result ≡ left_count self.now }
     {
-        left_job_count(self.runs) + self.left_file_count()
+        skipped_job_count(self.runs) + self.skipped_file_count()
     }
 
-    fn left_file_count(&self) -> usize
+    fn skipped_file_count(&self) -> usize
         ensures value { result ≡ count_by (is_left self.now.list) self.now.files.now }
         ensures within { result ≤ length self.now.files.now }
     {
@@ -170,33 +170,33 @@ fn push_value_line_of(
 }
 
 // Appends the lines about the skipped jobs.
-#[tactic(auto, unfolding(crate::specs::Told::left_job_lines))]
-fn push_left_job_lines(
+#[tactic(auto, unfolding(crate::specs::Told::skipped_job_lines))]
+fn push_skipped_job_lines(
     alloc: Global,
     out: &mut Vec<u8>,
     list: &[Job],
     jobs: &[Job],
     runs: &[Option<JobRun>],
 ) -> Result<(), AllocError>
-    ensures { OnOk result (out.new.items ≡ out.old.items ++ left_job_lines list.now jobs.now runs.now) }
+    ensures { OnOk result (out.new.items ≡ out.old.items ++ skipped_job_lines list.now jobs.now runs.now) }
 {
     match (jobs, runs) {
         ([job, jobs @ ..], [run, runs @ ..]) => {
-            push_left_job_line(alloc, out, list, job, run)?;
-            push_left_job_lines(alloc, out, list, jobs, runs)
+            push_skipped_job_line(alloc, out, list, job, run)?;
+            push_skipped_job_lines(alloc, out, list, jobs, runs)
         }
         ([], _) => Ok(()),
         ([_job, _jobs @ ..], []) => Ok(()),
     }
 }
 
-fn left_job_count(runs: &[Option<JobRun>]) -> usize
-    ensures value { result ≡ count_by is_left_job runs.now }
+fn skipped_job_count(runs: &[Option<JobRun>]) -> usize
+    ensures value { result ≡ count_by is_skipped_job runs.now }
     ensures within { result ≤ length runs.now }
 {
     let mut count = 0;
     for run in runs {
-        if is_left_job(run) {
+        if is_skipped_job(run) {
             count += 1;
         }
     }
@@ -204,8 +204,8 @@ fn left_job_count(runs: &[Option<JobRun>]) -> usize
 }
 
 // Whether there is a run, and its job is chosen and was skipped.
-fn is_left_job(run: &Option<JobRun>) -> bool
-    ensures { result ≡ is_left_job run.now }
+fn is_skipped_job(run: &Option<JobRun>) -> bool
+    ensures { result ≡ is_skipped_job run.now }
 {
     match run {
         Some(run) => run.is_chosen && run.left.is_some(),

@@ -1,9 +1,9 @@
 //! The lines about golden files.
 
 ghost use Rattle.std.specs.Prelude.{◌≡◌, ◌++◌, OnOk, option_map};
-ghost use Rattle.rv_accept_text.specs.FileLines.{changed_file_line, disagreement_text, file_head, file_line, left_file_line, left_head};
-ghost use Rattle.rv_accept_text.specs.FileLines.{made_file_line, other_claim_text, part_change, part_text, text_or_empty, two_claims_text};
-ghost use Rattle.rv_accept_text.specs.FileLines.{why_file_is_left, written_file_line};
+ghost use Rattle.rv_accept_text.specs.FileLines.{changed_file_line, disagreement_text, file_head, file_line, skipped_file_line, skipped_head};
+ghost use Rattle.rv_accept_text.specs.FileLines.{created_file_line, other_claim_text, part_change, part_text, text_or_empty, two_claims_text};
+ghost use Rattle.rv_accept_text.specs.FileLines.{file_skip_reason, written_file_line};
 
 use crate::changed_text::{push_byte_difference, push_text_change, push_word_change};
 use crate::golden_file::{GoldenFile, ListFile};
@@ -41,7 +41,7 @@ fn push_written_file_line(
 {
     match &file.old {
         Some(old) => push_changed_file_line(out, jobs, &file.target, old.as_slice(), text),
-        None => push_made_file_line(out, jobs, &file.target, text),
+        None => push_created_file_line(out, jobs, &file.target, text),
     }
 }
 
@@ -76,13 +76,13 @@ fn push_part_change(
 }
 
 // Appends the line about a golden file that is created.
-fn push_made_file_line(
+fn push_created_file_line(
     out: &mut Vec<u8>,
     jobs: &[Job],
     target: &Target,
     text: &[u8],
 ) -> Result<(), AllocError>
-    ensures { OnOk result (out.new.items ≡ out.old.items ++ made_file_line jobs.now target.now text.now) }
+    ensures { OnOk result (out.new.items ≡ out.old.items ++ created_file_line jobs.now target.now text.now) }
 {
     push_file_head(out, "+ ", jobs, target)?;
     push_spans(
@@ -127,25 +127,25 @@ fn part_text(part: Part) -> &'static str
 }
 
 /// Appends the line about a skipped golden file; nothing if it is not skipped.
-#[tactic(auto, unfolding(crate::specs::FileLines::left_file_line))]
-pub(crate) fn push_left_file_line(
+#[tactic(auto, unfolding(crate::specs::FileLines::skipped_file_line))]
+pub(crate) fn push_skipped_file_line(
     out: &mut Vec<u8>,
     list: &ListFile<'_>,
     claims: &[GoldenText],
     file: &GoldenFile,
 ) -> Result<(), AllocError>
-    ensures { OnOk result (out.new.items ≡ out.old.items ++ left_file_line list.now claims.now file.now) }
+    ensures { OnOk result (out.new.items ≡ out.old.items ++ skipped_file_line list.now claims.now file.now) }
 {
     if !file.is_left(list) {
         return Ok(());
     }
-    push_left_head(out, file.target.path.as_str())?;
-    push_why_file_is_left(out, list.jobs, claims, &file.target)
+    push_skipped_head(out, file.target.path.as_str())?;
+    push_file_skip_reason(out, list.jobs, claims, &file.target)
 }
 
 /// Appends the beginning of the line about a skipped job or golden file.
-pub(crate) fn push_left_head(out: &mut Vec<u8>, name: &str) -> Result<(), AllocError>
-    ensures { OnOk result (out.new.items ≡ out.old.items ++ left_head name.now) }
+pub(crate) fn push_skipped_head(out: &mut Vec<u8>, name: &str) -> Result<(), AllocError>
+    ensures { OnOk result (out.new.items ≡ out.old.items ++ skipped_head name.now) }
 {
     push_spans(
         out,
@@ -158,14 +158,14 @@ pub(crate) fn push_left_head(out: &mut Vec<u8>, name: &str) -> Result<(), AllocE
 }
 
 // Appends the reason why a golden file is skipped, given its outcome.
-fn push_why_file_is_left(
+fn push_file_skip_reason(
     out: &mut Vec<u8>,
     jobs: &[Job],
     claims: &[GoldenText],
     target: &Target,
 ) -> Result<(), AllocError>
     ensures { OnOk result (out.new.items
-        ≡ out.old.items ++ why_file_is_left jobs.now claims.now target.now.path target.now.fate) }
+        ≡ out.old.items ++ file_skip_reason jobs.now claims.now target.now.path target.now.fate) }
 {
     match &target.fate {
         GoldenFileOutcome::LeftBy(job) => push_spans(

@@ -6,11 +6,11 @@ ghost use Rattle.rv_lists.specs.JobList.{job_list_of};
 ghost use Rattle.rv_accept.specs.Edits.{edited_from};
 ghost use Rattle.rv_accept.specs.Meant.{intended_jobs};
 ghost use Rattle.rv_accept.specs.declared.edits.Edit.{Edit as AnEdit};
-ghost use Rattle.rv_accept.specs.declared.runs.RejectReason.{RejectReason as AWhyLeft};
-ghost use Rattle.rv_accept_text.specs.NewLists.{AreLeftFrom, left_run, left_runs, run_or_none, why_changed, why_changed_if_run, whys_changed};
+ghost use Rattle.rv_accept.specs.declared.runs.SkipReason.{SkipReason as AWhyLeft};
+ghost use Rattle.rv_accept_text.specs.NewLists.{AreLeftFrom, skipped_run, skipped_runs, run_or_none, why_changed, why_changed_if_run, whys_changed};
 
 use rv_accept::{
-    Edit, JobRun, RejectReason, ValueKey, are_intended_jobs, edited_text, is_value_changed,
+    Edit, JobRun, SkipReason, ValueKey, are_intended_jobs, edited_text, is_value_changed,
     push_new_value,
 };
 use rv_jobs::{Bytes, Job, What, read_jobs};
@@ -72,7 +72,7 @@ pub fn accept_values(
 {
     let places = places_in(alloc, text)?;
     let whys = whys_unplaced(alloc, jobs, runs.as_slice(), &places)?;
-    let runs = left_runs(alloc, whys.as_slice(), runs)?;
+    let runs = skipped_runs(alloc, whys.as_slice(), runs)?;
     let Changes { edits, values } = changes_at(alloc, text, jobs, runs.as_slice(), &places)?;
     if edits.is_empty() && are_intended_jobs(jobs, runs.as_slice(), jobs) {
         return Ok(NewList {
@@ -81,29 +81,29 @@ pub fn accept_values(
             runs,
         });
     }
-    match meant_text(alloc, text, jobs, runs.as_slice(), edits.as_slice())? {
+    match intended_text(alloc, text, jobs, runs.as_slice(), edits.as_slice())? {
         Some(new) => Ok(NewList {
             text: Some(new),
             values,
             runs,
         }),
-        None => leave_changed(alloc, jobs, runs),
+        None => skip_changed(alloc, jobs, runs),
     }
 }
 
 // Skips each accepted job of which a value changes.
-fn leave_changed(
+fn skip_changed(
     alloc: Global,
     jobs: &[Job],
     runs: Vec<Option<JobRun>>,
 ) -> Result<NewList, AllocError>
     ensures none { IfOk result (λ new. new.text ≡ None) }
     ensures unchanged { IfOk result (λ new. intended_jobs jobs.now new.runs.items ≡ jobs.now) }
-    ensures left { IfOk result (λ new. (whys : List (Option AWhyLeft)) × (new.runs.items ≡ left_runs whys runs.items)) }
+    ensures left { IfOk result (λ new. (whys : List (Option AWhyLeft)) × (new.runs.items ≡ skipped_runs whys runs.items)) }
 {
     let mut whys = Vec::new(alloc);
     push_whys_changed(&mut whys, jobs, runs.as_slice())?;
-    let runs = left_runs(alloc, whys.as_slice(), runs)?;
+    let runs = skipped_runs(alloc, whys.as_slice(), runs)?;
     Ok(NewList {
         text: None,
         values: Vec::new(alloc),
@@ -114,7 +114,7 @@ fn leave_changed(
 // Appends for each run the reason to skip its job because a value changes; `None` if no value changes.
 #[tactic(auto, unfolding(crate::specs::NewLists::whys_changed))]
 fn push_whys_changed(
-    whys: &mut Vec<Option<RejectReason>>,
+    whys: &mut Vec<Option<SkipReason>>,
     jobs: &[Job],
     runs: &[Option<JobRun>],
 ) -> Result<(), AllocError>
@@ -131,7 +131,7 @@ fn push_whys_changed(
 }
 
 // Returns the reason to skip a job of which a value changes; `None` if it was not run.
-fn why_changed_if_run(job: &Job, run: &Option<JobRun>) -> Option<RejectReason>
+fn why_changed_if_run(job: &Job, run: &Option<JobRun>) -> Option<SkipReason>
     ensures { result ≡ why_changed_if_run job.now run.now }
 {
     match run {
@@ -141,22 +141,22 @@ fn why_changed_if_run(job: &Job, run: &Option<JobRun>) -> Option<RejectReason>
 }
 
 // Returns the reason to skip a job of which a value changes: the first value that does; `None` if no value changes.
-fn why_changed(job: &Job, row: &Row) -> Option<RejectReason>
+fn why_changed(job: &Job, row: &Row) -> Option<SkipReason>
     ensures { result ≡ why_changed job.now row.now }
 {
     if is_value_changed(ValueKey::Exit, job, row) {
-        Some(RejectReason::NoPlace(ValueKey::Exit))
+        Some(SkipReason::NoPlace(ValueKey::Exit))
     } else if is_value_changed(ValueKey::End, job, row) {
-        Some(RejectReason::NoPlace(ValueKey::End))
+        Some(SkipReason::NoPlace(ValueKey::End))
     } else if is_value_changed(ValueKey::Console, job, row) {
-        Some(RejectReason::NoPlace(ValueKey::Console))
+        Some(SkipReason::NoPlace(ValueKey::Console))
     } else {
         None
     }
 }
 
 // Returns the text with these edits, if it parses as the intended jobs.
-fn meant_text(
+fn intended_text(
     alloc: Global,
     text: &[u8],
     jobs: &[Job],
@@ -168,7 +168,7 @@ fn meant_text(
     ensures edited { IfOk result (λ found. IfSome found (λ new. new.items ≡ edited_from 0 text.now edits.now)) }
 {
     let new = edited_text(alloc, text, edits)?;
-    if reads_as_meant(alloc, new.as_slice(), jobs, runs)? {
+    if parses_as_intended(alloc, new.as_slice(), jobs, runs)? {
         Ok(Some(new))
     } else {
         Ok(None)
@@ -176,12 +176,12 @@ fn meant_text(
 }
 
 // Returns the runs, in which each accepted run that has a reason is skipped.
-fn left_runs(
+fn skipped_runs(
     alloc: Global,
-    whys: &[Option<RejectReason>],
+    whys: &[Option<SkipReason>],
     runs: Vec<Option<JobRun>>,
 ) -> Result<Vec<Option<JobRun>>, AllocError>
-    ensures { IfOk result (λ left. left.items ≡ left_runs whys.now runs.items) }
+    ensures { IfOk result (λ left. left.items ≡ skipped_runs whys.now runs.items) }
 {
     let mut left = Vec::new(alloc);
     let mut runs = runs.into_iter();
@@ -190,13 +190,13 @@ fn left_runs(
 }
 
 // Appends the runs, in which each accepted run that has a reason is skipped.
-#[tactic(auto, unfolding(crate::specs::NewLists::left_runs))]
+#[tactic(auto, unfolding(crate::specs::NewLists::skipped_runs))]
 fn push_left_runs(
     left: &mut Vec<Option<JobRun>>,
-    whys: &[Option<RejectReason>],
+    whys: &[Option<SkipReason>],
     runs: &mut IntoIter<Option<JobRun>>,
 ) -> Result<(), AllocError>
-    ensures { OnOk result (left.new.items ≡ left.old.items ++ left_runs whys.now (into_iter_items runs.old)) }
+    ensures { OnOk result (left.new.items ≡ left.old.items ++ skipped_runs whys.now (into_iter_items runs.old)) }
 {
     match whys {
         [why, whys @ ..] => {
@@ -220,18 +220,18 @@ fn next_run(runs: &mut IntoIter<Option<JobRun>>) -> Option<JobRun>
 }
 
 // Returns the run of a job, skipped for the reason `why` if it was accepted and a reason is given; `None` if the job was not run.
-fn left_if_run(why: Option<RejectReason>, run: Option<JobRun>) -> Option<JobRun>
-    ensures { result ≡ option_map (left_run why) run }
+fn left_if_run(why: Option<SkipReason>, run: Option<JobRun>) -> Option<JobRun>
+    ensures { result ≡ option_map (skipped_run why) run }
 {
     match run {
-        Some(run) => Some(left_run(why, run)),
+        Some(run) => Some(skipped_run(why, run)),
         None => None,
     }
 }
 
 // Returns the run, skipped for the reason `why` if it was accepted and a reason is given.
-fn left_run(why: Option<RejectReason>, run: JobRun) -> JobRun
-    ensures { result ≡ left_run why run }
+fn skipped_run(why: Option<SkipReason>, run: JobRun) -> JobRun
+    ensures { result ≡ skipped_run why run }
 {
     if !run.is_accepted() {
         return run;
@@ -263,7 +263,7 @@ fn whys_unplaced(
     jobs: &[Job],
     runs: &[Option<JobRun>],
     places: &Places,
-) -> Result<Vec<Option<RejectReason>>, AllocError> {
+) -> Result<Vec<Option<SkipReason>>, AllocError> {
     let mut whys = Vec::new(alloc);
     for at in 0..runs.len().min(jobs.len()) {
         let why = match &runs[at] {
@@ -276,13 +276,13 @@ fn whys_unplaced(
 }
 
 // Returns the reason to skip a job because a changed value cannot be edited; `None` if there is no such value.
-fn why_unplaced(at: usize, job: &Job, run: &JobRun, places: &Places) -> Option<RejectReason> {
+fn why_unplaced(at: usize, job: &Job, run: &JobRun, places: &Places) -> Option<SkipReason> {
     for key in ValueKey::ALL {
         if is_value_changed(key, job, &run.row) && !has_span(at, key, places.spans.as_slice()) {
             return Some(if places.is_made {
-                RejectReason::Made(key)
+                SkipReason::Made(key)
             } else {
-                RejectReason::NoPlace(key)
+                SkipReason::NoPlace(key)
             });
         }
     }
@@ -311,14 +311,14 @@ fn changes_at(
     for span in &places.spans {
         if span.job < jobs.len() && span.job < runs.len() {
             let ran = (&jobs[span.job], &runs[span.job]);
-            note_change(alloc, text, ran, span, &mut changes)?;
+            push_change(alloc, text, ran, span, &mut changes)?;
         }
     }
     Ok(changes)
 }
 
 // Adds the edit of a value, if its job is accepted and the value changes.
-fn note_change(
+fn push_change(
     alloc: Global,
     text: &[u8],
     ran: (&Job, &Option<JobRun>),
@@ -358,7 +358,7 @@ fn value_key(name: &str) -> Option<ValueKey> {
 }
 
 // Whether a text parses as the intended jobs.
-fn reads_as_meant(
+fn parses_as_intended(
     alloc: Global,
     text: &[u8],
     jobs: &[Job],

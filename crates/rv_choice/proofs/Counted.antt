@@ -6,8 +6,8 @@ use Rattle.std.proofs.lemmas.List.{length-map}
 use Rattle.regex.specs.Patterns.{Re}
 use Rattle.rv_base.specs.Files.{FileContents}
 use Rattle.rv_choice.specs.Choice.{chosen_marks}
-use Rattle.rv_choice.specs.Choice.{left_marks}
-use Rattle.rv_choice.specs.Chosen.{AreChosenBeside, AreLeft, AreWanted, IsChoice}
+use Rattle.rv_choice.specs.Choice.{remaining_marks}
+use Rattle.rv_choice.specs.Chosen.{AreChosenBeside, AreLeft, AreRequested, IsChoice}
 use Rattle.rvtest_cli.specs.declared.run.RunArgs.{RunArgs}
 use Rattle.rv_expect.specs.declared.passing.Rule.{Rule}
 use Rattle.rv_lists.specs.declared.job.Job.{Job}
@@ -22,21 +22,21 @@ beside_count known (Some path) pattern words rule jobs marks notes are =
     ap length are.chosen.marked ∙ length-map jobs _
 
 wanted_count : (known : Option FileContents) (words : RunArgs) (rule : Rule) (jobs : List Job) (marks : List Bool)
-    (notes : List ℕ) → AreWanted known words rule jobs (Some marks) notes → length marks ≡ length jobs
+    (notes : List ℕ) → AreRequested known words rule jobs (Some marks) notes → length marks ≡ length jobs
 wanted_count known words rule jobs marks notes are =
     beside_count known words.failed _ words rule jobs marks notes are.by
 
 -- the jobs that words want have a mark each
 pub wanted_counts : (known : Option FileContents) (words : RunArgs) (rule : Rule) (jobs : List Job)
     (marks : Option (Vec Bool Global)) (notes : List ℕ)
-    → AreWanted known words rule jobs (option_map (λ marks. marks.items) marks) notes
+    → AreRequested known words rule jobs (option_map (λ marks. marks.items) marks) notes
     → IfSome marks (λ marks. length marks.items ≡ length jobs)
 wanted_counts known words rule jobs None notes are = tt
 wanted_counts known words rule jobs (Some marks) notes are = wanted_count known words rule jobs marks.items notes are
 
 left_count : (pattern : Re) (jobs : List Job) (marks : List Bool) → length marks ≡ length jobs
-    → length (left_marks pattern jobs marks) ≡ length jobs
-unfolding left_marks
+    → length (remaining_marks pattern jobs marks) ≡ length jobs
+unfolding remaining_marks
 left_count pattern [] marks same = refl
 left_count pattern (job ∷ jobs) (mark ∷ marks) same =
     omega (arith, left_count pattern jobs marks (omega (arith, same)))
@@ -54,6 +54,6 @@ left_some (Some pattern) jobs None marks count left = count marks (sym left)
 pub choice_count : (known : Option FileContents) (words : RunArgs) (rule : Rule) (jobs : List Job) (marks : List Bool)
     (notes : List ℕ) → IsChoice known words rule jobs (Some marks) notes → length marks ≡ length jobs
 choice_count known words rule jobs marks notes is =
-    let Counts : Option (List Bool) → Type 0 = λ wanted. AreWanted known words rule jobs wanted notes in
+    let Counts : Option (List Bool) → Type 0 = λ wanted. AreRequested known words rule jobs wanted notes in
     left_some _ jobs is.wanted marks
     (λ m same. wanted_count known words rule jobs m notes (subst Counts same is.are)) is.left

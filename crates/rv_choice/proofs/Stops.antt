@@ -18,7 +18,7 @@ use Rattle.regex.specs.declared.string.regex.Regex.{Regex}
 use Rattle.rv_choice.specs.Choice.{IsReadByDefault}
 use Rattle.rv_choice.specs.ChoiceStops.{IsChoiceStop, IsEmptiedStop, IsPatternStop, IsRefusedPattern, exclusion, memory, pattern, report}
 use Rattle.rv_choice.specs.ChoiceStops.{unknown}
-use Rattle.rv_choice.specs.Chosen.{AreWanted}
+use Rattle.rv_choice.specs.Chosen.{AreRequested}
 use Rattle.rv_choice.specs.declared.chooser.Choice.{Choice}
 use Rattle.rv_choice.specs.UnknownName.{IsUnknownNameMessage, IsUnknownNameStop, unknown_name}
 
@@ -54,7 +54,7 @@ stop_of_no_exclusion known words rule jobs stop said =
     ⊎_elim memory (λ refused. exclusion some.0 some.1.0 (inl refused)) some.1.1
 
 emptied_by : (known : Option FileContents) (words : RunArgs) (rule : Rule) (jobs : List Job) (notes : List ℕ) (stop : Stop)
-    (marks : Vec Bool Global) (regex : Regex) → AreWanted known words rule jobs (Some marks.items) notes
+    (marks : Vec Bool Global) (regex : Regex) → AreRequested known words rule jobs (Some marks.items) notes
     → Some (regex_source regex) ≡ borrowed_text words.exclude → IsReadByDefault regex
     → IsEmptiedStop words.list.now jobs marks.items regex stop → IsChoiceStop known words rule jobs stop
 emptied_by known words rule jobs notes stop marks regex are source read is =
@@ -74,7 +74,7 @@ emptied_by known words rule jobs notes stop marks regex are source read is =
 -- memory was wanting, or the pattern leaves no job
 pub stop_of_emptied : (known : Option FileContents) (words : RunArgs) (rule : Rule) (jobs : List Job) (notes : List ℕ)
     (stop : Stop) (marks : Option (Vec Bool Global)) (excluded : Option Regex) (by : Option (Bor Regex))
-    → AreWanted known words rule jobs (option_map (λ marks. marks.items) marks) notes
+    → AreRequested known words rule jobs (option_map (λ marks. marks.items) marks) notes
     → option_map regex_source excluded ≡ borrowed_text words.exclude → IfSome excluded IsReadByDefault
     → option_map (λ regex. regex.now) by ≡ excluded
     → (stop ≡ why.OutOfMemory) ⊎ IsSomeAnd by (λ regex. IsSomeAnd marks

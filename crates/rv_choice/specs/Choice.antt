@@ -86,11 +86,11 @@ abbrev pub is_left : Bool → Bool → Bool
 is_left mark is_found = mark && not is_found
 
 -- the selection without the jobs whose names the pattern of `--exclude` matches
-unfoldable pub left_marks : Re → List Job → List Bool → List Bool
-left_marks pattern [] marks = []
-left_marks pattern (job ∷ jobs) [] = []
-left_marks pattern (job ∷ jobs) (mark ∷ marks) =
-    is_left mark (is_some (find_str pattern job.name 0)) ∷ left_marks pattern jobs marks
+unfoldable pub remaining_marks : Re → List Job → List Bool → List Bool
+remaining_marks pattern [] marks = []
+remaining_marks pattern (job ∷ jobs) [] = []
+remaining_marks pattern (job ∷ jobs) (mark ∷ marks) =
+    is_left mark (is_some (find_str pattern job.name 0)) ∷ remaining_marks pattern jobs marks
 
 -- whether some job is selected
 abbrev pub has_mark : List Bool → Bool

@@ -16,17 +16,17 @@ use Rattle.rv_command.specs.declared.stop.Stop.TheVariants as why
 use Rattle.rv_expect.specs.declared.passing.Rule.{Rule}
 use Rattle.rv_lists.specs.declared.job.Job.{Job}
 use Rattle.rv_text.specs.Printable.{printable_text, printable_value}
-use Rattle.rv_choice.specs.Choice.{IsReadByDefault, are_emptied, is_found_in_names, left_marks}
-use Rattle.rv_choice.specs.Chosen.{AreWanted}
+use Rattle.rv_choice.specs.Choice.{IsReadByDefault, are_emptied, is_found_in_names, remaining_marks}
+use Rattle.rv_choice.specs.Chosen.{AreRequested}
 use Rattle.rv_choice.specs.UnknownName.{IsUnknownNameStop, unknown_name}
 
 -- the text is not a regular expression: the parser rejects it, and not because memory ran out
-abbrev pub IsNoPattern : List ℕ → Type 0
-IsNoPattern text = (error : patterns.Error) × (error ≢ refused.OutOfMemory) × IsTextRefusal default_config text error
+abbrev pub IsNotAPattern : List ℕ → Type 0
+IsNotAPattern text = (error : patterns.Error) × (error ≢ refused.OutOfMemory) × IsTextRefusal default_config text error
 
 -- the text of the option is not a regular expression, and the stop reports that
 abbrev pub IsRefusedPattern : List ℕ → List ℕ → Stop → Type 0
-IsRefusedPattern option text stop = IsNoPattern text × IsBadPatternStop option text stop
+IsRefusedPattern option text stop = IsNotAPattern text × IsBadPatternStop option text stop
 
 -- the text is a regular expression that matches the name of no job
 abbrev pub IsUnmatched : List ℕ → List Job → Type 0
@@ -50,11 +50,11 @@ pub record LeavesNone (known : Option FileContents) (words : RunArgs) (rule : Ru
   -- the selection before any jobs are excluded
   pub wanted : List Bool
   pub notes : List ℕ
-  pub are : AreWanted known words rule jobs (Some wanted) notes
+  pub are : AreRequested known words rule jobs (Some wanted) notes
   pub pattern : Regex
   pub source : regex_source pattern ≡ text
   pub read : IsReadByDefault pattern
-  pub emptied : are_emptied wanted (left_marks (regex_pattern pattern) jobs wanted) ≡ true
+  pub emptied : are_emptied wanted (remaining_marks (regex_pattern pattern) jobs wanted) ≡ true
 
 -- the message that the pattern of `--exclude` leaves no jobs of the list
 abbrev pub emptied_choice : List ℕ → List ℕ → List ℕ
@@ -63,7 +63,7 @@ emptied_choice list text = codes "rvtest: " ++ printable_text list ++ codes ": n
 
 -- the pattern excludes all selected jobs, and the stop reports that
 abbrev pub IsEmptiedStop : List ℕ → List Job → List Bool → Regex → Stop → Type 0
-IsEmptiedStop list jobs marks pattern stop = (are_emptied marks (left_marks (regex_pattern pattern) jobs marks) ≡ true)
+IsEmptiedStop list jobs marks pattern stop = (are_emptied marks (remaining_marks (regex_pattern pattern) jobs marks) ≡ true)
     × IsStop 2 (emptied_choice list (regex_source pattern)) stop
 
 -- the text of `--exclude` is not a regular expression, or it excludes all of the requested jobs

@@ -13,7 +13,7 @@ use Rattle.rv_expect.specs.declared.passing.Rule.{Rule}
 use Rattle.rv_lists.specs.declared.job.Job.{Job}
 use Rattle.rv_report.specs.declared.partial.PartialReport.{PartialReport}
 use Rattle.rv_choice.specs.Choice.{ChosenNames, IsReadByDefault, are_emptied, chosen_marks, failed_job_names, is_found_in_names}
-use Rattle.rv_choice.specs.Choice.{jobs_without_row, left_marks, requested_names}
+use Rattle.rv_choice.specs.Choice.{jobs_without_row, remaining_marks, requested_names}
 use Rattle.rv_choice.specs.FailedJobNotes.{failed_job_notes}
 use Rattle.rv_choice.specs.UnknownName.{unknown_name}
 
@@ -53,7 +53,7 @@ AreChosenBy known pattern words rule jobs marks notes =
 
 -- the selection before any jobs are excluded, and the notes about it: each name of `--only` is the name of a job, and the pattern of
 -- `--match` matches the name of some job
-pub record AreWanted (known : Option FileContents) (words : RunArgs) (rule : Rule) (jobs : List Job)
+pub record AreRequested (known : Option FileContents) (words : RunArgs) (rule : Rule) (jobs : List Job)
     (marks : Option (List Bool)) (notes : List ℕ) : Type 0 where
   pub named : unknown_name jobs words.only.items ≡ None
   pub pattern : Option Regex
@@ -65,7 +65,7 @@ pub record AreWanted (known : Option FileContents) (words : RunArgs) (rule : Rul
 -- `left` is the selection without the excluded jobs; it is not empty unless the selection was empty before
 abbrev pub AreLeft : Option Re → List Job → Option (List Bool) → Option (List Bool) → Type 0
 AreLeft (Some pattern) jobs (Some wanted) left =
-    (left ≡ Some (left_marks pattern jobs wanted)) × (are_emptied wanted (left_marks pattern jobs wanted) ≡ false)
+    (left ≡ Some (remaining_marks pattern jobs wanted)) × (are_emptied wanted (remaining_marks pattern jobs wanted) ≡ false)
 AreLeft _ jobs wanted left = left ≡ wanted
 
 -- `marks` selects the jobs that the arguments choose, without the excluded ones; `notes` are the notes about the choice
@@ -73,7 +73,7 @@ pub record IsChoice (known : Option FileContents) (words : RunArgs) (rule : Rule
     (marks : Option (List Bool)) (notes : List ℕ) : Type 0 where
   -- the selection before any jobs are excluded
   pub wanted : Option (List Bool)
-  pub are : AreWanted known words rule jobs wanted notes
+  pub are : AreRequested known words rule jobs wanted notes
   pub excluded : Option Regex
   pub source : option_map regex_source excluded ≡ borrowed_text words.exclude
   pub read : IfSome excluded IsReadByDefault

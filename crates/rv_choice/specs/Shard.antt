@@ -19,30 +19,30 @@ abbrev pub before_slash : List ℕ → List ℕ
 before_slash text = before_first (λ byte. byte == 47) text
 
 -- the text after the first slash
-abbrev pub behind_slash : List ℕ → List ℕ
-behind_slash text = after_first (λ byte. byte == 47) text
+abbrev pub after_slash : List ℕ → List ℕ
+after_slash text = after_first (λ byte. byte == 47) text
 
 -- the number before the first slash
 abbrev pub number_before_slash : List ℕ → ℕ
 number_before_slash text = digits_value 10 (before_slash text)
 
 -- the number after the first slash
-abbrev pub number_behind_slash : List ℕ → ℕ
-number_behind_slash text = digits_value 10 (behind_slash text)
+abbrev pub number_after_slash : List ℕ → ℕ
+number_after_slash text = digits_value 10 (after_slash text)
 
 -- the text is K/N, where K and N consist of digits, K is from 1 to N, and N is at most `most_jobs`
 pub record IsShardText (text : List ℕ) : Type 0 where
   pub number : IsNumeral 10 (before_slash text)
-  pub shards : IsNumeral 10 (behind_slash text)
+  pub shards : IsNumeral 10 (after_slash text)
   pub first : 0 < number_before_slash text
-  pub within : number_before_slash text ≤ number_behind_slash text
-  pub few : number_behind_slash text ≤ most_jobs
+  pub within : number_before_slash text ≤ number_after_slash text
+  pub few : number_after_slash text ≤ most_jobs
 
 -- `shard` is the shard that the text K/N requests, if there is a text
 abbrev pub IsShardOf : Option (Bor (List ℕ)) → Option Shard → Type 0
 IsShardOf text shard = (is_some shard ≡ is_some text)
     × IfSome text (λ text. IfSome shard (λ shard. (shard.number ≡ number_before_slash text.now)
-    × (shard.shards ≡ number_behind_slash text.now)))
+    × (shard.shards ≡ number_after_slash text.now)))
 
 -- the stamp of a shard: the text of `--stamp`, or else the first 16 hexadecimal digits of the SHA-256 of the list's text
 abbrev pub stamp_for : Option (Bor (List ℕ)) → List ℕ → List ℕ

@@ -36,8 +36,8 @@ abbrev pub names_left : ℕ → List ℕ
 names_left count = if nat_lt 20 count then codes " and " ++ decimal (count - 20) ++ codes " more" else []
 
 -- the names of the first 20 jobs, and how many more there are
-abbrev pub told_names : List Job → List ℕ
-told_names jobs = names_from 0 (length jobs) (take 20 jobs) ++ codes "\"" ++ names_left (length jobs)
+abbrev pub shown_names : List Job → List ℕ
+shown_names jobs = names_from 0 (length jobs) (take 20 jobs) ++ codes "\"" ++ names_left (length jobs)
 
 -- the job at index `place` has the nearest name, and it is near enough to be suggested
 abbrev pub IsMeant : List Job → List ℕ → ℕ → Type 0
@@ -47,7 +47,7 @@ IsMeant jobs name place = IsNearestJob jobs name place × IsNearJob jobs name pl
 abbrev pub IsNameHint : List Job → List ℕ → List ℕ → Type 0
 IsNameHint jobs name hint =
     ((place : ℕ) × IsMeant jobs name place × (hint ≡ codes "\"; a similar name exists: \"" ++ job_name jobs place ++ codes "\""))
-    ⊎ (((place : ℕ) → IsMeant jobs name place → ⊥) × (hint ≡ told_names jobs))
+    ⊎ (((place : ℕ) → IsMeant jobs name place → ⊥) × (hint ≡ shown_names jobs))
 
 -- the message says that no job of the list has this name, with a hint
 abbrev pub IsUnknownNameMessage : List ℕ → List Job → List ℕ → List ℕ → Type 0

@@ -5,10 +5,10 @@ ghost use Rattle.std.specs.Prelude.{false, is_some, length, option_map};
 ghost use Rattle.regex.specs.Strings.{regex_pattern, regex_source};
 ghost use Rattle.rv_choice.specs.BadValues.{IsBadPatternText, IsBadPatternStop};
 ghost use Rattle.rv_choice.specs.Choice.{IsReadByDefault, are_emptied, borrowed_names, chosen_marks, failed_job_names, has_mark};
-ghost use Rattle.rv_choice.specs.Choice.{is_found_in_names, jobs_without_row, left_marks, optional_names, pattern_of, requested_names};
+ghost use Rattle.rv_choice.specs.Choice.{is_found_in_names, jobs_without_row, remaining_marks, optional_names, pattern_of, requested_names};
 ghost use Rattle.rv_choice.specs.ChoiceStops.{IsChoiceStop, IsEmptiedStop, IsPatternStop, IsRefusedPattern, emptied_choice};
 ghost use Rattle.rv_choice.specs.ChoiceStops.{unmatched_pattern};
-ghost use Rattle.rv_choice.specs.Chosen.{AreChosenBy, AreChosenFrom, AreLeft, AreWanted, IsChoice};
+ghost use Rattle.rv_choice.specs.Chosen.{AreChosenBy, AreChosenFrom, AreLeft, AreRequested, IsChoice};
 ghost use Rattle.rv_choice.specs.FailedJobNotes.{failed_job_notes};
 ghost use Rattle.rv_choice.specs.UnknownName.{IsUnknownNameStop, unknown_name};
 ghost use Rattle.rvtest_cli.specs.RvtestWords.{borrowed_text};
@@ -17,7 +17,7 @@ ghost use Rattle.rv_command.specs.Stops.{IsRequestedUnreadStop, IsStop};
 
 use crate::bad_value::{bad_value_stop, bad_value_text};
 use crate::failed_jobs::{failed_job_names, failed_job_notes, jobs_without_row};
-use crate::marks::{Wanted, chosen_marks, first_unknown_name, left_marks};
+use crate::marks::{Wanted, chosen_marks, first_unknown_name, remaining_marks};
 use crate::unknown_name::unknown_name_stop;
 use regex::Regex;
 use rv_command::{RequestedReport, Stop, cut_off_note, read_requested_report};
@@ -52,7 +52,7 @@ pub struct Choice {
 
 impl Choice {
     // Returns the choice with a note before its other notes.
-    fn behind_note(self, note: Vec<u8>) -> Result<Choice, AllocError>
+    fn with_leading_note(self, note: Vec<u8>) -> Result<Choice, AllocError>
         ensures marks { IfOk result (λ choice. choice.marks ≡ self.marks) }
         ensures notes { IfOk result (λ choice. choice.notes.items ≡ note.items ++ self.notes.items) }
     {
@@ -74,14 +74,14 @@ impl<'x, D: Inputs> Chooser<'x, D> {
             (IsChoiceStop (D.contents self.now.inputs.now) self.now.args.now self.now.rule jobs.now) }
     {
         let excluded = self.requested_exclusion()?;
-        let Choice { marks, notes } = self.wanted_jobs(jobs)?;
+        let Choice { marks, notes } = self.requested_selection(jobs)?;
         let marks = self.leave_out(excluded.as_ref(), marks, jobs)?;
         Ok(Choice { marks, notes })
     }
 
     // Returns the jobs that the arguments request, before any are excluded.
-    fn wanted_jobs(&self, jobs: &[Job]) -> Result<Choice, Stop>
-        ensures wanted { IfOk result (λ choice. AreWanted (D.contents self.now.inputs.now) self.now.args.now
+    fn requested_selection(&self, jobs: &[Job]) -> Result<Choice, Stop>
+        ensures wanted { IfOk result (λ choice. AreRequested (D.contents self.now.inputs.now) self.now.args.now
             self.now.rule jobs.now (option_map (λ marks. marks.items) choice.marks) choice.notes.items) }
         ensures stop { IfErr result
             (IsChoiceStop (D.contents self.now.inputs.now) self.now.args.now self.now.rule jobs.now) }
@@ -158,19 +158,19 @@ impl<'x, D: Inputs> Chooser<'x, D> {
         let Some(marks) = marks else {
             return Ok(None);
         };
-        let left = self.left_marks(marks.as_slice(), excluded, jobs)?;
+        let left = self.remaining_marks(marks.as_slice(), excluded, jobs)?;
         Ok(Some(left))
     }
 
     // Returns the selection without the jobs whose names the pattern matches. It must not become empty.
-    fn left_marks(&self, marks: &[bool], excluded: &Regex, jobs: &[Job]) -> Result<Vec<bool>, Stop>
+    fn remaining_marks(&self, marks: &[bool], excluded: &Regex, jobs: &[Job]) -> Result<Vec<bool>, Stop>
         requires counted { length marks.now ≡ length jobs.now }
-        ensures left { IfOk result (λ left. left.items ≡ left_marks (regex_pattern excluded.now) jobs.now marks.now) }
+        ensures left { IfOk result (λ left. left.items ≡ remaining_marks (regex_pattern excluded.now) jobs.now marks.now) }
         ensures some { IfOk result (λ left. are_emptied marks.now left.items ≡ false) }
         ensures stop { IfErr result (λ stop. (stop ≡ Stop.OutOfMemory)
             ⊎ IsEmptiedStop self.now.args.now.list.now jobs.now marks.now excluded.now stop) }
     {
-        let left = left_marks(self.alloc, jobs, marks, excluded)?;
+        let left = remaining_marks(self.alloc, jobs, marks, excluded)?;
         if has_mark(marks) && !has_mark(left.as_slice()) {
             return Err(emptied_choice_stop(self.alloc, self.args.list, excluded.as_str()));
         }
@@ -202,7 +202,7 @@ impl<'x, D: Inputs> Chooser<'x, D> {
         let note = cut_off_note(self.alloc, path, &found)?;
         let rows = found.report.rows.as_slice();
         let choice = self.choose_from_failed_rows(path, rows, pattern, jobs)?;
-        Ok(choice.behind_note(note)?)
+        Ok(choice.with_leading_note(note)?)
     }
 
     // Returns the jobs that the pattern, `--only` and the failed rows of the report at `path` choose.

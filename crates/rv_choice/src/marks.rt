@@ -3,7 +3,7 @@
 ghost use Rattle.std.specs.Prelude.{◌≡◌, IfOk, length, option_map};
 ghost use Rattle.regex.specs.Strings.{matcher_pattern, regex_pattern};
 ghost use Rattle.rv_choice.specs.Choice.{choice_by_names, choice_by_pattern, has_job_named, is_among_names, is_chosen, is_chosen_name};
-ghost use Rattle.rv_choice.specs.Choice.{chosen_marks, borrowed_names, is_left, left_marks, pattern_of, optional_names};
+ghost use Rattle.rv_choice.specs.Choice.{chosen_marks, borrowed_names, is_left, remaining_marks, pattern_of, optional_names};
 ghost use Rattle.rv_choice.specs.UnknownName.{unknown_name};
 
 use regex::{Matcher, Regex};
@@ -39,14 +39,14 @@ pub(crate) fn chosen_marks(
 }
 
 /// Returns the selection without the jobs whose names the pattern matches.
-pub(crate) fn left_marks(
+pub(crate) fn remaining_marks(
     alloc: Global,
     jobs: &[Job],
     marks: &[bool],
     excluded: &Regex,
 ) -> Result<Vec<bool>, AllocError>
     requires { length marks.now ≡ length jobs.now }
-    ensures { IfOk result (λ left. left.items ≡ left_marks (regex_pattern excluded.now) jobs.now marks.now) }
+    ensures { IfOk result (λ left. left.items ≡ remaining_marks (regex_pattern excluded.now) jobs.now marks.now) }
 {
     let mut matcher = excluded.matcher(alloc)?;
     let mut left = Vec::new(alloc);

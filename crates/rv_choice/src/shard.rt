@@ -7,7 +7,7 @@ ghost use Rattle.std.specs.Str.Parse.{IsNumeral, digits_value};
 ghost use Rattle.hex.specs.Hex.{encode_lower};
 ghost use Rattle.sha2.specs.Sha256.{sha256};
 ghost use Rattle.rv_lists.specs.Limits.{most_jobs};
-ghost use Rattle.rv_choice.specs.Shard.{IsShardOf, IsShardStop, IsShardText, bad_shard_text, bad_stamp_text, number_before_slash, number_behind_slash, stamp_for};
+ghost use Rattle.rv_choice.specs.Shard.{IsShardOf, IsShardStop, IsShardText, bad_shard_text, bad_stamp_text, number_before_slash, number_after_slash, stamp_for};
 ghost use Rattle.rv_command.specs.Stops.{IsUsageStop};
 ghost use Rattle.rv_base.specs.Names.{is_name};
 
@@ -61,7 +61,7 @@ pub fn requested_shard(
 // Parses `K/N`, where 1 <= K <= N <= 4096, and returns K and N.
 fn shard_numbers(words: &str) -> Option<(u32, u32)>
     ensures numbers { IfSome result (λ n. (n.0 ≡ number_before_slash words.now)
-        × (n.1 ≡ number_behind_slash words.now)) }
+        × (n.1 ≡ number_after_slash words.now)) }
     ensures within { IfSome result (λ n. (0 < n.0) × (n.0 ≤ n.1) × (n.1 ≤ most_jobs)) }
     ensures refused { IfNone result (IsShardText words.now → ⊥) }
 {

@@ -1,7 +1,7 @@
 //! A name that no job of a list has.
 
 ghost use Rattle.std.specs.Prelude.{◌≡◌, ◌++◌, ◌<◌, ◌≤◌, ℕ, IfOk, List, OnOk, codes, length};
-ghost use Rattle.rv_choice.specs.UnknownName.{IsNameHint, IsUnknownNameStop, names_from, names_left, no_such_job, told_names};
+ghost use Rattle.rv_choice.specs.UnknownName.{IsNameHint, IsUnknownNameStop, names_from, names_left, no_such_job, shown_names};
 ghost use Rattle.rv_choice.specs.UnknownName.{IsUnknownNameMessage, text_before_name};
 
 use rv_command::Stop;
@@ -84,7 +84,7 @@ const MOST_TOLD: usize = 20;
 
 // Appends the names of the first 20 jobs, and how many more there are.
 fn push_names(message: &mut Vec<u8>, jobs: &[Job]) -> Result<(), AllocError>
-    ensures { OnOk result (message.new.items ≡ message.old.items ++ told_names jobs.now) }
+    ensures { OnOk result (message.new.items ≡ message.old.items ++ shown_names jobs.now) }
 {
     let told = jobs.len().min(MOST_TOLD);
     push_first_names(message, &jobs[..told], jobs.len())?;

@@ -125,18 +125,18 @@ unfoldable pub are_arguments_accepted : List Text → Bool
 are_arguments_accepted words = takes fleet_app words
 
 -- the request, unless there are errors in the arguments
-abbrev pub request_beside_faults : Kinds → Option Request → Option Request
-request_beside_faults [] request = request
-request_beside_faults (fault ∷ more) request = None
+abbrev pub request_unless_faults : Kinds → Option Request → Option Request
+request_unless_faults [] request = request
+request_unless_faults (fault ∷ more) request = None
 
 -- the request of arguments in which the command finds no error
 unfoldable pub faultless_request : List Text → Option Request
-faultless_request words = request_beside_faults (fault_of fleet_app words) (request_of words)
+faultless_request words = request_unless_faults (fault_of fleet_app words) (request_of words)
 
 -- the command accepts the arguments, or finds no error in them and they make a request
 abbrev pub IsToAnswer : List Text → Type 0
 IsToAnswer words = (are_arguments_accepted words ≡ true) ⊎ (is_some (faultless_request words) ≡ true)
 
 -- the arguments request help
-abbrev pub AsksHelp : List Text → Type 0
-AsksHelp words = IsAmong kind.DisplayHelp (fault_of fleet_app words)
+abbrev pub RequestsHelp : List Text → Type 0
+RequestsHelp words = IsAmong kind.DisplayHelp (fault_of fleet_app words)

@@ -2,7 +2,7 @@
 use Rattle.std.proofs.Common.{◌≡◌, List, [], ◌∷◌, ℕ, IfOk, Result, Ok, Err, Vec, Global, refl, sym, subst, inl, inr}
 use Rattle.std.specs.declared.alloc.AllocError.{AllocError}
 use Rattle.rv_list_errors.specs.FaultHeads.{fault_head}
-use Rattle.rv_list_errors.specs.Lines.{PutsFaultLines}
+use Rattle.rv_list_errors.specs.Lines.{AppendsFaultLines}
 use Rattle.rv_lists.specs.JobList.{job_list_of}
 use Rattle.rv_lists.specs.declared.error.JobError.{JobError}
 use Rattle.rv_command.specs.Stops.{IsListFaultStop, IsStop, lines_status, stop_of_lines}
@@ -25,7 +25,7 @@ told_stop kind told text stop is said =
 -- lines that tell a fault of a list
 pub fault_stop : (path text : List ℕ) (fault : JobError) (told : Result (Vec ℕ Global) AllocError) (stop : Stop)
     → stop ≡ stop_of_lines lines.Refusal told → job_list_of text ≡ Err fault
-    → IfOk told (λ bytes. PutsFaultLines (fault_head path text) (fault ∷ []) [] bytes.items) → IsListFaultStop path text stop
+    → IfOk told (λ bytes. AppendsFaultLines (fault_head path text) (fault ∷ []) [] bytes.items) → IsListFaultStop path text stop
 fault_stop path text fault (Ok bytes) stop is refused puts =
     inr (fault, refused, (bytes.items, puts, told_stop lines.Refusal (Ok bytes) bytes.items stop is refl))
 fault_stop path text fault (Err error) stop is refused puts = inl is

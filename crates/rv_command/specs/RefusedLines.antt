@@ -21,9 +21,9 @@ text_up_to (Some place) text = take place text
 text_up_to None text = text
 
 -- the text after the byte at an offset; empty without an offset
-abbrev pub text_behind : Option ℕ → List ℕ → List ℕ
-text_behind (Some place) text = drop (place + 1) text
-text_behind None text = []
+abbrev pub text_after : Option ℕ → List ℕ → List ℕ
+text_after (Some place) text = drop (place + 1) text
+text_after None text = []
 
 -- the first line of a text, without its line feed
 abbrev pub first_line : List ℕ → List ℕ
@@ -31,7 +31,7 @@ first_line text = text_up_to (position is_feed text) text
 
 -- the text after its first line
 abbrev pub after_line : List ℕ → List ℕ
-after_line text = text_behind (position is_feed text) text
+after_line text = text_after (position is_feed text) text
 
 -- the text after its first `count` lines
 unfoldable pub after_lines : ℕ → List ℕ → List ℕ
@@ -49,15 +49,15 @@ line_before text number = if nat_lt number 2 then [] else numbered_line text (nu
 -- ---- lists
 
 -- whether an error can only be found in a TOML document with jobs
-abbrev pub tells_of_jobs : What → Bool
-tells_of_jobs what.NotToml = false
-tells_of_jobs what.NoJobs = false
-tells_of_jobs _ = true
+abbrev pub is_error_of_jobs : What → Bool
+is_error_of_jobs what.NotToml = false
+is_error_of_jobs what.NoJobs = false
+is_error_of_jobs _ = true
 
 -- whether the errors of a text show that it is a TOML document with jobs, valid or not
 abbrev pub are_faults_of_list : List JobError → Bool
 are_faults_of_list [] = true
-are_faults_of_list (fault ∷ faults) = tells_of_jobs fault.what
+are_faults_of_list (fault ∷ faults) = is_error_of_jobs fault.what
 
 -- whether a text is a TOML document with jobs, valid or not
 abbrev pub is_job_list : List ℕ → Bool

@@ -12,7 +12,7 @@ use Rattle.rv_files.specs.IoErrors.{io_error_text}
 use Rattle.rv_files.specs.declared.file_error.FileError.{FileError}
 use Rattle.rv_files.specs.declared.file_error.FileError.TheVariants as file
 use Rattle.rv_list_errors.specs.FaultHeads.{fault_head}
-use Rattle.rv_list_errors.specs.Lines.{PutsFaultLines}
+use Rattle.rv_list_errors.specs.Lines.{AppendsFaultLines}
 use Rattle.rv_lists.specs.JobList.{job_list_of}
 use Rattle.rv_lists.specs.declared.error.JobError.{JobError}
 use Rattle.rv_report.specs.Differences.{count_of_line_feeds}
@@ -123,7 +123,7 @@ IsListUnreadStop known path stop = IsUnreadStop known path stop
 abbrev pub IsListFaultStop : List ℕ → List ℕ → Stop → Type 0
 IsListFaultStop path text stop = (stop ≡ why.OutOfMemory)
     ⊎ ((fault : JobError) × (job_list_of text ≡ Err fault)
-    × ((told : List ℕ) × PutsFaultLines (fault_head path text) (fault ∷ []) [] told × IsStop 2 told stop))
+    × ((told : List ℕ) × AppendsFaultLines (fault_head path text) (fault ∷ []) [] told × IsStop 2 told stop))
 
 -- ---- reports
 
@@ -137,14 +137,14 @@ IsLineStop path bytes line stop = IsStop 2 (refused_line_message expected.Report
 
 -- the stop reports the first error of a text that is not a report: a line with which no report begins, or that the report is truncated, and
 -- then its complete lines are a prefix of some report
-abbrev pub IsReportFaultTold : List ℕ → List ℕ → Stop → Type 0
-IsReportFaultTold path bytes stop =
+abbrev pub IsReportFaultReported : List ℕ → List ℕ → Stop → Type 0
+IsReportFaultReported path bytes stop =
     ((line : ℕ) × IsLeastRefusedLine line bytes × IsLineStop path bytes line stop)
     ⊎ (BeginsReport (first_lines (count_of_line_feeds bytes) bytes) × IsCutOffStop path stop)
 
 -- memory ran out, or the stop reports the first error of a text as a report
 pub record IsReportFaultStop (path bytes : List ℕ) (stop : Stop) : Type 0 where
-  pub told : (stop ≡ why.OutOfMemory) ⊎ IsReportFaultTold path bytes stop
+  pub told : (stop ≡ why.OutOfMemory) ⊎ IsReportFaultReported path bytes stop
   -- a prefix of a report is reported as truncated
   pub cut : BeginsReport bytes → IsCutOffStop path stop
   -- a complete report has no error

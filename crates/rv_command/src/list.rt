@@ -5,8 +5,8 @@ ghost use Rattle.rv_base.specs.Limits.{most_bytes};
 ghost use Rattle.rv_command.specs.Stops.{IsListFaultStop, IsListUnreadStop};
 ghost use Rattle.rv_command.specs.Texts.{IsTextAt};
 ghost use Rattle.rv_list_errors.specs.FaultHeads.{fault_head};
-ghost use Rattle.rv_list_errors.specs.Lines.{PutsFaultLines, PutsLines};
-ghost use Rattle.rv_list_errors.specs.PlacedFaults.{IsToldFault, PutsEachFault};
+ghost use Rattle.rv_list_errors.specs.Lines.{AppendsFaultLines, AppendsLines};
+ghost use Rattle.rv_list_errors.specs.PlacedFaults.{IsToldFault, AppendsEachFault};
 ghost use Rattle.rv_lists.specs.JobList.{job_list_of};
 
 use crate::files::read_file_up_to;
@@ -61,9 +61,9 @@ pub fn list_faults_text(
     text: &[u8],
     faults: &[JobError],
 ) -> Result<Vec<u8>, AllocError>
-    ensures lines { IfOk result (λ lines. PutsLines (length faults.now) [] lines.items) }
+    ensures lines { IfOk result (λ lines. AppendsLines (length faults.now) [] lines.items) }
     ensures heads { IfOk result
-        (λ lines. PutsFaultLines (fault_head path.now text.now) faults.now [] lines.items) }
+        (λ lines. AppendsFaultLines (fault_head path.now text.now) faults.now [] lines.items) }
 {
     let mut told = Vec::new(alloc);
     push_faults(alloc, &mut told, path, text, faults)?;
@@ -78,7 +78,7 @@ pub fn all_faults_text(
     faults: &[JobError],
 ) -> Result<Vec<u8>, AllocError>
     ensures { IfOk result
-        (λ lines. PutsEachFault (IsToldFault path.now text.now) faults.now [] lines.items) }
+        (λ lines. AppendsEachFault (IsToldFault path.now text.now) faults.now [] lines.items) }
 {
     let mut told = Vec::new(alloc);
     push_all_faults(alloc, &mut told, path, text, faults)?;

@@ -12,8 +12,8 @@ use Rattle.rv_count_tables.specs.declared.sum.SumError.{SumError}
 use Rattle.rv_count_tables.specs.declared.sum.SumError.TheVariants.{OutOfMemory, Count, Spot, Names, Runs}
 use Rattle.rv_count_tables.specs.declared.sum_of_images.NextImage.{NextImage}
 use Rattle.rv_count_tables.specs.Lines.{lacks}
-use Rattle.rv_count_tables.specs.Table.{begun_at, taken_at, name_at, begun_in, taken_in, path_in, name_in, arrivals_in, steps_in, least_path, least_path_of}
-use Rattle.rv_count_tables.specs.Table.{is_before, is_behind, digests_rise, AreNamesOf, AreSpots, IsImage, IsSpot, IsTable}
+use Rattle.rv_count_tables.specs.Table.{begun_at, taken_at, name_at, executed_in, taken_in, path_in, name_in, arrivals_in, steps_in, least_path, least_path_of}
+use Rattle.rv_count_tables.specs.Table.{is_before, is_greater_than_last, digests_rise, AreNamesOf, AreSpots, IsImage, IsSpot, IsTable}
 use Rattle.rv_count_tables.specs.Sum.{sum_error_of, Agree, HasName, HasNameIn, IsSum, IsSumOfCounts, IsSumOfNames, CountsHaveNoSum, NamesHaveNoSum}
 use Rattle.rv_count_tables.specs.SumSteps.{ImagesAddUp, IsNextImage, ImagesHaveNoSum, ImageHasNoSum}
 use Rattle.rv_call_tree.specs.declared.sum.SpotSumError.{SpotSumError}
@@ -27,19 +27,19 @@ use Rattle.rv_count_tables.proofs.Paths.{any_first, before_both, by_two, none_be
 -- ---- digests in their order
 
 pub image_low : (last : Option (List ℕ)) (i : ImageCounts) (is : List ImageCounts) → digests_rise last (i ∷ is) ≡ true
-    → is_behind last i.digest ≡ true
+    → is_greater_than_last last i.digest ≡ true
 unfolding digests_rise
-image_low last i is h = (and_parts (is_behind last i.digest) (digests_rise (Some i.digest) is) h).0
+image_low last i is h = (and_parts (is_greater_than_last last i.digest) (digests_rise (Some i.digest) is) h).0
 
 pub images_behind : (last : Option (List ℕ)) (i : ImageCounts) (is : List ImageCounts) → digests_rise last (i ∷ is) ≡ true
     → digests_rise (Some i.digest) is ≡ true
 unfolding digests_rise
-images_behind last i is h = (and_parts (is_behind last i.digest) (digests_rise (Some i.digest) is) h).1
+images_behind last i is h = (and_parts (is_greater_than_last last i.digest) (digests_rise (Some i.digest) is) h).1
 
-pub images_rise : (last : Option (List ℕ)) (i : ImageCounts) (is : List ImageCounts) → is_behind last i.digest ≡ true
+pub images_rise : (last : Option (List ℕ)) (i : ImageCounts) (is : List ImageCounts) → is_greater_than_last last i.digest ≡ true
     → digests_rise (Some i.digest) is ≡ true → digests_rise last (i ∷ is) ≡ true
 unfolding digests_rise
-images_rise last i is h k = and_from (is_behind last i.digest) (digests_rise (Some i.digest) is) h k
+images_rise last i is h k = and_from (is_greater_than_last last i.digest) (digests_rise (Some i.digest) is) h k
 
 pub no_images_rise : (last : Option (List ℕ)) → digests_rise last [] ≡ true
 unfolding digests_rise
@@ -216,13 +216,13 @@ both_images_ahead x y sum xs ys others image also one at path counts names of tr
     }),
     h.each,
   );
-  rising = λ last p q. images_rise last sum others (ap (is_behind last) at ∙ image_low last x xs p)
+  rising = λ last p q. images_rise last sum others (ap (is_greater_than_last last) at ∙ image_low last x xs p)
       (h.rising (Some sum.digest) (ap (λ (s : List ℕ). digests_rise (Some s) xs) at ∙ images_behind last x xs p)
       (ap (λ (s : List ℕ). digests_rise (Some s) ys) (at ∙ one) ∙ images_behind last y ys q));
   agree = λ last p q d f. both_agree x y xs ys d f one (names.agree f) (images_behind last x xs p) (images_behind last y ys q)
       (h.agree (Some x.digest) (images_behind last x xs p)
       (ap (λ (s : List ℕ). digests_rise (Some s) ys) one ∙ images_behind last y ys q) d f);
-  begun = λ d n. ap (λ (s : List ℕ). cond (bytes_eq s d) (begun_at n sum.addresses) 0 + begun_in d n others) at
+  begun = λ d n. ap (λ (s : List ℕ). cond (bytes_eq s d) (begun_at n sum.addresses) 0 + executed_in d n others) at
       ∙ parts (bytes_eq x.digest d) (bytes_eq y.digest d) (begun_at n x.addresses) (begun_at n y.addresses)
       (begun_at n sum.addresses) _ _ _ (ap (λ (s : List ℕ). bytes_eq s d) one) (counts.begun n) (h.begun d n);
   taken = λ d n. ap (λ (s : List ℕ). cond (bytes_eq s d) (taken_at n sum.addresses) 0 + taken_in d n others) at
@@ -367,7 +367,7 @@ no_sum_of_first (x ∷ xs) (y ∷ ys) z w (Names f) some other is at first secon
 no_sum_of_first (x ∷ xs) (y ∷ ys) z w (Count n) some other is at first second h =
     let one : x.digest ≡ y.digest = ap (λ (i : ImageCounts). i.digest) (sym is)
     ∙ same_place z.digest w.digest first second ∙ ap (λ (i : ImageCounts). i.digest) at in
-    (x.digest, great_here (λ i. begun_at n i.addresses) x y z w (begun_in x.digest n xs) (begun_in x.digest n ys) is at one h)
+    (x.digest, great_here (λ i. begun_at n i.addresses) x y z w (executed_in x.digest n xs) (executed_in x.digest n ys) is at one h)
 no_sum_of_first (x ∷ xs) (y ∷ ys) z w (Spot f) some other is at first second h =
     let one : x.digest ≡ y.digest = ap (λ (i : ImageCounts). i.digest) (sym is)
     ∙ same_place z.digest w.digest first second ∙ ap (λ (i : ImageCounts). i.digest) at in (
@@ -440,7 +440,7 @@ all_images_behind (suc n) [] h = h
 all_images_behind (suc n) (i ∷ is) h = all_images_behind n is h.1
 
 some_images_left : (n : ℕ) (digest : List ℕ) (address : ℕ) (is : List ImageCounts)
-    → begun_in digest address (drop n is) ≤ begun_in digest address is
+    → executed_in digest address (drop n is) ≤ executed_in digest address is
 some_images_left zero digest address is = omega arith
 some_images_left (suc n) digest address [] = omega arith
 some_images_left (suc n) digest address (i ∷ is) = let h = some_images_left n digest address is in omega (arith, h)

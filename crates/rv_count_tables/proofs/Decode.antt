@@ -4,9 +4,9 @@ use Rattle.std.specs.List.{AllByRecursion, flat_map}
 use Rattle.rv_count_tables.specs.declared.table.ImageCounts.{ImageCounts}
 use Rattle.rv_count_tables.specs.declared.table.CountTable.{CountTable}
 use Rattle.rv_count_tables.specs.Lines.{lacks}
-use Rattle.rv_count_tables.specs.Table.{is_behind, digests_rise, IsImage, IsTable}
+use Rattle.rv_count_tables.specs.Table.{is_greater_than_last, digests_rise, IsImage, IsTable}
 use Rattle.rv_count_tables.specs.Text.{line, image_line, image_text, last_line}
-use Rattle.rv_count_tables.specs.ReadSteps.{Entry, IsEntry, entry_line, entries_of, Place, at_image, nowhere, behind_entry, place_behind, place_in, last_digest, MayStand, IsNoEntry, IsNoImage}
+use Rattle.rv_count_tables.specs.ReadSteps.{Entry, IsEntry, entry_line, entries_of, Place, at_image, nowhere, after_entry, place_behind, place_in, last_digest, CanComeNext, IsNotAnEntry, IsNotAnImage}
 use Rattle.rv_count_tables.proofs.Pieces.{same_cut}
 use Rattle.rv_count_tables.proofs.Entries.{entries_fit, entries_stand, image_entries, StandIn}
 use Rattle.rv_count_tables.proofs.AddingImages.{image_low, images_behind}
@@ -52,7 +52,7 @@ entry_step : (n : ℕ) (last : Option (List ℕ)) (place : Place) (e : Entry) (s
     → entry_line e ++ s ≡ flat_map entry_line es ++ (flat_map image_text more ++ last_line (n + length more) runs)
     → AllByRecursion IsEntry es → StandIn place es → AllByRecursion IsImage more
     → digests_rise last more ≡ true → n + length more < 2 ^ 64 → runs < 2 ^ 64
-    → MayStand place e × IsRest n last (behind_entry place e) s
+    → CanComeNext place e × IsRest n last (after_entry place e) s
 entry_step n last place e s [] [] runs h all fit stand images digests few fits =
     absurd (entry_is_not_last e (n + 0) runs s [] (all ∙ sym (append-nil (last_line (n + 0) runs))))
 entry_step n last place e s [] (i ∷ is) runs h all fit stand images digests few fits =
@@ -64,14 +64,14 @@ entry_step n last place e s (d ∷ ds) more runs h all fit stand images digests 
     (ap (λ (x : List ℕ). x ++ s) (sym (entry_is_line e)) ∙ all ∙ first_entry d ds t
     ∙ ap (λ (x : List ℕ). x ++ (flat_map entry_line ds ++ t)) (entry_is_line d)) in
     let one : d ≡ e = same_entry_line d e fit.0 h (entry_is_line d ∙ sym same.0 ∙ sym (entry_is_line e)) in (
-      subst (λ (x : Entry). MayStand place x) one stand.0,
+      subst (λ (x : Entry). CanComeNext place x) one stand.0,
       record {
         es = ds;
         more = more;
         runs = runs;
         all = same.1;
         fit = fit.1;
-        stand = subst (λ (x : Entry). StandIn (behind_entry place x) ds) one stand.1;
+        stand = subst (λ (x : Entry). StandIn (after_entry place x) ds) one stand.1;
         images = images;
         digests = digests;
         few = few;
@@ -87,7 +87,7 @@ image_step : (n : ℕ) (last : Option (List ℕ)) (i : ImageCounts) (s : List �
     → image_line i ++ s ≡ flat_map entry_line es ++ (flat_map image_text more ++ last_line (n + length more) runs)
     → AllByRecursion IsImage more
     → digests_rise last more ≡ true → n + length more < 2 ^ 64 → runs < 2 ^ 64
-    → (is_behind last i.digest ≡ true) × IsRest (n + 1) (Some i.digest) at_image s
+    → (is_greater_than_last last i.digest ≡ true) × IsRest (n + 1) (Some i.digest) at_image s
 image_step n last i s (e ∷ es) more runs h all images digests few fits =
     absurd (entry_is_no_image e i _ s
     (sym (all ∙ first_entry e es (flat_map image_text more ++ last_line (n + length more) runs))))
@@ -100,7 +100,7 @@ image_step n last i s [] (j ∷ js) runs h all images digests few fits =
     (ap (λ (x : List ℕ). x ++ s) (sym (image_is_line i)) ∙ all ∙ first_image j js end
     ∙ ap (λ (x : List ℕ). x ++ t) (image_is_line j)) in
     let one : j.digest ≡ i.digest = same_digest j i images.0 h (image_is_line j ∙ sym same.0 ∙ sym (image_is_line i)) in (
-      ap (is_behind last) (sym one) ∙ image_low last j js digests,
+      ap (is_greater_than_last last) (sym one) ∙ image_low last j js digests,
       record {
         es = entries_of j;
         more = js;
@@ -117,13 +117,13 @@ image_step n last i s [] (j ∷ js) runs h all images digests few fits =
     )
 
 pub behind_one : (n : ℕ) (last : Option (List ℕ)) (place : Place) (e : Entry) (s : List ℕ)
-    → IsEntry e → IsRest n last place (entry_line e ++ s) → MayStand place e × IsRest n last (behind_entry place e) s
+    → IsEntry e → IsRest n last place (entry_line e ++ s) → CanComeNext place e × IsRest n last (after_entry place e) s
 behind_one n last place e s h r = entry_step n last place e s r.es r.more r.runs h r.all r.fit r.stand
     r.images r.digests r.few r.fits
 
 pub behind_image : (n : ℕ) (last : Option (List ℕ)) (place : Place) (i : ImageCounts) (s : List ℕ)
     → IsImage i → IsRest n last place (image_line i ++ s)
-    → (is_behind last i.digest ≡ true) × IsRest (n + 1) (Some i.digest) at_image s
+    → (is_greater_than_last last i.digest ≡ true) × IsRest (n + 1) (Some i.digest) at_image s
 behind_image n last place i s h r = image_step n last i s r.es r.more r.runs h r.all r.images r.digests r.few r.fits
 
 -- ---- behind lines that stand there
@@ -135,7 +135,7 @@ behind_entries [] n last place s h r = r
 behind_entries (e ∷ es) n last place s h r =
     let step = behind_one n last place e (flat_map entry_line es ++ s) h.0
     (subst (λ (x : List ℕ). IsRest n last place x) (first_entry e es s) r) in
-    behind_entries es n last (behind_entry place e) s h.1 step.1
+    behind_entries es n last (after_entry place e) s h.1 step.1
 
 pub behind_images : (is : List ImageCounts) (n : ℕ) (last : Option (List ℕ)) (place : Place) (s : List ℕ)
     → AllByRecursion IsImage is → IsRest n last place (flat_map image_text is ++ s)
@@ -175,7 +175,7 @@ refused : (n : ℕ) (last : Option (List ℕ)) (place : Place) (xs s : List ℕ)
     → line xs ++ s ≡ flat_map entry_line es ++ (flat_map image_text more ++ last_line (n + length more) runs)
     → AllByRecursion IsEntry es → StandIn place es → AllByRecursion IsImage more
     → digests_rise last more ≡ true → n + length more < 2 ^ 64 → runs < 2 ^ 64
-    → IsNoEntry place (line xs) → IsNoImage last (line xs)
+    → IsNotAnEntry place (line xs) → IsNotAnImage last (line xs)
     → ((r : ℕ) → r < 2 ^ 64 → line xs ≡ last_line n r → ⊥) → ⊥
 refused n last place xs s (e ∷ es) more runs plain all fit stand images digests few fits no_entry no_image no_last =
     let t = flat_map image_text more ++ last_line (n + length more) runs in
@@ -195,7 +195,7 @@ refused n last place xs s [] [] runs plain all fit stand images digests few fits
     no_last runs fits (same.0 ∙ sym (last_is_line (n + 0) runs) ∙ ap (λ (m : ℕ). last_line m runs) e)
 
 pub no_rest : (n : ℕ) (last : Option (List ℕ)) (place : Place) (xs s : List ℕ) → lacks 10 xs ≡ true
-    → IsNoEntry place (line xs) → IsNoImage last (line xs)
+    → IsNotAnEntry place (line xs) → IsNotAnImage last (line xs)
     → ((r : ℕ) → r < 2 ^ 64 → line xs ≡ last_line n r → ⊥) → IsRest n last place (line xs ++ s) → ⊥
 no_rest n last place xs s plain no_entry no_image no_last r =
     refused n last place xs s r.es r.more r.runs plain r.all r.fit r.stand r.images r.digests r.few r.fits

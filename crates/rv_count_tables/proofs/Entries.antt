@@ -9,7 +9,7 @@ use Rattle.rv_count_tables.specs.declared.table.ImageCounts.{ImageCounts}
 use Rattle.rv_count_tables.specs.declared.table.NamedSpot.{NamedSpot}
 use Rattle.rv_count_tables.specs.Table.{has_name, name_of, rise_from, AreNamesOf, IsCounted, IsImage, IsName, IsSpot}
 use Rattle.rv_count_tables.specs.Text.{address_line, image_line, image_text, line_of_spot, named}
-use Rattle.rv_count_tables.specs.ReadSteps.{Entry, OfAddress, OfSpot, IsEntry, entry_line, entry_of_spot, entries_of, Place, at_image, nowhere, behind_entry, place_behind, is_from, AgreesWith, MayStand, IsNoEntry, IsNoAddress, IsNoSpot, function_name, lowest_behind, with_name, with_names}
+use Rattle.rv_count_tables.specs.ReadSteps.{Entry, OfAddress, OfSpot, IsEntry, entry_line, entry_of_spot, entries_of, Place, at_image, nowhere, after_entry, place_behind, can_be_next_address, AgreesWith, CanComeNext, IsNotAnEntry, IsNotAnAddress, IsNotANode, function_name, lowest_after, with_name, with_names}
 use Rattle.rv_count_tables.proofs.NamesOfSpots.{agree_more, first_is_last, further, named_fits, one_list_of_first_names, AgreeWithAll}
 use Rattle.rv_call_tree.specs.Profiles.{is_last_of_some}
 use Rattle.rv_call_tree.specs.declared.spot.Spot.{Spot}
@@ -95,7 +95,7 @@ same_parts i j h k e =
 
 abbrev pub StandIn : Place → List Entry → Type 0
 StandIn p [] = Unit {0}
-StandIn p (e ∷ es) = MayStand p e × StandIn (behind_entry p e) es
+StandIn p (e ∷ es) = CanComeNext p e × StandIn (after_entry p e) es
 
 stand_spots : (a : Option ℕ) (ms ns : List FunctionName) (front : List ℕ) (ss : List Spot) → FollowInPreorder front ss
     → AgreeWithAll ns ms → StandIn (record { address = a; names = ms; front = Some front }) (map (entry_of_spot ns) ss)
@@ -160,7 +160,7 @@ spots_place a ms ns front (s ∷ ss) =
 entries_place : (lowest : ℕ) (cs : List AddressCounts) (ns : List FunctionName) (ss : List Spot)
     → place_behind (record { address = Some lowest; names = []; front = Some [] }) (all_entries cs ns ss)
     ≡ record {
-      address = if_none ss (Some (lowest_behind lowest cs));
+      address = if_none ss (Some (lowest_after lowest cs));
       names = with_names [] (map (named ns) ss);
       front = Some (last_path [] ss);
     }
@@ -169,26 +169,26 @@ entries_place lowest (c ∷ cs) ns ss = entries_place (c.address + 1) cs ns ss
 
 -- ---- what may not stand there
 
-pub nothing_nowhere : (line : List ℕ) → IsNoEntry nowhere line
+pub nothing_nowhere : (line : List ℕ) → IsNotAnEntry nowhere line
 nothing_nowhere line (OfAddress c) h may e = false≢true may
 nothing_nowhere line (OfSpot n) h may e = may.0
 
-no_address_here : (cs : List AddressCounts) (first second : List ℕ) → IsNoAddress (lowest_behind 0 cs) first → (ss : List Spot)
+no_address_here : (cs : List AddressCounts) (first second : List ℕ) → IsNotAnAddress (lowest_after 0 cs) first → (ss : List Spot)
     → (ss ≡ [] → first ≡ second) → (c : AddressCounts) → IsCounted c
-    → is_from (if_none ss (Some (lowest_behind 0 cs))) c.address ≡ true → second ≡ address_line c → ⊥
+    → can_be_next_address (if_none ss (Some (lowest_after 0 cs))) c.address ≡ true → second ≡ address_line c → ⊥
 no_address_here cs first second no_address [] one c h may e = no_address c h may (one refl ∙ e)
 no_address_here cs first second no_address (s ∷ ss) one c h may e = false≢true may
 
 -- behind both no other of any kind stands, where none of each stood behind its own
 pub no_entry : (cs : List AddressCounts) (ns : List FunctionName) (ss : List Spot) (first second : List ℕ)
-    → IsNoAddress (lowest_behind 0 cs) first → IsNoSpot ns (last_path [] ss) second
+    → IsNotAnAddress (lowest_after 0 cs) first → IsNotANode ns (last_path [] ss) second
     → ns ≡ with_names [] (map (named ns) ss) → (ss ≡ [] → first ≡ second)
-    → IsNoEntry (place_behind at_image (all_entries cs ns ss)) second
+    → IsNotAnEntry (place_behind at_image (all_entries cs ns ss)) second
 no_entry cs ns ss first second no_address no_spot known one =
-    subst (λ (p : Place). IsNoEntry p second) (sym (entries_place 0 cs ns ss)) by_kind
+    subst (λ (p : Place). IsNotAnEntry p second) (sym (entries_place 0 cs ns ss)) by_kind
   where
-    by_kind : IsNoEntry (record {
-      address = if_none ss (Some (lowest_behind 0 cs));
+    by_kind : IsNotAnEntry (record {
+      address = if_none ss (Some (lowest_after 0 cs));
       names = with_names [] (map (named ns) ss);
       front = Some (last_path [] ss);
     }) second

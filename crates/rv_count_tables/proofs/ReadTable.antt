@@ -13,7 +13,7 @@ use Rattle.rv_count_tables.specs.declared.read.ReadError.TheVariants.{Line, CutO
 use Rattle.rv_count_tables.specs.Lines.{lacks, count_of_line_feeds, whole_line}
 use Rattle.rv_count_tables.specs.Table.{IsTable}
 use Rattle.rv_count_tables.specs.Text.{line, first_line, image_text, last_line, table_text}
-use Rattle.rv_count_tables.specs.ReadSteps.{nowhere, place_in, last_digest, IsNoEntry, IsNoImage, AreImageLines}
+use Rattle.rv_count_tables.specs.ReadSteps.{nowhere, place_in, last_digest, IsNotAnEntry, IsNotAnImage, AreImageLines}
 use Rattle.rv_count_tables.specs.Read.{IsLeast, IsLeastRefusedLine, read_error_at}
 use Rattle.rv_count_tables.proofs.Pieces.{cases_line, line_at, no_line}
 use Rattle.rv_count_tables.proofs.Reading.{feeds-append}
@@ -40,8 +40,8 @@ pub record IsBehind (bytes : List ℕ) (images : List ImageCounts) (place : ℕ)
   pub all : bytes ≡ text_so_far images ++ drop place bytes
   pub front : take place bytes ≡ text_so_far images
   pub are : AreImages images
-  pub entry : IsNoEntry (place_in nowhere images) (whole_line (drop place bytes))
-  pub image : IsNoImage (last_digest None images) (whole_line (drop place bytes))
+  pub entry : IsNotAnEntry (place_in nowhere images) (whole_line (drop place bytes))
+  pub image : IsNotAnImage (last_digest None images) (whole_line (drop place bytes))
 
 pub behind_images : (bytes : List ℕ) (read : ImageLines) (place : ℕ) → whole_line bytes ≡ first_line
     → AreImageLines (drop 11 bytes) read → length read.images < 2 ^ 64 → place ≡ 11 + read.length
@@ -69,8 +69,8 @@ behind_images bytes read place first h few e =
       all = all;
       front = ap (take place) all ∙ take_at (text_so_far read.images) (drop place bytes) place long;
       are = record { each = h.images; rising = h.rising; few = few };
-      entry = subst (λ (s : List ℕ). IsNoEntry (place_in nowhere read.images) (whole_line s)) rest h.entry;
-      image = subst (λ (s : List ℕ). IsNoImage (last_digest None read.images) (whole_line s)) rest h.image;
+      entry = subst (λ (s : List ℕ). IsNotAnEntry (place_in nowhere read.images) (whole_line s)) rest h.entry;
+      image = subst (λ (s : List ℕ). IsNotAnImage (last_digest None read.images) (whole_line s)) rest h.image;
     }
 
 pub end_within : (bytes : List ℕ) (images : List ImageCounts) (place : ℕ) → IsBehind bytes images place
@@ -117,8 +117,8 @@ told_refused : (bytes : List ℕ) (images : List ImageCounts) (place : ℕ) (fro
 told_refused bytes images place front rest h no_last plain e =
     let w : whole_line (drop place bytes) ≡ line front = ap whole_line e ∙ line_at front rest plain in
     refused_line images front rest bytes (count_of_line_feeds (take place bytes) + 1) h.are plain
-    (subst (λ (s : List ℕ). IsNoEntry (place_in nowhere images) s) w h.entry)
-    (subst (λ (s : List ℕ). IsNoImage (last_digest None images) s) w h.image)
+    (subst (λ (s : List ℕ). IsNotAnEntry (place_in nowhere images) s) w h.entry)
+    (subst (λ (s : List ℕ). IsNotAnImage (last_digest None images) s) w h.image)
     (λ r small same. no_last r small (w ∙ same))
     (h.all ∙ ap (λ (s : List ℕ). text_so_far images ++ s) e)
     (ap (λ (s : List ℕ). count_of_line_feeds s + 1) h.front)

@@ -16,9 +16,9 @@ use Rattle.rv_count_tables.specs.declared.read_lines.OneImage.{OneImage}
 use Rattle.rv_count_tables.specs.declared.read_stacks.SpotLines.{SpotLines}
 use Rattle.rv_count_tables.specs.declared.table.FunctionName.{FunctionName}
 use Rattle.rv_count_tables.specs.Lines.{lacks, whole_line}
-use Rattle.rv_count_tables.specs.Table.{is_before, is_behind, digests_rise, rise_from, IsCounted, IsImage}
+use Rattle.rv_count_tables.specs.Table.{is_before, is_greater_than_last, digests_rise, rise_from, IsCounted, IsImage}
 use Rattle.rv_count_tables.specs.Text.{line, address_line, image_line, image_text, line_of_spot}
-use Rattle.rv_count_tables.specs.ReadSteps.{lowest_behind, last_digest, nowhere, at_image, place_in, place_behind, entries_of, Place, IsNoAddress, IsNoEntry, IsNoImage, AreAddressLines, AreImageLines, AreSpotLines, IsOneImage}
+use Rattle.rv_count_tables.specs.ReadSteps.{lowest_after, last_digest, nowhere, at_image, place_in, place_behind, entries_of, Place, IsNotAnAddress, IsNotAnEntry, IsNotAnImage, AreAddressLines, AreImageLines, AreSpotLines, IsOneImage}
 use Rattle.rv_call_tree.specs.declared.spot.Spot.{Spot}
 use Rattle.rv_count_tables.proofs.Pieces.{cases_line, line_at, no_line}
 use Rattle.rv_count_tables.proofs.AddingImages.{image_low, images_behind, images_rise, no_images_rise}
@@ -68,12 +68,12 @@ lines_push f xs x text rest tail p q =
     ∙ ap (λ (s : List ℕ). s ++ tail) (flat_map_more f [] xs x)
 
 pub lowest_push : (lowest : ℕ) (cs : List AddressCounts) (c : AddressCounts)
-    → lowest_behind lowest (cs ++ c ∷ []) ≡ c.address + 1
+    → lowest_after lowest (cs ++ c ∷ []) ≡ c.address + 1
 lowest_push lowest [] c = refl
 lowest_push lowest (d ∷ ds) c = lowest_push (d.address + 1) ds c
 
 pub rise_push : (lowest : ℕ) (cs : List AddressCounts) (c : AddressCounts) → rise_from lowest cs ≡ true
-    → lowest_behind lowest cs ≤ c.address → rise_from lowest (cs ++ c ∷ []) ≡ true
+    → lowest_after lowest cs ≤ c.address → rise_from lowest (cs ++ c ∷ []) ≡ true
 unfolding rise_from
 rise_push lowest [] c h k =
     let t : nat_le lowest c.address ≡ true = grind (arith, nat_tests) in and_from (nat_le lowest c.address) true t refl
@@ -92,7 +92,7 @@ place_push place [] i = refl
 place_push place (j ∷ js) i = place_push (place_behind at_image (entries_of j)) js i
 
 pub digests_push : (last : Option (List ℕ)) (is : List ImageCounts) (i : ImageCounts) → digests_rise last is ≡ true
-    → is_behind (last_digest last is) i.digest ≡ true → digests_rise last (is ++ i ∷ []) ≡ true
+    → is_greater_than_last (last_digest last is) i.digest ≡ true → digests_rise last (is ++ i ∷ []) ≡ true
 digests_push last [] i h k = images_rise last i [] k (no_images_rise (Some i.digest))
 digests_push last (j ∷ js) i h k = images_rise last j (js ++ i ∷ []) (image_low last j js h)
     (digests_push (Some j.digest) js i (images_behind last j js h) k)
@@ -128,7 +128,7 @@ pub record AreSoFar (text : List ℕ) (cs : List AddressCounts) (from n : ℕ) :
   pub lines : text ≡ flat_map address_line cs ++ drop n text
   pub each : AllByRecursion IsCounted cs
   pub rising : rise_from 0 cs ≡ true
-  pub lowest : from ≡ lowest_behind 0 cs
+  pub lowest : from ≡ lowest_after 0 cs
 
 pub none_so_far : (text : List ℕ) → AreSoFar text [] 0 0
 unfolding rise_from
@@ -158,12 +158,12 @@ one_so_far text cs lowest n m c h counted under is e =
     }
 
 pub all_so_far : (text : List ℕ) (lowest : ℕ) (read : AddressLines) → AreSoFar text read.addresses lowest read.length
-    → IsNoAddress lowest (whole_line (drop read.length text)) → AreAddressLines text read
+    → IsNotAnAddress lowest (whole_line (drop read.length text)) → AreAddressLines text read
 all_so_far text lowest read h no_more = record {
   within = h.within;
   lines = h.lines;
   counts = record { each = h.each; rising = h.rising };
-  behind = subst (λ (n : ℕ). IsNoAddress n (whole_line (drop read.length text))) h.lowest no_more;
+  behind = subst (λ (n : ℕ). IsNotAnAddress n (whole_line (drop read.length text))) h.lowest no_more;
 }
 
 -- ---- one image
@@ -225,10 +225,10 @@ parts_text text start lines spots n h =
     (drop-drop lines.length start text ∙ second)
 
 no_part : (text : List ℕ) (start : ℕ) (lines : AddressLines) (spots : SpotLines) (n : ℕ) → AreParts text start lines spots n
-    → IsNoEntry (place_behind at_image (all_entries lines.addresses spots.functions spots.spots)) (whole_line (drop n text))
+    → IsNotAnEntry (place_behind at_image (all_entries lines.addresses spots.functions spots.spots)) (whole_line (drop n text))
 no_part text start lines spots n h =
     let end = drop-drop spots.length (start + lines.length) text ∙ ap (λ (k : ℕ). drop k text) (sym h.end) in
-    subst (λ (t : List ℕ). IsNoEntry (place_behind at_image (all_entries lines.addresses spots.functions spots.spots)) (whole_line t)) end
+    subst (λ (t : List ℕ). IsNotAnEntry (place_behind at_image (all_entries lines.addresses spots.functions spots.spots)) (whole_line t)) end
     (no_entry lines.addresses spots.functions spots.spots (whole_line (drop lines.length (drop start text)))
     (whole_line (drop spots.length (drop (start + lines.length) text)))
     h.addresses.behind h.stacks.behind h.stacks.known
@@ -237,7 +237,7 @@ no_part text start lines spots n h =
 
 pub one_image : (last : Option (List ℕ)) (text : List ℕ) (image : ImageCounts) (lines : AddressLines)
     (spots : SpotLines) (n : ℕ) → whole_line text ≡ image_line image → length image.digest ≡ 32
-    → is_behind last image.digest ≡ true → AllByRecursion (λ b. b < 256) image.digest → IsUtf8 image.path
+    → is_greater_than_last last image.digest ≡ true → AllByRecursion (λ b. b < 256) image.digest → IsUtf8 image.path
     → AreParts text (length (whole_line text)) lines spots n
     → IsOneImage last text (record {
       image = record image { addresses = lines.addresses; functions = spots.functions; spots = spots.spots };
@@ -271,11 +271,11 @@ one_image last text image lines spots n is long rising bytes utf h =
 
 pub no_image_digest : (last : Option (List ℕ)) (text digest : List ℕ)
     → ((i : ImageCounts) → IsImage i → text ≡ image_line i → digest ≡ i.digest)
-    → ((length digest == 32) && is_behind last digest) ≡ false → IsNoImage last text
+    → ((length digest == 32) && is_greater_than_last last digest) ≡ false → IsNotAnImage last text
 no_image_digest last text digest same other i h rising e =
     let d = same i h e in
     both_ways _ other (and_from _ _ (ap (λ (s : List ℕ). length s == 32) d ∙ ap (λ (n : ℕ). n == 32) h.digest)
-    (ap (is_behind last) d ∙ rising))
+    (ap (is_greater_than_last last) d ∙ rising))
 
 image_line_of : (i j : ImageCounts) → i.digest ≡ j.digest → i.path ≡ j.path → image_line i ≡ image_line j
 unfolding image_line
@@ -284,7 +284,7 @@ image_line_of i j d p = λ k. line (codes "image " ++ encode_lower (d k) ++ code
 pub no_image_line : (last : Option (List ℕ)) (text : List ℕ) (image : ImageCounts)
     → ((i : ImageCounts) → IsImage i → text ≡ image_line i → image.digest ≡ i.digest)
     → ((i : ImageCounts) → IsImage i → text ≡ image_line i → image.path ≡ i.path)
-    → bytes_eq text (image_line image) ≡ false → IsNoImage last text
+    → bytes_eq text (image_line image) ≡ false → IsNotAnImage last text
 no_image_line last text image digest path other i h rising e =
     both_ways _ other ((bytes_decides text (image_line image)).1
     (e ∙ sym (image_line_of image i (digest i h e) (path i h e))))
@@ -296,7 +296,7 @@ pub record ImagesSoFar (text : List ℕ) (is : List ImageCounts) (n : ℕ) : Typ
   pub lines : text ≡ flat_map image_text is ++ drop n text
   pub images : AllByRecursion IsImage is
   pub rising : digests_rise None is ≡ true
-  pub entry : IsNoEntry (place_in nowhere is) (whole_line (drop n text))
+  pub entry : IsNotAnEntry (place_in nowhere is) (whole_line (drop n text))
 
 pub no_images_so_far : (text : List ℕ) → ImagesSoFar text [] 0
 no_images_so_far text = record {
@@ -321,12 +321,12 @@ image_so_far text is n m read h one e =
           (one.lines ∙ ap (λ (s : List ℕ). image_text read.image ++ s) d);
       images = each_push IsImage is read.image h.images one.image;
       rising = digests_push None is read.image h.rising one.rising;
-      entry = subst (λ (p : Place). IsNoEntry p (whole_line (drop m text))) (sym (place_push nowhere is read.image))
-          (subst (λ (s : List ℕ). IsNoEntry (place_behind at_image (entries_of read.image)) (whole_line s)) d one.behind);
+      entry = subst (λ (p : Place). IsNotAnEntry p (whole_line (drop m text))) (sym (place_push nowhere is read.image))
+          (subst (λ (s : List ℕ). IsNotAnEntry (place_behind at_image (entries_of read.image)) (whole_line s)) d one.behind);
     }
 
 pub images_read : (text : List ℕ) (read : ImageLines) → ImagesSoFar text read.images read.length
-    → IsNoImage (last_digest None read.images) (whole_line (drop read.length text)) → AreImageLines text read
+    → IsNotAnImage (last_digest None read.images) (whole_line (drop read.length text)) → AreImageLines text read
 images_read text read h no_more = record {
   within = h.within;
   lines = h.lines;
@@ -339,10 +339,10 @@ images_read text read h no_more = record {
 -- ---- what is read of one line
 
 pub follows : (last : Option (List ℕ)) (digest before : List ℕ) (t : Bool) → t ≡ is_before before digest
-    → last ≡ Some before → length digest ≡ 32 → t ≡ ((length digest == 32) && is_behind last digest)
+    → last ≡ Some before → length digest ≡ 32 → t ≡ ((length digest == 32) && is_greater_than_last last digest)
 follows last digest before t h e n =
-    h ∙ ap (λ (l : Option (List ℕ)). is_behind l digest) (sym e)
-    ∙ ap (λ (b : Bool). b && is_behind last digest) (sym (ap (λ (k : ℕ). k == 32) n))
+    h ∙ ap (λ (l : Option (List ℕ)). is_greater_than_last l digest) (sym e)
+    ∙ ap (λ (b : Bool). b && is_greater_than_last last digest) (sym (ap (λ (k : ℕ). k == 32) n))
 
 pub all_fit : (xs : List ℕ) → ((i : ℕ) → Fits w8 (get_or xs i 0)) → AllByRecursion (λ b. b < 256) xs
 all_fit [] h = tt

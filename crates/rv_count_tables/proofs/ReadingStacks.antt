@@ -12,7 +12,7 @@ use Rattle.rv_count_tables.specs.declared.read_stacks.SpotLines.{SpotLines}
 use Rattle.rv_count_tables.specs.Lines.{lacks, whole_line}
 use Rattle.rv_count_tables.specs.Table.{name_of, IsNamedSpot, IsSpot}
 use Rattle.rv_count_tables.specs.Text.{line_of_spot, named, spot_line, words_of_spot}
-use Rattle.rv_count_tables.specs.ReadSteps.{function_name, with_name, AgreesWith, AreSpotLines, IsNoSpot}
+use Rattle.rv_count_tables.specs.ReadSteps.{function_name, with_name, AgreesWith, AreSpotLines, IsNotANode}
 use Rattle.rv_count_tables.proofs.LineTexts.{spot_is_line, spot_words}
 use Rattle.rv_count_tables.proofs.NamesOfSpots.{it_has_its_name, names_so_far, no_names_so_far, others_are_named, text_of_named, AreNamesSoFar}
 use Rattle.rv_count_tables.proofs.ReadingLines.{each_push, further_within, lacks_path, line_is_long, lines_push, plain_line, same_words, whole_split}
@@ -85,7 +85,7 @@ one_spot text ss names front n m x h fits stands agrees is e =
     }
 
 spots_read : (text : List ℕ) (front : List ℕ) (read : SpotLines) → SpotsSoFar text read.spots read.functions front read.length
-    → IsNoSpot read.functions front (whole_line (drop read.length text)) → AreSpotLines text read
+    → IsNotANode read.functions front (whole_line (drop read.length text)) → AreSpotLines text read
 spots_read text front read h no_more = record {
   within = h.lines.within;
   lines = h.lines.lines;
@@ -93,7 +93,7 @@ spots_read text front read h no_more = record {
   names = h.named.names;
   of_spots = h.named.of_spots;
   known = h.named.known;
-  behind = subst (λ (path : List ℕ). IsNoSpot read.functions path (whole_line (drop read.length text))) h.path no_more;
+  behind = subst (λ (path : List ℕ). IsNotANode read.functions path (whole_line (drop read.length text))) h.path no_more;
 }
 
 -- ---- a line that is read
@@ -105,7 +105,7 @@ plain_name text n e =
 
 pub no_spot_here : (names : List FunctionName) (front text : List ℕ) (read : NamedSpot)
     → ((n : NamedSpot) → IsNamedSpot n → text ≡ spot_line n → read.spot ≡ n.spot)
-    → ((IsSpot read.spot × FollowsInPreorder front read.spot) → ⊥) → IsNoSpot names front text
+    → ((IsSpot read.spot × FollowsInPreorder front read.spot) → ⊥) → IsNotANode names front text
 no_spot_here names front text read same not n h stands agrees e =
     let s = same n h e in
     not (subst IsSpot (sym s) h.spot, subst (FollowsInPreorder front) (sym s) stands)
@@ -113,7 +113,7 @@ no_spot_here names front text read same not n h stands agrees e =
 pub no_spot_by_name : (names : List FunctionName) (front text : List ℕ) (read : NamedSpot)
     → ((n : NamedSpot) → IsNamedSpot n → text ≡ spot_line n → read.spot ≡ n.spot)
     → ((n : NamedSpot) → IsNamedSpot n → text ≡ spot_line n → read.name ≡ n.name)
-    → (AgreesWith read.name (name_of read.spot.function names) → ⊥) → IsNoSpot names front text
+    → (AgreesWith read.name (name_of read.spot.function names) → ⊥) → IsNotANode names front text
 no_spot_by_name names front text read same name not n h stands agrees e =
     let s = same n h e in
     not (subst (λ (t : List ℕ). AgreesWith t (name_of read.spot.function names)) (sym (name n h e))
@@ -122,7 +122,7 @@ no_spot_by_name names front text read same name not n h stands agrees e =
 pub no_spot_line : (names : List FunctionName) (front text : List ℕ) (read : NamedSpot)
     → ((n : NamedSpot) → IsNamedSpot n → text ≡ spot_line n → read.spot ≡ n.spot)
     → ((n : NamedSpot) → IsNamedSpot n → text ≡ spot_line n → read.name ≡ n.name)
-    → bytes_eq text (spot_line read) ≡ false → IsNoSpot names front text
+    → bytes_eq text (spot_line read) ≡ false → IsNotANode names front text
 no_spot_line names front text read same name other n h stands agrees e =
     let s = same n h e in
     let t = name n h e in
@@ -132,10 +132,10 @@ no_spot_line names front text read same name other n h stands agrees e =
 -- no other spot stands behind those that were read
 pub all_spots : (text behind front line : List ℕ) (ss : List Spot) (names : List FunctionName) (read : SpotLines)
     → SpotsSoFar text ss names front read.length → read.spots ≡ ss → read.functions ≡ names → behind ≡ front
-    → line ≡ whole_line (drop read.length text) → IsNoSpot names behind line → AreSpotLines text read
+    → line ≡ whole_line (drop read.length text) → IsNotANode names behind line → AreSpotLines text read
 all_spots text behind front line ss names read h same named e w none = spots_read text front read
     (subst (λ (xs : List Spot). SpotsSoFar text xs read.functions front read.length) (sym same)
     (subst (λ (ns : List FunctionName). SpotsSoFar text ss ns front read.length) (sym named) h))
-    (subst (λ (ns : List FunctionName). IsNoSpot ns front (whole_line (drop read.length text))) (sym named)
-    (subst (λ (path : List ℕ). IsNoSpot names path (whole_line (drop read.length text))) e
-    (subst (IsNoSpot names behind) w none)))
+    (subst (λ (ns : List FunctionName). IsNotANode ns front (whole_line (drop read.length text))) (sym named)
+    (subst (λ (path : List ℕ). IsNotANode names path (whole_line (drop read.length text))) e
+    (subst (IsNotANode names behind) w none)))

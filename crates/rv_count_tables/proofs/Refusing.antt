@@ -8,7 +8,7 @@ use Rattle.rv_count_tables.specs.declared.table.CountTable.{CountTable}
 use Rattle.rv_count_tables.specs.Lines.{lacks, count_of_line_feeds, first_lines}
 use Rattle.rv_count_tables.specs.Table.{digests_rise, IsImage, IsTable}
 use Rattle.rv_count_tables.specs.Text.{line, first_line, image_line, image_text, last_line, table_text}
-use Rattle.rv_count_tables.specs.ReadSteps.{Entry, entry_line, entries_of, nowhere, place_in, last_digest, IsNoEntry, IsNoImage}
+use Rattle.rv_count_tables.specs.ReadSteps.{Entry, entry_line, entries_of, nowhere, place_in, last_digest, IsNotAnEntry, IsNotAnImage}
 use Rattle.rv_count_tables.proofs.Entries.{image_entries}
 use Rattle.rv_count_tables.specs.Read.{BeginsTable, IsLeastRefusedLine}
 use Rattle.rv_count_tables.proofs.LineTexts.{entry_words, image_words, last_words, entry_is_line, image_is_line, last_is_line, lacks-last}
@@ -133,7 +133,7 @@ behind_so_far t images s h k e =
 -- ---- a line that is refused
 
 pub refused_line : (images : List ImageCounts) (xs rest bytes : List ℕ) (n : ℕ) → AreImages images → lacks 10 xs ≡ true
-    → IsNoEntry (place_in nowhere images) (line xs) → IsNoImage (last_digest None images) (line xs)
+    → IsNotAnEntry (place_in nowhere images) (line xs) → IsNotAnImage (last_digest None images) (line xs)
     → ((r : ℕ) → r < 2 ^ 64 → line xs ≡ last_line (length images) r → ⊥)
     → bytes ≡ text_so_far images ++ (xs ++ 10 ∷ rest) → n ≡ count_of_line_feeds (text_so_far images) + 1
     → IsLeastRefusedLine n bytes

@@ -6,7 +6,7 @@ use Rattle.std.specs.List.{AllByRecursion}
 use Rattle.std.specs.Str.{bytes_eq}
 use Rattle.rv_count_tables.specs.declared.table.ImageCounts.{ImageCounts}
 use Rattle.rv_count_tables.specs.declared.table.CountTable.{CountTable}
-use Rattle.rv_count_tables.specs.Table.{begun_at, taken_at, name_at, begun_in, taken_in, path_in, name_in, arrivals_in, steps_in, least_path_of, is_before, digests_rise, IsImage, IsTable}
+use Rattle.rv_count_tables.specs.Table.{begun_at, taken_at, name_at, executed_in, taken_in, path_in, name_in, arrivals_in, steps_in, least_path_of, is_before, digests_rise, IsImage, IsTable}
 use Rattle.rv_call_tree.specs.Trees.{arrivals_at, steps_at}
 use Rattle.rv_call_tree.proofs.Public.{one_tree_of_counts}
 use Rattle.rv_count_tables.proofs.AddingNames.{one_list_of_names}
@@ -39,7 +39,7 @@ none_counted count (i ∷ is) last digest h up =
 
 -- these are such numbers
 begun_is : (n : ℕ) (digest : List ℕ) (is : List ImageCounts)
-    → begun_in digest n is ≡ counted_in (λ i. begun_at n i.addresses) digest is
+    → executed_in digest n is ≡ counted_in (λ i. begun_at n i.addresses) digest is
 begun_is n digest [] = refl
 begun_is n digest (i ∷ is) = ap (λ (m : ℕ). cond (bytes_eq i.digest digest) (begun_at n i.addresses) 0 + m) (begun_is n digest is)
 
@@ -102,7 +102,7 @@ some_is p q e = cc
 
 -- what tells images apart, but for their digests
 pub record AreAlike (is js : List ImageCounts) : Type 0 where
-  pub begun : (digest : List ℕ) (n : ℕ) → begun_in digest n is ≡ begun_in digest n js
+  pub begun : (digest : List ℕ) (n : ℕ) → executed_in digest n is ≡ executed_in digest n js
   pub taken : (digest : List ℕ) (n : ℕ) → taken_in digest n is ≡ taken_in digest n js
   pub paths : (digest : List ℕ) → path_in digest is ≡ path_in digest js
   pub names : (digest : List ℕ) (f : ℕ) → name_in digest f is ≡ name_in digest f js
@@ -208,7 +208,7 @@ one_list (i ∷ is) (j ∷ js) l m p q h k alike =
     λ x. one x ∷ others x
 
 pub one_table_of : (t u : CountTable) → IsTable t → IsTable u
-    → ((digest : List ℕ) (n : ℕ) → begun_in digest n t.images ≡ begun_in digest n u.images)
+    → ((digest : List ℕ) (n : ℕ) → executed_in digest n t.images ≡ executed_in digest n u.images)
     → ((digest : List ℕ) (n : ℕ) → taken_in digest n t.images ≡ taken_in digest n u.images)
     → ((digest : List ℕ) → path_in digest t.images ≡ path_in digest u.images)
     → ((digest : List ℕ) (f : ℕ) → name_in digest f t.images ≡ name_in digest f u.images)
@@ -230,7 +230,7 @@ one_table_of t u h k begun taken paths names arrivals steps runs =
 
 pub tables_commute : (a b ab ba : CountTable) → IsSum a b ab → IsSum b a ba → ab ≡ ba
 tables_commute a b ab ba p q = one_table_of ab ba p.table q.table
-    (λ d n. either_order _ _ (begun_in d n a.images) (begun_in d n b.images) (p.begun d n) (q.begun d n))
+    (λ d n. either_order _ _ (executed_in d n a.images) (executed_in d n b.images) (p.begun d n) (q.begun d n))
     (λ d n. either_order _ _ (taken_in d n a.images) (taken_in d n b.images) (p.taken d n) (q.taken d n))
     (λ d. p.paths d ∙ either (path_in d a.images) (path_in d b.images) ∙ sym (q.paths d))
     (λ d f. p.names d f ∙ either (name_in d f a.images) (name_in d f b.images) ∙ sym (q.names d f))
@@ -241,8 +241,8 @@ tables_commute a b ab ba p q = one_table_of ab ba p.table q.table
 pub tables_associate : (a b c ab bc first last : CountTable) → IsSum a b ab → IsSum ab c first → IsSum b c bc
     → IsSum a bc last → first ≡ last
 tables_associate a b c ab bc first last p q r s = one_table_of first last q.table s.table
-    (λ d n. either_first (begun_in d n ab.images) (begun_in d n bc.images) _ _ (begun_in d n a.images)
-    (begun_in d n b.images) (begun_in d n c.images) (p.begun d n) (q.begun d n) (r.begun d n) (s.begun d n))
+    (λ d n. either_first (executed_in d n ab.images) (executed_in d n bc.images) _ _ (executed_in d n a.images)
+    (executed_in d n b.images) (executed_in d n c.images) (p.begun d n) (q.begun d n) (r.begun d n) (s.begun d n))
     (λ d n. either_first (taken_in d n ab.images) (taken_in d n bc.images) _ _ (taken_in d n a.images)
     (taken_in d n b.images) (taken_in d n c.images) (p.taken d n) (q.taken d n) (r.taken d n) (s.taken d n))
     (λ d. q.paths d ∙ ap (λ x. least_path_of x (path_in d c.images)) (p.paths d)

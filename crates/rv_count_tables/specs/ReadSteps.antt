@@ -10,7 +10,7 @@ use Rattle.rv_count_tables.specs.declared.read_lines.ImageLines.{ImageLines}
 use Rattle.rv_count_tables.specs.declared.read_lines.OneImage.{OneImage}
 use Rattle.rv_count_tables.specs.declared.read_stacks.SpotLines.{SpotLines}
 use Rattle.rv_count_tables.specs.Lines.{whole_line}
-use Rattle.rv_count_tables.specs.Table.{has_name, is_behind, name_of, digests_rise, IsCounted, IsImage, IsNamedSpot, AreCounts, AreNames, AreNamesOf, AreSpots}
+use Rattle.rv_count_tables.specs.Table.{has_name, is_greater_than_last, name_of, digests_rise, IsCounted, IsImage, IsNamedSpot, AreCounts, AreNames, AreNamesOf, AreSpots}
 use Rattle.rv_count_tables.specs.Text.{address_line, image_line, image_text, line_of_spot, named, spot_line}
 use Rattle.rv_call_tree.specs.declared.spot.Spot.{Spot}
 use Rattle.rv_call_tree.specs.Trees.{last_path, path_after, FollowsInPreorder}
@@ -90,14 +90,14 @@ path_in None s = None
 path_in (Some front) s = Some (path_after front s)
 
 -- the lines that can come next after the line of an address or a node: nodes come after addresses
-abbrev pub behind_entry : Place → Entry → Place
-behind_entry p (OfAddress c) = record { address = Some (c.address + 1); names = []; front = Some [] }
-behind_entry p (OfSpot n) = record { address = None; names = with_name (function_name n) p.names; front = path_in p.front n.spot }
+abbrev pub after_entry : Place → Entry → Place
+after_entry p (OfAddress c) = record { address = Some (c.address + 1); names = []; front = Some [] }
+after_entry p (OfSpot n) = record { address = None; names = with_name (function_name n) p.names; front = path_in p.front n.spot }
 
 -- the lines that can come next after the lines of these addresses and nodes
 abbrev pub place_behind : Place → List Entry → Place
 place_behind p [] = p
-place_behind p (e ∷ es) = place_behind (behind_entry p e) es
+place_behind p (e ∷ es) = place_behind (after_entry p e) es
 
 -- the lines that can come next after these images
 abbrev pub place_in : Place → List ImageCounts → Place
@@ -105,30 +105,30 @@ place_in p [] = p
 place_in p (i ∷ is) = place_in (place_behind at_image (entries_of i)) is
 
 -- whether an address can come next: not if there is no lowest address, or if it is below it
-abbrev pub is_from : Option ℕ → ℕ → Bool
-is_from None address = false
-is_from (Some lowest) address = nat_le lowest address
+abbrev pub can_be_next_address : Option ℕ → ℕ → Bool
+can_be_next_address None address = false
+can_be_next_address (Some lowest) address = nat_le lowest address
 
 -- the node can come next: there is a path of the preceding node, and the node may follow it
-abbrev pub StandsIn : Option (List ℕ) → Spot → Type 0
-StandsIn None s = ⊥
-StandsIn (Some front) s = FollowsInPreorder front s
+abbrev pub CanComeNextIn : Option (List ℕ) → Spot → Type 0
+CanComeNextIn None s = ⊥
+CanComeNextIn (Some front) s = FollowsInPreorder front s
 
 -- the address or the node can come next: the address is not too low, or the node may follow the preceding one and its name agrees
-abbrev pub MayStand : Place → Entry → Type 0
-MayStand p (OfAddress c) = is_from p.address c.address ≡ true
-MayStand p (OfSpot n) = StandsIn p.front n.spot × AgreesWith n.name (name_of n.spot.function p.names)
+abbrev pub CanComeNext : Place → Entry → Type 0
+CanComeNext p (OfAddress c) = can_be_next_address p.address c.address ≡ true
+CanComeNext p (OfSpot n) = CanComeNextIn p.front n.spot × AgreesWith n.name (name_of n.spot.function p.names)
 
 -- the line is not that of an address or a node that can come next
-abbrev pub IsNoEntry : Place → List ℕ → Type 0
-IsNoEntry p line = (e : Entry) → IsEntry e → MayStand p e → line ≡ entry_line e → ⊥
+abbrev pub IsNotAnEntry : Place → List ℕ → Type 0
+IsNotAnEntry p line = (e : Entry) → IsEntry e → CanComeNext p e → line ≡ entry_line e → ⊥
 
 -- ---- lines of one kind
 
 -- the lowest address that can follow these counts, or `lowest` if there are none
-abbrev pub lowest_behind : ℕ → List AddressCounts → ℕ
-lowest_behind lowest [] = lowest
-lowest_behind lowest (c ∷ cs) = lowest_behind (c.address + 1) cs
+abbrev pub lowest_after : ℕ → List AddressCounts → ℕ
+lowest_after lowest [] = lowest
+lowest_after lowest (c ∷ cs) = lowest_after (c.address + 1) cs
 
 -- the digest of the last image, or `last` if there are no images
 abbrev pub last_digest : Option (List ℕ) → List ImageCounts → Option (List ℕ)
@@ -136,17 +136,17 @@ last_digest last [] = last
 last_digest last (i ∷ is) = last_digest (Some i.digest) is
 
 -- the line is not that of an address from `lowest` on
-abbrev pub IsNoAddress : ℕ → List ℕ → Type 0
-IsNoAddress lowest line = (c : AddressCounts) → IsCounted c → nat_le lowest c.address ≡ true → line ≡ address_line c → ⊥
+abbrev pub IsNotAnAddress : ℕ → List ℕ → Type 0
+IsNotAnAddress lowest line = (c : AddressCounts) → IsCounted c → nat_le lowest c.address ≡ true → line ≡ address_line c → ⊥
 
 -- the line is not that of a node that may follow the path `front` and whose name agrees with `names`
-abbrev pub IsNoSpot : List FunctionName → List ℕ → List ℕ → Type 0
-IsNoSpot names front line = (n : NamedSpot) → IsNamedSpot n → FollowsInPreorder front n.spot
+abbrev pub IsNotANode : List FunctionName → List ℕ → List ℕ → Type 0
+IsNotANode names front line = (n : NamedSpot) → IsNamedSpot n → FollowsInPreorder front n.spot
     → AgreesWith n.name (name_of n.spot.function names) → line ≡ spot_line n → ⊥
 
 -- the line is not that of an image whose digest is greater than `last`
-abbrev pub IsNoImage : Option (List ℕ) → List ℕ → Type 0
-IsNoImage last line = (i : ImageCounts) → IsImage i → is_behind last i.digest ≡ true → line ≡ image_line i → ⊥
+abbrev pub IsNotAnImage : Option (List ℕ) → List ℕ → Type 0
+IsNotAnImage last line = (i : ImageCounts) → IsImage i → is_greater_than_last last i.digest ≡ true → line ≡ image_line i → ⊥
 
 -- `read` has the addresses of the first lines of the text, and the length of these lines in bytes; the next line is not that of an address
 -- that can follow
@@ -154,7 +154,7 @@ pub record AreAddressLines (text : List ℕ) (read : AddressLines) : Type 0 wher
   pub within : read.length ≤ length text
   pub lines : text ≡ flat_map address_line read.addresses ++ drop read.length text
   pub counts : AreCounts read.addresses
-  pub behind : IsNoAddress (lowest_behind 0 read.addresses) (whole_line (drop read.length text))
+  pub behind : IsNotAnAddress (lowest_after 0 read.addresses) (whole_line (drop read.length text))
 
 -- `read` has the nodes of the first lines of the text, the names of their functions, and the length of these lines in bytes; the next line
 -- is not that of a node that can follow
@@ -165,7 +165,7 @@ pub record AreSpotLines (text : List ℕ) (read : SpotLines) : Type 0 where
   pub names : AreNames read.functions
   pub of_spots : AreNamesOf read.spots read.functions
   pub known : read.functions ≡ with_names [] (map (named read.functions) read.spots)
-  pub behind : IsNoSpot read.functions (last_path [] read.spots) (whole_line (drop read.length text))
+  pub behind : IsNotANode read.functions (last_path [] read.spots) (whole_line (drop read.length text))
 
 -- ---- images
 
@@ -176,8 +176,8 @@ pub record IsOneImage (last : Option (List ℕ)) (text : List ℕ) (read : OneIm
   pub lines : text ≡ image_text read.image ++ drop read.length text
   pub some : 0 < read.length
   pub image : IsImage read.image
-  pub rising : is_behind last read.image.digest ≡ true
-  pub behind : IsNoEntry (place_behind at_image (entries_of read.image)) (whole_line (drop read.length text))
+  pub rising : is_greater_than_last last read.image.digest ≡ true
+  pub behind : IsNotAnEntry (place_behind at_image (entries_of read.image)) (whole_line (drop read.length text))
 
 -- `read` has the images of the first lines of the text, and the length of these lines in bytes; the next line cannot belong to the last
 -- image or begin another one
@@ -186,5 +186,5 @@ pub record AreImageLines (text : List ℕ) (read : ImageLines) : Type 0 where
   pub lines : text ≡ flat_map image_text read.images ++ drop read.length text
   pub images : AllByRecursion IsImage read.images
   pub rising : digests_rise None read.images ≡ true
-  pub entry : IsNoEntry (place_in nowhere read.images) (whole_line (drop read.length text))
-  pub image : IsNoImage (last_digest None read.images) (whole_line (drop read.length text))
+  pub entry : IsNotAnEntry (place_in nowhere read.images) (whole_line (drop read.length text))
+  pub image : IsNotAnImage (last_digest None read.images) (whole_line (drop read.length text))

@@ -7,7 +7,7 @@ use Rattle.rv_count_tables.specs.declared.table.ImageCounts.{ImageCounts}
 use Rattle.rv_count_tables.specs.declared.table.CountTable.{CountTable}
 use Rattle.rv_count_tables.specs.declared.sum.SumError.{SumError}
 use Rattle.rv_count_tables.specs.declared.sum.SumError.TheVariants.{OutOfMemory, Count, Spot, Names, Runs}
-use Rattle.rv_count_tables.specs.Table.{begun_at, taken_at, name_at, begun_in, taken_in, path_in, name_in, arrivals_in, steps_in, least_path_of, AreCounts, AreNames, IsTable}
+use Rattle.rv_count_tables.specs.Table.{begun_at, taken_at, name_at, executed_in, taken_in, path_in, name_in, arrivals_in, steps_in, least_path_of, AreCounts, AreNames, IsTable}
 use Rattle.rv_call_tree.specs.Trees.{ends_with}
 use Rattle.rv_call_tree.specs.declared.sum.SpotSumError.{SpotSumError}
 use Rattle.rv_call_tree.specs.declared.sum.SpotSumError.TheVariants as spots
@@ -35,7 +35,7 @@ pub record IsSumOfNames (a b sum : List FunctionName) : Type 0 where
 pub record IsSum (a b sum : CountTable) : Type 0 where
   pub table : IsTable sum
   pub begun : (digest : List ℕ) → (address : ℕ)
-      → begun_in digest address sum.images ≡ begun_in digest address a.images + begun_in digest address b.images
+      → executed_in digest address sum.images ≡ executed_in digest address a.images + executed_in digest address b.images
   pub taken : (digest : List ℕ) → (address : ℕ)
       → taken_in digest address sum.images ≡ taken_in digest address a.images + taken_in digest address b.images
   pub paths : (digest : List ℕ)
@@ -70,7 +70,7 @@ HasNameIn digest function name (i ∷ is) =
 abbrev pub HaveNoSum : SumError → CountTable → CountTable → Type 0
 HaveNoSum OutOfMemory a b = Unit {0}
 HaveNoSum (Count address) a b = (digest : List ℕ)
-    × (2 ^ 64 ≤ begun_in digest address a.images + begun_in digest address b.images)
+    × (2 ^ 64 ≤ executed_in digest address a.images + executed_in digest address b.images)
 HaveNoSum (Spot function) a b = (digest : List ℕ) × (path : List ℕ) × (ends_with function path ≡ true)
     × ((2 ^ 64 ≤ arrivals_in digest path a.images + arrivals_in digest path b.images)
     ⊎ (2 ^ 64 ≤ steps_in digest path a.images + steps_in digest path b.images))

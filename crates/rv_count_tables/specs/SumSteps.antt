@@ -10,7 +10,7 @@ use Rattle.rv_count_tables.specs.declared.sum_of_counts.NextCount.{NextCount}
 use Rattle.rv_count_tables.specs.declared.sum_of_images.NextImage.{NextImage}
 use Rattle.rv_count_tables.specs.declared.sum_of_names.NextName.{NextName}
 use Rattle.rv_count_tables.specs.Sum.{Agree, CountsHaveNoSum, HasNameIn, NamesHaveNoSum}
-use Rattle.rv_count_tables.specs.Table.{begun_at, taken_at, name_at, begun_in, taken_in, path_in, name_in, arrivals_in, steps_in, least_path_of}
+use Rattle.rv_count_tables.specs.Table.{begun_at, taken_at, name_at, executed_in, taken_in, path_in, name_in, arrivals_in, steps_in, least_path_of}
 use Rattle.rv_count_tables.specs.Table.{rise_from, names_rise, digests_rise, IsCounted, IsImage, IsName}
 use Rattle.rv_call_tree.specs.Trees.{arrivals_at, ends_with, steps_at}
 
@@ -54,7 +54,7 @@ pub record ImagesAddUp (a b sum : List ImageCounts) : Type 0 where
   pub rising : (last : Option (List ℕ)) → digests_rise last a ≡ true → digests_rise last b ≡ true
       → digests_rise last sum ≡ true
   pub begun : (digest : List ℕ) (address : ℕ)
-      → begun_in digest address sum ≡ begun_in digest address a + begun_in digest address b
+      → executed_in digest address sum ≡ executed_in digest address a + executed_in digest address b
   pub taken : (digest : List ℕ) (address : ℕ)
       → taken_in digest address sum ≡ taken_in digest address a + taken_in digest address b
   pub paths : (digest : List ℕ) → path_in digest sum ≡ least_path_of (path_in digest a) (path_in digest b)
@@ -79,7 +79,7 @@ pub record IsNextImage (a b : List ImageCounts) (next : NextImage) : Type 0 wher
 abbrev pub ImagesHaveNoSum : SumError → List ImageCounts → List ImageCounts → Type 0
 ImagesHaveNoSum OutOfMemory a b = Unit {0}
 ImagesHaveNoSum (Count address) a b = (digest : List ℕ)
-    × (2 ^ 64 ≤ begun_in digest address a + begun_in digest address b)
+    × (2 ^ 64 ≤ executed_in digest address a + executed_in digest address b)
 ImagesHaveNoSum (Spot function) a b = (digest : List ℕ) × (path : List ℕ) × (ends_with function path ≡ true)
     × ((2 ^ 64 ≤ arrivals_in digest path a + arrivals_in digest path b)
     ⊎ (2 ^ 64 ≤ steps_in digest path a + steps_in digest path b))

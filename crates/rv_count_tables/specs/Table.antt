@@ -26,10 +26,10 @@ taken_at address [] = 0
 taken_at address (c ∷ cs) = (if c.address == address then c.taken else 0) + taken_at address cs
 
 -- how often the instruction at an address was executed, in the image with a digest
-abbrev pub begun_in : List ℕ → ℕ → List ImageCounts → ℕ
-begun_in digest address [] = 0
-begun_in digest address (i ∷ is) =
-    (if bytes_eq i.digest digest then begun_at address i.addresses else 0) + begun_in digest address is
+abbrev pub executed_in : List ℕ → ℕ → List ImageCounts → ℕ
+executed_in digest address [] = 0
+executed_in digest address (i ∷ is) =
+    (if bytes_eq i.digest digest then begun_at address i.addresses else 0) + executed_in digest address is
 
 -- how often the instruction at an address was a taken conditional branch, in the image with a digest
 abbrev pub taken_in : List ℕ → ℕ → List ImageCounts → ℕ
@@ -163,14 +163,14 @@ pub record IsImage (i : ImageCounts) : Type 0 where
   pub of_spots : AreNamesOf i.spots i.functions
 
 -- whether a digest is greater than the last one, if there is one
-abbrev pub is_behind : Option (List ℕ) → List ℕ → Bool
-is_behind None digest = true
-is_behind (Some last) digest = is_before last digest
+abbrev pub is_greater_than_last : Option (List ℕ) → List ℕ → Bool
+is_greater_than_last None digest = true
+is_greater_than_last (Some last) digest = is_before last digest
 
 -- whether the digests of images increase strictly and are greater than the last one, if there is one
 unfoldable pub digests_rise : Option (List ℕ) → List ImageCounts → Bool
 digests_rise last [] = true
-digests_rise last (i ∷ is) = is_behind last i.digest && digests_rise (Some i.digest) is
+digests_rise last (i ∷ is) = is_greater_than_last last i.digest && digests_rise (Some i.digest) is
 
 -- the table is valid: its images are valid and sorted by digest, and its numbers have 64 bits
 pub record IsTable (t : CountTable) : Type 0 where

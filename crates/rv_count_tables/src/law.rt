@@ -3,7 +3,7 @@
 ghost use Rattle.std.specs.Prelude.{◌≡◌, ℕ, List};
 ghost use Rattle.rv_count_tables.specs.declared.table.AddressCounts.{AddressCounts};
 ghost use Rattle.rv_count_tables.specs.declared.table.CountTable.{CountTable};
-ghost use Rattle.rv_count_tables.specs.Table.{AreCounts, IsTable, begun_at, taken_at, begun_in, taken_in, path_in, name_in, arrivals_in, steps_in};
+ghost use Rattle.rv_count_tables.specs.Table.{AreCounts, IsTable, begun_at, taken_at, executed_in, taken_in, path_in, name_in, arrivals_in, steps_in};
 ghost use Rattle.rv_count_tables.specs.Text.{table_text};
 ghost use Rattle.rv_count_tables.specs.Sum.{IsSumOfCounts, IsSum, no_counts};
 
@@ -29,7 +29,7 @@ pub fn sums_of_counts_associate()
 /// and equally many runs.
 pub fn one_table_has_these_counts()
     ensures { (t u : CountTable) → IsTable t → IsTable u
-        → ((digest : List ℕ) (address : ℕ) → begun_in digest address t.images ≡ begun_in digest address u.images)
+        → ((digest : List ℕ) (address : ℕ) → executed_in digest address t.images ≡ executed_in digest address u.images)
         → ((digest : List ℕ) (address : ℕ) → taken_in digest address t.images ≡ taken_in digest address u.images)
         → ((digest : List ℕ) → path_in digest t.images ≡ path_in digest u.images)
         → ((digest : List ℕ) (function : ℕ) → name_in digest function t.images ≡ name_in digest function u.images)

@@ -24,7 +24,7 @@ pub fn counts_at(counts: &[AddressCounts], address: u32) -> AddressCounts
 }
 
 /// Whether an instruction was executed at an address from `from` on and below `behind`.
-pub fn has_begun_within(counts: &[AddressCounts], from: u32, behind: u64) -> bool
+pub fn was_executed_within(counts: &[AddressCounts], from: u32, behind: u64) -> bool
     requires { rise_from 0 counts.now ≡ true }
     ensures { result ≡ list_any (λ c. nat_le from c.address && nat_lt c.address behind) counts.now }
 {

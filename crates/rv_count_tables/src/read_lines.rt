@@ -7,9 +7,9 @@ ghost use Rattle.std.specs.Str.{bytes_eq, IsUtf8};
 ghost use Rattle.rv_count_tables.specs.declared.table.AddressCounts.{AddressCounts as Counts};
 ghost use Rattle.rv_count_tables.specs.declared.table.ImageCounts.{ImageCounts as Image};
 ghost use Rattle.rv_count_tables.specs.Lines.{whole_line};
-ghost use Rattle.rv_count_tables.specs.Table.{IsCounted, IsImage, is_behind};
+ghost use Rattle.rv_count_tables.specs.Table.{IsCounted, IsImage, is_greater_than_last};
 ghost use Rattle.rv_count_tables.specs.Text.{address_line, image_line, last_line};
-ghost use Rattle.rv_count_tables.specs.ReadSteps.{AreAddressLines, AreImageLines, IsOneImage, IsNoAddress, IsNoImage, last_digest};
+ghost use Rattle.rv_count_tables.specs.ReadSteps.{AreAddressLines, AreImageLines, IsOneImage, IsNotAnAddress, IsNotAnImage, last_digest};
 
 use crate::growth::push_item;
 use crate::line_parts::{
@@ -75,7 +75,7 @@ fn read_image(
     earlier: &[ImageCounts],
 ) -> Result<Option<OneImage>, AllocError>
     ensures found { IfOk result (λ read. IfSome read (IsOneImage (last_digest None earlier.now) text.now)) }
-    ensures none { IfOk result (λ read. IfNone read (IsNoImage (last_digest None earlier.now) (whole_line text.now))) }
+    ensures none { IfOk result (λ read. IfNone read (IsNotAnImage (last_digest None earlier.now) (whole_line text.now))) }
 {
     let line = whole_line(text);
     let mut image = image_of_line(alloc, line)?;
@@ -97,7 +97,7 @@ fn read_image(
 
 // Whether this is a digest that is greater than the earlier ones.
 fn can_follow(digest: &[u8], earlier: &[ImageCounts]) -> bool
-    ensures value { result ≡ ((length digest.now == 32) && is_behind (last_digest None earlier.now) digest.now) }
+    ensures value { result ≡ ((length digest.now == 32) && is_greater_than_last (last_digest None earlier.now) digest.now) }
     ensures bytes { AllByRecursion (λ b. b < 256) digest.now }
 {
     digest.len() == 32
@@ -141,7 +141,7 @@ fn parse_address_line(
     ensures counted { IfOk result (λ read. IfSome read IsCounted) }
     ensures low { IfOk result (λ read. IfSome read (λ c. lowest ≤ c.address)) }
     ensures line { IfOk result (λ read. IfSome read (λ c. line.now ≡ address_line c)) }
-    ensures none { IfOk result (λ read. IfNone read (IsNoAddress lowest line.now)) }
+    ensures none { IfOk result (λ read. IfNone read (IsNotAnAddress lowest line.now)) }
 {
     let counts = counts_of_line(line);
     if can_stand(counts, lowest) && has_address_line(alloc, counts, line)? {

@@ -4,7 +4,7 @@ ghost use Rattle.std.specs.Prelude.{◌≡◌, ◌≤◌, ◌<◌, ◌^◌, ℕ,
 ghost use Rattle.std.specs.Str.{bytes_eq, IsUtf8};
 ghost use Rattle.rv_count_tables.specs.declared.table.NamedSpot.{NamedSpot as ANamedSpot};
 ghost use Rattle.rv_count_tables.specs.Lines.{whole_line};
-ghost use Rattle.rv_count_tables.specs.ReadSteps.{function_name, AgreesWith, AreSpotLines, IsNoSpot};
+ghost use Rattle.rv_count_tables.specs.ReadSteps.{function_name, AgreesWith, AreSpotLines, IsNotANode};
 ghost use Rattle.rv_count_tables.specs.Table.{name_of, IsNamedSpot, IsSpot};
 ghost use Rattle.rv_count_tables.specs.Text.{spot_line};
 ghost use Rattle.rv_call_tree.specs.Trees.{FollowsInPreorder};
@@ -80,7 +80,7 @@ fn next_spot(
     ensures stands { IfOk result (λ read. IfSome read (λ n. FollowsInPreorder front.now n.spot)) }
     ensures agrees { IfOk result (λ read. IfSome read (λ n. AgreesWith n.name (name_of n.spot.function names.now))) }
     ensures line { IfOk result (λ read. IfSome read (λ n. line.now ≡ spot_line n)) }
-    ensures none { IfOk result (λ read. IfNone read (IsNoSpot names.now front.now line.now)) }
+    ensures none { IfOk result (λ read. IfNone read (IsNotANode names.now front.now line.now)) }
 {
     let read = spot_of_line(alloc, line)?;
     if can_stand(read.spot, front) && agrees(&read, names) && has_spot_line(alloc, &read, line)? {

@@ -10,7 +10,7 @@ use Rattle.rv_machine.specs.Run.{after_fetch, step_of}
 use Rattle.rv_machine.specs.State.{State}
 use Rattle.rv_count_tables.specs.declared.table.AddressCounts.{AddressCounts}
 use Rattle.rv_count_tables.specs.Table.{begun_at, AreCounts, IsCounted}
-use Rattle.rv_counting.specs.Coverage.{fetch_at, is_begun, once_if, behind, begun_in_run, IsTallied, AreCountsOf}
+use Rattle.rv_counting.specs.Coverage.{fetch_at, is_begun, once_if, behind, executed_in_run, IsTallied, AreCountsOf}
 
 -- ---- a step
 
@@ -49,12 +49,12 @@ none_behind : (r : Result State Ending) (rest : State → ℕ) → ok_is IsEven 
 none_behind (Ok t) rest e h = h t e
 none_behind (Err x) rest e h = refl
 
-none_at_odd : (n at : ℕ) (s : State) → IsEven s → at % 2 ≡ 1 → begun_in_run at n s ≡ 0
-unfolding begun_in_run
+none_at_odd : (n at : ℕ) (s : State) → IsEven s → at % 2 ≡ 1 → executed_in_run at n s ≡ 0
+unfolding executed_in_run
 none_at_odd zero at s even odd = refl
 none_at_odd (suc n) at s even odd =
     let here = never_once (is_begun (fetch_at s)) (s.pc == at) (other_address s.pc at even odd) in
-    let rest = none_behind (step_of s) (λ t. begun_in_run at n t) (step_even s even) (λ t e. none_at_odd n at t e odd) in
+    let rest = none_behind (step_of s) (λ t. executed_in_run at n t) (step_even s even) (λ t e. none_at_odd n at t e odd) in
     omega (arith, here, rest)
 
 at_most_once : (b : Bool) → once_if b ≤ 1
@@ -65,12 +65,12 @@ few_behind : (r : Result State Ending) (rest : State → ℕ) (n : ℕ) → ((t 
 few_behind (Ok t) rest n h = h t
 few_behind (Err x) rest n h = omega arith
 
-pub few_begin : (n at : ℕ) (s : State) → begun_in_run at n s ≤ n
-unfolding begun_in_run
+pub few_begin : (n at : ℕ) (s : State) → executed_in_run at n s ≤ n
+unfolding executed_in_run
 few_begin zero at s = omega arith
 few_begin (suc n) at s =
     let here = at_most_once (is_begun (fetch_at s) && (s.pc == at)) in
-    let rest = few_behind (step_of s) (λ t. begun_in_run at n t) n (few_begin n at) in
+    let rest = few_behind (step_of s) (λ t. executed_in_run at n t) n (few_begin n at) in
     omega (arith, here, rest)
 
 -- ---- counts

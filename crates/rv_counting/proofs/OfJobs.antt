@@ -24,7 +24,7 @@ use Rattle.rv_machine.specs.State.{State}
 use Rattle.rv_report.specs.declared.row.Refusal.{Refusal}
 use Rattle.rv_rows.specs.Rows.{start_in}
 use Rattle.rv_text.specs.Printable.{printable_text}
-use Rattle.rv_counting.specs.Coverage.{once_if, begun_in_run, taken_in_run, AreCountsOf, AreCountsOfJob}
+use Rattle.rv_counting.specs.Coverage.{once_if, executed_in_run, taken_in_run, AreCountsOf, AreCountsOfJob}
 use Rattle.rv_counting.specs.JobTables.{has_digest, start_over, begun_from, taken_from, begun_by, taken_by, path_by, runs_by, first_path, table_of_run, HasNoStacks, IsTableOfFew, IsTableOfJobs, IsTableOfOne}
 use Rattle.rv_trace.specs.Trace.{image_bytes}
 
@@ -177,7 +177,7 @@ pub not_ok_if_none : (r : Result State Refusal) → result_ok r ≡ None → is_
 not_ok_if_none (Ok s) h = cc
 not_ok_if_none (Err why) h = refl
 
-pub picked_begun : (b : Bool) (n address budget : ℕ) (s : State) → n ≡ begun_in_run address budget s
+pub picked_begun : (b : Bool) (n address budget : ℕ) (s : State) → n ≡ executed_in_run address budget s
     → cond b n 0 ≡ begun_from address budget (cond b (Some s) None)
 picked_begun true n address budget s h = h
 picked_begun false n address budget s h = refl

@@ -6,7 +6,7 @@ use Rattle.rv_machine.specs.Run.{Ran, step_of, run_of, go_on}
 use Rattle.rv_machine.specs.State.{State}
 use Rattle.rv_trace.proofs.Public.{after_none}
 use Rattle.rv_trace.specs.Trace.{state_after}
-use Rattle.rv_counting.specs.Coverage.{fetch_at, is_begun, takes, once_if, behind, begun_steps, begun_in_run, taken_in_run}
+use Rattle.rv_counting.specs.Coverage.{fetch_at, is_begun, takes, once_if, behind, executed_steps, executed_in_run, taken_in_run}
 
 -- ---- the first step of a run
 
@@ -134,13 +134,13 @@ module _ (f : ℕ → State → ℕ) (g : State → ℕ) (none : (s : State) →
 
 -- ---- the numbers that are counted
 
-pub begun_none : (at : ℕ) (s : State) → begun_in_run at 0 s ≡ 0
-unfolding begun_in_run
+pub begun_none : (at : ℕ) (s : State) → executed_in_run at 0 s ≡ 0
+unfolding executed_in_run
 begun_none at s = refl
 
-pub begun_first : (at n : ℕ) (s : State) → begun_in_run at (suc n) s
-    ≡ once_if (is_begun (fetch_at s) && (s.pc == at)) + behind (step_of s) (λ t. begun_in_run at n t)
-unfolding begun_in_run
+pub begun_first : (at n : ℕ) (s : State) → executed_in_run at (suc n) s
+    ≡ once_if (is_begun (fetch_at s) && (s.pc == at)) + behind (step_of s) (λ t. executed_in_run at n t)
+unfolding executed_in_run
 begun_first at n s = refl
 
 pub taken_none : (at : ℕ) (s : State) → taken_in_run at 0 s ≡ 0
@@ -152,13 +152,13 @@ pub taken_first : (at n : ℕ) (s : State) → taken_in_run at (suc n) s
 unfolding taken_in_run
 taken_first at n s = refl
 
-pub steps_none : (s : State) → begun_steps 0 s ≡ 0
-unfolding begun_steps
+pub steps_none : (s : State) → executed_steps 0 s ≡ 0
+unfolding executed_steps
 steps_none s = refl
 
-pub begins_first : (n : ℕ) (s : State) → begun_steps (suc n) s
-    ≡ once_if (is_begun (fetch_at s)) + behind (step_of s) (λ t. begun_steps n t)
-unfolding begun_steps
+pub begins_first : (n : ℕ) (s : State) → executed_steps (suc n) s
+    ≡ once_if (is_begun (fetch_at s)) + behind (step_of s) (λ t. executed_steps n t)
+unfolding executed_steps
 begins_first n s = refl
 
 none_run : (s : State) → (run_of 0 s).steps ≡ 0

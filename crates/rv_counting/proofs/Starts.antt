@@ -7,7 +7,7 @@ use Rattle.rv_elf.specs.declared.image.Image.{Image}
 use Rattle.rv_elf.specs.Image.{image_of}
 use Rattle.rv_elf.specs.Loading.{map_check}
 use Rattle.rv_jobs.specs.Jobs.{console_path}
-use Rattle.rv_jobs.specs.Plans.{kept_for}
+use Rattle.rv_jobs.specs.Plans.{result_for_path}
 use Rattle.rv_jobs.specs.Reading.{◌>>=◌}
 use Rattle.rv_jobs.specs.declared.answers.Answer.{Answer}
 use Rattle.rv_jobs.specs.declared.kept.Kept.{Kept}
@@ -77,8 +77,8 @@ module _ (job : Job) (s : State) where
   started_of kept.TooLong reference console e = cc
 
   pub started : (answers : List Answer) → start_in answers job ≡ Ok s → IsStart job (image_bytes answers job) s
-  started answers e = started_of (kept_for answers job.image) (option_map (kept_for answers) job.expect_signature)
-      (option_map (kept_for answers) (console_path job.expect_console)) e
+  started answers e = started_of (result_for_path answers job.image) (option_map (result_for_path answers) job.expect_signature)
+      (option_map (result_for_path answers) (console_path job.expect_console)) e
 
   pub start_even : (answers : List Answer) → start_in answers job ≡ Ok s → s.pc % 2 ≡ 0
   start_even answers e =

@@ -8,7 +8,7 @@ use Rattle.sha2.specs.Sha256.{sha256}
 use Rattle.rv_count_tables.specs.declared.table.AddressCounts.{AddressCounts}
 use Rattle.rv_count_tables.specs.declared.table.CountTable.{CountTable}
 use Rattle.rv_count_tables.specs.Sum.{IsSum}
-use Rattle.rv_count_tables.specs.Table.{begun_in, taken_in, path_in, name_in, arrivals_in, steps_in, least_path_of, IsTable}
+use Rattle.rv_count_tables.specs.Table.{executed_in, taken_in, path_in, name_in, arrivals_in, steps_in, least_path_of, IsTable}
 use Rattle.rv_jobs.specs.declared.answers.Answer.{Answer}
 use Rattle.rv_jobs.specs.declared_job.Job.{Job}
 use Rattle.rv_jobs.specs.Jobs.{single_job}
@@ -17,7 +17,7 @@ use Rattle.rv_machine.specs.State.{State}
 use Rattle.rv_rows.specs.Rows.{start_in}
 use Rattle.rv_text.specs.Printable.{printable_text}
 use Rattle.rv_trace.specs.Trace.{image_bytes}
-use Rattle.rv_counting.specs.Coverage.{once_if, begun_in_run, taken_in_run}
+use Rattle.rv_counting.specs.Coverage.{once_if, executed_in_run, taken_in_run}
 
 -- whether there are bytes, and they have this SHA-256 digest
 abbrev pub has_digest : List ℕ → Option (List ℕ) → Bool
@@ -32,7 +32,7 @@ start_over answers digest job =
 -- how often the instruction at an address is executed in a run from this state, if there is one, within a budget of steps
 abbrev pub begun_from : ℕ → ℕ → Option State → ℕ
 begun_from address n None = 0
-begun_from address n (Some s) = begun_in_run address n s
+begun_from address n (Some s) = executed_in_run address n s
 
 -- how often the instruction at an address is a taken branch in a run from this state, if there is one, within a budget of steps
 abbrev pub taken_from : ℕ → ℕ → Option State → ℕ
@@ -83,7 +83,7 @@ pub record HasNoStacks (t : CountTable) : Type 0 where
 pub record IsTableOfJobs (answers : List Answer) (jobs : List Job) (t : CountTable) : Type 0 where
   pub table : IsTable t
   pub begun : (digest : List ℕ) (address : ℕ)
-      → begun_in digest address t.images ≡ sum_by (begun_by answers digest address) jobs
+      → executed_in digest address t.images ≡ sum_by (begun_by answers digest address) jobs
   pub taken : (digest : List ℕ) (address : ℕ)
       → taken_in digest address t.images ≡ sum_by (taken_by answers digest address) jobs
   pub paths : (digest : List ℕ) → path_in digest t.images ≡ first_path answers digest jobs
@@ -102,7 +102,7 @@ IsTableOfPlaces plan places t = IsTableOfJobs plan.answers (jobs_at plan places)
 
 -- the numbers of the table are small enough for this many jobs, and it has no call trees
 pub record IsTableOfFew (jobs : ℕ) (t : CountTable) : Type 0 where
-  pub begun : (digest : List ℕ) (address : ℕ) → begun_in digest address t.images ≤ jobs * 2 ^ 32
+  pub begun : (digest : List ℕ) (address : ℕ) → executed_in digest address t.images ≤ jobs * 2 ^ 32
   pub runs : t.runs ≤ jobs
   pub stacks : HasNoStacks t
 

@@ -15,7 +15,7 @@ ghost use Rattle.rv_machine.specs.declared.ending.Ending.{Ending};
 ghost use Rattle.rv_machine.specs.Run.{run_of, step_of};
 ghost use Rattle.rv_machine.specs.State.{State};
 ghost use Rattle.rv_rows.specs.Wholes.{HaveSameResults};
-ghost use Rattle.rv_counting.specs.Coverage.{fetch_at, is_begun, once_if, begins_at_end, begun_total, AreCountsOf};
+ghost use Rattle.rv_counting.specs.Coverage.{fetch_at, is_begun, once_if, begins_at_end, executed_total, AreCountsOf};
 ghost use Rattle.rv_counting.specs.JobTables.{AreTablesOfParts, AreTablesOfShards, IsTableOfJobs, IsTableOfPlaces, SumsTo};
 
 /// Proves that a completed step counts as an execution.
@@ -32,7 +32,7 @@ pub fn run_begins_its_end()
 /// fetch.
 pub fn counts_sum_to_the_steps()
     ensures { (n : ℕ) (s : State) (cs : List AddressCounts) → AreCountsOf n s cs
-        → begun_total cs ≡ (run_of n s).steps + once_if (begins_at_end (run_of n s).ending) }
+        → executed_total cs ≡ (run_of n s).steps + once_if (begins_at_end (run_of n s).ending) }
 {}
 
 /// Proves that the counts of a run that begins at an even address can be in a table, since each address is even.

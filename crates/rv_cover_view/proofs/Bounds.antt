@@ -13,7 +13,7 @@ use Rattle.rv_elf.specs.declared.image.Image.{Image}
 use Rattle.rv_elf.specs.declared.image.Segment.{Segment}
 use Rattle.rv_elf.specs.Functions.{Named, bytes_in_segment, code_of_symbol, function_of_symbol, functions, functions_in, is_code_segment_of, is_sized_function, named_code}
 use Rattle.rv_elf.specs.Sections.{section_bytes, string_table_section, symbol_entry, symbol_table_section, symbols_of}
-use Rattle.rv_elf.specs.Symbols.{symbol_and_string_bytes, table_check, tables_of_section}
+use Rattle.rv_elf.specs.Symbols.{symbol_and_string_bytes, symbol_tables_check, tables_of_section}
 use Rattle.rv_cover_view.specs.Functions.{bytes_of, code_bytes, named}
 use Rattle.rv_cover_view.proofs.Once.{is_same, starts}
 
@@ -105,7 +105,7 @@ module _ (file : List ℕ) (small : length file ≤ 0x100_0000) where
 
   pub functions_few : (image : Image) → code_bytes (functions image file) < 2 ^ 64
   unfolding functions
-  functions_few image = elim (is_ok (table_check file))
+  functions_few image = elim (is_ok (symbol_tables_check file))
       as (λ b. code_bytes (cond b (option_map_or (λ t. functions_in image.segments file t.0 t.1) (symbol_and_string_bytes file) []) []) < 2 ^ 64) [
         | true ↦ elim (symbol_table_section file)
             as (λ o. code_bytes (option_map_or (λ t. functions_in image.segments file t.0 t.1) (option_and_then (tables_of_section file) o) []) < 2 ^ 64) [

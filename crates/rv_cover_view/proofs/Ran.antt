@@ -5,7 +5,7 @@ use Rattle.std.proofs.lemmas.Bool.Decides.{nat_tests}
 use Rattle.rv_count_tables.specs.declared.table.AddressCounts.{AddressCounts}
 use Rattle.rv_count_tables.specs.Table.{AreCounts, IsCounted, begun_at}
 use Rattle.rv_elf.specs.Functions.{Named}
-use Rattle.rv_cover_view.specs.Cover.{HasNotBegun, has_run, never_run}
+use Rattle.rv_cover_view.specs.Cover.{WasNotExecuted, has_run, never_run}
 use Rattle.rv_cover_view.specs.Functions.{address_of, bytes_of}
 
 abbrev pub is_within : ℕ → ℕ → AddressCounts → Bool
@@ -75,7 +75,7 @@ negated true e = cc
 negated false e = refl
 
 pub never_run_has_not_begun : (counts : List AddressCounts) (fs : List Named) (f : Named) → AreCounts counts
-    → Contains (never_run counts fs) f ↔ (Contains fs f × HasNotBegun counts f)
+    → Contains (never_run counts fs) f ↔ (Contains fs f × WasNotExecuted counts f)
 never_run_has_not_begun counts fs f good = (
   λ h.
       let r = passes (λ (g : Named). not (has_run counts g)) fs f h in

@@ -74,6 +74,6 @@ amounts_of counts fs = record {
 -- ---- counts and lines agree
 
 -- no instruction was executed at the function's addresses
-abbrev pub HasNotBegun : List AddressCounts → Named → Type 0
-HasNotBegun counts f = (address : ℕ) → address_of f ≤ address → address < address_of f + length (bytes_of f)
+abbrev pub WasNotExecuted : List AddressCounts → Named → Type 0
+WasNotExecuted counts f = (address : ℕ) → address_of f ≤ address → address < address_of f + length (bytes_of f)
     → begun_at address counts ≡ 0

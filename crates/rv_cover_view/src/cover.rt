@@ -9,7 +9,7 @@ ghost use Rattle.rv_cover_view.specs.Functions.{code_bytes, named};
 
 use crate::amounts::{Amounts, CodeAmounts};
 use crate::code::amounts_of_code;
-use rv_count_tables::{AddressCounts, has_begun_within};
+use rv_count_tables::{AddressCounts, was_executed_within};
 use rv_elf::Function;
 use std::alloc::{AllocError, Global};
 
@@ -78,5 +78,5 @@ fn has_run(function: &Function<'_>, counts: &[AddressCounts]) -> bool
     ensures { result ≡ has_run counts.now (named function.now) }
 {
     let behind = u64::from(function.address) + function.code.len() as u64;
-    has_begun_within(counts, function.address, behind)
+    was_executed_within(counts, function.address, behind)
 }

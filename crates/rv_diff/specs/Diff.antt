@@ -36,8 +36,8 @@ changes_of_row compare None new = line (codes "+ " ++ new.name)
 changes_of_row compare (Some old) new = change_lines compare old new
 
 -- the rows whose names also occur in the other report, in order
-abbrev pub rows_beside : List Row → List Row → List Row
-rows_beside others rows = filter (λ row. not (is_alone_in others row)) rows
+abbrev pub rows_in_both : List Row → List Row → List Row
+rows_in_both others rows = filter (λ row. not (is_alone_in others row)) rows
 
 -- ---- how many jobs differ
 

@@ -6,7 +6,7 @@ ghost use Rattle.rv_rows.specs.Report.{line};
 ghost use Rattle.rv_diff.specs.ByName.{row_named};
 ghost use Rattle.rv_diff.specs.Diff.{count_line, diff_text, counts_of_differing, differing_count, gone_line, is_alone_in};
 ghost use Rattle.rv_diff.specs.Diff.{change_counts_words, changes_of_row, differ_words, differing_words, is_changed, left_out_words, step_sums};
-ghost use Rattle.rv_diff.specs.Diff.{rows_beside, sums_words, total_steps};
+ghost use Rattle.rv_diff.specs.Diff.{rows_in_both, sums_words, total_steps};
 
 use crate::by_name::ByName;
 use crate::change::{Change, Compare, change_of};
@@ -83,8 +83,8 @@ pub fn push_diff(
 }
 
 /// Returns the rows whose names also occur in `others`, in order.
-pub fn rows_beside(alloc: Global, rows: Vec<Row>, others: &[Row]) -> Result<Vec<Row>, AllocError>
-    ensures { IfOk result (λ kept. kept.items ≡ rows_beside others.now rows.items) }
+pub fn rows_in_both(alloc: Global, rows: Vec<Row>, others: &[Row]) -> Result<Vec<Row>, AllocError>
+    ensures { IfOk result (λ kept. kept.items ≡ rows_in_both others.now rows.items) }
 {
     let others = ByName::new(alloc, others)?;
     let mut rows = rows;

@@ -14,5 +14,5 @@ mod law;
 mod signature_line;
 
 pub use change::Compare;
-pub use diff::{Compared, Differing, push_diff, rows_beside};
+pub use diff::{Compared, Differing, push_diff, rows_in_both};
 pub use law::{jobs_differ_where_a_line_is_due, rows_agree_where_no_line_is_due};

@@ -18,7 +18,7 @@ use Rattle.rv_elf.specs.declared.symbols.Symbol.{Symbol}
 use Rattle.rv_elf.specs.CodeSymbols.{code_symbol, is_named_code, name_and_offset_of, named_in_segment, rank, symbol_count, symbol_of_index, AreCodeSymbols, AreNamed, FindSymbols, IsCodeSymbol, IsSymbolFor}
 use Rattle.rv_elf.specs.Rows.{accepted}
 use Rattle.rv_elf.specs.Sections.{text_before_zero}
-use Rattle.rv_elf.specs.Symbols.{symbol_and_string_bytes, table_check}
+use Rattle.rv_elf.specs.Symbols.{symbol_and_string_bytes, symbol_tables_check}
 use Rattle.rv_elf.specs.SymbolSearch.{are_in_one_segment, candidates, has_section, has_usable_name, is_candidate, is_function, is_nearer, is_object, is_source_name, may_be_code, name_and_offset, nearest_candidate, precedence, segment_holds_address, symbol_at, symbol_name}
 use Rattle.rv_elf.proofs.Ranking.{below_three, is_ranked, nearest_below, nearest_more, rank_by_steps}
 use Rattle.rv_elf.proofs.CurrentVerdict.{by_nearest, no_tables}
@@ -370,14 +370,14 @@ module _ (segments : List Segment) (table strings : List ℕ) (addr : ℕ) (es :
 
 module _ (image : Image) (file strings : List ℕ) (es : List CodeSymbol) where
   -- where the tables are refused there are none
-  pub find_nothing : (w : ImageError) → table_check file ≡ Err w → es ≡ [] → FindSymbols image file strings es
+  pub find_nothing : (w : ImageError) → symbol_tables_check file ≡ Err w → es ≡ [] → FindSymbols image file strings es
   find_nothing w e empty addr above d bound point =
       let long : length es ≡ 0 = ap length empty in
       let zero : above ≡ 0 = omega (arith, bound, long) in
       no_tables Code image file addr w e
       ∙ sym (ap (λ b. cond b None (named_in_segment image.segments strings addr (get_or es (above - 1) d))) (eq-eqb above 0 zero))
 
-  pub find_sorted : (table : List ℕ) → table_check file ≡ accepted → symbol_and_string_bytes file ≡ Some (table, strings)
+  pub find_sorted : (table : List ℕ) → symbol_tables_check file ≡ accepted → symbol_and_string_bytes file ≡ Some (table, strings)
       → AreCodeSymbols table strings (symbol_count table) es → IsNonDecreasingBy (λ s. s.rank) es
       → length table < 2 ^ 32 → FindSymbols image file strings es
   find_sorted table good there are rising long addr above d bound point =

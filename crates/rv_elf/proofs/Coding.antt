@@ -13,7 +13,7 @@ use Rattle.rv_elf.specs.declared.error.ImageError.{ImageError}
 use Rattle.rv_elf.specs.declared.image.Image.{Image}
 use Rattle.rv_elf.specs.Functions.{Named, code_of_symbol, function_of_symbol, functions, functions_in, has_code_of, is_code_segment_of, is_executable, is_in_file, is_sized_function, named_code}
 use Rattle.rv_elf.specs.Rows.{accepted}
-use Rattle.rv_elf.specs.Symbols.{symbol_and_string_bytes, table_check}
+use Rattle.rv_elf.specs.Symbols.{symbol_and_string_bytes, symbol_tables_check}
 use Rattle.rv_elf.proofs.Reading.{in_file_bounds}
 
 -- the first that passes is one of the list
@@ -87,12 +87,12 @@ module _ (segments : List Segment) (file strings : List ℕ) (symbol_at : ℕ �
 -- ---- the functions of a file
 
 module _ (image : Image) (file : List ℕ) where
-  pub no_functions : (w : ImageError) → table_check file ≡ Err w → functions image file ≡ []
+  pub no_functions : (w : ImageError) → symbol_tables_check file ≡ Err w → functions image file ≡ []
   unfolding functions
   no_functions w e = ap (λ r. cond (is_ok r) (option_map_or (λ t. functions_in image.segments file t.0 t.1)
       (symbol_and_string_bytes file) []) []) e
 
-  pub functions_there : (table strings : List ℕ) → table_check file ≡ accepted
+  pub functions_there : (table strings : List ℕ) → symbol_tables_check file ≡ accepted
       → symbol_and_string_bytes file ≡ Some (table, strings) → (segments : List Segment) → segments ≡ image.segments
       → functions_in segments file table strings ≡ functions image file
   unfolding functions

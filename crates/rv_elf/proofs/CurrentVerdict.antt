@@ -13,9 +13,9 @@ use Rattle.rv_elf.specs.declared.symbol_search.LookupKind.TheVariants.{Code, Val
 use Rattle.rv_elf.specs.declared.symbols.Symbol.{Symbol}
 use Rattle.rv_elf.specs.Rows.{accepted}
 use Rattle.rv_elf.specs.Sections.{text_before_zero}
-use Rattle.rv_elf.specs.Symbols.{table_check, symbol_and_string_bytes}
+use Rattle.rv_elf.specs.Symbols.{symbol_tables_check, symbol_and_string_bytes}
 use Rattle.rv_elf.specs.SymbolSearch.{may_be_code, is_function, is_object, has_section, has_usable_name, covers_address, are_in_one_segment}
-use Rattle.rv_elf.specs.SymbolSearch.{is_candidate, candidates, nearest_candidate, name_and_offset, symbol_before, nearest_symbol}
+use Rattle.rv_elf.specs.SymbolSearch.{is_candidate, candidates, nearest_candidate, name_and_offset, preferred_symbol, nearest_symbol}
 
 -- what lies in a symbol or is its value is not below it
 of_below : (addr value : ℕ) (sized within : Bool) → (value == addr) || (sized && (leb value addr && within)) ≡ true
@@ -38,12 +38,12 @@ candidate_below Value segments strings addr s e =
 
 module _ (sought : LookupKind) (image : Image) (file : List ℕ) (addr : ℕ) where
   -- nothing where the tables are refused
-  pub no_tables : (w : ImageError) → table_check file ≡ Err w → nearest_symbol sought image file addr ≡ None
+  pub no_tables : (w : ImageError) → symbol_tables_check file ≡ Err w → nearest_symbol sought image file addr ≡ None
   unfolding nearest_symbol
-  no_tables w e = ap (λ r. cond (is_ok r) (option_and_then (λ t. symbol_before sought image.segments addr t.0 t.1)
+  no_tables w e = ap (λ r. cond (is_ok r) (option_and_then (λ t. preferred_symbol sought image.segments addr t.0 t.1)
       (symbol_and_string_bytes file)) None) e
 
-  module _ (table strings : List ℕ) (good : table_check file ≡ accepted)
+  module _ (table strings : List ℕ) (good : symbol_tables_check file ≡ accepted)
       (there : symbol_and_string_bytes file ≡ Some (table, strings)) (segments : List Segment)
       (same : segments ≡ image.segments) (found : Option Symbol)
       (is : found ≡ nearest_candidate (candidates sought segments strings addr table)) where
@@ -51,9 +51,9 @@ module _ (sought : LookupKind) (image : Image) (file : List ℕ) (addr : ℕ) wh
     pub by_nearest : nearest_symbol sought image file addr ≡ option_and_then (name_and_offset strings addr) found
     unfolding nearest_symbol
     by_nearest =
-        ap (λ r. cond (is_ok r) (option_and_then (λ t. symbol_before sought image.segments addr t.0 t.1)
+        ap (λ r. cond (is_ok r) (option_and_then (λ t. preferred_symbol sought image.segments addr t.0 t.1)
         (symbol_and_string_bytes file)) None) good
-        ∙ ap (option_and_then (λ t. symbol_before sought image.segments addr t.0 t.1)) there
+        ∙ ap (option_and_then (λ t. preferred_symbol sought image.segments addr t.0 t.1)) there
         ∙ sym (ap (option_and_then (name_and_offset strings addr)) (is
         ∙ ap (λ ss. nearest_candidate (candidates sought ss strings addr table)) same))
 

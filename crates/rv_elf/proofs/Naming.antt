@@ -16,7 +16,7 @@ use Rattle.rv_elf.specs.ImageParts.{header_rows, image_after_header}
 use Rattle.rv_elf.specs.Rows.{accepted}
 use Rattle.rv_elf.specs.Sections.{e_shnum, e_shoff, e_shentsize, has_bad_section_table, symbol_table_section, string_table_section}
 use Rattle.rv_elf.specs.Sections.{is_bad_symbol_table, is_bad_string_table, section_bytes, symbol_named, HasSections}
-use Rattle.rv_elf.specs.Symbols.{has_bad_string_table, table_rows, table_check, tables_of_section, symbol_and_string_bytes, symbol_of_name}
+use Rattle.rv_elf.specs.Symbols.{has_bad_string_table, symbol_table_rows, symbol_tables_check, tables_of_section, symbol_and_string_bytes, symbol_of_name}
 use Rattle.rv_elf.specs.Symbols.{symbol_of}
 use Rattle.rv_elf.proofs.FirstRow.{none_refused, none_refuses, refusal_stays}
 
@@ -44,43 +44,43 @@ refused b w rest e = ap (λ x. cond x (Err w) rest) e
 -- ---- the tables
 
 module _ (file : List ℕ) where
-  pub no_section_table : has_bad_section_table file ≡ true → table_check file ≡ Err SectionTable
-  unfolding table_check
+  pub no_section_table : has_bad_section_table file ≡ true → symbol_tables_check file ≡ Err SectionTable
+  unfolding symbol_tables_check
   no_section_table e = refused _ _ _ e
 
   module _ (sections : has_bad_section_table file ≡ false) where
-    pub no_symbol_table : symbol_table_section file ≡ None → table_check file ≡ Err NoSymbols
-    unfolding table_check
+    pub no_symbol_table : symbol_table_section file ≡ None → symbol_tables_check file ≡ Err NoSymbols
+    unfolding symbol_tables_check
     no_symbol_table e = passed _ _ _ sections ∙ refused _ _ _ (ap is_none e)
 
     module _ (t : Section) (is : symbol_table_section file ≡ Some t) where
       at_table : (f : Section → Bool) (b : Bool) → f t ≡ b → option_map_or f (symbol_table_section file) false ≡ b
       at_table f b e = ap (λ o. option_map_or f o false) is ∙ e
 
-      pub bad_symbol_table : is_bad_symbol_table (length file) t ≡ true → table_check file ≡ Err SymbolTable
-      unfolding table_check
+      pub bad_symbol_table : is_bad_symbol_table (length file) t ≡ true → symbol_tables_check file ≡ Err SymbolTable
+      unfolding symbol_tables_check
       bad_symbol_table e = passed _ _ _ sections ∙ passed _ _ _ (ap is_none is)
           ∙ refused _ _ _ (at_table (is_bad_symbol_table (length file)) true e)
 
       module _ (good : is_bad_symbol_table (length file) t ≡ false) where
-        pub bad_string_table : has_bad_string_table file t ≡ true → table_check file ≡ Err StringTable
-        unfolding table_check
+        pub bad_string_table : has_bad_string_table file t ≡ true → symbol_tables_check file ≡ Err StringTable
+        unfolding symbol_tables_check
         bad_string_table e =
             passed _ _ _ sections ∙ passed _ _ _ (ap is_none is)
             ∙ passed _ _ _ (at_table (is_bad_symbol_table (length file)) false good)
             ∙ refused _ _ _ (at_table (has_bad_string_table file) true e)
 
-        pub no_string_table : string_table_section file t ≡ None → table_check file ≡ Err StringTable
+        pub no_string_table : string_table_section file t ≡ None → symbol_tables_check file ≡ Err StringTable
         no_string_table e = bad_string_table (ap (λ o. option_map_or (is_bad_string_table (length file)) o true) e)
 
         module _ (s : Section) (strings : string_table_section file t ≡ Some s) where
-          pub past_string_table : is_bad_string_table (length file) s ≡ true → table_check file ≡ Err StringTable
+          pub past_string_table : is_bad_string_table (length file) s ≡ true → symbol_tables_check file ≡ Err StringTable
           past_string_table e = bad_string_table
               (ap (λ o. option_map_or (is_bad_string_table (length file)) o true) strings ∙ e)
 
           -- where none is refused, they are there
-          pub tables_good : is_bad_string_table (length file) s ≡ false → table_check file ≡ accepted
-          unfolding table_check
+          pub tables_good : is_bad_string_table (length file) s ≡ false → symbol_tables_check file ≡ accepted
+          unfolding symbol_tables_check
           tables_good e =
               passed _ _ _ sections ∙ passed _ _ _ (ap is_none is)
               ∙ passed _ _ _ (at_table (is_bad_symbol_table (length file)) false good)
@@ -108,16 +108,16 @@ by_value (Some y) v e = ap (λ x. cond (is_none x) (Err NoBegin) (Ok (unwrap_or 
 
 module _ (file name : List ℕ) where
   -- what refuses the tables refuses each name
-  pub name_refused : (w : ImageError) → table_check file ≡ Err w → symbol_of file name ≡ Err w
-  unfolding table_check symbol_of
-  name_refused w e = refusal_stays (table_rows file) (value_or_none (symbol_of_name file name)) w e
+  pub name_refused : (w : ImageError) → symbol_tables_check file ≡ Err w → symbol_of file name ≡ Err w
+  unfolding symbol_tables_check symbol_of
+  name_refused w e = refusal_stays (symbol_table_rows file) (value_or_none (symbol_of_name file name)) w e
 
-  tables_passed : table_check file ≡ accepted → symbol_of file name ≡ value_or_none (symbol_of_name file name)
-  unfolding table_check symbol_of
-  tables_passed e = none_refuses (table_rows file) (value_or_none (symbol_of_name file name)) e
+  tables_passed : symbol_tables_check file ≡ accepted → symbol_of file name ≡ value_or_none (symbol_of_name file name)
+  unfolding symbol_tables_check symbol_of
+  tables_passed e = none_refuses (symbol_table_rows file) (value_or_none (symbol_of_name file name)) e
 
   -- and else the answer is what the search in them finds
-  pub name_looked_up : (table strings : List ℕ) (v : Option ℕ) → table_check file ≡ accepted
+  pub name_looked_up : (table strings : List ℕ) (v : Option ℕ) → symbol_tables_check file ≡ accepted
       → symbol_and_string_bytes file ≡ Some (table, strings)
       → v ≡ option_map (λ y. y.value) (symbol_named table strings name)
       → symbol_of file name ≡ cond (is_none v) (Err NoBegin) (Ok (unwrap_or v 0))

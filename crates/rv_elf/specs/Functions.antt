@@ -8,7 +8,7 @@ use Rattle.rv_elf.specs.declared.image.Segment.{Segment}
 use Rattle.rv_elf.specs.declared.symbols.Symbol.{Symbol}
 use Rattle.rv_elf.specs.Sections.{symbols_of, text_before_zero}
 use Rattle.rv_elf.specs.SymbolSearch.{has_section, has_usable_name, is_function}
-use Rattle.rv_elf.specs.Symbols.{symbol_and_string_bytes, table_check}
+use Rattle.rv_elf.specs.Symbols.{symbol_and_string_bytes, symbol_tables_check}
 
 -- whether a segment may be executed: its flags have PF_X
 abbrev pub is_executable : Segment → Bool
@@ -66,5 +66,5 @@ functions_in segments file table strings = filter_map (function_of_symbol segmen
 
 -- the functions of the file's first symbol table, in table order; none if the tables are rejected
 unfoldable pub functions : Image → List ℕ → List Named
-functions image file = if is_ok (table_check file)
+functions image file = if is_ok (symbol_tables_check file)
     then option_map_or (λ t. functions_in image.segments file t.0 t.1) (symbol_and_string_bytes file) [] else []

@@ -12,7 +12,7 @@ use Rattle.rv_elf.specs.declared.symbol_search.LookupKind.{LookupKind}
 use Rattle.rv_elf.specs.declared.symbol_search.LookupKind.TheVariants.{Code, Value}
 use Rattle.rv_elf.specs.declared.symbols.Symbol.{Symbol}
 use Rattle.rv_elf.specs.Sections.{text_before_zero, symbols_of}
-use Rattle.rv_elf.specs.Symbols.{table_check, symbol_and_string_bytes}
+use Rattle.rv_elf.specs.Symbols.{symbol_tables_check, symbol_and_string_bytes}
 
 -- ---- which symbols may name an address
 
@@ -96,15 +96,15 @@ abbrev pub name_and_offset : List ℕ → ℕ → Symbol → Option (List ℕ ×
 name_and_offset strings addr s = option_map (λ name. (name, addr - s.value)) (symbol_name strings s)
 
 -- the name of the preferred symbol in a symbol table that may name the address `addr`, and the offset of the address from its value
-abbrev pub symbol_before : LookupKind → List Segment → ℕ → List ℕ → List ℕ → Option (List ℕ × ℕ)
-symbol_before sought segments addr table strings = option_and_then (name_and_offset strings addr)
+abbrev pub preferred_symbol : LookupKind → List Segment → ℕ → List ℕ → List ℕ → Option (List ℕ × ℕ)
+preferred_symbol sought segments addr table strings = option_and_then (name_and_offset strings addr)
     (nearest_candidate (candidates sought segments strings addr table))
 
 -- the name of the preferred symbol in the file's first symbol table that may name the address `addr`, and the offset of the address from
 -- its value; `None` if there is none or a table is rejected
 unfoldable pub nearest_symbol : LookupKind → Image → List ℕ → ℕ → Option (List ℕ × ℕ)
-nearest_symbol sought image file addr = if is_ok (table_check file)
-    then option_and_then (λ t. symbol_before sought image.segments addr t.0 t.1) (symbol_and_string_bytes file)
+nearest_symbol sought image file addr = if is_ok (symbol_tables_check file)
+    then option_and_then (λ t. preferred_symbol sought image.segments addr t.0 t.1) (symbol_and_string_bytes file)
     else None
 
 -- the name of the symbol that a code address belongs to, and the offset of the address from its value

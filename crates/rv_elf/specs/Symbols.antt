@@ -23,16 +23,16 @@ has_bad_string_table file symbols =
 
 -- the errors of the file's symbol and string tables, in order, each with its condition; the errors of a symbol table apply only if there is
 -- one
-abbrev pub table_rows : List ℕ → List RefusalRow
-table_rows file = (has_bad_section_table file, SectionTable)
+abbrev pub symbol_table_rows : List ℕ → List RefusalRow
+symbol_table_rows file = (has_bad_section_table file, SectionTable)
     ∷ (is_none (symbol_table_section file), NoSymbols)
     ∷ (option_map_or (is_bad_symbol_table (length file)) (symbol_table_section file) false, SymbolTable)
     ∷ (option_map_or (has_bad_string_table file) (symbol_table_section file) false, StringTable)
     ∷ []
 
 -- the first error of the file's symbol and string tables that applies; accepted if none does
-unfoldable pub table_check : List ℕ → Result (Unit {0}) ImageError
-table_check file = first_refusal (table_rows file) accepted
+unfoldable pub symbol_tables_check : List ℕ → Result (Unit {0}) ImageError
+symbol_tables_check file = first_refusal (symbol_table_rows file) accepted
 
 -- the bytes of a symbol table and of its string table, or `None` if the string table does not exist
 abbrev pub tables_of_section : List ℕ → Section → Option (List ℕ × List ℕ)
@@ -50,7 +50,7 @@ symbol_of_name file name = option_and_then (λ t. symbol_named t.0 t.1 name) (sy
 
 -- the errors of looking up a name in a file, in order, each with its condition
 abbrev pub symbol_rows : List ℕ → List ℕ → List RefusalRow
-symbol_rows file name = table_rows file ++ (is_none (symbol_of_name file name), NoBegin) ∷ []
+symbol_rows file name = symbol_table_rows file ++ (is_none (symbol_of_name file name), NoBegin) ∷ []
 
 -- the value of the symbol with this name, or the first error that applies; without an error the symbol exists, so the default 0 is never
 -- returned

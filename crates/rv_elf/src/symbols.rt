@@ -5,7 +5,7 @@ ghost use Rattle.std.specs.Prelude.{option_map, drop};
 ghost use Rattle.rv_elf.specs.Rows.{accepted};
 ghost use Rattle.rv_elf.specs.Image.{IsImageOf};
 ghost use Rattle.rv_elf.specs.Sections.{symbol_entry, symbol_named, begins_with_name, is_named};
-ghost use Rattle.rv_elf.specs.Symbols.{table_check, symbol_and_string_bytes, symbol_of, signature_check, is_bad_signature_range};
+ghost use Rattle.rv_elf.specs.Symbols.{symbol_tables_check, symbol_and_string_bytes, symbol_of, signature_check, is_bad_signature_range};
 
 use crate::error::ImageError;
 use crate::fields::{ST_INFO, ST_NAME, ST_SHNDX, ST_SIZE, ST_VALUE, half_field, word_field};
@@ -76,8 +76,8 @@ fn is_bad_signature_range(begin: u32, end: u32, map: &Map) -> bool
 /// Returns the bytes of the file's first symbol table and of its string table, or the first error of the tables that applies.
 pub(crate) fn symbol_and_string_bytes(file: &[u8]) -> Result<(&[u8], &[u8]), ImageError>
     requires { 52 ≤ length file.now }
-    ensures checked { MatchResult result (λ _. table_check file.now ≡ accepted)
-        (λ e. table_check file.now ≡ Err e) }
+    ensures checked { MatchResult result (λ _. symbol_tables_check file.now ≡ accepted)
+        (λ e. symbol_tables_check file.now ≡ Err e) }
     ensures there { IfOk result (λ t. symbol_and_string_bytes file.now ≡ Some (t.0.now, t.1.now)) }
     ensures few { IfOk result (λ t. length t.0.now < 2 ^ 32) }
 {

@@ -9,7 +9,7 @@ use Rattle.rv_engine.specs.declared.in_order.End.{End}
 use Rattle.rv_engine.specs.declared.in_order.End.TheVariants.{GaveUp, Stopped}
 use Rattle.rv_engine.specs.declared.listener.Flow.{Flow}
 use Rattle.rv_engine.specs.declared.listener.Flow.TheVariants.{GoOn, Stop}
-use Rattle.rv_engine.specs.Results.{AreMade, HasReceived, HasReceivedSome, IsDelivered, HasReceivedUntil, IsPiece, piece_count}
+use Rattle.rv_engine.specs.Results.{AreComputed, HasReceived, HasReceivedSome, IsDelivered, HasReceivedUntil, IsPiece, piece_count}
 
 module _ {H : Type 0} (is_result : ℕ → H → Type 0) (jobs : ℕ) where
   -- nothing yet
@@ -102,7 +102,7 @@ nothing_left (x ∷ xs) h = absurd (omega arith)
 
 -- a piece of what is made
 pub piece_made : {H : Type 0} (is_made is_result : ℕ → H → Type 0) (jobs group piece : ℕ) (results : List H)
-    → AreMade is_made is_result → IsPiece is_made jobs group piece results → IsPiece is_result jobs group piece results
+    → AreComputed is_made is_result → IsPiece is_made jobs group piece results → IsPiece is_result jobs group piece results
 piece_made is_made is_result jobs group piece results are made = record {
   each = λ k any low. are (piece * group + k) (get_or results k any) (made.each k any low);
   count = made.count;

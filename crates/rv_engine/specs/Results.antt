@@ -76,5 +76,5 @@ IsDelivered is_result jobs group has_received stops next GoOn = HasReceivedUpTo 
 IsDelivered is_result jobs group has_received stops next Stop = HasReceivedSome is_result jobs has_received × stops
 
 -- each result that the work can compute for a job is a result in the sense of the run
-abbrev pub AreMade : {H : Type 0} → (ℕ → H → Type 0) → (ℕ → H → Type 0) → Type 0
-AreMade {H} is_made is_result = (number : ℕ) (made : H) → is_made number made → is_result number made
+abbrev pub AreComputed : {H : Type 0} → (ℕ → H → Type 0) → (ℕ → H → Type 0) → Type 0
+AreComputed {H} is_made is_result = (number : ℕ) (made : H) → is_made number made → is_result number made

@@ -1,12 +1,12 @@
 //! Runs jobs in threads.
 
 ghost use Rattle.std.specs.Prelude.{◌≡◌, [], IfOk};
-ghost use Rattle.rv_engine.specs.Results.{ArePending, AreMade, IsRunDelivered, HasReceivedUpTo, IsInOrder, piece_count};
+ghost use Rattle.rv_engine.specs.Results.{ArePending, AreComputed, IsRunDelivered, HasReceivedUpTo, IsInOrder, piece_count};
 ghost use Rattle.rv_engine.specs.declared.engine.RunError.TheVariants.{OutOfMemory};
 
 use crate::crew::Crew;
 use crate::in_order::{
-    End, InOrder, RunSpec, Undelivered, deliver_piece, no_results, take_pending,
+    End, InOrder, RunSpec, Undelivered, deliver_chunk, no_results, take_pending,
 };
 use crate::listener::{Flow, Listener};
 use crate::piece::{make_piece, piece_count};
@@ -51,7 +51,7 @@ pub fn run_jobs<
     W: Work<H> + Sync,
     L: Listener<H> + Drop + Send,
 >(crew: &Crew<'_, R>, work: &W, listener: L) -> (L, Result<Flow, RunError>)
-    requires results { AreMade (W.is_made work.now) J.is_result }
+    requires results { AreComputed (W.is_made work.now) J.is_result }
     requires jobs { J.jobs ≡ W.jobs work.now }
     requires group { J.group ≡ crew.now.group }
     requires received { L.has_received listener [] }
@@ -85,7 +85,7 @@ fn deliver_rest<J: RunSpec<H>, H: Drop, R, W: Work<H>, L: Listener<H>>(
     listener: L,
     rest: Undelivered<H>,
 ) -> (L, Result<Flow, RunError>)
-    requires results { AreMade (W.is_made work.now) J.is_result }
+    requires results { AreComputed (W.is_made work.now) J.is_result }
     requires jobs { J.jobs ≡ W.jobs work.now }
     requires group { J.group ≡ crew.now.group }
     requires rest { IsInOrder J.is_result J.jobs J.group (L.has_received listener) (L.stops listener) rest.next rest.ended rest.pending.items }
@@ -116,7 +116,7 @@ fn deliver_from<J: RunSpec<H>, H: Drop, R, W: Work<H>, L: Listener<H>>(
     pending: Vec<Option<Vec<H>>>,
     next: usize,
 ) -> Result<Flow, RunError>
-    requires results { AreMade (W.is_made work.now) J.is_result }
+    requires results { AreComputed (W.is_made work.now) J.is_result }
     requires jobs { J.jobs ≡ W.jobs work.now }
     requires group { J.group ≡ crew.now.group }
     requires pending { ArePending J.is_result J.jobs J.group pending.items }
@@ -136,7 +136,7 @@ fn deliver_from<J: RunSpec<H>, H: Drop, R, W: Work<H>, L: Listener<H>>(
                 &mut worker_state,
             )?,
         };
-        if let Flow::Stop = deliver_piece::<J, H, L>(listener, piece, results) {
+        if let Flow::Stop = deliver_chunk::<J, H, L>(listener, piece, results) {
             return Ok(Flow::Stop);
         }
     }

@@ -73,10 +73,10 @@ impl<J: RunSpec<H>, H: Drop, L: Listener<H> + Drop> InOrder<J, H, L> {
     }
 
     /// Stores the results of a chunk, and delivers all results whose turn has come. Returns whether to continue.
-    pub(crate) fn take_piece(&mut self, piece: u64, results: Vec<H>) -> Flow
+    pub(crate) fn receive_chunk(&mut self, piece: u64, results: Vec<H>) -> Flow
         requires { IsPiece J.is_result J.jobs J.group piece results.items }
     {
-        note_piece::<J, H>(&mut self.pending, piece as usize, results);
+        store_chunk::<J, H>(&mut self.pending, piece as usize, results);
         if self.ended.is_some() {
             return Flow::Stop;
         }
@@ -131,13 +131,13 @@ pub(crate) struct Undelivered<H: Drop> {
 
 // The first chunk that is not delivered yet, and whether the listener continues.
 #[derive(Clone, Copy)]
-struct DeliveredPieces {
+struct DeliveredChunks {
     next: usize,
     flow: Flow,
 }
 
 // Stores the results of a chunk until their turn comes.
-fn note_piece<J: RunSpec<H>, H: Drop>(
+fn store_chunk<J: RunSpec<H>, H: Drop>(
     pending: &mut Vec<Option<Vec<H>>>,
     piece: usize,
     results: Vec<H>,
@@ -157,15 +157,15 @@ fn deliver_ready<J: RunSpec<H>, H: Drop, L: Listener<H>>(
     listener: &mut L,
     pending: &mut Vec<Option<Vec<H>>>,
     from: usize,
-) -> DeliveredPieces
+) -> DeliveredChunks
     requires pending { ArePending J.is_result J.jobs J.group pending.old.items }
     requires received { HasReceivedUpTo J.is_result J.jobs J.group (L.has_received listener.old) (L.stops listener.old) from }
     ensures pending { ArePending J.is_result J.jobs J.group pending.new.items }
     ensures received { IsDelivered J.is_result J.jobs J.group (L.has_received listener.new) (L.stops listener.new) result.next result.flow }
 {
-    let received = deliver_pieces::<J, H, L>(listener, pending, from);
+    let received = deliver_chunks::<J, H, L>(listener, pending, from);
     match received.flow {
-        Flow::GoOn if received.next > from => DeliveredPieces {
+        Flow::GoOn if received.next > from => DeliveredChunks {
             next: received.next,
             flow: listener.pause(),
         },
@@ -174,11 +174,11 @@ fn deliver_ready<J: RunSpec<H>, H: Drop, L: Listener<H>>(
 }
 
 // Delivers the results of consecutive chunks from `from` on, as far as they are pending.
-fn deliver_pieces<J: RunSpec<H>, H: Drop, L: Listener<H>>(
+fn deliver_chunks<J: RunSpec<H>, H: Drop, L: Listener<H>>(
     listener: &mut L,
     pending: &mut Vec<Option<Vec<H>>>,
     from: usize,
-) -> DeliveredPieces
+) -> DeliveredChunks
     requires pending { ArePending J.is_result J.jobs J.group pending.old.items }
     requires received { HasReceivedUpTo J.is_result J.jobs J.group (L.has_received listener.old) (L.stops listener.old) from }
     ensures pending { ArePending J.is_result J.jobs J.group pending.new.items }
@@ -187,24 +187,24 @@ fn deliver_pieces<J: RunSpec<H>, H: Drop, L: Listener<H>>(
     let end = pending.len();
     for next in from..end {
         let Some(results) = take_pending::<J, H>(pending, next) else {
-            return DeliveredPieces {
+            return DeliveredChunks {
                 next,
                 flow: Flow::GoOn,
             };
         };
-        let flow = deliver_piece::<J, H, L>(listener, next, results);
+        let flow = deliver_chunk::<J, H, L>(listener, next, results);
         if let Flow::Stop = flow {
-            return DeliveredPieces { next, flow };
+            return DeliveredChunks { next, flow };
         }
     }
-    DeliveredPieces {
+    DeliveredChunks {
         next: from.max(end),
         flow: Flow::GoOn,
     }
 }
 
 /// Delivers the results of a chunk to a listener, and returns whether to continue.
-pub(crate) fn deliver_piece<J: RunSpec<H>, H: Drop, L: Listener<H>>(
+pub(crate) fn deliver_chunk<J: RunSpec<H>, H: Drop, L: Listener<H>>(
     listener: &mut L,
     piece: usize,
     results: Vec<H>,

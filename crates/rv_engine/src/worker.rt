@@ -34,9 +34,9 @@ impl<
     L: Listener<H> + Drop + Send,
 > Worker for WorkerContext<'a, J, H, R, W, L> {
     ghost use Rattle.std.specs.Prelude.{◌≡◌};
-    ghost use Rattle.rv_engine.specs.Results.{AreMade, piece_count};
+    ghost use Rattle.rv_engine.specs.Results.{AreComputed, piece_count};
 
-    ghost draws = { λ s draw. (draw.pieces ≡ piece_count (W.jobs s.work.now) s.group) × AreMade (W.is_made s.work.now) J.is_result };
+    ghost draws = { λ s draw. (draw.pieces ≡ piece_count (W.jobs s.work.now) s.group) × AreComputed (W.is_made s.work.now) J.is_result };
 
     fn work_on_pieces(&self, claims: &Claims, pass: Pass) -> Result<(), AllocError> {
         let mut pass = pass;
@@ -51,7 +51,7 @@ impl<
             );
             let mut in_order = self.in_order.lock(self.rt);
             match made {
-                Ok(results) => if let Flow::Stop = in_order.take_piece(piece, results) {
+                Ok(results) => if let Flow::Stop = in_order.receive_chunk(piece, results) {
                     return Ok(());
                 },
                 Err(error) => {

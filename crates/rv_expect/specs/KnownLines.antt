@@ -21,16 +21,16 @@ abbrev pub borrowed_lines : List (Bor (List ℕ)) → List (List ℕ)
 borrowed_lines lines = map (λ line. line.now) lines
 
 -- the text without leading white space
-abbrev pub without_space_before : List ℕ → List ℕ
-without_space_before text = drop (prefix_len is_ascii_whitespace text) text
+abbrev pub without_leading_space : List ℕ → List ℕ
+without_leading_space text = drop (prefix_len is_ascii_whitespace text) text
 
 -- the text without trailing white space
-abbrev pub without_space_behind : List ℕ → List ℕ
-without_space_behind text = take (length text - suffix_len is_ascii_whitespace text) text
+abbrev pub without_trailing_space : List ℕ → List ℕ
+without_trailing_space text = take (length text - suffix_len is_ascii_whitespace text) text
 
 -- the text without leading and trailing white space
 abbrev pub trimmed : List ℕ → List ℕ
-trimmed text = without_space_behind (without_space_before text)
+trimmed text = without_trailing_space (without_leading_space text)
 
 -- the name in a line: the part before the first `#`, trimmed; empty if there is none
 unfoldable pub name_text : List ℕ → List ℕ

@@ -18,15 +18,15 @@ job_expects job expectation.Same = is_some job.same_as
 job_expects job expectation.Nothing = not (expects_anything job)
 
 -- whether an unmet expectation is of this kind
-unfoldable pub is_same_expectation : Expectation → Unmet → Bool
-is_same_expectation expectation.Exit unmet.Exit = true
-is_same_expectation expectation.End unmet.End = true
-is_same_expectation expectation.Console (unmet.Console difference) = true
-is_same_expectation expectation.Signature (unmet.Signature difference) = true
-is_same_expectation expectation.Same (unmet.Same difference) = true
-is_same_expectation expectation.Nothing unmet.Nothing = true
-is_same_expectation _ _ = false
+unfoldable pub is_unmet_of_kind : Expectation → Unmet → Bool
+is_unmet_of_kind expectation.Exit unmet.Exit = true
+is_unmet_of_kind expectation.End unmet.End = true
+is_unmet_of_kind expectation.Console (unmet.Console difference) = true
+is_unmet_of_kind expectation.Signature (unmet.Signature difference) = true
+is_unmet_of_kind expectation.Same (unmet.Same difference) = true
+is_unmet_of_kind expectation.Nothing unmet.Nothing = true
+is_unmet_of_kind _ _ = false
 
 -- whether a job has an expectation of this kind, and its run meets it, given the unmet ones
 abbrev pub is_expectation_met : Job → List Unmet → Expectation → Bool
-is_expectation_met job unmet one = job_expects job one && not (list_any (is_same_expectation one) unmet)
+is_expectation_met job unmet one = job_expects job one && not (list_any (is_unmet_of_kind one) unmet)

@@ -8,13 +8,13 @@ use Rattle.rv_expect.specs.declared.passing.Rule.{Rule}
 use Rattle.rv_expect.specs.declared.passing.Rule.TheVariants.{Strict, Lenient}
 
 -- whether a verdict is not `fail`
-abbrev pub is_no_fail : Verdict → Bool
-is_no_fail verdict.Unasked = true
-is_no_fail verdict.Pass = true
-is_no_fail verdict.Fail = false
+abbrev pub is_not_fail : Verdict → Bool
+is_not_fail verdict.Unasked = true
+is_not_fail verdict.Pass = true
+is_not_fail verdict.Fail = false
 
 -- whether a row passed; by the strict rule, if the verdict is `pass`, or the job has no expectations and ended with exit code 0; by the
 -- lenient rule, if the verdict is not `fail`
 abbrev pub has_passed : Rule → Row → Bool
 has_passed Strict row = passes row.verdict row.ending
-has_passed Lenient row = is_no_fail row.verdict
+has_passed Lenient row = is_not_fail row.verdict

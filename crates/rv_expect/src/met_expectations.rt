@@ -2,7 +2,7 @@
 
 ghost use Rattle.std.specs.Prelude.{◌≡◌};
 ghost use Rattle.std.specs.List.{list_any};
-ghost use Rattle.rv_expect.specs.MetExpectations.{job_expects, is_expectation_met, is_same_expectation};
+ghost use Rattle.rv_expect.specs.MetExpectations.{job_expects, is_expectation_met, is_unmet_of_kind};
 
 use crate::unmet::Unmet;
 use rv_jobs::Job;
@@ -29,9 +29,9 @@ pub fn is_expectation_met(job: &Job, unmet: &[Unmet], one: Expectation) -> bool
 
 // Whether an expectation of this kind is unmet.
 fn is_expectation_unmet(unmet: &[Unmet], one: Expectation) -> bool
-    ensures { result ≡ list_any (is_same_expectation one) unmet.now }
+    ensures { result ≡ list_any (is_unmet_of_kind one) unmet.now }
 {
-    unmet.iter().any(|other| is_same_expectation(one, *other))
+    unmet.iter().any(|other| is_unmet_of_kind(one, *other))
 }
 
 // Whether a job has an expectation of this kind.
@@ -50,9 +50,9 @@ fn job_expects(job: &Job, one: Expectation) -> bool
 }
 
 // Whether an unmet expectation is of this kind.
-#[tactic(auto, unfolding(crate::specs::MetExpectations::is_same_expectation))]
-fn is_same_expectation(one: Expectation, unmet: Unmet) -> bool
-    ensures { result ≡ is_same_expectation one unmet }
+#[tactic(auto, unfolding(crate::specs::MetExpectations::is_unmet_of_kind))]
+fn is_unmet_of_kind(one: Expectation, unmet: Unmet) -> bool
+    ensures { result ≡ is_unmet_of_kind one unmet }
 {
     match (one, unmet) {
         (Expectation::Exit, Unmet::Exit)

@@ -3,7 +3,7 @@ use Rattle.std.specs.Prelude.{List, find, map, option_map}
 use Rattle.std.specs.Str.{bytes_eq}
 use Rattle.rv_base.specs.Files.{FileContents}
 use Rattle.rv_files.specs.declared.memory_files.MemoryFile.{MemoryFile}
-use Rattle.rv_files.specs.Placed.{CommittedFile, placed_file}
+use Rattle.rv_files.specs.Placed.{CommittedFile, committed_file}
 
 -- the contents of files in memory: each path has the bytes of the first file with this path
 abbrev pub memory_contents : List MemoryFile → FileContents
@@ -12,4 +12,4 @@ memory_contents files path = option_map (λ (file : MemoryFile). file.bytes.item
 
 -- the files in memory as contracts see committed files, in order
 abbrev pub committed_memory_files : List MemoryFile → List CommittedFile
-committed_memory_files files = map (λ (file : MemoryFile). placed_file file.path file.bytes.items) files
+committed_memory_files files = map (λ (file : MemoryFile). committed_file file.path file.bytes.items) files

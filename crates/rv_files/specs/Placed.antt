@@ -7,14 +7,14 @@ pub record CommittedFile : Type 0 where
   pub bytes : List ℕ
 
 -- the committed file with this path and these bytes
-abbrev pub placed_file : List ℕ → List ℕ → CommittedFile
-placed_file path bytes = record {
+abbrev pub committed_file : List ℕ → List ℕ → CommittedFile
+committed_file path bytes = record {
   path = path;
   bytes = bytes;
 }
 
 -- the committed files went from `before` to `after`, which adds a file with this path and these bytes; nothing is said if the files or the
 -- bytes are unknown
-abbrev pub IsOneMorePlaced : Option (List CommittedFile) → Option (List CommittedFile) → List ℕ → Option (List ℕ) → Type 0
-IsOneMorePlaced before after path bytes =
-    IfSome before (λ earlier. IfSome bytes (λ known. after ≡ Some (earlier ++ placed_file path known ∷ [])))
+abbrev pub IsCommittedFileAdded : Option (List CommittedFile) → Option (List CommittedFile) → List ℕ → Option (List ℕ) → Type 0
+IsCommittedFileAdded before after path bytes =
+    IfSome before (λ earlier. IfSome bytes (λ known. after ≡ Some (earlier ++ committed_file path known ∷ [])))

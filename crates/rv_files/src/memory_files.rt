@@ -116,7 +116,7 @@ impl MemoryOutputs {
     }
 
     /// Returns the files placed at their paths, in the order in which they were placed.
-    pub fn placed_files(&self) -> &[MemoryFile]
+    pub fn committed_files(&self) -> &[MemoryFile]
         ensures { result.now ≡ self.now.placed.items }
     {
         &self.placed

@@ -102,7 +102,7 @@ pub(crate) fn sync_directory<R: Files>(files: &R, path: &str) {
 }
 
 /// Checks, as far as possible before the file is created, that it can be placed: its directory exists, and no read-only file is in the way.
-pub(crate) fn check_places<R: Files>(files: &R, places: &Places) -> io::Result<()> {
+pub(crate) fn check_distinct_files<R: Files>(files: &R, places: &Places) -> io::Result<()> {
     replaceable_file(files, places.whole.as_str())?;
     files.metadata(directory_of(places.whole.as_str()).as_str())?;
     Ok(())

@@ -1,7 +1,7 @@
 //! The files that a command writes. In the end, each exists completely or not at all.
 
 ghost use Rattle.std.specs.Prelude.{◌≡◌, ◌≢◌, ◌∷◌, [], List, ℕ, Option, Some, IfErr, IfOk, IfSome, IsTrue, OnErr, OnOk};
-ghost use Rattle.rv_files.specs.Placed.{CommittedFile, IsOneMorePlaced};
+ghost use Rattle.rv_files.specs.Placed.{CommittedFile, IsCommittedFileAdded};
 
 use crate::file_error::FileError;
 use crate::last_error::LastError;
@@ -64,7 +64,7 @@ pub trait Outputs {
     /// Places a file at its path.
     fn place(&mut self, place: Self::Place, file: Self::Synced) -> Result<(), FileError>
         ensures placed { OnOk result
-            (IsOneMorePlaced (placed self.old) (placed self.new) (pending_path place) (synced_bytes file)) }
+            (IsCommittedFileAdded (placed self.old) (placed self.new) (pending_path place) (synced_bytes file)) }
         ensures same { OnErr result (placed self.new ≡ placed self.old) }
         ensures another_error { IfErr result (λ error. error ≢ FileError.SamePlace) };
 

@@ -43,7 +43,7 @@ impl<W: Write + Drop> PipeSink<W> {
     }
 
     // Counts a failure, and records whether it means that the reader has closed the pipe.
-    fn note_failure(&mut self, reason: ErrorKind) -> SinkFailed
+    fn record_failure(&mut self, reason: ErrorKind) -> SinkFailed
         ensures counted { self.new.failures ≡ one_more self.old.failures }
         ensures closed { self.new.is_closed ≡ (self.old.is_closed || is_broken_pipe reason) }
         ensures same { self.new.stream ≡ self.old.stream }
@@ -78,7 +78,7 @@ impl<W: Write + Drop> Sink for PipeSink<W> {
     {
         match write_and_flush(&mut self.stream, bytes) {
             Ok(count) => Ok(count),
-            Err(reason) => Err(self.note_failure(reason)),
+            Err(reason) => Err(self.record_failure(reason)),
         }
     }
 

@@ -47,14 +47,14 @@ impl<'a, D: Inputs> RecordingStore<'a, D> {
     }
 
     /// Returns the unreadable paths, in the order in which they were requested.
-    pub fn unread_paths(&self) -> &[UnreadPath]
+    pub fn unreadable_paths(&self) -> &[UnreadPath]
         ensures { result.now ≡ self.now.unread.items }
     {
         &self.unread
     }
 
     /// Returns the unreadable paths and consumes the store.
-    pub fn into_unread_paths(self) -> Vec<UnreadPath>
+    pub fn into_unreadable_paths(self) -> Vec<UnreadPath>
         ensures { result.items ≡ self.entry.unread.items }
     {
         self.unread
@@ -78,7 +78,7 @@ impl<'a, D: Inputs> RecordingStore<'a, D> {
     {
         let answer = self.read_resolved_path(alloc, path);
         if let Err(WholeError::Failed(reason)) = answer {
-            self.note_unread(alloc, path, reason)?;
+            self.record_unreadable(alloc, path, reason)?;
         }
         answer
     }
@@ -103,7 +103,7 @@ impl<'a, D: Inputs> RecordingStore<'a, D> {
     }
 
     // Records that a path was unreadable for this reason.
-    fn note_unread(
+    fn record_unreadable(
         &mut self,
         alloc: Global,
         path: &str,

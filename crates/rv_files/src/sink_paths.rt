@@ -116,7 +116,7 @@ pub(crate) fn with_new_suffix(alloc: Global, path: &str) -> Result<PathBuf, Allo
 }
 
 /// Whether the system resolves two paths to one location.
-pub(crate) fn is_same_place<R: Files>(
+pub(crate) fn is_same_file<R: Files>(
     files: &R,
     alloc: Global,
     path: &str,

@@ -6,10 +6,10 @@ use crate::file_error::FileError;
 use crate::file_identity::{canonical_path, file_identity};
 use crate::file_lock::FileLock;
 use crate::file_sink::FileSink;
-use crate::new_file::{check_places, create_new_file, sync_directory};
+use crate::new_file::{check_distinct_files, create_new_file, sync_directory};
 use crate::outputs::Outputs;
 use crate::sink_paths::{
-    Places, follow_links, is_same_place, temporary_and_final_path, with_new_suffix,
+    Places, follow_links, is_same_file, temporary_and_final_path, with_new_suffix,
 };
 use crate::streams::StreamSink;
 use rv_base::Text;
@@ -78,17 +78,17 @@ where
             open_null_device(self.files),
         );
         match places {
-            Some(places) => self.create_unplaced(alloc, places),
+            Some(places) => self.create_uncommitted(alloc, places),
             None => Ok(OpenOptions::new().write(true).open(self.files, path)?),
         }
     }
 
     // Creates a file at its temporary path, and records it as not yet placed.
-    fn create_unplaced(&mut self, alloc: Global, places: &Places) -> Result<R::File, FileError>
+    fn create_uncommitted(&mut self, alloc: Global, places: &Places) -> Result<R::File, FileError>
         ensures first { IfErr result (λ error. error ≡ FileError.SamePlace → 0 < vec_len self.old.unplaced) }
     {
-        self.refuse_same_place(alloc, places)?;
-        self.note_unplaced(alloc, places.new.as_str())?;
+        self.check_not_same_file(alloc, places)?;
+        self.record_uncommitted(alloc, places.new.as_str())?;
         match create_new_file(self.files, places) {
             Ok(file) => Ok(file),
             Err(error) => {
@@ -99,14 +99,14 @@ where
     }
 
     // Fails if one of the file's paths is a path of a file that is not yet placed: neither would end up complete.
-    fn refuse_same_place(&self, alloc: Global, places: &Places) -> Result<(), FileError>
+    fn check_not_same_file(&self, alloc: Global, places: &Places) -> Result<(), FileError>
         ensures first { IfErr result (λ error. error ≡ FileError.SamePlace → 0 < vec_len self.now.unplaced) }
     {
         // If the other file's final path is this one's temporary path, this is the other's temporary path.
         let newer = with_new_suffix(alloc, places.new.as_str())?;
         for other in &self.unplaced {
             for path in [&places.new, &places.whole, &newer] {
-                if is_same_place(self.files, alloc, path.as_str(), other.as_str())? {
+                if is_same_file(self.files, alloc, path.as_str(), other.as_str())? {
                     return Err(FileError::SamePlace);
                 }
             }
@@ -115,13 +115,13 @@ where
     }
 
     // Records the file at a temporary path as not yet placed.
-    fn note_unplaced(&mut self, alloc: Global, new: &str) -> Result<(), AllocError> {
+    fn record_uncommitted(&mut self, alloc: Global, new: &str) -> Result<(), AllocError> {
         self.unplaced.push(PathBuf::from_str(alloc, new)?)?;
         Ok(())
     }
 
     // Removes a temporary path from the record of files that are not yet placed.
-    fn forget_unplaced(&mut self, new: &str) {
+    fn remove_uncommitted(&mut self, new: &str) {
         self.unplaced.retain(|path| path.as_str() != new);
     }
 }
@@ -195,7 +195,7 @@ where
     fn replaced_files(&self, alloc: Global, path: &str) -> Result<Vec<Text>, FileError> {
         match temporary_and_final_path(self.files, alloc, path)? {
             Some(places) => {
-                check_places(self.files, &places)?;
+                check_distinct_files(self.files, &places)?;
                 Ok(places.identities(self.files, alloc)?)
             }
             None => Ok(Vec::new(alloc)),
@@ -241,7 +241,7 @@ where
         if placed.is_err() {
             let _ = self.files.remove_file(new);
         }
-        self.forget_unplaced(new);
+        self.remove_uncommitted(new);
         placed?;
         sync_directory(self.files, whole);
         Ok(())
@@ -250,7 +250,7 @@ where
     fn abandon(&mut self, place: PendingFile) {
         if let Some(places) = &place.places {
             let _ = self.files.remove_file(places.new.as_str());
-            self.forget_unplaced(places.new.as_str());
+            self.remove_uncommitted(places.new.as_str());
         }
     }
 }

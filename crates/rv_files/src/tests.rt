@@ -1,7 +1,7 @@
 //! The files that one command writes, with the system's files and with files in memory.
 
 ghost use Rattle.std.specs.Prelude.{◌≡◌, ◌++◌, ◌∷◌, [], Some, IfSome, OnOk};
-ghost use Rattle.rv_files.specs.Placed.{placed_file};
+ghost use Rattle.rv_files.specs.Placed.{committed_file};
 
 use crate::{
     FileError, FileLock, Inputs, MemoryFile, MemoryInputs, MemoryOutputs, Outputs, RecordingStore,
@@ -24,7 +24,7 @@ fn write_file<F: Outputs>(
     bytes: &[u8],
 ) -> Result<(), FileError>
     ensures { OnOk result (IfSome (F.placed outputs.old)
-        (λ earlier. F.placed outputs.new ≡ Some (earlier ++ placed_file path.now bytes.now ∷ []))) }
+        (λ earlier. F.placed outputs.new ≡ Some (earlier ++ committed_file path.now bytes.now ∷ []))) }
 {
     let (place, mut file) = outputs.create(alloc, path)?;
     if put_all(&mut file, bytes).is_err() {
@@ -294,7 +294,7 @@ fn steps_are_refused(rt: HostRuntime) -> Result<(), Fail> {
         let mut outputs = MemoryOutputs::with_steps(rt.alloc(), steps);
         let answer = answer_text(write_file(&mut outputs, rt.alloc(), "path", b"bytes"));
         assert_eq!(rt; answer, wanted, "{steps} steps");
-        assert_eq!(rt; outputs.placed_files().len(), count, "{steps} steps");
+        assert_eq!(rt; outputs.committed_files().len(), count, "{steps} steps");
     }
     Ok(())
 }
@@ -321,7 +321,7 @@ fn memory_is_read(rt: HostRuntime) -> Result<(), Fail> {
         let mut store = RecordingStore::new(&inputs, rt.alloc(), folder);
         match store.read(rt.alloc(), path) {
             Ok(bytes) => assert_eq!(rt; bytes.as_slice(), wanted.as_bytes(), "{path}"),
-            Err(_) => assert_eq!(rt; store.unread_paths().len(), 1, "{path}"),
+            Err(_) => assert_eq!(rt; store.unreadable_paths().len(), 1, "{path}"),
         }
     }
     Ok(())

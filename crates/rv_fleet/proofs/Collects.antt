@@ -18,7 +18,7 @@ use Rattle.rv_fleet.specs.Collected.{IsPiece, ArePieces}
 use Rattle.rv_claims.specs.Draws.{numbers}
 use Rattle.rv_claims.specs.Passes.{SharedDraw}
 use Rattle.rv_fleet.specs.Pieces.{count_of_pieces, numbered_piece, piece_count_of_rows}
-use Rattle.rv_fleet.specs.Promised.{HasWorked}
+use Rattle.rv_fleet.specs.Promised.{KeepsPromise}
 use Rattle.rv_rows.specs.Rows.{row_of}
 use Rattle.rv_fleet.proofs.Chunks.{chunks_all}
 
@@ -28,7 +28,7 @@ All-first P x xs all is each = All-head P x xs (All-same P _ _ (sym is) each)
 
 -- what a worker made is pieces with the rows of their numbers
 pub pieces_worked : (pieces : Pieces) (draw : SharedDraw) (worked : Worked) (made : Vec Piece Global)
-    → HasWorked (batch_rows pieces.batch) pieces.group draw worked → worked.pieces ≡ Ok made
+    → KeepsPromise (batch_rows pieces.batch) pieces.group draw worked → worked.pieces ≡ Ok made
     → draw.pieces ≡ count_of_pieces pieces → ArePieces pieces made.items
 pieces_worked pieces draw worked made has is total =
     let low : ℕ → Bool = λ n. nat_lt n draw.pieces in

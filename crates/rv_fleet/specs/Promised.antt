@@ -15,11 +15,11 @@ abbrev pub AreFresh : SharedDraw → List PassView → Type 0
 AreFresh draw passes = All (IsFresh draw) passes
 
 -- the promise of a worker: unless memory ran out, its result is the chunks that its pass drew, each with its number and its rows
-abbrev pub HasWorked : List Row → ℕ → SharedDraw → Worked → Type 0
-HasWorked rows group draw worked = (worked.pass.draw ≡ draw)
+abbrev pub KeepsPromise : List Row → ℕ → SharedDraw → Worked → Type 0
+KeepsPromise rows group draw worked = (worked.pass.draw ≡ draw)
     × IfOk worked.pieces (λ made. made.items
     ≡ map (piece_for rows group) (pieces_among draw.pieces worked.pass.draws))
 
 -- each worker kept its promise
 abbrev pub HaveWorked : List Row → ℕ → SharedDraw → List Worked → Type 0
-HaveWorked rows group draw all = All (HasWorked rows group draw) all
+HaveWorked rows group draw all = All (KeepsPromise rows group draw) all

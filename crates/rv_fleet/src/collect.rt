@@ -25,7 +25,7 @@ pub(crate) struct Collected {
 }
 
 /// Collects the results of all workers, each chunk once.
-pub(crate) fn collect_pieces(
+pub(crate) fn collect_chunks(
     alloc: Global,
     claims: &Claims,
     worked: Vec<Worked>,
@@ -40,7 +40,7 @@ pub(crate) fn collect_pieces(
     let mut slots = empty_slots(alloc, pieces)?;
     let mut all = None;
     for Worked { pass, pieces: made } in worked {
-        keep_pieces(&mut slots, pieces, made?);
+        store_chunks(&mut slots, pieces, made?);
         all = Some(join_passes(claims, all, pass));
     }
     Ok(Collected { slots, pass: all })
@@ -58,18 +58,18 @@ fn empty_slots(alloc: Global, pieces: &Pieces<'_>) -> Result<Vec<Option<Rows>>, 
 }
 
 // Stores the rows of each chunk in its slot, unless the slot is filled.
-fn keep_pieces(slots: &mut Vec<Option<Rows>>, pieces: &Pieces<'_>, made: Vec<Piece>)
+fn store_chunks(slots: &mut Vec<Option<Rows>>, pieces: &Pieces<'_>, made: Vec<Piece>)
     requires slots { IsFilled pieces.now slots.old.items }
     requires made { ArePieces pieces.now made.items }
     ensures { IsFilled pieces.now slots.new.items }
 {
     for piece in made {
-        keep_piece(slots, pieces, piece);
+        store_chunk(slots, pieces, piece);
     }
 }
 
 /// Stores the rows of a chunk in its slot, unless the slot is filled.
-fn keep_piece(slots: &mut Vec<Option<Rows>>, pieces: &Pieces<'_>, piece: Piece)
+fn store_chunk(slots: &mut Vec<Option<Rows>>, pieces: &Pieces<'_>, piece: Piece)
     requires slots { IsFilled pieces.now slots.old.items }
     requires piece { IsPiece pieces.now piece }
     ensures { IsFilled pieces.now slots.new.items }
@@ -93,7 +93,7 @@ fn join_passes(claims: &Claims, all: Option<Pass>, pass: Pass) -> Pass
 }
 
 /// Returns the rows of all chunks, in order. Computes the rows of each chunk that no worker has computed.
-pub(crate) fn rows_of_all_pieces<G: Gate>(
+pub(crate) fn rows_of_all_chunks<G: Gate>(
     alloc: Global,
     slots: Vec<Option<Rows>>,
     pieces: &Pieces<'_>,

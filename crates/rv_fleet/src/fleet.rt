@@ -6,11 +6,11 @@ ghost use Rattle.rv_rows.specs.Rows.{rows_of};
 ghost use Rattle.rv_fleet.specs.declared.fleet.FleetError.TheVariants.{OutOfMemory};
 
 use crate::batch::Batch;
-use crate::collect::rows_of_all_pieces;
+use crate::collect::rows_of_all_chunks;
 use crate::gate::Gate;
 use crate::pieces::Pieces;
 use crate::places::all_indices;
-use crate::threads::make_pieces;
+use crate::threads::compute_chunks;
 use rv_engine::Crew;
 use rv_jobs::Plan;
 use rv_rows::Report;
@@ -59,7 +59,7 @@ pub fn run_fleet<R: Threads + Wait, G: Gate>(
     let batch = Batch::new(plan, places.as_slice());
     let crew = Crew::new(rt, alloc, workers, group);
     let pieces = Pieces { batch, group };
-    let slots = make_pieces(&crew, &pieces, gate)?;
-    let rows = rows_of_all_pieces(alloc, slots, &pieces, gate)?;
+    let slots = compute_chunks(&crew, &pieces, gate)?;
+    let rows = rows_of_all_chunks(alloc, slots, &pieces, gate)?;
     Ok(Report { rows })
 }

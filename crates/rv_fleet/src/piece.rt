@@ -32,12 +32,12 @@ pub(crate) fn make_piece<G: Gate>(
     ensures recent { OnOk result (AreOutcomes pieces.now.batch.plan.now worker_state.new.recent) }
 {
     gate.enter(number);
-    let rows = rows_of_piece(alloc, pieces, number, worker_state)?;
+    let rows = rows_of_chunk(alloc, pieces, number, worker_state)?;
     Ok(Piece { number, rows })
 }
 
 // Computes the rows of a chunk.
-fn rows_of_piece(
+fn rows_of_chunk(
     alloc: Global,
     pieces: &Pieces<'_>,
     number: u64,

@@ -5,11 +5,11 @@ ghost use Rattle.rv_rows.specs.Rows.{rows_at};
 ghost use Rattle.rv_fleet.specs.Batches.{batch_rows};
 ghost use Rattle.rv_fleet.specs.Collected.{IsFilled};
 ghost use Rattle.rv_fleet.specs.Pieces.{count_of_pieces};
-ghost use Rattle.rv_fleet.specs.Promised.{AreFresh, HasWorked, HaveWorked};
+ghost use Rattle.rv_fleet.specs.Promised.{AreFresh, KeepsPromise, HaveWorked};
 ghost use Rattle.rv_fleet.specs.Started.{CanWork};
 
 use crate::batch::Batch;
-use crate::collect::{Collected, collect_pieces};
+use crate::collect::{Collected, collect_chunks};
 use crate::fleet::FleetError;
 use crate::gate::Gate;
 use crate::pieces::Pieces;
@@ -25,7 +25,7 @@ use std::thread::Threads;
 
 /// Computes the rows of all chunks, and returns those of each chunk in the slot with its number. Runs as many threads as the crew has, or
 /// one per chunk if there are fewer chunks.
-pub(crate) fn make_pieces<R: Threads + Wait, G: Gate>(
+pub(crate) fn compute_chunks<R: Threads + Wait, G: Gate>(
     crew: &Crew<'_, R>,
     pieces: &Pieces<'_>,
     gate: &G,
@@ -37,7 +37,7 @@ pub(crate) fn make_pieces<R: Threads + Wait, G: Gate>(
     let (claims, first) = Claims::new(alloc, count)?;
     let passes = split_passes(alloc, &claims, first, count.min(u64::from(crew.workers)))?;
     let worked = run_workers(crew, &claims, passes, pieces, gate)?;
-    let Collected { slots, pass } = collect_pieces(alloc, &claims, worked, pieces)?;
+    let Collected { slots, pass } = collect_chunks(alloc, &claims, worked, pieces)?;
     if let Some(pass) = pass {
         // The rows depend on the workers' promises and not on this result: a chunk that nobody made is made later.
         let _each_once = claims.finish(pass);
@@ -114,7 +114,7 @@ fn run_workers<R: Threads + Wait, G: Gate>(
                     move || -> Worked
                         requires { CanWork plan.now places.now group claims.now
                             × (pass.draw ≡ claims.now) × (pass.draws ≡ []) }
-                        ensures { HasWorked (rows_at plan.entry.now places.entry.now) group
+                        ensures { KeepsPromise (rows_at plan.entry.now places.entry.now) group
                             claims.entry.now result }
                     {
                         let batch = Batch { plan, places };

@@ -6,7 +6,7 @@ ghost use Rattle.rv_claims.specs.NewPieces.{Grew, new_pieces};
 ghost use Rattle.rv_claims.specs.Passes.{has_ended};
 ghost use Rattle.rv_fleet.specs.Batches.{batch_rows};
 ghost use Rattle.rv_fleet.specs.Pieces.{count_of_pieces, piece_at, numbered_piece, pieces_of};
-ghost use Rattle.rv_fleet.specs.Promised.{HasWorked};
+ghost use Rattle.rv_fleet.specs.Promised.{KeepsPromise};
 
 use crate::batch::Batch;
 use crate::gate::Gate;
@@ -77,7 +77,7 @@ pub(crate) fn work_with_own_pass<G: Gate>(
 ) -> Worked
     requires pieces { claims.now.pieces ≡ count_of_pieces pieces.now }
     requires pass { (pass.draw ≡ claims.now) × (pass.draws ≡ []) }
-    ensures { HasWorked (batch_rows pieces.now.batch) pieces.now.group claims.now result }
+    ensures { KeepsPromise (batch_rows pieces.now.batch) pieces.now.group claims.now result }
 {
     let pieces = work_on_pieces(alloc, claims, &mut pass, pieces, gate);
     Worked { pass, pieces }

@@ -24,8 +24,8 @@ pub(crate) struct Works<'a> {
 
 impl<'a> Promise<Worked> for Works<'a> {
     ghost use Rattle.rv_rows.specs.Rows.{rows_at};
-    ghost use Rattle.rv_fleet.specs.Promised.{HasWorked};
+    ghost use Rattle.rv_fleet.specs.Promised.{KeepsPromise};
 
     ghost kept_by = { λ p worked.
-        HasWorked (rows_at p.plan.now p.places.now) p.group p.claims.now worked };
+        KeepsPromise (rows_at p.plan.now p.places.now) p.group p.claims.now worked };
 }

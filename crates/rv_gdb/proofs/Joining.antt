@@ -5,8 +5,8 @@ use Rattle.std.proofs.KnownBytes.{Appends-nil, Appends-trans, Consumes-nil, Cons
 use Rattle.std.proofs.lemmas.Bool.{false≢true}
 use Rattle.std.proofs.lemmas.List.{drop_all, drop_more, take_all, take_more}
 use Rattle.std.specs.Io.KnownBytes.{Appends, Consumes, IsAtEnd}
-use Rattle.rv_session.specs.Incoming.{IsFed, is_interrupted, no_bytes}
-use Rattle.rv_session.specs.Sessions.{MayAsk}
+use Rattle.rv_session.specs.Incoming.{IsReceived, is_interrupted, no_bytes}
+use Rattle.rv_session.specs.Sessions.{IsOpenIfRequested}
 use Rattle.rv_session.specs.declared.session.Session.{Session}
 use Rattle.rv_session.proofs.Public.{fed_both, fed_byte, fed_move, worked_more, worked_unasked}
 use Rattle.rv_gdb.specs.Chunks.{IsByteAnswered, IsByteReplyWritten, IsChunkAnswered, IsMoveReplyWritten}
@@ -18,7 +18,7 @@ use Rattle.rv_gdb.specs.Conversing.{IsChunkRead, IsConversed, IsReadWhileOpen}
 pub record IsHeardIn (end_text : List ℕ) (session : Session) (chunk : List ℕ) (index : ℕ) (old new : Option (List ℕ))
     (standing : Session) : Type 0 where
   pub told : List ℕ
-  pub fed : (behind : Bool) → IsFed end_text (is_interrupted (drop index chunk) behind) session (take index chunk) told standing
+  pub fed : (behind : Bool) → IsReceived end_text (is_interrupted (drop index chunk) behind) session (take index chunk) told standing
   pub made : standing.asked ≡ None
   pub put : Appends old new told
 
@@ -36,7 +36,7 @@ comes chunk i d behind within = ap (λ (bytes : List ℕ). is_interrupted bytes 
 pub record IsHeardAt (end_text : List ℕ) (session : Session) (chunk : List ℕ) (index : ℕ) (old new : Option (List ℕ))
     (standing : Session) : Type 0 where
   pub told : List ℕ
-  pub fed : (behind : Bool) → IsFed end_text behind session (take (index + 1) chunk) told standing
+  pub fed : (behind : Bool) → IsReceived end_text behind session (take (index + 1) chunk) told standing
   pub put : Appends old new told
 
 pub heard_byte : (end_text : List ℕ) (session standing next : Session) (chunk : List ℕ) (i d : ℕ) (a b c : Option (List ℕ))
@@ -44,10 +44,10 @@ pub heard_byte : (end_text : List ℕ) (session standing next : Session) (chunk 
     → IsHeardAt end_text session chunk i a c next
 heard_byte end_text session standing next chunk i d a b c within first one = record {
   told = first.told ++ one.told;
-  fed = λ behind. subst (λ (bytes : List ℕ). IsFed end_text behind session bytes (first.told ++ one.told) next)
+  fed = λ behind. subst (λ (bytes : List ℕ). IsReceived end_text behind session bytes (first.told ++ one.told) next)
       (sym (take_more chunk i d within))
       (fed_byte end_text behind session standing next (take i chunk) first.told one.told (get_or chunk i d)
-      (subst (λ (may : Bool). IsFed end_text may session (take i chunk) first.told standing) (comes chunk i d true within)
+      (subst (λ (may : Bool). IsReceived end_text may session (take i chunk) first.told standing) (comes chunk i d true within)
       (first.fed true)) first.made one.heard);
   put = Appends-trans a b c first.told one.told first.put one.put;
 }
@@ -68,7 +68,7 @@ pub heard_move : (end_text : List ℕ) (session standing next : Session) (chunk 
     → IsMoveReplyWritten end_text (get_or chunk (i + 1) d == 3) standing b c next → IsHeardIn end_text session chunk (i + 1) a c next
 heard_move end_text session standing next chunk i d a b c within at move = record {
   told = at.told ++ move.told;
-  fed = λ behind. subst (λ (may : Bool). IsFed end_text may session (take (i + 1) chunk) (at.told ++ move.told) next)
+  fed = λ behind. subst (λ (may : Bool). IsReceived end_text may session (take (i + 1) chunk) (at.told ++ move.told) next)
       (sym (comes chunk (i + 1) d behind within))
       (fed_move end_text (get_or chunk (i + 1) d == 3) session standing next (take (i + 1) chunk) at.told move.told
       (at.fed (get_or chunk (i + 1) d == 3)) move.made);
@@ -87,7 +87,7 @@ heard_byte_on end_text session standing next chunk i a b c within first (inr mad
     (heard_byte end_text session standing made.standing chunk i 0 a b made.middle within first made.heard) made.moved
 
 -- a session that a move is asked for in is not over
-pub asked_going : (session : Session) → MayAsk session → is_some session.asked ≡ true → session.is_over ≡ false
+pub asked_going : (session : Session) → IsOpenIfRequested session → is_some session.asked ≡ true → session.is_over ≡ false
 asked_going session (inl none) is = absurd (false≢true (sym (ap is_some none) ∙ is))
 asked_going session (inr going) is = going
 
@@ -95,16 +95,16 @@ asked_going session (inr going) is = going
 
 -- the last byte of a chunk is heard
 at_end : (end_text : List ℕ) (may : Bool) (session next : Session) (chunk told : List ℕ) (i : ℕ) → i ≡ length chunk
-    → IsFed end_text may session (take i chunk) told next → IsFed end_text may session chunk told next
+    → IsReceived end_text may session (take i chunk) told next → IsReceived end_text may session chunk told next
 at_end end_text may session next chunk told i is fed =
-    subst (λ (bytes : List ℕ). IsFed end_text may session bytes told next) (take_all i chunk (omega arith)) fed
+    subst (λ (bytes : List ℕ). IsReceived end_text may session bytes told next) (take_all i chunk (omega arith)) fed
 
 -- all of it is heard, and nothing waits: behind it comes whatever comes
 heard_whole : (end_text : List ℕ) (session next : Session) (chunk : List ℕ) (i : ℕ) (a b : Option (List ℕ)) (may : Bool)
-    → i ≡ length chunk → (heard : IsHeardIn end_text session chunk i a b next) → IsFed end_text may session chunk heard.told next
+    → i ≡ length chunk → (heard : IsHeardIn end_text session chunk i a b next) → IsReceived end_text may session chunk heard.told next
 heard_whole end_text session next chunk i a b may is heard =
     at_end end_text may session next chunk heard.told i is
-    (subst (λ (rest : List ℕ). IsFed end_text (is_interrupted rest may) session (take i chunk) heard.told next)
+    (subst (λ (rest : List ℕ). IsReceived end_text (is_interrupted rest may) session (take i chunk) heard.told next)
     (drop_all i chunk (omega arith)) (heard.fed may))
 
 pub chunk_over : (end_text : List ℕ) (session next : Session) (chunk : List ℕ) (i : ℕ) (x y a b : Option (List ℕ)) → i ≡ length chunk
@@ -162,7 +162,7 @@ pub record IsHeardUpTo (end_text : List ℕ) (session : Session) (before after o
   pub read : Consumes before after (front ++ chunk)
   pub while_open : IsReadWhileOpen end_text session (front ++ chunk)
   pub ended : chunk ≡ [] → IsAtEnd after
-  pub fed : IsFed end_text (is_interrupted chunk true) session front told standing
+  pub fed : IsReceived end_text (is_interrupted chunk true) session front told standing
   pub made : standing.asked ≡ None
   pub put : Appends old new told
 
@@ -210,11 +210,11 @@ same_next (byte ∷ rest) one other some = refl
 
 -- all up to the chunk, and the chunk
 heard_both : (end_text : List ℕ) (may : Bool) (session between next : Session) (chunk more : List ℕ) (a b x y : Option (List ℕ))
-    → chunk ≢ [] → (first : IsHeardUpTo end_text session a b x y chunk between) → IsFed end_text may between chunk more next
-    → IsFed end_text may session (first.front ++ chunk) (first.told ++ more) next
+    → chunk ≢ [] → (first : IsHeardUpTo end_text session a b x y chunk between) → IsReceived end_text may between chunk more next
+    → IsReceived end_text may session (first.front ++ chunk) (first.told ++ more) next
 heard_both end_text may session between next chunk more a b x y some first second =
     fed_both end_text may chunk session between next first.front first.told more
-    (subst (λ (m : Bool). IsFed end_text m session first.front first.told between) (same_next chunk true may some) first.fed) second
+    (subst (λ (m : Bool). IsReceived end_text m session first.front first.told between) (same_next chunk true may some) first.fed) second
 
 pub heard_more : (end_text : List ℕ) (session between next : Session) (chunk bytes : List ℕ) (a b c x y z : Option (List ℕ)) → chunk ≢ []
     → IsHeardUpTo end_text session a b x y chunk between → IsChunkAnswered end_text between chunk b c y z (Some bytes) next
@@ -270,7 +270,7 @@ heard_all end_text session next chunk a b x y none up_to = (
     while_open = up_to.while_open;
     may_end = is_interrupted chunk true;
     ended = λ may. up_to.ended none;
-    fed = subst (λ (bytes : List ℕ). IsFed end_text (is_interrupted chunk true) session bytes up_to.told next)
+    fed = subst (λ (bytes : List ℕ). IsReceived end_text (is_interrupted chunk true) session bytes up_to.told next)
         (sym (ap (λ (last : List ℕ). up_to.front ++ last) none ∙ append-nil up_to.front)) up_to.fed;
     made = up_to.made;
     put = up_to.put;

@@ -10,7 +10,7 @@ use Rattle.rv_elf.specs.Loading.{map_check}
 use Rattle.rv_isa.specs.Extensions.{has, RV32C}
 use Rattle.rv_isa.specs.declared.sets.Isa.{Isa}
 use Rattle.rv_jobs.specs.Jobs.{console_path}
-use Rattle.rv_jobs.specs.Plans.{kept_for}
+use Rattle.rv_jobs.specs.Plans.{result_for_path}
 use Rattle.rv_jobs.specs.Reading.{◌>>=◌}
 use Rattle.rv_jobs.specs.declared.answers.Answer.{Answer}
 use Rattle.rv_jobs.specs.declared.kept.Kept.{Kept}
@@ -92,8 +92,8 @@ module _ (job : Job) (s : State) where
   begun_of kept.TooLong reference console e = cc
 
   pub begun : (answers : List Answer) → start_in answers job ≡ Ok s → IsBegun job (image_bytes answers job) s
-  begun answers e = begun_of (kept_for answers job.image) (option_map (kept_for answers) job.expect_signature)
-      (option_map (kept_for answers) (console_path job.expect_console)) e
+  begun answers e = begun_of (result_for_path answers job.image) (option_map (result_for_path answers) job.expect_signature)
+      (option_map (result_for_path answers) (console_path job.expect_console)) e
 
   -- it begins at the entry of the image that was read
   pub begun_at : (answers : List Answer) (image : Image) → start_in answers job ≡ Ok s → image_in answers job ≡ Some image

@@ -2,21 +2,21 @@
 use Rattle.std.specs.Prelude.{◌≡◌, ◌⊎◌, ◌+◌, ◌<◌, ◌==◌, ℕ, Bool, List, None, Some, Option, false, is_some, length, slice_index_or, true}
 use Rattle.std.specs.Io.KnownBytes.{Appends}
 use Rattle.rv_gdb.specs.Conversing.{IsChunkRead}
-use Rattle.rv_session.specs.Incoming.{IsByteFed, IsFed, IsWorked, is_interrupted}
+use Rattle.rv_session.specs.Incoming.{IsByteReceived, IsReceived, IsRequestedMoveMade, is_interrupted}
 use Rattle.rv_session.specs.declared.session.Session.{Session}
 
 -- the session received this byte and became `next`, and its reply was written: the output `old` became `new`
 pub record IsByteReplyWritten (session : Session) (byte : ℕ) (old new : Option (List ℕ)) (next : Session) : Type 0 where
   -- the reply
   pub told : List ℕ
-  pub heard : IsByteFed session byte told next
+  pub heard : IsByteReceived session byte told next
   pub put : Appends old new told
 
 -- the session made the requested move and became `next`, and its reply was written: the output `old` became `new`
 pub record IsMoveReplyWritten (end_text : List ℕ) (may_break : Bool) (session : Session) (old new : Option (List ℕ)) (next : Session) : Type 0 where
   -- the reply
   pub told : List ℕ
-  pub made : IsWorked end_text may_break session told next
+  pub made : IsRequestedMoveMade end_text may_break session told next
   pub put : Appends old new told
 
 -- the byte at this index of a chunk requested a move, which was made before the next byte of the chunk was received
@@ -39,31 +39,31 @@ IsByteAnswered end_text session chunk index false old new next =
     ⊎ IsMoveMade end_text session chunk index old new next
 
 -- whether the next chunk interrupts a move that is requested at the end of a chunk; false if there is no next chunk
-abbrev pub comes_next : Option (List ℕ) → Bool
-comes_next None = false
-comes_next (Some bytes) = is_interrupted bytes true
+abbrev pub is_interrupted_by_next : Option (List ℕ) → Bool
+is_interrupted_by_next None = false
+is_interrupted_by_next (Some bytes) = is_interrupted bytes true
 
 -- the session was not over after a chunk, when the next bytes were read
-pub record IsOpenBehind (end_text : List ℕ) (session : Session) (chunk bytes : List ℕ) : Type 0 where
+pub record IsOpenAfter (end_text : List ℕ) (session : Session) (chunk bytes : List ℕ) : Type 0 where
   -- the replies to the chunk
   pub told : List ℕ
   -- the session after the chunk
   pub standing : Session
-  pub fed : IsFed end_text (is_interrupted bytes true) session chunk told standing
+  pub fed : IsReceived end_text (is_interrupted bytes true) session chunk told standing
   pub is_open : standing.is_over ≡ false
 
 -- the next chunk was read while the session was open, or nothing was read since it is over
 abbrev pub IsNextRead : List ℕ → Session → List ℕ → Option (List ℕ) → Option (List ℕ) → Option (List ℕ) → Session → Type 0
 IsNextRead end_text session chunk before after None next = (after ≡ before) × (next.is_over ≡ true)
 IsNextRead end_text session chunk before after (Some bytes) next =
-    IsChunkRead before after bytes × IsOpenBehind end_text session chunk bytes
+    IsChunkRead before after bytes × IsOpenAfter end_text session chunk bytes
 
 -- the bytes of a chunk were handled, and the chunk `coming` was read if the session was not over
 pub record IsChunkAnswered (end_text : List ℕ) (session : Session) (chunk : List ℕ) (before after old new coming : Option (List ℕ))
     (next : Session) : Type 0 where
   -- the replies to the chunk
   pub told : List ℕ
-  pub fed : IsFed end_text (comes_next coming) session chunk told next
+  pub fed : IsReceived end_text (is_interrupted_by_next coming) session chunk told next
   pub made : next.asked ≡ None
   pub put : Appends old new told
   pub read : IsNextRead end_text session chunk before after coming next

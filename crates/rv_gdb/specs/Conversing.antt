@@ -1,7 +1,7 @@
 -- The bytes that gdb sends, and the replies to them.
 use Rattle.std.specs.Prelude.{◌≡◌, ◌≤◌, ◌++◌, ◌⊎◌, ℕ, Bool, List, [], None, Option, false, length, true}
 use Rattle.std.specs.Io.KnownBytes.{Appends, Consumes, IsAtEnd}
-use Rattle.rv_session.specs.Incoming.{IsFed, is_interrupted}
+use Rattle.rv_session.specs.Incoming.{IsReceived, is_interrupted}
 use Rattle.rv_session.specs.declared.session.Session.{Session}
 
 -- the maximum number of bytes in a read
@@ -23,7 +23,7 @@ pub record IsLastReadOpen (end_text : List ℕ) (session : Session) (heard : Lis
   -- the replies to the earlier bytes
   pub told : List ℕ
   pub standing : Session
-  pub fed : IsFed end_text (is_interrupted last true) session front told standing
+  pub fed : IsReceived end_text (is_interrupted last true) session front told standing
   pub is_open : standing.is_over ≡ false
 
 -- no read began after the session was over
@@ -43,7 +43,7 @@ pub record IsConversed (end_text : List ℕ) (session : Session) (before after o
   -- whether the end of the input may have interrupted a move; otherwise only the byte 0x03 did
   pub may_end : Bool
   pub ended : may_end ≡ true → IsAtEnd after
-  pub fed : IsFed end_text may_end session heard told next
+  pub fed : IsReceived end_text may_end session heard told next
   pub made : next.asked ≡ None
   pub put : Appends old new told
 

@@ -6,7 +6,7 @@ ghost use Rattle.rv_base.specs.Counts.{one_more};
 ghost use Rattle.rv_gdb.specs.Conversing.{IsChunkRead, IsConversed, IsEnded};
 ghost use Rattle.rv_gdb.specs.Chunks.{IsByteAnswered, IsByteReplyWritten, IsChunkAnswered, IsMoveReplyWritten};
 ghost use Rattle.rv_session.specs.Incoming.{is_interrupted};
-ghost use Rattle.rv_session.specs.Sessions.{IsSameRun, MayAsk};
+ghost use Rattle.rv_session.specs.Sessions.{IsSameRun, IsOpenIfRequested};
 
 use crate::ctrl_c::{CTRL_C, Raised, SharedInterrupt, Unraised};
 use crate::reads::{check_raised, read_ahead, read_chunk};
@@ -129,7 +129,7 @@ fn answer_byte<R, E: EndText, O: Sink>(
     requires of_run { E.start context.now.end.now ≡ session.old.history.start }
     ensures answered { IfOk result (λ waits. IsByteAnswered (E.end_text context.now.end.now) session.old chunk.now index waits
         (O.taken out.old) (O.taken out.new) session.new) }
-    ensures not_over { OnOk result (MayAsk session.new) }
+    ensures not_over { OnOk result (IsOpenIfRequested session.new) }
     ensures run { OnOk result (IsSameRun session.old session.new) }
     ensures failed { IfErr result (λ broken. broken ≡ SessionError.ReplyWriteFailed → O.failed out.new ≡ one_more (O.failed out.old)) }
     ensures unfailed { IfErr result (λ broken. broken ≢ SessionError.ReplyWriteFailed → O.failed out.new ≡ O.failed out.old) }
@@ -178,7 +178,7 @@ fn write_byte_reply<O: Sink>(
 ) -> Result<(), SessionError>
     requires { session.old.asked ≡ None }
     ensures answered { OnOk result (IsByteReplyWritten session.old byte (O.taken out.old) (O.taken out.new) session.new) }
-    ensures not_over { OnOk result (MayAsk session.new) }
+    ensures not_over { OnOk result (IsOpenIfRequested session.new) }
     ensures run { OnOk result (IsSameRun session.old session.new) }
     ensures failed { IfErr result (λ broken. broken ≡ SessionError.ReplyWriteFailed → O.failed out.new ≡ one_more (O.failed out.old)) }
     ensures unfailed { IfErr result (λ broken. broken ≢ SessionError.ReplyWriteFailed → O.failed out.new ≡ O.failed out.old) }
@@ -244,12 +244,12 @@ fn move_while_reading<R: Threads, E: EndText, I: Read + Send, O: Sink>(
     ensures counted { OnOk result (O.failed out.new ≡ O.failed out.old) }
 {
     let raised = AtomicBool::new(false);
-    move_beside_reader(context, session, input, out, &raised)
+    move_while_reading_into(context, session, input, out, &raised)
 }
 
 // Makes the requested move while another thread reads once. The move is interrupted if the bytes read begin with 0x03, if there are none,
 // or if the read fails.
-fn move_beside_reader<R: Threads, E: EndText, I: Read + Send, O: Sink>(
+fn move_while_reading_into<R: Threads, E: EndText, I: Read + Send, O: Sink>(
     context: &SessionContext<'_, R, E>,
     session: &mut Session,
     input: &mut I,

@@ -2,7 +2,7 @@
 use Rattle.std.proofs.Common.{◌≡◌, ◌==◌, ℕ, List, ap, cond, get_or, refl, sym, ◌∙◌}
 use Rattle.rv_machine.specs.declared.ending.FaultKind.{FaultKind}
 use Rattle.rv_machine.specs.declared.ending.FaultKind.TheVariants as fault
-use Rattle.rv_gdb_protocol.specs.Stops.{Told, Aborted, BadCall, BusError, Exited, FileTooLarge, IllegalInstruction, NoEnding, SegmentFault, UsedUp, fault_text, stop_text, told_by, told_by_fault}
+use Rattle.rv_gdb_protocol.specs.Stops.{Told, Aborted, BadCall, BusError, Exited, FileTooLarge, IllegalInstruction, NoEnding, SegmentFault, UsedUp, fault_text, stop_text, told_by, end_kind_of_fault}
 use Rattle.rv_gdb_protocol.specs.declared.request.Watched.TheVariants as watch
 use Rattle.rv_gdb_protocol.specs.declared.stop.Stop.{Stop}
 use Rattle.rv_gdb_protocol.specs.declared.stop.Stop.TheVariants as stop
@@ -27,7 +27,7 @@ of_zero text = cond (byte_at text 2 == 53) (of_trap text)
 abbrev of_reply : List ℕ → Told
 of_reply text = cond (byte_at text 1 == 48) (of_zero text) (cond (byte_at text 2 == 56) UsedUp FileTooLarge)
 
-fault_told : (kind : FaultKind) → of_reply (fault_text kind) ≡ told_by_fault kind
+fault_told : (kind : FaultKind) → of_reply (fault_text kind) ≡ end_kind_of_fault kind
 fault_told fault.FetchAccess = refl
 fault_told fault.LoadAccess = refl
 fault_told fault.StoreAccess = refl

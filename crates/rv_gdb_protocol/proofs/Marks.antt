@@ -5,7 +5,7 @@ use Rattle.std.proofs.lemmas.Bool.{and_from, and_parts, cases_eq, cond-false, co
 use Rattle.std.proofs.lemmas.List.Folds.{list_all-append}
 use Rattle.std.specs.List.{list_all, prefix_len}
 use Rattle.hex.specs.Hex.{hex_digit_value}
-use Rattle.rv_gdb_protocol.specs.Grammar.{TellsTwo, parted}
+use Rattle.rv_gdb_protocol.specs.Grammar.{AreTwoNumbers, parted}
 use Rattle.rv_gdb_protocol.specs.Numbers.{digit_on, number_of, numbers_at, place_of, until, with_digit}
 use Rattle.rv_gdb_protocol.specs.Requests.{comma}
 
@@ -73,7 +73,7 @@ number_lacks mark none text number told = digits_lack mark none (Some 0) text nu
 
 -- ---- two numbers
 
-pub two_numbers : (text : List ℕ) (first second : ℕ) → TellsTwo text first second → numbers_at comma text ≡ Some (first, second)
+pub two_numbers : (text : List ℕ) (first second : ℕ) → AreTwoNumbers text first second → numbers_at comma text ≡ Some (first, second)
 unfolding numbers_at
 two_numbers text first second tells =
     let place = place_between comma tells.front tells.behind (number_lacks comma refl tells.front first tells.front_tells) in
@@ -88,7 +88,7 @@ two_numbers text first second tells =
 
 -- a mark that is neither a digit nor a comma does not stand in them
 pub two_lack : (mark : ℕ) → hex_digit_value mark ≡ None → is_other mark comma ≡ true → (text : List ℕ) (first second : ℕ)
-    → TellsTwo text first second → list_all (is_other mark) text ≡ true
+    → AreTwoNumbers text first second → list_all (is_other mark) text ≡ true
 two_lack mark none other text first second tells =
     let front = number_lacks mark none tells.front first tells.front_tells in
     let behind = number_lacks mark none tells.behind second tells.behind_tells in

@@ -6,10 +6,10 @@ use Rattle.std.proofs.lemmas.List.Folds.{list_all-append}
 use Rattle.hex.specs.Hex.{encode_with, hex_digit_value, lower_digits}
 use Rattle.hex.proofs.HexLemmas.{IsDigits-lower_digits}
 use Rattle.rv_gdb_protocol.proofs.Hearing.{incoming_in-append, incoming_in-empty}
-use Rattle.rv_gdb_protocol.specs.Escapes.{begin_mark, changed, data_of, end_mark, escape, escaped, escaped_byte, has_meaning, is_escape}
+use Rattle.rv_gdb_protocol.specs.Escapes.{begin_mark, changed, data_of, end_mark, escape, escaped, escaped_byte, is_special, is_escape}
 use Rattle.rv_gdb_protocol.specs.Frames.{Frame, between, frame_after, incoming_in, most_body}
-use Rattle.rv_gdb_protocol.specs.Readback.{CanBeSent, IsHeardAlone, IsReadBack, heard_in_pieces, is_plain, joined, sent, verdict_of}
-use Rattle.rv_gdb_protocol.specs.Sums.{framed, judged_sum, sum_digits, sum_of, sum_of_digits}
+use Rattle.rv_gdb_protocol.specs.Readback.{CanBeSent, IsReceivedAlone, IsReadBack, incoming_in_pieces, is_plain, joined, sent, verdict_of}
+use Rattle.rv_gdb_protocol.specs.Sums.{framed, checksum_verdict, sum_digits, sum_of, sum_of_digits}
 use Rattle.rv_gdb_protocol.specs.declared.frame.Incoming.TheVariants.{Packet}
 use Rattle.rv_gdb_protocol.specs.declared.frame.Place.TheVariants as place
 use Rattle.rv_gdb_protocol.specs.declared.frame.Sum.TheVariants as verdict
@@ -57,15 +57,15 @@ sent_behind text high low can = body_behind [] text (end_mark ∷ high ∷ low �
 
 -- ---- pieces
 
-pieces_heard : (frame : Frame) (pieces : List (List ℕ)) → heard_in_pieces frame pieces ≡ incoming_in frame (joined pieces)
-unfolding heard_in_pieces
+pieces_heard : (frame : Frame) (pieces : List (List ℕ)) → incoming_in_pieces frame pieces ≡ incoming_in frame (joined pieces)
+unfolding incoming_in_pieces
 pieces_heard frame [] = sym (incoming_in-empty frame)
 pieces_heard frame (piece ∷ rest) =
     ap (λ more. incoming_in frame piece ++ more) (pieces_heard (fold frame_after frame piece) rest)
     ∙ sym (incoming_in-append frame piece (joined rest))
 
 pub sent_alone : (text : List ℕ) (high low : ℕ) → CanBeSent text
-    → IsHeardAlone (sent text high low) text (verdict_of text high low)
+    → IsReceivedAlone (sent text high low) text (verdict_of text high low)
 sent_alone text high low can = record {
   heard = λ pieces are. pieces_heard between pieces ∙ ap (incoming_in between) are ∙ sent_heard text high low can;
   behind = sent_behind text high low can;
@@ -73,20 +73,20 @@ sent_alone text high low can = record {
 
 -- ---- escapes
 
-meaning_cases : (byte : ℕ) → has_meaning byte ≡ true → (byte ≡ 36) ⊎ ((byte ≡ 35) ⊎ ((byte ≡ 125) ⊎ (byte ≡ 42)))
+meaning_cases : (byte : ℕ) → is_special byte ≡ true → (byte ≡ 36) ⊎ ((byte ≡ 35) ⊎ ((byte ≡ 125) ⊎ (byte ≡ 42)))
 meaning_cases byte is = grind arith
 
-meaning_escaped : (byte : ℕ) → has_meaning byte ≡ true → escaped_byte byte ≡ escape ∷ changed byte ∷ []
-meaning_escaped byte is = cond-true (has_meaning byte) (escape ∷ changed byte ∷ []) (byte ∷ []) is
+meaning_escaped : (byte : ℕ) → is_special byte ≡ true → escaped_byte byte ≡ escape ∷ changed byte ∷ []
+meaning_escaped byte is = cond-true (is_special byte) (escape ∷ changed byte ∷ []) (byte ∷ []) is
 
-plain_escaped : (byte : ℕ) → has_meaning byte ≡ false → escaped_byte byte ≡ byte ∷ []
-plain_escaped byte is = cond-false (has_meaning byte) (escape ∷ changed byte ∷ []) (byte ∷ []) is
+plain_escaped : (byte : ℕ) → is_special byte ≡ false → escaped_byte byte ≡ byte ∷ []
+plain_escaped byte is = cond-false (is_special byte) (escape ∷ changed byte ∷ []) (byte ∷ []) is
 
 -- what holds of the escapes of the four bytes, and of each other byte as it is, holds of each byte as it is escaped
 escapes_hold : (P : ℕ → List ℕ → Type 0) → P 36 (125 ∷ 4 ∷ []) → P 35 (125 ∷ 3 ∷ []) → P 125 (125 ∷ 93 ∷ [])
-    → P 42 (125 ∷ 10 ∷ []) → ((byte : ℕ) → has_meaning byte ≡ false → P byte (byte ∷ [])) → (byte : ℕ) → P byte (escaped_byte byte)
+    → P 42 (125 ∷ 10 ∷ []) → ((byte : ℕ) → is_special byte ≡ false → P byte (byte ∷ [])) → (byte : ℕ) → P byte (escaped_byte byte)
 escapes_hold P begins ends escapes repeats others byte =
-    elim (cases_Bool (has_meaning byte)) [
+    elim (cases_Bool (is_special byte)) [
       | inl is ↦ elim (meaning_cases byte is) [
         | inl e ↦ rw e begins
         | inr one ↦ elim one [
@@ -107,10 +107,10 @@ escaped_plain (byte ∷ body) =
     ∙ and_from (list_all is_plain (escaped_byte byte)) (list_all is_plain (escaped body)) (byte_plain byte) (escaped_plain body)
 
 -- a byte with no meaning is no escape
-other_byte : (byte : ℕ) → has_meaning byte ≡ false → (byte == escape) ≡ false
+other_byte : (byte : ℕ) → is_special byte ≡ false → (byte == escape) ≡ false
 other_byte byte is = grind arith
 
-other_data : (rest : List ℕ) (byte : ℕ) → has_meaning byte ≡ false → data_of false (byte ∷ rest) ≡ byte ∷ data_of false rest
+other_data : (rest : List ℕ) (byte : ℕ) → is_special byte ≡ false → data_of false (byte ∷ rest) ≡ byte ∷ data_of false rest
 unfolding data_of
 other_data rest byte is = rw (other_byte byte is) refl
 
@@ -145,12 +145,12 @@ sum_right text =
     let small : s < 256 = sum_small text in
     let high : ℕ = s / 16 in
     let low : ℕ = s % 16 in
-    ap (λ (told : Option ℕ). judged_sum s (sum_of_digits told (hex_digit_value (slice_index lower_digits low))))
+    ap (λ (told : Option ℕ). checksum_verdict s (sum_of_digits told (hex_digit_value (slice_index lower_digits low))))
     (IsDigits-lower_digits high (omega arith))
-    ∙ ap (λ (told : Option ℕ). judged_sum s (sum_of_digits (Some high) told)) (IsDigits-lower_digits low (omega arith))
+    ∙ ap (λ (told : Option ℕ). checksum_verdict s (sum_of_digits (Some high) told)) (IsDigits-lower_digits low (omega arith))
     ∙ cond-true (high * 16 + low == s) verdict.Right verdict.Wrong (eq-eqb (high * 16 + low) s (omega arith))
 
-framed_alone : (body : List ℕ) → length (escaped body) ≤ most_body → IsHeardAlone (framed body) (escaped body) verdict.Right
+framed_alone : (body : List ℕ) → length (escaped body) ≤ most_body → IsReceivedAlone (framed body) (escaped body) verdict.Right
 unfolding framed sum_digits encode_with
 framed_alone body fits =
     let text : List ℕ = escaped body in

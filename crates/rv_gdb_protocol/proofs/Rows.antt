@@ -2,11 +2,11 @@
 use Rattle.std.proofs.Common.{◌≡◌, ◌∷◌, ◌+◌, ◌≤◌, ℕ, List, Option, Some, true, false, ap, arith, eqb, length, refl}
 use Rattle.std.specs.List.{list_all}
 use Rattle.std.proofs.lemmas.Bool.{eq-eqb, le-leb, ne_eqb}
-use Rattle.rv_gdb_protocol.specs.Grammar.{IsAction, IsRequest, IsTrap, accesses, action_of_thread, actions, attached, choose_thread, clear_trap, close_file, command, description, detach, detach_process, features, file_size, file_system, first_action, first_threads, goes_back, goes_on, goes_on_signalled, hardware, image_path, is_alive, kill, kill_process, last_stop, more_threads, moves, no_acknowledgements, on_with_signal, one_action, open_file, plain_move, read_file, read_memory, reads, register, registers, restart, set_trap, software, stay_extended, step_with_signal, steps, steps_back, steps_signalled, steps_within, this_thread, write_data, write_digits, write_register, write_registers, writes}
+use Rattle.rv_gdb_protocol.specs.Grammar.{IsAction, IsRequest, IsTrap, accesses, action_of_thread, actions, attached, choose_thread, clear_stoppoint, close_file, command, description, detach, detach_process, features, file_size, file_system, first_action, first_threads, goes_back, goes_on, goes_on_signalled, hardware, image_path, is_alive, kill, kill_process, last_stop, more_threads, moves, no_acknowledgements, on_with_signal, one_action, open_file, plain_move, read_file, read_memory, reads, register, registers, restart, set_stoppoint, software, stay_extended, step_with_signal, steps, steps_back, steps_signalled, steps_within, this_thread, write_data, write_digits, write_register, write_registers, writes}
 use Rattle.rv_gdb_protocol.specs.Numbers.{behind}
 use Rattle.rv_gdb_protocol.specs.Packets as packet
 use Rattle.rv_gdb_protocol.specs.Requests as args
-use Rattle.rv_gdb_protocol.specs.Requests.{colon, comma, equals, register_of, semicolon, trap_at, trap_of, watch_at, watched, whole_data, written}
+use Rattle.rv_gdb_protocol.specs.Requests.{colon, comma, equals, register_of, semicolon, stoppoint_at, stoppoint_change, watch_at, watched, whole_data, written}
 use Rattle.rv_gdb_protocol.specs.declared.request.Move.{Move}
 use Rattle.rv_gdb_protocol.specs.declared.request.Range.{Range}
 use Rattle.rv_gdb_protocol.specs.declared.request.Request.{Request}
@@ -24,7 +24,7 @@ watch_fits : (kind : Watched) (address count : ℕ) → 1 ≤ count → count �
 watch_fits kind address count some few within =
     rw (le-leb 1 count some, le-leb count 65536 few, le-leb (address + count) 4294967296 within) refl
 
-trap_read : (text : List ℕ) (place : Stoppoint) → IsTrap text place → trap_at text ≡ Some (Some place)
+trap_read : (text : List ℕ) (place : Stoppoint) → IsTrap text place → stoppoint_at text ≡ Some (Some place)
 unfolding behind watch_at
 trap_read text place (software fields address kind tells) = rw (two_numbers fields address kind tells) refl
 trap_read text place (hardware fields address kind tells) = rw (two_numbers fields address kind tells) refl
@@ -75,7 +75,7 @@ some_byte byte text = ne_eqb (length (byte ∷ text)) 0 (λ is. omega arith)
 -- ---- each packet
 
 pub is_read : (body : List ℕ) (request : Request) → IsRequest body request → packet.request_of body ≡ request
-unfolding packet.request_of packet.request_without_bytes packet.bare_query packet.bare_order packet.query packet.reading packet.stoppoint_request packet.moving packet.first_action packet.granted packet.detach packet.is_file_call packet.request_with_bytes packet.command args.description args.register_of args.write_register args.write_registers args.write_digits args.write_data args.trap_of args.plain_move args.signal_move args.read_file args.image_path args.opened_file behind
+unfolding packet.request_of packet.request_without_bytes packet.bare_query packet.bare_command packet.query packet.reading packet.stoppoint_request packet.moving packet.first_action packet.granted packet.detach packet.is_file_call packet.request_with_bytes packet.command args.description args.register_of args.write_register args.write_registers args.write_digits args.write_data args.stoppoint_change args.plain_move args.signal_move args.read_file args.image_path args.opened_file behind
 is_read body request (features args) = refl
 is_read body request no_acknowledgements = refl
 is_read body request last_stop = refl
@@ -116,8 +116,8 @@ is_read body request (write_data range data_text bytes address count tells told 
       told,
       eq-eqb (length bytes) count long,
     ) refl
-is_read body request (set_trap text place is) = rw (trap_read text place is) refl
-is_read body request (clear_trap text place is) = rw (trap_read text place is) refl
+is_read body request (set_stoppoint text place is) = rw (trap_read text place is) refl
+is_read body request (clear_stoppoint text place is) = rw (trap_read text place is) refl
 is_read body request (plain_move text step goes_on) = refl
 is_read body request (plain_move text step steps) = refl
 is_read body request (on_with_signal signal number told) = rw told refl

@@ -4,7 +4,7 @@ use Rattle.std.specs.List.{list_all}
 use Rattle.std.proofs.lemmas.Bool.{and_from, cond_both, eqb-true, ltb-true, not_from_false, or_from}
 use Rattle.std.proofs.lemmas.List.Folds.{list_all-append}
 use Rattle.rv_gdb_protocol.specs.Escapes.{begin_mark, end_mark}
-use Rattle.rv_gdb_protocol.specs.Frames.{Frame, behind_byte, between, frame_after, incoming_at, received_in_state, longer_body, most_body, opened, passed_over, signal}
+use Rattle.rv_gdb_protocol.specs.Frames.{Frame, frame_after_in, between, frame_after, incoming_at, received_in_state, longer_body, most_body, opened, passed_over, signal}
 use Rattle.rv_gdb_protocol.specs.Readback.{CanBeSent, EndsWithSent, is_plain, sent, verdict_of}
 use Rattle.rv_gdb_protocol.specs.declared.frame.Incoming.TheVariants as heard
 use Rattle.rv_gdb_protocol.specs.declared.frame.Place.{Place}
@@ -75,7 +75,7 @@ goes_longer bytes text byte open_ no_begin no_end =
     (λ full. tt)
 
 one_byte : (stands : Place) (text bytes : List ℕ) (byte : ℕ) → Tells stands text bytes
-    → FrameTells (bytes ++ byte ∷ []) (behind_byte stands (record { place = stands; body = text }) byte)
+    → FrameTells (bytes ++ byte ∷ []) (frame_after_in stands (record { place = stands; body = text }) byte)
 one_byte place.Between text bytes byte told =
     cond_both (byte == begin_mark) opened (record { place = place.Between; body = text }) (FrameTells (bytes ++ byte ∷ []))
     (opens bytes byte) (λ no. tt)

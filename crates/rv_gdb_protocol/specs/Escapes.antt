@@ -19,8 +19,8 @@ abbrev pub repeat_mark : ℕ
 repeat_mark = 42
 
 -- whether a byte has a special meaning in a packet, so that it must be escaped
-abbrev pub has_meaning : ℕ → Bool
-has_meaning byte = byte == begin_mark || byte == end_mark || byte == escape || byte == repeat_mark
+abbrev pub is_special : ℕ → Bool
+is_special byte = byte == begin_mark || byte == end_mark || byte == escape || byte == repeat_mark
 
 -- a byte with bit 5 inverted, as it is written after `}`
 abbrev pub changed : ℕ → ℕ
@@ -28,7 +28,7 @@ changed byte = bit_xor byte 32
 
 -- the bytes that represent a byte in a packet: `}` and the byte with bit 5 inverted if it has a special meaning
 abbrev pub escaped_byte : ℕ → List ℕ
-escaped_byte byte = if has_meaning byte then escape ∷ changed byte ∷ [] else byte ∷ []
+escaped_byte byte = if is_special byte then escape ∷ changed byte ∷ [] else byte ∷ []
 
 -- a body as it is written in a packet, with escapes
 abbrev pub escaped : List ℕ → List ℕ

@@ -2,7 +2,7 @@
 use Rattle.std.specs.Prelude.{ℕ, List, [], ◌∷◌, ◌++◌, ◌==◌, Option, Some, None, if◌then◌else◌, length, nat_lt}
 use Rattle.hex.specs.Hex.{hex_digit_value}
 use Rattle.rv_gdb_protocol.specs.Escapes.{begin_mark, end_mark}
-use Rattle.rv_gdb_protocol.specs.Sums.{judged_sum, sum_of, sum_of_digits}
+use Rattle.rv_gdb_protocol.specs.Sums.{checksum_verdict, sum_of, sum_of_digits}
 use Rattle.rv_gdb_protocol.specs.declared.frame.Incoming.{Incoming}
 use Rattle.rv_gdb_protocol.specs.declared.frame.Incoming.TheVariants as heard
 use Rattle.rv_gdb_protocol.specs.declared.frame.Place.{Place}
@@ -45,24 +45,24 @@ longer_body body byte =
     if nat_lt (length body) most_body then record { place = place.Body; body = body ++ byte ∷ [] } else passed_over
 
 -- the parser after a byte, which it receives in the state `Place`; other bytes than `$` between packets are ignored
-abbrev pub behind_byte : Place → Frame → ℕ → Frame
-behind_byte place.Between frame byte = if byte == begin_mark then opened else frame
-behind_byte place.Body frame byte =
+abbrev pub frame_after_in : Place → Frame → ℕ → Frame
+frame_after_in place.Between frame byte = if byte == begin_mark then opened else frame
+frame_after_in place.Body frame byte =
     if byte == begin_mark then opened
     else if byte == end_mark then record { place = place.FirstDigit; body = frame.body }
     else longer_body frame.body byte
-behind_byte place.FirstDigit frame byte = record { place = place.SecondDigit byte; body = frame.body }
-behind_byte (place.SecondDigit high) frame byte = between
-behind_byte place.LongBody frame byte =
+frame_after_in place.FirstDigit frame byte = record { place = place.SecondDigit byte; body = frame.body }
+frame_after_in (place.SecondDigit high) frame byte = between
+frame_after_in place.LongBody frame byte =
     if byte == begin_mark then opened
     else if byte == end_mark then record { place = place.LongFirstDigit; body = frame.body }
     else frame
-behind_byte place.LongFirstDigit frame byte = record { place = place.LongSecondDigit; body = frame.body }
-behind_byte place.LongSecondDigit frame byte = record { place = place.Between; body = frame.body }
+frame_after_in place.LongFirstDigit frame byte = record { place = place.LongSecondDigit; body = frame.body }
+frame_after_in place.LongSecondDigit frame byte = record { place = place.Between; body = frame.body }
 
 -- the parser after a byte
 abbrev pub frame_after : Frame → ℕ → Frame
-frame_after frame byte = behind_byte frame.place frame byte
+frame_after frame byte = frame_after_in frame.place frame byte
 
 -- what a byte between packets means: 0x03 is Ctrl-C, `+` and `-` acknowledge a packet; none for any other byte
 abbrev pub signal : ℕ → Option Incoming
@@ -76,7 +76,7 @@ received_in_state place.Between body byte = signal byte
 received_in_state place.Body body byte = None
 received_in_state place.FirstDigit body byte = None
 received_in_state (place.SecondDigit high) body byte =
-    Some (heard.Packet body (judged_sum (sum_of body) (sum_of_digits (hex_digit_value high) (hex_digit_value byte))))
+    Some (heard.Packet body (checksum_verdict (sum_of body) (sum_of_digits (hex_digit_value high) (hex_digit_value byte))))
 received_in_state place.LongBody body byte = None
 received_in_state place.LongFirstDigit body byte = None
 received_in_state place.LongSecondDigit body byte = Some heard.TooLong

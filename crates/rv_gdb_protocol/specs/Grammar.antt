@@ -22,7 +22,7 @@ abbrev pub Lacks : ℕ → List ℕ → Type 0
 Lacks mark text = list_all (λ byte. not (byte == mark)) text ≡ true
 
 -- the text is the digits of two numbers, separated by a comma
-pub record TellsTwo (text : List ℕ) (first second : ℕ) : Type 0 where
+pub record AreTwoNumbers (text : List ℕ) (first second : ℕ) : Type 0 where
   pub front : List ℕ
   -- the digits of the second number
   pub behind : List ℕ
@@ -32,15 +32,15 @@ pub record TellsTwo (text : List ℕ) (first second : ℕ) : Type 0 where
 
 -- the arguments of `Z` and `z` for this stoppoint: 0 and 1 are breakpoints, 2 to 4 watchpoints for writes, reads and both
 pub data IsTrap : List ℕ → Stoppoint → Type 0 where
-  software : (fields : List ℕ) (address kind : ℕ) → TellsTwo fields address kind → IsTrap (codes "0," ++ fields) (trap.Break address)
-  hardware : (fields : List ℕ) (address kind : ℕ) → TellsTwo fields address kind → IsTrap (codes "1," ++ fields) (trap.Break address)
-  writes : (fields : List ℕ) (address count : ℕ) → TellsTwo fields address count → 1 ≤ count → count ≤ 65536
+  software : (fields : List ℕ) (address kind : ℕ) → AreTwoNumbers fields address kind → IsTrap (codes "0," ++ fields) (trap.Break address)
+  hardware : (fields : List ℕ) (address kind : ℕ) → AreTwoNumbers fields address kind → IsTrap (codes "1," ++ fields) (trap.Break address)
+  writes : (fields : List ℕ) (address count : ℕ) → AreTwoNumbers fields address count → 1 ≤ count → count ≤ 65536
       → address + count ≤ 4294967296
       → IsTrap (codes "2," ++ fields) (trap.Watch watch.Writes (record { address = address; count = count }))
-  reads : (fields : List ℕ) (address count : ℕ) → TellsTwo fields address count → 1 ≤ count → count ≤ 65536
+  reads : (fields : List ℕ) (address count : ℕ) → AreTwoNumbers fields address count → 1 ≤ count → count ≤ 65536
       → address + count ≤ 4294967296
       → IsTrap (codes "3," ++ fields) (trap.Watch watch.Reads (record { address = address; count = count }))
-  accesses : (fields : List ℕ) (address count : ℕ) → TellsTwo fields address count → 1 ≤ count → count ≤ 65536
+  accesses : (fields : List ℕ) (address count : ℕ) → AreTwoNumbers fields address count → 1 ≤ count → count ≤ 65536
       → address + count ≤ 4294967296
       → IsTrap (codes "4," ++ fields) (trap.Watch watch.Accesses (record { address = address; count = count }))
 
@@ -55,7 +55,7 @@ pub data IsAction : List ℕ → Move → Type 0 where
   goes_on_signalled : (signal : List ℕ) (number : ℕ) → number_of signal ≡ Some number
       → IsAction (codes "C" ++ signal) move.Continue
   steps_signalled : (signal : List ℕ) (number : ℕ) → number_of signal ≡ Some number → IsAction (codes "S" ++ signal) move.Step
-  steps_within : (range : List ℕ) (low high : ℕ) → TellsTwo range low high
+  steps_within : (range : List ℕ) (low high : ℕ) → AreTwoNumbers range low high
       → IsAction (codes "r" ++ range) (move.StepWithin low high)
 
 -- the body of a packet makes this request, by the grammar of the protocol
@@ -63,7 +63,7 @@ pub data IsRequest : List ℕ → Request → Type 0 where
   features : (args : List ℕ) → IsRequest (codes "qSupported" ++ args) ask.Features
   no_acknowledgements : IsRequest (codes "QStartNoAckMode") ask.NoAcknowledgements
   last_stop : IsRequest (codes "?") ask.LastStop
-  description : (part : List ℕ) (offset count : ℕ) → TellsTwo part offset count
+  description : (part : List ℕ) (offset count : ℕ) → AreTwoNumbers part offset count
       → IsRequest (codes "qXfer:features:read:target.xml:" ++ part) (ask.Description (record { offset = offset; count = count }))
   registers : IsRequest (codes "g") ask.Registers
   register : (digits : List ℕ) (number : ℕ) (which : Register) → number_of digits ≡ Some number
@@ -73,15 +73,15 @@ pub data IsRequest : List ℕ → Request → Type 0 where
       → IsRequest (codes "P" ++ parted equals digits values) (ask.WriteRegister which value)
   write_registers : (digits bytes : List ℕ) → bytes_of digits ≡ Some bytes → length bytes ≡ 132
       → IsRequest (codes "G" ++ digits) (ask.WriteRegisters bytes)
-  read_memory : (range : List ℕ) (address count : ℕ) → TellsTwo range address count
+  read_memory : (range : List ℕ) (address count : ℕ) → AreTwoNumbers range address count
       → IsRequest (codes "m" ++ range) (ask.ReadMemory (record { address = address; count = count }))
-  write_digits : (range digits bytes : List ℕ) (address count : ℕ) → TellsTwo range address count → bytes_of digits ≡ Some bytes
+  write_digits : (range digits bytes : List ℕ) (address count : ℕ) → AreTwoNumbers range address count → bytes_of digits ≡ Some bytes
       → length bytes ≡ count → IsRequest (codes "M" ++ parted colon range digits) (ask.WriteMemory address bytes)
-  write_data : (range data_text bytes : List ℕ) (address count : ℕ) → TellsTwo range address count
+  write_data : (range data_text bytes : List ℕ) (address count : ℕ) → AreTwoNumbers range address count
       → whole_data data_text ≡ Some bytes → length bytes ≡ count
       → IsRequest (codes "X" ++ parted colon range data_text) (ask.WriteMemory address bytes)
-  set_trap : (text : List ℕ) (place : Stoppoint) → IsTrap text place → IsRequest (codes "Z" ++ text) (ask.Set place)
-  clear_trap : (text : List ℕ) (place : Stoppoint) → IsTrap text place → IsRequest (codes "z" ++ text) (ask.Clear place)
+  set_stoppoint : (text : List ℕ) (place : Stoppoint) → IsTrap text place → IsRequest (codes "Z" ++ text) (ask.Set place)
+  clear_stoppoint : (text : List ℕ) (place : Stoppoint) → IsTrap text place → IsRequest (codes "z" ++ text) (ask.Clear place)
   actions : IsRequest (codes "vCont?") ask.Actions
   plain_move : (text : List ℕ) (step : Move) → IsMove text step → IsRequest text (ask.Move step)
   on_with_signal : (signal : List ℕ) (number : ℕ) → number_of signal ≡ Some number
@@ -108,13 +108,13 @@ pub data IsRequest : List ℕ → Request → Type 0 where
   this_thread : IsRequest (codes "qC") ask.Thread
   first_threads : IsRequest (codes "qfThreadInfo") ask.FirstThreads
   more_threads : IsRequest (codes "qsThreadInfo") ask.MoreThreads
-  image_path : (process part : List ℕ) (offset count : ℕ) → Lacks colon process → TellsTwo part offset count
+  image_path : (process part : List ℕ) (offset count : ℕ) → Lacks colon process → AreTwoNumbers part offset count
       → IsRequest (codes "qXfer:exec-file:read:" ++ parted colon process part)
       (ask.ImagePath (record { offset = offset; count = count }))
   file_system : IsRequest (codes "vFile:setfs:0") ask.FileSystem
-  open_file : (digits path modes : List ℕ) (mode : ℕ) → Lacks comma digits → bytes_of digits ≡ Some path → TellsTwo modes 0 mode
+  open_file : (digits path modes : List ℕ) (mode : ℕ) → Lacks comma digits → bytes_of digits ≡ Some path → AreTwoNumbers modes 0 mode
       → IsRequest (codes "vFile:open:" ++ parted comma digits modes) (ask.OpenFile path)
   file_size : IsRequest (codes "vFile:fstat:5") ask.FileSize
-  read_file : (part : List ℕ) (count offset : ℕ) → TellsTwo part count offset
+  read_file : (part : List ℕ) (count offset : ℕ) → AreTwoNumbers part count offset
       → IsRequest (codes "vFile:pread:5," ++ part) (ask.ReadFile (record { offset = offset; count = count }))
   close_file : IsRequest (codes "vFile:close:5") ask.CloseFile

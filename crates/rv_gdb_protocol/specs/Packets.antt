@@ -4,7 +4,7 @@ use Rattle.std.specs.List.{starts_with}
 use Rattle.std.specs.Option.{option_or}
 use Rattle.std.specs.Str.{bytes_eq}
 use Rattle.rv_gdb_protocol.specs.Numbers.{behind, bytes_of, until, ◌>>=◌}
-use Rattle.rv_gdb_protocol.specs.Requests.{colon, description, image_path, move_within, open_file, or_refused, plain_move, read_file, read_memory, read_register, semicolon, signal_move, move_with_signal, trap_of, write_data, write_digits, write_register, write_registers}
+use Rattle.rv_gdb_protocol.specs.Requests.{colon, description, image_path, move_within, open_file, or_refused, plain_move, read_file, read_memory, read_register, semicolon, signal_move, move_with_signal, stoppoint_change, write_data, write_digits, write_register, write_registers}
 use Rattle.rv_gdb_protocol.specs.declared.request.Move.{Move}
 use Rattle.rv_gdb_protocol.specs.declared.request.Move.TheVariants as move
 use Rattle.rv_gdb_protocol.specs.declared.request.Refusal.TheVariants as refusal
@@ -35,8 +35,8 @@ bare_query body =
     else None
 
 -- the request of a packet without arguments that has an effect
-unfoldable pub bare_order : List ℕ → Option Request
-bare_order body =
+unfoldable pub bare_command : List ℕ → Option Request
+bare_command body =
     if bytes_eq body (codes "bs") then Some (ask.Move move.StepBack)
     else if bytes_eq body (codes "bc") then Some (ask.Move move.ContinueBack)
     else if bytes_eq body (codes "k") then Some ask.Kill
@@ -71,7 +71,7 @@ reading body =
 
 -- the request of a packet that sets or clears a stoppoint
 unfoldable pub stoppoint_request : List ℕ → Option Request
-stoppoint_request body = named (codes "Z") (trap_of ask.Set) body <|> named (codes "z") (trap_of ask.Clear) body
+stoppoint_request body = named (codes "Z") (stoppoint_change ask.Set) body <|> named (codes "z") (stoppoint_change ask.Clear) body
 
 -- the action `c` or `s` of `vCont;`
 unfoldable pub bare_action : List ℕ → Option Move
@@ -151,7 +151,7 @@ request_with_bytes body =
 -- the request of a packet whose arguments contain no data bytes
 unfoldable pub request_without_bytes : List ℕ → Option Request
 request_without_bytes body =
-    bare_query body <|> bare_order body <|> query body <|> description_request body <|> image_path_request body <|> reading body <|> stoppoint_request body
+    bare_query body <|> bare_command body <|> query body <|> description_request body <|> image_path_request body <|> reading body <|> stoppoint_request body
     <|> moving body <|> granted body <|> detach_request body <|> file_reading body <|> other_file body
 
 -- the request that the body of a packet makes; other packets are refused as unknown

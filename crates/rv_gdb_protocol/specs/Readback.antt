@@ -4,7 +4,7 @@ use Rattle.std.specs.List.{flat_map, list_all}
 use Rattle.hex.specs.Hex.{hex_digit_value}
 use Rattle.rv_gdb_protocol.specs.Escapes.{begin_mark, data_of, end_mark, escaped, is_whole}
 use Rattle.rv_gdb_protocol.specs.Frames.{Frame, between, frame_after, incoming_in, most_body}
-use Rattle.rv_gdb_protocol.specs.Sums.{framed, judged_sum, sum_of, sum_of_digits}
+use Rattle.rv_gdb_protocol.specs.Sums.{framed, checksum_verdict, sum_of, sum_of_digits}
 use Rattle.rv_gdb_protocol.specs.declared.frame.Incoming.{Incoming}
 use Rattle.rv_gdb_protocol.specs.declared.frame.Incoming.TheVariants.{Packet}
 use Rattle.rv_gdb_protocol.specs.declared.frame.Sum.{Sum}
@@ -25,28 +25,28 @@ sent text high low = begin_mark ∷ (text ++ end_mark ∷ high ∷ low ∷ [])
 
 -- whether the digits `high` and `low` are the checksum of the text
 abbrev pub verdict_of : List ℕ → ℕ → ℕ → Sum
-verdict_of text high low = judged_sum (sum_of text) (sum_of_digits (hex_digit_value high) (hex_digit_value low))
+verdict_of text high low = checksum_verdict (sum_of text) (sum_of_digits (hex_digit_value high) (hex_digit_value low))
 
 -- the items that the parser receives in bytes that arrive in several pieces
-unfoldable pub heard_in_pieces : Frame → List (List ℕ) → List Incoming
-heard_in_pieces frame [] = []
-heard_in_pieces frame (piece ∷ rest) =
-    incoming_in frame piece ++ heard_in_pieces (fold frame_after frame piece) rest
+unfoldable pub incoming_in_pieces : Frame → List (List ℕ) → List Incoming
+incoming_in_pieces frame [] = []
+incoming_in_pieces frame (piece ∷ rest) =
+    incoming_in frame piece ++ incoming_in_pieces (fold frame_after frame piece) rest
 
 -- the bytes of all pieces, one piece after another
 abbrev pub joined : List (List ℕ) → List ℕ
 joined pieces = flat_map (λ piece. piece) pieces
 
 -- however the bytes are split, the parser receives exactly one packet, with this text and checksum, and is then between packets
-pub record IsHeardAlone (bytes text : List ℕ) (sum : Sum) : Type 0 where
+pub record IsReceivedAlone (bytes text : List ℕ) (sum : Sum) : Type 0 where
   -- in whatever pieces the bytes arrive, this packet is the only item received
-  pub heard : (pieces : List (List ℕ)) → joined pieces ≡ bytes → heard_in_pieces between pieces ≡ Packet text sum ∷ []
+  pub heard : (pieces : List (List ℕ)) → joined pieces ≡ bytes → incoming_in_pieces between pieces ≡ Packet text sum ∷ []
   -- afterwards the parser is between packets
   pub behind : fold frame_after between bytes ≡ between
 
 -- a framed body is received as one packet with a correct checksum, and its data is the body
 pub record IsReadBack (body : List ℕ) : Type 0 where
-  pub alone : IsHeardAlone (framed body) (escaped body) verdict.Right
+  pub alone : IsReceivedAlone (framed body) (escaped body) verdict.Right
   pub data_is : data_of false (escaped body) ≡ body
   pub whole : is_whole (escaped body) ≡ true
 

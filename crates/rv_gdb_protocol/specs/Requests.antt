@@ -164,8 +164,8 @@ write_data args = or_refused refusal.Malformed (write_memory whole_data args)
 -- ---- breakpoints and watchpoints
 
 -- the range in the arguments `,ADDRESS,COUNT`
-abbrev pub trap_range : List ℕ → Option Range
-trap_range text = do
+abbrev pub stoppoint_range : List ℕ → Option Range
+stoppoint_range text = do
   fields ← behind (codes ",") text
   range_at fields
 
@@ -176,12 +176,12 @@ watched kind range = if (nat_le 1 range.count && nat_le range.count 65536) && na
 
 -- the breakpoint at the address in the arguments `,ADDRESS,KIND`
 abbrev pub break_at : List ℕ → Option Stoppoint
-break_at text = option_map (λ (range : Range). trap.Break range.address) (trap_range text)
+break_at text = option_map (λ (range : Range). trap.Break range.address) (stoppoint_range text)
 
 -- the watchpoint of this kind for the range in the arguments `,ADDRESS,COUNT`
 unfoldable pub watch_at : Watched → List ℕ → Option Stoppoint
 watch_at kind text = do
-  range ← trap_range text
+  range ← stoppoint_range text
   watched kind range
 
 -- the watchpoint in the arguments, if their kind is 2 (writes), 3 (reads) or 4 (both); the inner option is none if they are malformed
@@ -191,8 +191,8 @@ kind_at args = option_or (option_map (watch_at watch.Writes) (behind (codes "2")
     (option_map (watch_at watch.Accesses) (behind (codes "4") args)))
 
 -- the stoppoint in the arguments, if their kind is 0 to 4, where 0 and 1 are breakpoints; the inner option is none if they are malformed
-abbrev pub trap_at : List ℕ → Option (Option Stoppoint)
-trap_at args = option_or (option_map break_at (behind (codes "0") args))
+abbrev pub stoppoint_at : List ℕ → Option (Option Stoppoint)
+stoppoint_at args = option_or (option_map break_at (behind (codes "0") args))
     (option_or (option_map break_at (behind (codes "1") args)) (kind_at args))
 
 -- the refusal of arguments with another kind: malformed if they are empty, and otherwise unknown
@@ -200,8 +200,8 @@ abbrev pub other_kind : List ℕ → Request
 other_kind args = if length args == 0 then ask.Refused refusal.Malformed else ask.Refused refusal.Unknown
 
 -- the request `change` for the stoppoint in the arguments; a refusal for other arguments
-unfoldable pub trap_of : (Stoppoint → Request) → List ℕ → Request
-trap_of change args = unwrap_or (option_map (λ found. or_refused refusal.Malformed (option_map change found)) (trap_at args))
+unfoldable pub stoppoint_change : (Stoppoint → Request) → List ℕ → Request
+stoppoint_change change args = unwrap_or (option_map (λ found. or_refused refusal.Malformed (option_map change found)) (stoppoint_at args))
     (other_kind args)
 
 -- ---- moves

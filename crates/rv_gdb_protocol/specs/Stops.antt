@@ -52,24 +52,24 @@ pub data Told : Type 0 where
   FileTooLarge : Told
 
 -- the kind of end that the stop reply for a fault reports
-abbrev pub told_by_fault : FaultKind → Told
-told_by_fault fault.FetchAccess = SegmentFault
-told_by_fault fault.LoadAccess = SegmentFault
-told_by_fault fault.StoreAccess = SegmentFault
-told_by_fault fault.FetchMisaligned = BusError
-told_by_fault fault.LoadMisaligned = BusError
-told_by_fault fault.StoreMisaligned = BusError
-told_by_fault fault.Illegal = IllegalInstruction
-told_by_fault fault.StaleCode = IllegalInstruction
-told_by_fault fault.Breakpoint = Aborted
-told_by_fault fault.UnknownCall = BadCall
-told_by_fault fault.ConsoleFull = FileTooLarge
+abbrev pub end_kind_of_fault : FaultKind → Told
+end_kind_of_fault fault.FetchAccess = SegmentFault
+end_kind_of_fault fault.LoadAccess = SegmentFault
+end_kind_of_fault fault.StoreAccess = SegmentFault
+end_kind_of_fault fault.FetchMisaligned = BusError
+end_kind_of_fault fault.LoadMisaligned = BusError
+end_kind_of_fault fault.StoreMisaligned = BusError
+end_kind_of_fault fault.Illegal = IllegalInstruction
+end_kind_of_fault fault.StaleCode = IllegalInstruction
+end_kind_of_fault fault.Breakpoint = Aborted
+end_kind_of_fault fault.UnknownCall = BadCall
+end_kind_of_fault fault.ConsoleFull = FileTooLarge
 
 -- the kind of end that the stop reply for a stop reports
 abbrev pub told_by : Stop → Told
 told_by stop.Exit = Exited
 told_by stop.Budget = UsedUp
-told_by (stop.Fault kind) = told_by_fault kind
+told_by (stop.Fault kind) = end_kind_of_fault kind
 told_by stop.Here = NoEnding
 told_by (stop.Watch kind address) = NoEnding
 told_by stop.Interrupt = NoEnding

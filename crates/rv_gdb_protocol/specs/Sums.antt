@@ -28,6 +28,6 @@ sum_of_digits (Some high) None = None
 sum_of_digits None low = None
 
 -- whether the received checksum is the correct one
-abbrev pub judged_sum : ℕ → Option ℕ → Sum
-judged_sum right (Some told) = if told == right then verdict.Right else verdict.Wrong
-judged_sum right None = verdict.Wrong
+abbrev pub checksum_verdict : ℕ → Option ℕ → Sum
+checksum_verdict right (Some told) = if told == right then verdict.Right else verdict.Wrong
+checksum_verdict right None = verdict.Wrong

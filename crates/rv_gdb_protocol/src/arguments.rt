@@ -1,7 +1,7 @@
 //! Parsers for the arguments of packets.
 
 ghost use Rattle.std.specs.Prelude.{◌≡◌};
-ghost use Rattle.rv_gdb_protocol.specs.Requests.{all_registers, break_at, description, elsewhere, image_path, kind_at, move_within, other_kind, part_at, plain_move, range_at, read_file, read_memory, read_register, register_at, register_of, register_write, signal_move, move_with_signal, trap_at, trap_range, watch_at, watched, write_register, written};
+ghost use Rattle.rv_gdb_protocol.specs.Requests.{all_registers, break_at, description, elsewhere, image_path, kind_at, move_within, other_kind, part_at, plain_move, range_at, read_file, read_memory, read_register, register_at, register_of, register_write, signal_move, move_with_signal, stoppoint_at, stoppoint_range, watch_at, watched, write_register, written};
 
 use crate::number::{behind, number_of, numbers_at, place_of, value_of};
 use crate::request::{Move, Part, Range, Refusal, Register, Request, Stoppoint, Watched};
@@ -145,8 +145,8 @@ pub(crate) fn written(range: Range, bytes: Vec<u8>) -> Option<Request>
 
 /// Parses a kind and `,ADDRESS,COUNT`: a breakpoint (0 or 1), or a watchpoint for writes (2), reads (3) or both (4). Returns `None` for
 /// another kind, and `Some(None)` for malformed arguments.
-pub(crate) fn trap_at(args: &[u8]) -> Option<Option<Stoppoint>>
-    ensures { result ≡ trap_at args.now }
+pub(crate) fn stoppoint_at(args: &[u8]) -> Option<Option<Stoppoint>>
+    ensures { result ≡ stoppoint_at args.now }
 {
     if let Some(fields) = behind(b"0", args) {
         return Some(break_at(fields));
@@ -157,7 +157,7 @@ pub(crate) fn trap_at(args: &[u8]) -> Option<Option<Stoppoint>>
     kind_at(args)
 }
 
-// Parses a watchpoint, like [`trap_at`].
+// Parses a watchpoint, like [`stoppoint_at`].
 fn kind_at(args: &[u8]) -> Option<Option<Stoppoint>>
     ensures { result ≡ kind_at args.now }
 {
@@ -175,7 +175,7 @@ fn kind_at(args: &[u8]) -> Option<Option<Stoppoint>>
 fn break_at(text: &[u8]) -> Option<Stoppoint>
     ensures { result ≡ break_at text.now }
 {
-    let range = trap_range(text)?;
+    let range = stoppoint_range(text)?;
     Some(Stoppoint::Break(range.address))
 }
 
@@ -184,12 +184,12 @@ fn break_at(text: &[u8]) -> Option<Stoppoint>
 fn watch_at(kind: Watched, text: &[u8]) -> Option<Stoppoint>
     ensures { result ≡ watch_at kind text.now }
 {
-    watched(kind, trap_range(text)?)
+    watched(kind, stoppoint_range(text)?)
 }
 
 // Parses `,ADDRESS,COUNT`.
-fn trap_range(text: &[u8]) -> Option<Range>
-    ensures { result ≡ trap_range text.now }
+fn stoppoint_range(text: &[u8]) -> Option<Range>
+    ensures { result ≡ stoppoint_range text.now }
 {
     range_at(behind(b",", text)?)
 }

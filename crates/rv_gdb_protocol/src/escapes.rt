@@ -1,7 +1,7 @@
 //! Escapes: how bytes with a special meaning are written in a frame.
 
 ghost use Rattle.std.specs.Prelude.{◌≡◌, ◌++◌, IfOk, OnOk, false};
-ghost use Rattle.rv_gdb_protocol.specs.Escapes.{data_byte, data_of, escaped, escaped_byte, has_meaning, is_escape, is_whole};
+ghost use Rattle.rv_gdb_protocol.specs.Escapes.{data_byte, data_of, escaped, escaped_byte, is_special, is_escape, is_whole};
 
 use std::alloc::AllocError;
 
@@ -25,7 +25,7 @@ pub fn push_escaped(out: &mut Vec<u8>, body: &[u8]) -> Result<(), AllocError>
 fn push_escaped_byte(out: &mut Vec<u8>, byte: u8) -> Result<(), AllocError>
     ensures { OnOk result (out.new.items ≡ out.old.items ++ escaped_byte byte) }
 {
-    if has_meaning(byte) {
+    if is_special(byte) {
         out.push(ESCAPE)?;
         out.push(byte ^ CHANGE)?;
     } else {
@@ -35,8 +35,8 @@ fn push_escaped_byte(out: &mut Vec<u8>, byte: u8) -> Result<(), AllocError>
 }
 
 // Whether a byte has a special meaning in a packet.
-fn has_meaning(byte: u8) -> bool
-    ensures { result ≡ has_meaning byte }
+fn is_special(byte: u8) -> bool
+    ensures { result ≡ is_special byte }
 {
     byte == b'$' || byte == b'#' || byte == ESCAPE || byte == b'*'
 }

@@ -3,7 +3,7 @@
 ghost use Rattle.std.specs.Prelude.{◌≡◌, ◌≤◌, ◌++◌, ◌∷◌, [], ℕ, List, fold, length};
 ghost use Rattle.rv_gdb_protocol.specs.Escapes.{escaped};
 ghost use Rattle.rv_gdb_protocol.specs.Frames.{Frame, between, frame_after, incoming_at, incoming_in, most_body};
-ghost use Rattle.rv_gdb_protocol.specs.Readback.{CanBeSent, EndsWithSent, IsHeardAlone, IsReadBack, sent, verdict_of};
+ghost use Rattle.rv_gdb_protocol.specs.Readback.{CanBeSent, EndsWithSent, IsReceivedAlone, IsReadBack, sent, verdict_of};
 ghost use Rattle.rv_gdb_protocol.specs.Grammar.{IsRequest};
 ghost use Rattle.rv_gdb_protocol.specs.Packets.{request_of};
 ghost use Rattle.rv_gdb_protocol.specs.Replies.{part_text};
@@ -26,13 +26,13 @@ pub fn framed_bodies_are_read_back()
 {}
 
 /// A text without `$` and `#`, followed by any two digits as its checksum, is received as one packet.
-pub fn sent_texts_are_heard()
+pub fn sent_texts_are_received()
     ensures { (text : List ℕ) (high low : ℕ) → CanBeSent text
-        → IsHeardAlone (sent text high low) text (verdict_of text high low) }
+        → IsReceivedAlone (sent text high low) text (verdict_of text high low) }
 {}
 
 /// If the parser receives a packet, the bytes so far end with that packet.
-pub fn heard_texts_were_sent()
+pub fn received_texts_were_sent()
     ensures { (bytes text : List ℕ) (byte : ℕ) (sum : Sum)
         → incoming_at (fold frame_after between bytes) byte ≡ Some (Packet text sum)
         → EndsWithSent (bytes ++ byte ∷ []) text sum }
@@ -40,7 +40,7 @@ pub fn heard_texts_were_sent()
 
 /// The stop reply tells how the run ended: stops with equal replies report equal ends, and a stop before the end never has the reply of one
 /// at the end.
-pub fn stops_tell_the_ending()
+pub fn stop_replies_show_the_ending()
     ensures { (one other : Stop) → stop_text one ≡ stop_text other → told_by one ≡ told_by other }
 {}
 

@@ -2,13 +2,13 @@
 
 ghost use Rattle.std.specs.Prelude.{◌≡◌};
 ghost use Rattle.std.specs.Str.{bytes_eq};
-ghost use Rattle.rv_gdb_protocol.specs.Requests.{trap_of};
+ghost use Rattle.rv_gdb_protocol.specs.Requests.{stoppoint_change};
 ghost use Rattle.rv_gdb_protocol.specs.declared.request.Request.TheVariants as ask;
-ghost use Rattle.rv_gdb_protocol.specs.Packets.{action_of, bare_action, bare_order, bare_query, description_request, detach, detach_request, file_reading, first_action, granted, image_path_request, is_file_call, request_without_bytes, moving, other_file, query, range_action, reading, signal_action, stoppoint_request};
+ghost use Rattle.rv_gdb_protocol.specs.Packets.{action_of, bare_action, bare_command, bare_query, description_request, detach, detach_request, file_reading, first_action, granted, image_path_request, is_file_call, request_without_bytes, moving, other_file, query, range_action, reading, signal_action, stoppoint_request};
 
 use crate::arguments::{
     description, image_path, move_with_signal, move_within, other_kind, plain_move, read_file,
-    read_memory, read_register, signal_move, trap_at, write_register,
+    read_memory, read_register, signal_move, stoppoint_at, write_register,
 };
 use crate::number::{behind, until};
 use crate::request::{Move, Refusal, Request};
@@ -19,7 +19,7 @@ pub(crate) fn request_without_bytes(body: &[u8]) -> Option<Request>
     ensures { result ≡ request_without_bytes body.now }
 {
     bare_query(body)
-        .or(bare_order(body))
+        .or(bare_command(body))
         .or(query(body))
         .or(description_request(body))
         .or(image_path_request(body))
@@ -64,9 +64,9 @@ fn bare_query(body: &[u8]) -> Option<Request>
 }
 
 // Parses a packet without arguments that has an effect.
-#[tactic(auto, unfolding(crate::specs::Packets::bare_order))]
-fn bare_order(body: &[u8]) -> Option<Request>
-    ensures { result ≡ bare_order body.now }
+#[tactic(auto, unfolding(crate::specs::Packets::bare_command))]
+fn bare_command(body: &[u8]) -> Option<Request>
+    ensures { result ≡ bare_command body.now }
 {
     if is(body, b"bs") {
         Some(Request::Move(Move::StepBack))
@@ -138,18 +138,18 @@ fn stoppoint_request(body: &[u8]) -> Option<Request>
     ensures { result ≡ stoppoint_request body.now }
 {
     if let Some(args) = behind(b"Z", body) {
-        return Some(set_trap(args));
+        return Some(set_stoppoint(args));
     }
     let args = behind(b"z", body)?;
-    Some(clear_trap(args))
+    Some(clear_stoppoint(args))
 }
 
 // Parses the arguments of `Z`, which sets a breakpoint or watchpoint.
-#[tactic(auto, unfolding(crate::specs::Requests::trap_of))]
-fn set_trap(args: &[u8]) -> Request
-    ensures { result ≡ trap_of ask.Set args.now }
+#[tactic(auto, unfolding(crate::specs::Requests::stoppoint_change))]
+fn set_stoppoint(args: &[u8]) -> Request
+    ensures { result ≡ stoppoint_change ask.Set args.now }
 {
-    match trap_at(args) {
+    match stoppoint_at(args) {
         Some(Some(trap)) => Request::Set(trap),
         Some(None) => Request::Refused(Refusal::Malformed),
         None => other_kind(args),
@@ -157,11 +157,11 @@ fn set_trap(args: &[u8]) -> Request
 }
 
 // Parses the arguments of `z`, which clears a breakpoint or watchpoint.
-#[tactic(auto, unfolding(crate::specs::Requests::trap_of))]
-fn clear_trap(args: &[u8]) -> Request
-    ensures { result ≡ trap_of ask.Clear args.now }
+#[tactic(auto, unfolding(crate::specs::Requests::stoppoint_change))]
+fn clear_stoppoint(args: &[u8]) -> Request
+    ensures { result ≡ stoppoint_change ask.Clear args.now }
 {
-    match trap_at(args) {
+    match stoppoint_at(args) {
         Some(Some(trap)) => Request::Clear(trap),
         Some(None) => Request::Refused(Refusal::Malformed),
         None => other_kind(args),

@@ -3,7 +3,7 @@
 ghost use Rattle.std.specs.Prelude.{◌≡◌, ◌≤◌, IfOk, OnErr, OnOk, Some, fold, length, take};
 
 use crate::frame::{Incoming, Place};
-use crate::sum::judged_sum;
+use crate::sum::checksum_verdict;
 use rv_base::Bytes;
 use std::alloc::{AllocError, Global};
 use std::marker::Model;
@@ -159,7 +159,7 @@ impl Reader {
     {
         self.place = Place::Between;
         let body = mem::replace(&mut self.body, Vec::new(alloc));
-        let sum = judged_sum(body.as_slice(), high, low);
+        let sum = checksum_verdict(body.as_slice(), high, low);
         Incoming::Packet(Bytes::new(body), sum)
     }
 }

@@ -2,7 +2,7 @@
 
 ghost use Rattle.std.specs.Prelude.{◌≡◌, ◌<◌, IfSome};
 ghost use Rattle.hex.specs.Hex.{hex_digit_value};
-ghost use Rattle.rv_gdb_protocol.specs.Sums.{judged_sum, sum_of, sum_of_digits};
+ghost use Rattle.rv_gdb_protocol.specs.Sums.{checksum_verdict, sum_of, sum_of_digits};
 
 use crate::frame::Sum;
 
@@ -19,8 +19,8 @@ pub(crate) fn sum_of(text: &[u8]) -> u8
 }
 
 /// Returns whether two digits are the checksum of a text.
-pub(crate) fn judged_sum(text: &[u8], high: u8, low: u8) -> Sum
-    ensures { result ≡ judged_sum (sum_of text.now) (sum_of_digits (hex_digit_value high) (hex_digit_value low)) }
+pub(crate) fn checksum_verdict(text: &[u8], high: u8, low: u8) -> Sum
+    ensures { result ≡ checksum_verdict (sum_of text.now) (sum_of_digits (hex_digit_value high) (hex_digit_value low)) }
 {
     match received_sum(high, low) {
         Some(told) if told == sum_of(text) => Sum::Right,

@@ -11,7 +11,7 @@ use Rattle.rv_machine.specs.State.{State}
 use Rattle.rv_trace.specs.Trace.{state_after}
 use Rattle.rv_trace.proofs.Public.{after_more, completes, each_completes, steps_more}
 use Rattle.rv_hang.specs.Quiet.{is_step_quiet}
-use Rattle.rv_hang.specs.Repetition.{AreQuiet, IsLastAgain, IsRepetition, again_behind, first_again, has_values}
+use Rattle.rv_hang.specs.Repetition.{AreQuiet, IsLastAgain, IsRepetition, again_after, first_again, has_values}
 use Rattle.rv_hang.specs.declared.hart.HartValues.{HartValues}
 use Rattle.rv_hang.specs.declared.repetition.Again.{Again}
 use Rattle.rv_hang.specs.declared.repetition.Repetition.{Repetition}
@@ -186,7 +186,7 @@ module _ (values : HartValues) (begin place : ℕ) (s t : State) (here : t ≡ s
       some (Some a) k = (later a.first q k.0, later a.last q k.1, k.2, k.3)
 
   pub known_more : (again : Option Again) → begin ≤ place → Known values begin place s again
-      → Known values begin (place + 1) s (again_behind again place values t)
+      → Known values begin (place + 1) s (again_after again place values t)
   known_more again l known = by (is_step_quiet t) (has_values values t) refl refl
     where
       by : (q h : Bool) → is_step_quiet t ≡ q → has_values values t ≡ h

@@ -4,7 +4,7 @@ use Rattle.std.proofs.Math.Dec.{ltb}
 use Rattle.std.proofs.lemmas.Bool.{both_ways, lt-ltb, ltb-true}
 use Rattle.rv_machine.specs.State.{State}
 use Rattle.rv_trace.specs.Trace.{state_after}
-use Rattle.rv_hang.specs.Repetition.{IsWaitTold, waits_up_to}
+use Rattle.rv_hang.specs.Repetition.{IsWaitReported, waits_up_to}
 use Rattle.rv_hang.specs.ScriptEnd.{reads_script_end}
 use Rattle.rv_hang.proofs.Cycles.{order}
 
@@ -42,7 +42,7 @@ module _ (begin place : ℕ) (s t : State) (here : t ≡ state_after place s) wh
 
 -- from a place on there is such a load where the last is not before it
 pub wait_told : (begin steps first period waited : ℕ) (s : State) → begin ≤ first → Waited begin steps s waited
-    → IsWaitTold steps s (record { begin = first; period = period; waits = ltb first waited })
+    → IsWaitReported steps s (record { begin = first; period = period; waits = ltb first waited })
 wait_told begin steps first period waited s l known = record {
   load = λ e. (let less = ltb-true first waited e in
       let found = known.some (waited - 1) (omega arith) in (waited - 1, omega arith, found.0, found.1));

@@ -5,7 +5,7 @@ use Rattle.rv_jobs.specs.declared_job.Job.{Job}
 use Rattle.rv_machine.specs.Run.{run_of}
 use Rattle.rv_machine.specs.State.{State}
 use Rattle.rv_rows.specs.Rows.{start_in}
-use Rattle.rv_hang.specs.Repetition.{IsLastAgain, IsRepetition, IsWaitTold}
+use Rattle.rv_hang.specs.Repetition.{IsLastAgain, IsRepetition, IsWaitReported}
 use Rattle.rv_hang.specs.declared.budget_use.BudgetUse.{BudgetUse}
 use Rattle.rv_hang.specs.declared.budget_use.BudgetUse.TheVariants.{Changes, Repeats}
 
@@ -16,7 +16,7 @@ searched_steps steps = min steps 100_000
 -- The analysis of a run of `steps` steps from a state on: either a state repeats; or no step among those searched has the pc and the
 -- registers of the end and is followed only by steps that cannot change the bus.
 abbrev pub IsBudgetUse : ℕ → State → BudgetUse → Type 0
-IsBudgetUse steps s (Repeats r) = IsRepetition steps s r × IsWaitTold steps s r
+IsBudgetUse steps s (Repeats r) = IsRepetition steps s r × IsWaitReported steps s r
 IsBudgetUse steps s (Changes within) = (within ≡ searched_steps steps)
     × ((place : ℕ) → steps - within ≤ place → IsLastAgain steps place s → ⊥)
 

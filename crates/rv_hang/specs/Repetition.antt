@@ -31,7 +31,7 @@ pub record IsLastAgain (steps place : ℕ) (s : State) : Type 0 where
   pub quiet : AreQuiet place steps s
 
 -- the repetition is reported to wait for input exactly if some step from its begin on loads from the exhausted input script
-pub record IsWaitTold (steps : ℕ) (s : State) (r : Repetition) : Type 0 where
+pub record IsWaitReported (steps : ℕ) (s : State) (r : Repetition) : Type 0 where
   pub load : r.waits ≡ true → (k : ℕ) × (r.begin ≤ k) × (k < steps) × (reads_script_end (state_after k s) ≡ true)
   pub all : (k : ℕ) → r.begin ≤ k → k < steps → reads_script_end (state_after k s) ≡ true → r.waits ≡ true
 
@@ -44,8 +44,8 @@ first_again (Some again) place = again.first
 
 -- the first and the last step with these values after which no step can change the bus, updated for step `place`, before which the state is
 -- `s`
-abbrev pub again_behind : Option Again → ℕ → HartValues → State → Option Again
-again_behind again place values s =
+abbrev pub again_after : Option Again → ℕ → HartValues → State → Option Again
+again_after again place values s =
     if is_step_quiet s then (if has_values values s
     then Some (record { first = first_again again place; last = place }) else again)
     else None

@@ -41,7 +41,7 @@ pub fn budget_use_of(
         Ok(machine) => machine,
         Err(_) => return Ok(None),
     };
-    let Some(end) = values_behind(machine, steps) else {
+    let Some(end) = values_after(machine, steps) else {
         return Ok(None);
     };
     match machine_at(alloc, job.plan, job.place, job.image)? {
@@ -51,7 +51,7 @@ pub fn budget_use_of(
 }
 
 // Returns the pc and the registers after `steps` steps of a machine; `None` if it does not complete them.
-fn values_behind(machine: Machine, steps: u32) -> Option<HartValues>
+fn values_after(machine: Machine, steps: u32) -> Option<HartValues>
     ensures { MatchOption result ((run_of steps (state_of machine)).steps ≡ steps → ⊥)
         (λ end. ((run_of steps (state_of machine)).steps ≡ steps)
         × (has_values end (state_after steps (state_of machine)) ≡ true)) }

@@ -1,7 +1,7 @@
 //! Repeated states.
 
 ghost use Rattle.std.specs.Prelude.{◌≡◌, ◌≤◌, ◌<◌, ◌-◌, ℕ, IfSome, is_some, true};
-ghost use Rattle.rv_hang.specs.Repetition.{IsLastAgain, IsRepetition, IsWaitTold, again_behind, has_values, waits_up_to};
+ghost use Rattle.rv_hang.specs.Repetition.{IsLastAgain, IsRepetition, IsWaitReported, again_after, has_values, waits_up_to};
 ghost use Rattle.rv_machine.specs.Machine.{state_of};
 ghost use Rattle.rv_machine.specs.Run.{run_of};
 ghost use Rattle.rv_trace.specs.Trace.{state_after};
@@ -33,7 +33,7 @@ pub fn find_repetition(
     requires complete { (run_of steps (state_of machine)).steps ≡ steps }
     requires end { has_values end.now (state_after steps (state_of machine)) ≡ true }
     ensures repetition { IfSome result (IsRepetition steps (state_of machine)) }
-    ensures waits { IfSome result (IsWaitTold steps (state_of machine)) }
+    ensures waits { IfSome result (IsWaitReported steps (state_of machine)) }
     ensures found { (place : ℕ) → steps - within ≤ place → IsLastAgain steps place (state_of machine)
         → is_some result ≡ true }
 {
@@ -64,7 +64,7 @@ struct Again {
 
 // Returns the first and the last step updated for step `place`, given the machine before it.
 fn again_at(again: Option<Again>, machine: &Machine, place: u32, end: &HartValues) -> Option<Again>
-    ensures { result ≡ again_behind again place end.now (state_of machine.now) }
+    ensures { result ≡ again_after again place end.now (state_of machine.now) }
 {
     if !is_step_quiet(machine) {
         return None;

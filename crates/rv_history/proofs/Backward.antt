@@ -12,8 +12,8 @@ use Rattle.rv_history.specs.declared.stepping.Stepped.{Stepped}
 use Rattle.rv_history.specs.declared.stepping.Stepped.TheVariants as stepped
 use Rattle.rv_history.specs.declared.stops.Stops.{Stops}
 use Rattle.rv_history.specs.LastStop.{AreQuiet, IsLastOn, IsQuietAt, last_at, last_stop_after}
-use Rattle.rv_history.specs.Moves.{GoesOnBack, IsChangeBefore, IsStepBefore, IsStopBefore, IsUninterrupted, MeetsBack}
-use Rattle.rv_history.specs.Places.{IsBreakAt, IsChangeAt, IsReached, last_place}
+use Rattle.rv_history.specs.Moves.{HasNoStopBack, IsChangeBefore, IsStepBefore, IsStopBefore, IsUninterrupted, IsStopBack}
+use Rattle.rv_history.specs.Places.{IsBreakAt, IsChangeAt, IsReached, last_step}
 use Rattle.rv_history.specs.Stepping.{IsStepped}
 use Rattle.rv_history.specs.Stops.{TriggersWatch, TriggersNoWatch, is_break}
 use Rattle.rv_history.proofs.Reaching.{next_place}
@@ -49,8 +49,8 @@ no_break_later stops from place start order absent before is =
 
 -- what a move meets, it meets from a place later, if there is no break where it began
 meets_later : (stops : Stops) (budget from place : ℕ) (start : State) (found : Found) → place ≤ from
-    → (IsBreakAt stops start from → ⊥) → IsUninterrupted found → MeetsBack stops budget start from place found
-    → MeetsBack stops budget start (from + 1) place found
+    → (IsBreakAt stops start from → ⊥) → IsUninterrupted found → IsStopBack stops budget start from place found
+    → IsStopBack stops budget start (from + 1) place found
 meets_later stops budget from place start found.Break order absent unbroken meets = (omega arith, meets.1)
 meets_later stops budget from place start found.Change order absent unbroken meets =
     (meets.0, λ below is. no_break_later stops from place start order absent meets.1 is)
@@ -61,7 +61,7 @@ meets_later stops budget from place start found.Done order absent unbroken meets
 meets_later stops budget from place start found.Interrupted order absent unbroken meets = absurd (unbroken refl)
 
 goes_later : (stops : Stops) (budget from j : ℕ) (start : State) → j ≤ from → (IsBreakAt stops start from → ⊥)
-    → GoesOnBack stops budget start from j → GoesOnBack stops budget start (from + 1) j
+    → HasNoStopBack stops budget start from j → HasNoStopBack stops budget start (from + 1) j
 goes_later stops budget from j start order absent goes = record {
   no_break = λ below is. no_break_later stops from j start order absent goes.no_break is;
   no_change = goes.no_change;
@@ -69,7 +69,7 @@ goes_later stops budget from j start order absent goes = record {
 
 -- the place behind a step that changes nothing
 goes_there : (stops : Stops) (budget from : ℕ) (start : State) → (IsChangeAt stops budget start from → ⊥)
-    → GoesOnBack stops budget start (from + 1) (from + 1)
+    → HasNoStopBack stops budget start (from + 1) (from + 1)
 goes_there stops budget from start none = record {
   no_break = λ below. absurd (omega arith);
   no_change = λ change. none (change_before stops budget from start change);
@@ -132,7 +132,7 @@ last_quiet stops budget begin from start s last false reached told none stop =
 
 -- behind a step of any kind
 pub last_more : (stops : Stops) (budget begin from : ℕ) (start s t : State) (last : Option StopInfo) (is : Bool) (kind : Stepped)
-    → IsReached start from s → from < last_place budget start → is ≡ is_break stops s.pc → IsStepped stops s t kind → from < budget
+    → IsReached start from s → from < last_step budget start → is ≡ is_break stops s.pc → IsStepped stops s t kind → from < budget
     → IsLastOn stops budget start begin from last → IsLastOn stops budget start begin (from + 1) (last_stop_after last from is kind)
 last_more stops budget begin from start s t last is stepped.Changed reached goes told did within stop =
     (last_changes stops budget from start (change_at stops budget from start s t reached within did.0 did.1), λ same. cc same)
@@ -189,7 +189,7 @@ stays_broken stops budget from start = record {
 
 -- the machine behind a step that completes
 pub stepped_place : (stops : Stops) (budget from : ℕ) (start s t : State) (kind : Stepped) → IsReached start from s
-    → from < last_place budget start → IsStepped stops s t kind → IsReached start (from + 1) t
+    → from < last_step budget start → IsStepped stops s t kind → IsReached start (from + 1) t
 stepped_place stops budget from start s t stepped.Changed reached goes did = next_place start s t from reached did.0
 stepped_place stops budget from start s t stepped.Quiet reached goes did = next_place start s t from reached did.0
 stepped_place stops budget from start s t (stepped.Ended ending) reached goes did =

@@ -17,7 +17,7 @@ use Rattle.rv_history.specs.declared.found.StopInfo.{StopInfo}
 use Rattle.rv_history.specs.declared.stepping.Stepped.TheVariants as stepped
 use Rattle.rv_history.specs.declared.stops.Stops.{Stops}
 use Rattle.rv_history.specs.LastStop.{IsLastOn}
-use Rattle.rv_history.specs.Places.{IsReached, last_place}
+use Rattle.rv_history.specs.Places.{IsReached, last_step}
 use Rattle.rv_history.specs.Stops.{AreUnwatched, is_break, is_halt, is_outside}
 use Rattle.rv_history.proofs.Backward.{last_more}
 use Rattle.rv_history.proofs.Forward.{QuietUpTo, quiet_more}
@@ -107,18 +107,18 @@ quiet_run stops within budget from place n start s t all none reached few ran ab
 -- ---- backwards
 
 -- a step within a run that comes to its end completes
-pub step_completes : (o : Option Ending) (end place : ℕ) (start s t : State) → IsReached start place s → place < last_place end start
+pub step_completes : (o : Option Ending) (end place : ℕ) (start s t : State) → IsReached start place s → place < last_step end start
     → MatchOption o (step_of s ≡ Ok t) (λ e. (step_of s ≡ Err e) × (t ≡ s)) → step_of s ≡ Ok t
 step_completes None end place start s t reached goes did = did
 step_completes (Some e) end place start s t reached goes did =
     let ok = ap step_of reached.same ∙ each_completes end place start goes in absurd (cc (sym did.0, ok))
 
 pub last_run : (stops : Stops) (budget begin place n : ℕ) (start s t : State) (last : Option StopInfo) → AreUnwatched stops
-    → IsReached start place s → place + n ≤ last_place budget start → last_place budget start ≤ budget → Completes n s t
+    → IsReached start place s → place + n ≤ last_step budget start → last_step budget start ≤ budget → Completes n s t
     → BeginsAtNone stops n s → IsLastOn stops budget start begin place last
     → IsLastOn stops budget start begin (place + n) last × IsReached start (place + n) t
 last_run stops budget begin place n start s t last none reached few within ran absent so =
-    over_run stops (λ k. IsLastOn stops budget start begin k last) start (last_place budget start)
+    over_run stops (λ k. IsLastOn stops budget start begin k last) start (last_step budget start)
     (λ k u v there low e begins stop. last_more stops budget begin k start u v last false stepped.Quiet there low (sym begins)
     (e, is_unset stops u v none) (omega arith) stop)
     n place s t reached few ran absent so

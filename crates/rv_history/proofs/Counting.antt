@@ -7,7 +7,7 @@ use Rattle.rv_machine.specs.Run.{step_of}
 use Rattle.rv_machine.specs.State.{State}
 use Rattle.rv_memory.specs.Bus.{Contents}
 use Rattle.rv_history.specs.Counts.{IsFound, count_at, count_in}
-use Rattle.rv_history.specs.Places.{IsReached, last_place}
+use Rattle.rv_history.specs.Places.{IsReached, last_step}
 use Rattle.rv_history.specs.declared.counts.Count.{Count}
 use Rattle.rv_history.proofs.Reaching.{comes_within, ends_by_budget, ends_here}
 
@@ -38,7 +38,7 @@ found_here count value budget place start s reached within is before = record {
 }
 
 none_to_end : (count : Count) (value budget place : ℕ) (start s : State) → IsReached start place s
-    → place ≡ last_place budget start → (count_in count (length start.bus.script) s.bus ≡ value → ⊥)
+    → place ≡ last_step budget start → (count_in count (length start.bus.script) s.bus ≡ value → ⊥)
     → LacksUpTo count value start place → IsFound count value budget start None
 none_to_end count value budget place start s reached end other before j within is =
     lacks_more count value place start s reached other before j (omega arith) is

@@ -11,8 +11,8 @@ use Rattle.rv_history.specs.declared.bounds.Bounds.{Bounds}
 use Rattle.rv_history.specs.declared.found.Found.{Found}
 use Rattle.rv_history.specs.declared.found.Found.TheVariants as found
 use Rattle.rv_history.specs.declared.stops.Stops.{Stops}
-use Rattle.rv_history.specs.Moves.{GoesOnAhead, IsNextStep, IsNextStop, found_at_budget}
-use Rattle.rv_history.specs.Places.{IsChangeAt, IsHaltAt, IsReached, last_place}
+use Rattle.rv_history.specs.Moves.{HasNoStopAhead, IsNextStep, IsNextStop, found_at_budget}
+use Rattle.rv_history.specs.Places.{IsChangeAt, IsHaltAt, IsReached, last_step}
 use Rattle.rv_history.specs.Stops.{TriggersWatch, TriggersNoWatch, is_halt, access_hit}
 use Rattle.rv_history.proofs.Reaching.{comes_within, ends_by_budget, ends_here, goes_on, next_place}
 
@@ -58,7 +58,7 @@ no_change_at stops budget place start s t reached e same change =
 
 -- what is known of the places up to one
 abbrev pub QuietUpTo : Stops → Bounds → ℕ → State → ℕ → ℕ → Type 0
-QuietUpTo stops bounds budget start from place = (j : ℕ) → from ≤ j → j < place → GoesOnAhead stops bounds budget start from j
+QuietUpTo stops bounds budget start from place = (j : ℕ) → from ≤ j → j < place → HasNoStopAhead stops bounds budget start from j
 
 pub quiet_more : (stops : Stops) (bounds : Bounds) (budget from place : ℕ) (start s t : State) → IsReached start place s → place < budget
     → step_of s ≡ Ok t → TriggersNoWatch stops s t → (ltb from place && is_halt stops bounds s.pc) ≡ false
@@ -172,6 +172,6 @@ step_ends stops budget from start s ending reached within e = (refl, ends_here b
 pub step_by_budget : (stops : Stops) (budget from : ℕ) (start : State) → from ≡ budget → (run_of from start).steps ≡ from
     → IsNextStep stops budget start from from (found.End Budget)
 step_by_budget stops budget from start end there =
-    let End : ℕ → Type 0 = λ k. (k ≡ last_place budget start) × (Budget ≡ (run_of budget start).ending) in
+    let End : ℕ → Type 0 = λ k. (k ≡ last_step budget start) × (Budget ≡ (run_of budget start).ending) in
     let all : (run_of budget start).steps ≡ budget = subst (λ (k : ℕ). (run_of k start).steps ≡ k) end there in
     (refl, subst End (sym end) (ends_by_budget budget start all))

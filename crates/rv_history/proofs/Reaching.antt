@@ -6,7 +6,7 @@ use Rattle.rv_machine.specs.Run.{Ran, go_on, run_of, step_of}
 use Rattle.rv_machine.specs.State.{State}
 use Rattle.rv_trace.specs.Trace.{state_after}
 use Rattle.rv_trace.proofs.Public.{after_more, after_none, completes, steps_more}
-use Rattle.rv_history.specs.Places.{IsReached, last_place}
+use Rattle.rv_history.specs.Places.{IsReached, last_step}
 
 -- ---- one step
 
@@ -82,7 +82,7 @@ next_place start s t place reached e =
 
 -- the run comes to a place within its budget
 pub comes_within : (budget place : ℕ) (start : State) → (run_of place start).steps ≡ place → place ≤ budget
-    → place ≤ last_place budget start
+    → place ≤ last_step budget start
 comes_within budget place start h within =
     let rest = budget - place in
     let sum : place + rest ≡ budget = omega arith in
@@ -90,7 +90,7 @@ comes_within budget place start h within =
     let same = ap (λ k. (run_of k start).steps) sum in
     omega arith
 
-pub comes : (budget place : ℕ) (start : State) → place ≤ last_place budget start → (run_of place start).steps ≡ place
+pub comes : (budget place : ℕ) (start : State) → place ≤ last_step budget start → (run_of place start).steps ≡ place
 comes budget place start within = completes budget place start within
 
 -- the state behind all the steps that a run completes is its last one
@@ -149,7 +149,7 @@ ran_there start t place steps ending ran far =
 
 -- a step that completes within the budget is not the last
 pub goes_on : (budget place : ℕ) (start s t : State) → IsReached start place s → place < budget → step_of s ≡ Ok t
-    → place < last_place budget start
+    → place < last_step budget start
 goes_on budget place start s t reached within e =
     let next = next_place start s t place reached e in
     let there = comes_within budget (place + 1) start next.completed (omega arith) in
@@ -157,7 +157,7 @@ goes_on budget place start s t reached within e =
 
 -- a step that does not complete ends the run there
 pub ends_here : (budget place : ℕ) (start s : State) (ending : Ending) → IsReached start place s → place < budget
-    → step_of s ≡ Err ending → (place ≡ last_place budget start) × (ending ≡ (run_of budget start).ending)
+    → step_of s ≡ Err ending → (place ≡ last_step budget start) × (ending ≡ (run_of budget start).ending)
 ends_here budget place start s ending reached within e =
     let here : step_of (state_after place start) ≡ Err ending = ap step_of (sym reached.same) ∙ e in
     let rest = budget - (place + 1) in
@@ -172,5 +172,5 @@ ends_here budget place start s ending reached within e =
 
 -- a run that comes to its budget ends there
 pub ends_by_budget : (budget : ℕ) (start : State) → (run_of budget start).steps ≡ budget
-    → (budget ≡ last_place budget start) × (Budget ≡ (run_of budget start).ending)
+    → (budget ≡ last_step budget start) × (Budget ≡ (run_of budget start).ending)
 ends_by_budget budget start h = (sym h, sym (all_used budget start h))

@@ -26,8 +26,8 @@ use Rattle.rv_history.specs.Accesses.{access_at}
 use Rattle.rv_history.specs.Kept.{IsAt}
 use Rattle.rv_history.specs.LastStop.{IsQuietAt}
 use Rattle.rv_history.specs.Legs.{IsArrival, IsUnderWay}
-use Rattle.rv_history.specs.Moves.{GoesOnAhead, IsEndAt, IsNextStop, IsStepBefore, IsStopBefore}
-use Rattle.rv_history.specs.Places.{IsChangeAt, IsHaltAt, last_place}
+use Rattle.rv_history.specs.Moves.{HasNoStopAhead, IsEndAt, IsNextStop, IsStepBefore, IsStopBefore}
+use Rattle.rv_history.specs.Places.{IsChangeAt, IsHaltAt, last_step}
 use Rattle.rv_history.specs.Stops.{AreNone, AreUnwatched, TriggersWatch, TriggersNoWatch, first_hit, first_read, is_break, is_halt, reported_or, access_hit, touched_by, watch_bytes, watched_bytes}
 use Rattle.rv_history.proofs.Backward.{begins_over}
 use Rattle.rv_history.proofs.Reaching.{by_step, comes_within, ends_by_budget, ends_here, goes_on, ran_to}
@@ -98,8 +98,8 @@ never_halted stops within from place pc none all =
     never false = refl
 
 -- nothing is met on the way
-goes_unstopped : (stops : Stops) (budget from place j : ℕ) (start : State) → AreNone stops → place ≤ last_place budget start
-    → j < place → GoesOnAhead stops bounds.All budget start from j
+goes_unstopped : (stops : Stops) (budget from place j : ℕ) (start : State) → AreNone stops → place ≤ last_step budget start
+    → j < place → HasNoStopAhead stops bounds.All budget start from j
 goes_unstopped stops budget from place j start none within before = record {
   no_halt = λ below is. no_halt stops j start none is;
   no_end = omega arith;
@@ -107,7 +107,7 @@ goes_unstopped stops budget from place j start none within before = record {
 }
 
 ends_everywhere : (stops : Stops) (budget from place : ℕ) (start : State) (ending : Ending) → AreNone stops
-    → from ≤ last_place budget start → IsEndAt budget start place ending
+    → from ≤ last_step budget start → IsEndAt budget start place ending
     → IsNextStop stops bounds.All budget start from place (found.End ending)
 ends_everywhere stops budget from place start ending none order there =
     let here = there.0 in record {
@@ -118,7 +118,7 @@ ends_everywhere stops budget from place start ending none order there =
     }
 
 ends_anywhere : (stops : Stops) (within : Bounds) (budget from place : ℕ) (start : State) (ending : Ending) → AreNone stops
-    → within ≡ bounds.All → from ≤ last_place budget start → IsEndAt budget start place ending
+    → within ≡ bounds.All → from ≤ last_step budget start → IsEndAt budget start place ending
     → IsNextStop stops within budget start from place (found.End ending)
 ends_anywhere stops within budget from place start ending none all order end =
     subst (λ (b : Bounds). IsNextStop stops b budget start from place (found.End ending)) (sym all)
@@ -145,7 +145,7 @@ under_way stops start leg none all there order within = record {
   there = there;
   order = order;
   within = within;
-  quiet = λ j low high. subst (λ (b : Bounds). GoesOnAhead stops b leg.budget start leg.from j) (sym all)
+  quiet = λ j low high. subst (λ (b : Bounds). HasNoStopAhead stops b leg.budget start leg.from j) (sym all)
       (goes_unstopped stops leg.budget leg.from leg.at.place j start none
       (comes_within leg.budget leg.at.place start there.completed within) high);
 }

@@ -3,7 +3,7 @@ use Rattle.std.specs.Prelude.{ℕ, ◌≡◌, ◌≢◌, ◌<◌, ◌≤◌, ◌
 use Rattle.rv_machine.specs.State.{State}
 use Rattle.rv_memory.specs.Bus.{Contents}
 use Rattle.rv_trace.specs.Trace.{state_after}
-use Rattle.rv_history.specs.Places.{last_place}
+use Rattle.rv_history.specs.Places.{last_step}
 use Rattle.rv_history.specs.declared.counts.Count.{Count}
 use Rattle.rv_history.specs.declared.counts.Count.TheVariants as count
 
@@ -18,11 +18,11 @@ count_at count start place = count_in count (length start.bus.script) (state_aft
 
 -- `place` is the first step of the run at which the count has this value
 pub record IsFirstWith (count : Count) (value budget : ℕ) (start : State) (place : ℕ) : Type 0 where
-  pub within : place ≤ last_place budget start
+  pub within : place ≤ last_step budget start
   pub there : count_at count start place ≡ value
   pub first : (j : ℕ) → j < place → count_at count start j ≢ value
 
 -- the first step of the run at which the count has this value, or none if the run reaches no such step
 abbrev pub IsFound : Count → ℕ → ℕ → State → Option ℕ → Type 0
 IsFound count value budget start (Some place) = IsFirstWith count value budget start place
-IsFound count value budget start None = (j : ℕ) → j ≤ last_place budget start → count_at count start j ≢ value
+IsFound count value budget start None = (j : ℕ) → j ≤ last_step budget start → count_at count start j ≢ value

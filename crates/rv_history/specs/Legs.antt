@@ -2,7 +2,7 @@
 use Rattle.std.specs.Prelude.{ℕ, ◌≤◌, ◌<◌}
 use Rattle.rv_machine.specs.State.{State}
 use Rattle.rv_history.specs.Kept.{IsAt}
-use Rattle.rv_history.specs.Moves.{GoesOnAhead, IsNextStop}
+use Rattle.rv_history.specs.Moves.{HasNoStopAhead, IsNextStop}
 use Rattle.rv_history.specs.declared.leg.Arrived.{Arrived}
 use Rattle.rv_history.specs.declared.leg.ForwardMove.{ForwardMove}
 use Rattle.rv_history.specs.declared.stops.Stops.{Stops}
@@ -12,7 +12,7 @@ pub record IsUnderWay (stops : Stops) (start : State) (leg : ForwardMove) : Type
   pub there : IsAt start leg.at
   pub order : leg.from ≤ leg.at.place
   pub within : leg.at.place ≤ leg.budget
-  pub quiet : (j : ℕ) → leg.from ≤ j → j < leg.at.place → GoesOnAhead stops leg.bounds leg.budget start leg.from j
+  pub quiet : (j : ℕ) → leg.from ≤ j → j < leg.at.place → HasNoStopAhead stops leg.bounds leg.budget start leg.from j
 
 -- a forward move ended at its next stop, and its machine is in the state of that step
 abbrev pub IsArrival : Stops → State → ForwardMove → Arrived → Type 0

@@ -4,7 +4,7 @@ use Rattle.rv_machine.specs.Run.{run_of}
 use Rattle.rv_machine.specs.State.{State}
 use Rattle.rv_machine.specs.declared.ending.Ending.{Ending}
 use Rattle.rv_machine.specs.declared.ending.Ending.TheVariants.{Budget}
-use Rattle.rv_history.specs.Places.{IsBreakAt, IsChangeAt, IsHaltAt, last_place}
+use Rattle.rv_history.specs.Places.{IsBreakAt, IsChangeAt, IsHaltAt, last_step}
 use Rattle.rv_history.specs.declared.bounds.Bounds.{Bounds}
 use Rattle.rv_history.specs.declared.found.Found.{Found}
 use Rattle.rv_history.specs.declared.found.Found.TheVariants as found
@@ -12,7 +12,7 @@ use Rattle.rv_history.specs.declared.stops.Stops.{Stops}
 
 -- the run ends at the step `place` with this end
 abbrev pub IsEndAt : ℕ → State → ℕ → Ending → Type 0
-IsEndAt budget start place ending = (place ≡ last_place budget start) × (ending ≡ (run_of budget start).ending)
+IsEndAt budget start place ending = (place ≡ last_step budget start) × (ending ≡ (run_of budget start).ending)
 
 -- a move ended because of an interrupt
 abbrev pub IsInterrupted : Found → Type 0
@@ -27,38 +27,38 @@ IsUninterrupted what = IsInterrupted what → ⊥
 -- A forward move that began at the step `from` can end with this result at the step `place`. After its first step, a breakpoint or an
 -- address outside of the bounds comes first, then the end of the run, then a watchpoint that the next step triggers. An interrupt cannot
 -- end the move at a breakpoint or outside of the bounds, because the next move would then skip this stop.
-abbrev pub MeetsAhead : Stops → Bounds → ℕ → State → ℕ → ℕ → Found → Type 0
-MeetsAhead stops bounds budget start from place found.Break = (from < place) × IsHaltAt stops bounds start place
-MeetsAhead stops bounds budget start from place (found.End ending) =
+abbrev pub IsStopAhead : Stops → Bounds → ℕ → State → ℕ → ℕ → Found → Type 0
+IsStopAhead stops bounds budget start from place found.Break = (from < place) × IsHaltAt stops bounds start place
+IsStopAhead stops bounds budget start from place (found.End ending) =
     IsEndAt budget start place ending × (from < place → IsHaltAt stops bounds start place → ⊥)
-MeetsAhead stops bounds budget start from place found.Change =
+IsStopAhead stops bounds budget start from place found.Change =
     IsChangeAt stops budget start place × (from < place → IsHaltAt stops bounds start place → ⊥)
-MeetsAhead stops bounds budget start from place found.Done = ⊥
-MeetsAhead stops bounds budget start from place found.Begin = ⊥
-MeetsAhead stops bounds budget start from place found.Interrupted = from < place → IsHaltAt stops bounds start place → ⊥
+IsStopAhead stops bounds budget start from place found.Done = ⊥
+IsStopAhead stops bounds budget start from place found.Begin = ⊥
+IsStopAhead stops bounds budget start from place found.Interrupted = from < place → IsHaltAt stops bounds start place → ⊥
 
 -- the result of a forward move that has used up the budget, given whether it is at a breakpoint or outside of the bounds
 abbrev pub found_at_budget : Bool → Found
 found_at_budget halts = if halts then found.Break else found.End Budget
 
 -- a forward move that began at the step `from` does not stop at the step `place`
-pub record GoesOnAhead (stops : Stops) (bounds : Bounds) (budget : ℕ) (start : State) (from place : ℕ) : Type 0 where
+pub record HasNoStopAhead (stops : Stops) (bounds : Bounds) (budget : ℕ) (start : State) (from place : ℕ) : Type 0 where
   pub no_halt : from < place → IsHaltAt stops bounds start place → ⊥
-  pub no_end : place < last_place budget start
+  pub no_end : place < last_step budget start
   pub no_change : IsChangeAt stops budget start place → ⊥
 
 -- a forward move from the step `from` ends at the step `place` with this result, and does not stop before
 pub record IsNextStop (stops : Stops) (bounds : Bounds) (budget : ℕ) (start : State) (from place : ℕ) (found : Found) : Type 0 where
   pub order : from ≤ place
-  pub within : place ≤ last_place budget start
-  pub meets : MeetsAhead stops bounds budget start from place found
-  pub between : (j : ℕ) → from ≤ j → j < place → GoesOnAhead stops bounds budget start from j
+  pub within : place ≤ last_step budget start
+  pub meets : IsStopAhead stops bounds budget start from place found
+  pub between : (j : ℕ) → from ≤ j → j < place → HasNoStopAhead stops bounds budget start from j
 
 -- a single step from the step `from` ends at the step `place` with this result; at the end of the run, or if the step would trigger a
 -- watchpoint, it does not move
 abbrev pub IsNextStep : Stops → ℕ → State → ℕ → ℕ → Found → Type 0
 IsNextStep stops budget start from place found.Done =
-    (place ≡ from + 1) × (from < last_place budget start) × (IsChangeAt stops budget start from → ⊥)
+    (place ≡ from + 1) × (from < last_step budget start) × (IsChangeAt stops budget start from → ⊥)
 IsNextStep stops budget start from place (found.End ending) = (place ≡ from) × IsEndAt budget start from ending
 IsNextStep stops budget start from place found.Change = (place ≡ from) × IsChangeAt stops budget start from
 IsNextStep stops budget start from place found.Break = ⊥
@@ -75,25 +75,25 @@ pub record IsChangeBefore (stops : Stops) (budget : ℕ) (start : State) (place 
 
 -- A backward move that began at the step `from` can end with this result at the step `place`: at a breakpoint, except where it began; after
 -- a step that triggers a watchpoint; or at step 0. An interrupted move is back where it began.
-abbrev pub MeetsBack : Stops → ℕ → State → ℕ → ℕ → Found → Type 0
-MeetsBack stops budget start from place found.Break = (place < from) × IsBreakAt stops start place
-MeetsBack stops budget start from place found.Change =
+abbrev pub IsStopBack : Stops → ℕ → State → ℕ → ℕ → Found → Type 0
+IsStopBack stops budget start from place found.Break = (place < from) × IsBreakAt stops start place
+IsStopBack stops budget start from place found.Change =
     IsChangeBefore stops budget start place × (place < from → IsBreakAt stops start place → ⊥)
-MeetsBack stops budget start from place found.Begin = (place ≡ 0) × (place < from → IsBreakAt stops start place → ⊥)
-MeetsBack stops budget start from place (found.End ending) = ⊥
-MeetsBack stops budget start from place found.Done = ⊥
-MeetsBack stops budget start from place found.Interrupted = place ≡ from
+IsStopBack stops budget start from place found.Begin = (place ≡ 0) × (place < from → IsBreakAt stops start place → ⊥)
+IsStopBack stops budget start from place (found.End ending) = ⊥
+IsStopBack stops budget start from place found.Done = ⊥
+IsStopBack stops budget start from place found.Interrupted = place ≡ from
 
 -- a backward move that began at the step `from` does not stop at the step `place`
-pub record GoesOnBack (stops : Stops) (budget : ℕ) (start : State) (from place : ℕ) : Type 0 where
+pub record HasNoStopBack (stops : Stops) (budget : ℕ) (start : State) (from place : ℕ) : Type 0 where
   pub no_break : place < from → IsBreakAt stops start place → ⊥
   pub no_change : IsChangeBefore stops budget start place → ⊥
 
 -- a backward move from the step `from` ends at the step `place` with this result, and does not stop in between
 pub record IsStopBefore (stops : Stops) (budget : ℕ) (start : State) (from place : ℕ) (found : Found) : Type 0 where
   pub order : place ≤ from
-  pub meets : MeetsBack stops budget start from place found
-  pub between : (j : ℕ) → place < j → j ≤ from → GoesOnBack stops budget start from j
+  pub meets : IsStopBack stops budget start from place found
+  pub between : (j : ℕ) → place < j → j ≤ from → HasNoStopBack stops budget start from j
 
 -- a single step back from the step `from` ends at the step `place` with this result; at step 0, or after a step that triggers a watchpoint,
 -- it does not move

@@ -8,8 +8,8 @@ use Rattle.rv_history.specs.declared.bounds.Bounds.{Bounds}
 use Rattle.rv_history.specs.declared.stops.Stops.{Stops}
 
 -- the last step of the run from `start` within the budget: how many steps it completes
-abbrev pub last_place : ℕ → State → ℕ
-last_place budget start = (run_of budget start).steps
+abbrev pub last_step : ℕ → State → ℕ
+last_step budget start = (run_of budget start).steps
 
 -- the run from `start` completes `place` steps, and `s` is its state then
 pub record IsReached (start : State) (place : ℕ) (s : State) : Type 0 where
@@ -26,5 +26,5 @@ IsHaltAt stops bounds start place = is_halt stops bounds (state_after place star
 
 -- the step after the first `place` steps completes within the budget and triggers a watchpoint
 pub record IsChangeAt (stops : Stops) (budget : ℕ) (start : State) (place : ℕ) : Type 0 where
-  pub completes : place < last_place budget start
+  pub completes : place < last_step budget start
   pub changes : TriggersWatch stops (state_after place start) (state_after (place + 1) start)

@@ -7,7 +7,7 @@ pub use Rattle.rv_machine.proofs.Public.{state_code}
 use Rattle.rv_history.specs.Stands.{Stand}
 
 -- the encoding of a `Stand` as nested pairs for the prover
-abbrev pub stand_code : Coded Stand
-stand_code = code_by (State × (ℕ × ℕ)) (coded× state_code (coded× coded_ℕ coded_ℕ))
+abbrev pub position_code : Coded Stand
+position_code = code_by (State × (ℕ × ℕ)) (coded× state_code (coded× coded_ℕ coded_ℕ))
     (λ stand. (stand.start, (stand.budget, stand.place)))
     (λ p. record { start = p.0; budget = p.1.0; place = p.1.1 }) (λ _. refl)

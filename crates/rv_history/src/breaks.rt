@@ -37,7 +37,7 @@ pub(crate) fn next_break<I: Interrupt>(
     ensures same { track.new ≡ track.old }
 {
     'places: while leg.at.place < leg.budget {
-        if leg.is_halted(stops) {
+        if leg.is_stopped(stops) {
             return Ok(leg.arrived(Found::Break));
         }
         if leg.store_and_poll(alloc, track, interrupt)? {

@@ -34,12 +34,12 @@ impl Model for History {
     ghost use Rattle.std.specs.Prelude.{◌≤◌};
     ghost use Rattle.rv_machine.specs.Machine.{state_of};
     ghost use Rattle.rv_history.specs.Places.{IsReached};
-    ghost use Rattle.rv_history.specs.StandInside.{stand_code};
+    ghost use Rattle.rv_history.specs.StandInside.{position_code};
     ghost use Rattle.rv_history.specs.Stands.{Stand};
 
     ghost Value = { Stand };
 
-    ghost coded = { stand_code };
+    ghost coded = { position_code };
 
     ghost view = { λ h. record { start = h.track; budget = h.budget; place = h.place } };
 
@@ -49,7 +49,7 @@ impl Model for History {
 impl History {
     ghost use Rattle.rv_history.specs.Counts.{IsFirstWith, IsFound};
     ghost use Rattle.rv_history.specs.Moves.{IsNextStep, IsNextStop, IsStepBefore, IsStopBefore};
-    ghost use Rattle.rv_history.specs.Places.{IsReached, last_place};
+    ghost use Rattle.rv_history.specs.Places.{IsReached, last_step};
     ghost use Rattle.rv_history.specs.Starts.{start_of};
     ghost use Rattle.rv_history.specs.Stops.{first_triggered};
 
@@ -77,7 +77,7 @@ impl History {
     /// Returns the current step: how many steps are completed.
     pub fn place(&self) -> u32
         ensures value { result ≡ self.now.place }
-        ensures within { result ≤ last_place self.now.budget self.now.start }
+        ensures within { result ≤ last_step self.now.budget self.now.start }
     {
         self.place
     }
@@ -181,7 +181,7 @@ impl History {
     /// Moves to the step `place` if the run reaches it. Returns whether it does.
     pub fn seek(&mut self, alloc: Global, place: u32) -> Result<bool, AllocError>
         ensures granted { IfOk result
-            (λ granted. IsTrue granted ↔ (place ≤ last_place self.old.budget self.old.start)) }
+            (λ granted. IsTrue granted ↔ (place ≤ last_step self.old.budget self.old.start)) }
         ensures moved { IfOk result
             (λ granted. self.new ≡ (if granted then record self.old { place = place } else self.old)) }
         ensures same { OnErr result (self.new ≡ self.old) }
@@ -223,7 +223,7 @@ impl History {
 
     /// Returns the first watchpoint hit of the next step, if there is one. The next step must complete within the budget.
     pub fn watch_ahead(&self, alloc: Global, stops: &Stops) -> Result<Option<WatchHit>, AllocError>
-        ensures { self.now.place < last_place self.now.budget self.now.start → IfOk result
+        ensures { self.now.place < last_step self.now.budget self.now.start → IfOk result
             (λ found. found ≡ first_triggered stops.now (state_after self.now.place self.now.start)
             (state_after (self.now.place + 1) self.now.start)) }
     {
@@ -250,7 +250,7 @@ impl History {
 
     // Moves to the step where a search ended, and returns the result of the search.
     fn arrive(&mut self, alloc: Global, arrival: StopInfo) -> Result<Found, AllocError>
-        requires { arrival.place ≤ last_place self.old.budget self.old.start }
+        requires { arrival.place ≤ last_step self.old.budget self.old.start }
         ensures found { IfOk result (λ found. found ≡ arrival.found) }
         ensures moved { IfOk result (λ found. self.new ≡ record self.old { place = arrival.place }) }
         ensures same { OnErr result (self.new ≡ self.old) }

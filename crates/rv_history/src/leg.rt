@@ -43,7 +43,7 @@ impl ForwardMove {
     }
 
     /// Whether the move is after its first step, and at a breakpoint or outside of the bounds.
-    pub(crate) fn is_halted(&self, stops: &Stops) -> bool
+    pub(crate) fn is_stopped(&self, stops: &Stops) -> bool
         ensures { result ≡ (nat_lt self.now.from self.now.at.place
             && is_halt stops.now self.now.bounds (state_of self.now.at.machine).pc) }
     {
@@ -55,7 +55,7 @@ impl ForwardMove {
         ensures { result ≡ found_at_budget (nat_lt self.now.from self.now.at.place
             && is_halt stops.now self.now.bounds (state_of self.now.at.machine).pc) }
     {
-        if self.is_halted(stops) {
+        if self.is_stopped(stops) {
             Found::Break
         } else {
             Found::End(Ending::Budget)
@@ -78,7 +78,7 @@ impl ForwardMove {
         if !is_slice_end(self.at.place) {
             return Ok(false);
         }
-        track.keep_multiple(alloc, &self.at)?;
+        track.keep_if_multiple(alloc, &self.at)?;
         Ok(fill_a_slice(self.at.place - self.from) && interrupt.is_raised())
     }
 }

@@ -13,7 +13,7 @@ use crate::found::Found;
 use crate::interrupt::Interrupt;
 use crate::leg::{Arrived, ForwardMove};
 use crate::slices::slice_end;
-use crate::stepping::{Stepped, step_beside};
+use crate::stepping::{Stepped, step_with_watched_bytes};
 use crate::stops::Stops;
 use crate::track::Checkpoints;
 use rv_machine::Ending;
@@ -37,9 +37,9 @@ pub(crate) fn next_stop<I: Interrupt>(
     }
     // Without stops to look for, the run goes at full speed.
     if stops.are_none() {
-        return end_of_run(alloc, track, leg, interrupt);
+        return run_to_end(alloc, track, leg, interrupt);
     }
-    if stops.have_no_watch() {
+    if stops.have_no_watchpoints() {
         return next_break(alloc, track, leg, stops, interrupt);
     }
     next_watched(alloc, track, leg, stops, interrupt)
@@ -60,13 +60,13 @@ fn next_watched<I: Interrupt>(
 {
     let mut watched = stops.watched_bytes(alloc, leg.at.machine.bus())?;
     'places: while leg.at.place < leg.budget {
-        if leg.is_halted(stops) {
+        if leg.is_stopped(stops) {
             return Ok(leg.arrived(Found::Break));
         }
         if leg.store_and_poll(alloc, track, interrupt)? {
             return Ok(leg.arrived(Found::Interrupted));
         }
-        match step_beside(alloc, &mut leg.at.machine, stops, &mut watched)? {
+        match step_with_watched_bytes(alloc, &mut leg.at.machine, stops, &mut watched)? {
             Stepped::Ended(ending) => return Ok(leg.arrived(Found::End(ending))),
             Stepped::Changed => {
                 // The machine is after the step, and the move before it.
@@ -83,7 +83,7 @@ fn next_watched<I: Interrupt>(
 }
 
 // Like [`next_stop`], for moves without breakpoints and watchpoints: goes to the end of the run, unless it is interrupted.
-fn end_of_run<I: Interrupt>(
+fn run_to_end<I: Interrupt>(
     alloc: Global,
     track: &mut Checkpoints,
     leg: ForwardMove,

@@ -10,7 +10,7 @@ use crate::breaks::search_breaks;
 use crate::found::{Found, StopInfo};
 use crate::interrupt::Interrupt;
 use crate::slices::{fill_a_slice, is_slice_end};
-use crate::stepping::{Stepped, step_beside, step_watched};
+use crate::stepping::{Stepped, step_with_watched_bytes, step_watched};
 use crate::stops::Stops;
 use crate::track::Checkpoints;
 use std::alloc::{AllocError, Global};
@@ -74,7 +74,7 @@ fn search_part<I: Interrupt>(
     ensures part { IfOk result (λ searched. IfSome searched (IsPart stops.now track.now end)) }
     ensures broken_off { IfOk result (λ searched. IfNone searched (I.was_raised interrupt.new ≡ true)) }
 {
-    if stops.have_no_watch() {
+    if stops.have_no_watchpoints() {
         return search_breaks(alloc, track, end, stops, interrupt);
     }
     let mut at = track.before(alloc, end - 1)?;
@@ -86,7 +86,7 @@ fn search_part<I: Interrupt>(
             return Ok(None);
         }
         let is_break = stops.has_break(at.machine.pc());
-        let stepped = step_beside(alloc, &mut at.machine, stops, &mut watched)?;
+        let stepped = step_with_watched_bytes(alloc, &mut at.machine, stops, &mut watched)?;
         last = last_stop_after(last, place, is_break, stepped);
     }
     Ok(Some(Part { begin, last }))
@@ -142,7 +142,7 @@ pub(crate) fn step_before(
         place: before,
         found: Found::Done,
     };
-    if stops.have_no_watch() {
+    if stops.have_no_watchpoints() {
         return Ok(done);
     }
     let mut machine = track.machine_after(alloc, before)?;

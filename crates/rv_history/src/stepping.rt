@@ -30,11 +30,11 @@ pub(crate) fn step_watched(
     ensures { IfOk result (IsStepped stops.now (state_of machine.old) (state_of machine.new)) }
 {
     let mut watched = stops.watched_bytes(alloc, machine.bus())?;
-    step_beside(alloc, machine, stops, &mut watched)
+    step_with_watched_bytes(alloc, machine, stops, &mut watched)
 }
 
 /// Like [`step_watched`], given the watched bytes, which are updated after the step.
-pub(crate) fn step_beside(
+pub(crate) fn step_with_watched_bytes(
     alloc: Global,
     machine: &mut Machine,
     stops: &Stops,

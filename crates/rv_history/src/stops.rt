@@ -49,18 +49,18 @@ impl Stops {
         ensures { IsTrue result ↔ ((self.now.breaks ≡ [])
             × ((self.now.watches ≡ []) × ((self.now.reads ≡ []) × (self.now.accesses ≡ [])))) }
     {
-        self.breaks.as_slice().is_empty() && self.have_no_watch()
+        self.breaks.as_slice().is_empty() && self.have_no_watchpoints()
     }
 
     /// Whether there are no watchpoints.
-    pub(crate) fn have_no_watch(&self) -> bool
+    pub(crate) fn have_no_watchpoints(&self) -> bool
         ensures { IsTrue result ↔ ((self.now.watches ≡ []) × ((self.now.reads ≡ []) × (self.now.accesses ≡ []))) }
     {
-        self.watches.as_slice().is_empty() && self.have_no_access()
+        self.watches.as_slice().is_empty() && self.have_no_access_watchpoints()
     }
 
     /// Whether there are no watchpoints for reads or accesses.
-    pub(crate) fn have_no_access(&self) -> bool
+    pub(crate) fn have_no_access_watchpoints(&self) -> bool
         ensures { IsTrue result ↔ ((self.now.reads ≡ []) × (self.now.accesses ≡ [])) }
     {
         self.reads.as_slice().is_empty() && self.accesses.as_slice().is_empty()

@@ -188,7 +188,7 @@ impl Checkpoints {
     }
 
     /// Stores the state of a machine if it is at a multiple of the interval and not stored yet.
-    pub(crate) fn keep_multiple(&mut self, alloc: Global, at: &MachineAt) -> Result<(), AllocError>
+    pub(crate) fn keep_if_multiple(&mut self, alloc: Global, at: &MachineAt) -> Result<(), AllocError>
         requires { IsAt self.old at.now }
         ensures { self.new ≡ self.old }
     {

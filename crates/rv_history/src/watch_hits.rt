@@ -17,7 +17,7 @@ impl Stops {
         ensures { result ≡ access_hit self.now (state_of machine.now) }
     {
         // An instruction is decoded only if it matters.
-        if self.have_no_access() {
+        if self.have_no_access_watchpoints() {
             return None;
         }
         let access = access_at(machine)?;

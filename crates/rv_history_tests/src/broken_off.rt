@@ -33,7 +33,7 @@ enum Way {
 }
 
 // Returns a history at the step where a move in this direction begins: the start of the run, or its budget.
-fn history_at(alloc: Global, way: Way, budget: u32) -> Result<History, Fail> {
+fn history_before_move(alloc: Global, way: Way, budget: u32) -> Result<History, Fail> {
     let mut history = history_of(alloc, CODE, budget)?;
     if let Way::Back = way {
         let _ = history.seek(alloc, budget)?;
@@ -73,10 +73,10 @@ fn check_moves_from(
 }
 
 // Checks the interrupted move of a line in this direction.
-fn check_broken_off(alloc: Global, way: Way, line: &str) -> Result<(), Fail> {
+fn check_interrupted(alloc: Global, way: Way, line: &str) -> Result<(), Fail> {
     let stops = stops_of(alloc, cell_of(line, 2))?;
     let budget = cell_of(line, 1).parse()?;
-    let mut history = history_at(alloc, way, budget)?;
+    let mut history = history_before_move(alloc, way, budget)?;
     check_moves_from(alloc, &mut history, way, &stops, line)
 }
 
@@ -85,7 +85,7 @@ fn check_broken_off(alloc: Global, way: Way, line: &str) -> Result<(), Fail> {
 fn moves_ahead_are_broken_off(rt: HostRuntime) -> Result<(), Fail> {
     has_lines(AHEAD, 5)?;
     for line in AHEAD.lines() {
-        check_broken_off(rt.alloc(), Way::Ahead, line)?;
+        check_interrupted(rt.alloc(), Way::Ahead, line)?;
     }
     Ok(())
 }
@@ -95,7 +95,7 @@ fn moves_ahead_are_broken_off(rt: HostRuntime) -> Result<(), Fail> {
 fn moves_back_are_broken_off(rt: HostRuntime) -> Result<(), Fail> {
     has_lines(BACK, 2)?;
     for line in BACK.lines() {
-        check_broken_off(rt.alloc(), Way::Back, line)?;
+        check_interrupted(rt.alloc(), Way::Back, line)?;
     }
     Ok(())
 }

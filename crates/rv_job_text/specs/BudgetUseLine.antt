@@ -41,10 +41,10 @@ budget_use_line steps (Some (Repeats r)) = repetition_line r
 budget_use_line steps (Some (Changes within)) = changes_line steps within
 
 -- `found` is the analysis of the run, if it used up its budget; none for any other end
-abbrev pub IsUseBehind : RowEnd → Planned → Job → ℕ → Option BudgetUse → Type 0
-IsUseBehind Budget plan job steps found = IsBudgetUseIn plan job steps found
-IsUseBehind _ plan job steps found = found ≡ None
+abbrev pub IsUseAfter : RowEnd → Planned → Job → ℕ → Option BudgetUse → Type 0
+IsUseAfter Budget plan job steps found = IsBudgetUseIn plan job steps found
+IsUseAfter _ plan job steps found = found ≡ None
 
 -- `found` is the analysis of the run that the row describes, if it used up its budget; none for any other end
 abbrev pub IsUseOfRow : Planned → Job → Row → Option BudgetUse → Type 0
-IsUseOfRow plan job row found = IsUseBehind row.ending plan job row.steps found
+IsUseOfRow plan job row found = IsUseAfter row.ending plan job row.steps found

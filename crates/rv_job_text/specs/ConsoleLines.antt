@@ -153,10 +153,10 @@ pub record Wanted : Type 0 where
   pub text : List ℕ
 
 -- the expected console text with its name: from the list, or from a file whose contents are `file`
-abbrev pub wanted_console : Option ExpectedConsole → Option (List ℕ) → Option Wanted
-wanted_console None file = None
-wanted_console (Some (console.Text text)) file = Some record { source = codes "the expected text"; text = text }
-wanted_console (Some (console.File path)) file = Some record { source = printable_text path; text = unwrap_or file [] }
+abbrev pub expected_console : Option ExpectedConsole → Option (List ℕ) → Option Wanted
+expected_console None file = None
+expected_console (Some (console.Text text)) file = Some record { source = codes "the expected text"; text = text }
+expected_console (Some (console.File path)) file = Some record { source = printable_text path; text = unwrap_or file [] }
 
 -- the expected text, if the difference from it is shown line by line
 abbrev pub shown_by_lines : Difference → List ℕ → Option Wanted → Option Wanted
@@ -169,11 +169,11 @@ abbrev pub expected_by_lines : Sides → Unmet → Option Wanted
 expected_by_lines sides unmet.Exit = None
 expected_by_lines sides unmet.End = None
 expected_by_lines sides (unmet.Console difference) =
-    shown_by_lines difference sides.row.console (wanted_console sides.job.expect_console sides.console)
+    shown_by_lines difference sides.row.console (expected_console sides.job.expect_console sides.console)
 expected_by_lines sides (unmet.Signature difference) = None
 expected_by_lines sides (unmet.Same difference) = None
 expected_by_lines sides unmet.Nothing = None
 
 -- the Rust value `ExpectedText` as the record that contracts use
-abbrev pub wanted_of : ExpectedText → Wanted
-wanted_of wanted = record { source = span_text wanted.source; text = wanted.text.now }
+abbrev pub named_text_of : ExpectedText → Wanted
+named_text_of wanted = record { source = span_text wanted.source; text = wanted.text.now }

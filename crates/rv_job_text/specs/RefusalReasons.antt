@@ -5,7 +5,7 @@ use Rattle.std.specs.Option.{option_or}
 use Rattle.rv_elf.specs.declared.error.ImageError.{ImageError}
 use Rattle.rv_files.specs.declared.recording_store.UnreadPath.{UnreadPath}
 use Rattle.rv_jobs.specs.declared.answers.Answer.{Answer}
-use Rattle.rv_jobs.specs.Plans.{kept_for}
+use Rattle.rv_jobs.specs.Plans.{result_for_path}
 use Rattle.rv_jobs.specs.declared_job.Job.{Job}
 use Rattle.rv_jobs.specs.Jobs.{console_path}
 use Rattle.rv_job_text.specs.ImageReasons.{image_reason}
@@ -31,7 +31,7 @@ unread_reference_path answers job =
 abbrev pub image_refusal_text : List Answer → Job → ImageError → Option (List ℕ)
 image_refusal_text answers job why =
     option_map (λ file. image_reason job file why)
-    (content_if_read (Some (kept_for answers job.image)))
+    (content_if_read (Some (result_for_path answers job.image)))
 
 -- the reason why a job is refused; `unread` says why files could not be read
 unfoldable pub refusal_reason : List Answer → List UnreadPath → Job → Refusal → Option (List ℕ)

@@ -60,14 +60,14 @@ row_line plan unread judging job row =
     (ending_reason plan.answers unread job row.ending)
 
 -- the lines about how a run reached its end, with its last instructions, at most `last`
-unfoldable pub way_to_end_lines : Planned → Job → Row → ℕ → List ℕ
-way_to_end_lines plan job row last = optional_trace_text job.isa (image_bytes plan.answers job) row.ending
+unfoldable pub end_trace_lines : Planned → Job → Row → ℕ → List ℕ
+end_trace_lines plan job row last = optional_trace_text job.isa (image_bytes plan.answers job) row.ending
     (trace_in plan job row.steps last)
 
 -- the lines about how a run reached its end; empty if they are not requested
-abbrev pub way_to_end_if_asked : Planned → Job → Row → Option ℕ → List ℕ
-way_to_end_if_asked plan job row None = []
-way_to_end_if_asked plan job row (Some last) = way_to_end_lines plan job row last
+abbrev pub end_trace_if_requested : Planned → Job → Row → Option ℕ → List ℕ
+end_trace_if_requested plan job row None = []
+end_trace_if_requested plan job row (Some last) = end_trace_lines plan job row last
 
 -- the lines about the unmet expectations and, if `Detail` says so, about the met ones
 abbrev pub compared_lines : Detail → Option ℕ → Sides → List Unmet → List ℕ
@@ -85,7 +85,7 @@ expectation_lines which plan job row =
 unfoldable pub run_lines : Planned → Job → Row → Option ℕ → List ℕ
 run_lines plan job row last =
     expectation_lines detail.Unmet plan job row ++ (console_tail row.console
-    ++ way_to_end_if_asked plan job row last)
+    ++ end_trace_if_requested plan job row last)
 
 -- the lines below that of a failed row; empty if the job did not run
 abbrev pub lines_below_failure : Planned → Job → Row → Option ℕ → List ℕ
@@ -137,7 +137,7 @@ unfoldable pub run_explanation : Planned → Job → Row → TraceOptions → Li
 run_explanation plan job row way =
     expectation_lines detail.All plan job row ++ (console_tail row.console
     ++ (budget_use_line row.steps way.budget_use
-    ++ (way_to_end_lines plan job row way.last ++ calls_lines plan job)))
+    ++ (end_trace_lines plan job row way.last ++ calls_lines plan job)))
 
 -- the lines that explain a run; empty if the job did not run
 abbrev pub explanation_if_run : Planned → Job → Row → TraceOptions → List ℕ

@@ -36,7 +36,7 @@ pub fn push_console_lines(
     ensures { OnOk result (bytes.new.items
         ≡ bytes.old.items ++ console_lines (span_text source.entry) met.now wanted.now) }
 {
-    let parting = parting_of(met, wanted);
+    let parting = skip_equal_lines(met, wanted);
     let count = larger(whole_line_count(met), whole_line_count(wanted));
     push_lines_heading(bytes, source, parting.equal + 1, count)?;
     push_equal_lines(bytes, parting.equal, met)?;
@@ -79,7 +79,7 @@ fn push_equal_lines(bytes: &mut Vec<u8>, equal: usize, text: &[u8]) -> Result<()
     ensures { OnOk result (bytes.new.items ≡ bytes.old.items ++ equal_lines equal (whole_lines text.now)) }
 {
     let earlier = equal.saturating_sub(EQUAL_LINES);
-    let last = text_behind_lines(text, earlier);
+    let last = text_after_lines(text, earlier);
     push_side_lines(bytes, "       ", equal - earlier, last, &[])
 }
 
@@ -118,7 +118,7 @@ fn push_side_lines(
 }
 
 // Returns the text after its first `count` lines.
-fn text_behind_lines(text: &[u8], count: usize) -> &[u8]
+fn text_after_lines(text: &[u8], count: usize) -> &[u8]
     ensures { whole_lines result.now ≡ drop count (whole_lines text.now) }
 {
     let mut rest = text;
@@ -132,7 +132,7 @@ fn text_behind_lines(text: &[u8], count: usize) -> &[u8]
 }
 
 // Skips the equal leading lines of both texts. Returns how many there are, and the rest of each text.
-fn parting_of<'a>(met: &'a [u8], wanted: &'a [u8]) -> Parting<'a>
+fn skip_equal_lines<'a>(met: &'a [u8], wanted: &'a [u8]) -> Parting<'a>
     ensures equal { result.equal ≡ equal_line_count met.now wanted.now }
     ensures within { result.equal ≤ length met.now }
     ensures met { whole_lines result.met.now ≡ drop result.equal (whole_lines met.now) }

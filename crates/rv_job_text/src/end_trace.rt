@@ -5,7 +5,7 @@ ghost use Rattle.rv_hang.specs.BudgetUse.{IsBudgetUseIn};
 ghost use Rattle.rv_jobs.specs.declared_job.Job.{Job as AJob};
 ghost use Rattle.rv_trace.specs.Trace.{job_at};
 ghost use Rattle.rv_job_text.specs.BudgetUseLine.{IsUseOfRow};
-ghost use Rattle.rv_job_text.specs.RowReporter.{calls_lines, way_to_end_lines};
+ghost use Rattle.rv_job_text.specs.RowReporter.{calls_lines, end_trace_lines};
 
 use crate::job_file::JobFile;
 use crate::job_row::JobRow;
@@ -53,7 +53,7 @@ pub fn budget_use_at(
 
 impl<'a> JobRow<'a> {
     /// Appends how the run reached its end, with its last instructions, at most `last`. Runs the job once more.
-    #[tactic(auto, unfolding(crate::specs::RowReporter::way_to_end_lines))]
+    #[tactic(auto, unfolding(crate::specs::RowReporter::end_trace_lines))]
     pub(crate) fn push_end_trace(
         &self,
         alloc: Global,
@@ -61,7 +61,7 @@ impl<'a> JobRow<'a> {
         text: &mut Vec<u8>,
     ) -> Result<(), AllocError>
         ensures { OnOk result ((d : AJob) → text.new.items ≡ text.old.items
-            ++ way_to_end_lines self.now.plan.now (job_at self.now.plan.now self.now.place d)
+            ++ end_trace_lines self.now.plan.now (job_at self.now.plan.now self.now.place d)
             self.now.row.now last) }
     {
         let Some(elf) = self.file.elf_file() else {

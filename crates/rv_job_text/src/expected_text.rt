@@ -2,7 +2,7 @@
 
 ghost use Rattle.std.specs.Prelude.{◌≡◌, ◌&&◌, option_map};
 ghost use Rattle.rv_expect.specs.Comparisons.{sides_of};
-ghost use Rattle.rv_job_text.specs.ConsoleLines.{is_shown_by_lines, shown_by_lines, expected_by_lines, wanted_console, wanted_of};
+ghost use Rattle.rv_job_text.specs.ConsoleLines.{is_shown_by_lines, shown_by_lines, expected_by_lines, expected_console, named_text_of};
 
 use crate::difference_text::bytes_or_empty;
 use rv_expect::{Comparison, Difference, Unmet};
@@ -21,11 +21,11 @@ pub(crate) fn expected_by_lines<'a>(
     comparison: &Comparison<'a, '_>,
     unmet: Unmet,
 ) -> Option<ExpectedText<'a>>
-    ensures { option_map wanted_of result ≡ expected_by_lines (sides_of comparison.now) unmet }
+    ensures { option_map named_text_of result ≡ expected_by_lines (sides_of comparison.now) unmet }
 {
     match unmet {
         Unmet::Console(difference) => {
-            let wanted = wanted_console(&comparison.job.expect_console, comparison.console);
+            let wanted = expected_console(&comparison.job.expect_console, comparison.console);
             shown_by_lines(difference, comparison.row.console.as_slice(), wanted)
         }
         Unmet::Exit | Unmet::End | Unmet::Signature(_) | Unmet::Same(_) | Unmet::Nothing => None,
@@ -33,12 +33,12 @@ pub(crate) fn expected_by_lines<'a>(
 }
 
 // Returns the expected console text with its name: from the list, or from a file whose contents are `file`.
-fn wanted_console<'a>(
+fn expected_console<'a>(
     expected: &'a Option<ExpectedConsole>,
     file: Option<&'a [u8]>,
 ) -> Option<ExpectedText<'a>>
-    ensures { option_map wanted_of result
-        ≡ wanted_console expected.now (option_map (λ bytes. bytes.now) file.entry) }
+    ensures { option_map named_text_of result
+        ≡ expected_console expected.now (option_map (λ bytes. bytes.now) file.entry) }
 {
     match expected {
         None => None,
@@ -59,7 +59,7 @@ fn shown_by_lines<'a>(
     met: &[u8],
     wanted: Option<ExpectedText<'a>>,
 ) -> Option<ExpectedText<'a>>
-    ensures { option_map wanted_of result ≡ shown_by_lines difference met.now (option_map wanted_of wanted.entry) }
+    ensures { option_map named_text_of result ≡ shown_by_lines difference met.now (option_map named_text_of wanted.entry) }
 {
     match wanted {
         Some(wanted) if is_shown_by_lines(difference, met, wanted.text) => Some(wanted),

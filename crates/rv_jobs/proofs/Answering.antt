@@ -19,8 +19,8 @@ use Rattle.rv_base.specs.Files.{FileContents}
 use Rattle.rv_jobs.specs.Kept.{IsKeptOf, is_unreadable, faults_with}
 use Rattle.rv_base.specs.Counts.{one_more}
 use Rattle.rv_lists.specs.Jobs.{console_path}
-use Rattle.rv_jobs.specs.Plans.{paths_of, answers_with, with_path, with_path_if, with_job, kept_of_path}
-use Rattle.rv_jobs.specs.Plans.{AreKept, kept_for, unreadable_count, one_more_times}
+use Rattle.rv_jobs.specs.Plans.{paths_of, answers_with, with_path, with_path_if, with_job, result_of_path}
+use Rattle.rv_jobs.specs.Plans.{AgreeWithContents, result_for_path, unreadable_count, one_more_times}
 use Rattle.rv_jobs.specs.Placed.{ArePlaced, IsFound}
 use Rattle.rv_base.proofs.Public.{place_below, place_last}
 use Rattle.std.proofs.lemmas.Slice.Eq.{bytes_eq-Decides}
@@ -38,7 +38,7 @@ answer_places_of_job false (Some j) a ans f k d ih e = let z : j + 1 ≡ k = cc 
 
 -- the answer at the place of the path
 pub cached_or_invalidated_at : (ans : List Answer) (p : List ℕ) (k : ℕ) (d : Answer) → index_in (paths_of ans) p ≡ Some k
-    → kept_of_path ans p ≡ Some (get_or ans k d).kept
+    → result_of_path ans p ≡ Some (get_or ans k d).kept
 unfolding index_in
 cached_or_invalidated_at [] p k d e = cc
 cached_or_invalidated_at (a ∷ ans) p k d e = answer_places_of_job (bytes_eq p a.path) (index_in (paths_of ans) p) a ans
@@ -191,9 +191,9 @@ module _ (ps qs : List (List ℕ)) (ks ms : List Kept) (p : List ℕ) (kept : Ke
   asked_place at none is =
       new_place ps (paths_of (answers_with qs ms)) p at none (paths-with qs ms still_even ∙ pathed) (is ∙ sym even)
 
-  pub asked_kept : (known : Option FileContents) → IsKeptOf known p kept → AreKept known old
-      → AreKept known (answers_with qs ms)
-  asked_kept known is before = subst (AreKept known) (sym grown)
+  pub asked_kept : (known : Option FileContents) → IsKeptOf known p kept → AgreeWithContents known old
+      → AgreeWithContents known (answers_with qs ms)
+  asked_kept known is before = subst (AgreeWithContents known) (sym grown)
       (All-push (λ (x : Answer). IsKeptOf known x.path x.kept) old (record { path = p; kept = kept }) before is)
 
   pub asked_faults : (n before after : ℕ) → before ≡ one_more_times n (unreadable_count old)
@@ -270,14 +270,14 @@ place_within : (xs : List (List ℕ)) (q : List ℕ) (k n : ℕ) → length xs �
 place_within xs q k n e is = below_length (index_in xs q) k (length xs) n e (sym is) (place_below xs q)
 
 kept_there : (ps : List (List ℕ)) (ks : List Kept) (q : List ℕ) (k : ℕ) (x : Kept) → length ps ≡ length ks
-    → index_in ps q ≡ Some k → x ≡ get_or ks k x → kept_of_path (answers_with ps ks) q ≡ Some x
+    → index_in ps q ≡ Some k → x ≡ get_or ks k x → result_of_path (answers_with ps ks) q ≡ Some x
 kept_there ps ks q k x even found is =
     let d : Answer = record { path = q; kept = x } in
     cached_or_invalidated_at (answers_with ps ks) q k d (ap (λ l. index_in l q) (paths-with ps ks even) ∙ found)
     ∙ ap (λ (y : Kept). Some y) (with-at ps ks k d x even (place_within ps q k (length ks) even found) ∙ sym is)
 
 -- a path that has no place has no answer
-pub kept_none : (ans : List Answer) (p : List ℕ) → index_in (paths_of ans) p ≡ None → kept_of_path ans p ≡ None
+pub kept_none : (ans : List Answer) (p : List ℕ) → index_in (paths_of ans) p ≡ None → result_of_path ans p ≡ None
 unfolding index_in
 kept_none [] p e = refl
 kept_none (a ∷ ans) p e = absent (bytes_eq p a.path) (index_in (paths_of ans) p) a
@@ -302,13 +302,13 @@ module _ (all : List Answer) (ps : List (List ℕ)) (ks : List Kept) (even : len
 
   pub kept_in : (k : ℕ) (x : Kept) (p : List ℕ) → at ≡ Some k → x ≡ get_or ks k x
       → index_in (paths_of all) p ≡ at
-      → x ≡ kept_for all p
+      → x ≡ result_for_path all p
   kept_in k x p is there placed =
-      sym (ap (λ (a : List Answer). kept_for a p) (sym view)
+      sym (ap (λ (a : List Answer). result_for_path a p) (sym view)
       ∙ ap (λ o. unwrap_or o Unreadable) (kept_there ps ks p k x even (same_place p placed ∙ is) there))
 
   pub kept_not_in : (x : Kept) (p : List ℕ) → at ≡ None → x ≡ Unreadable → index_in (paths_of all) p ≡ at
-      → x ≡ kept_for all p
+      → x ≡ result_for_path all p
   kept_not_in x p is unread placed =
       unread ∙ sym (ap (λ o. unwrap_or o Unreadable) (kept_none all p (placed ∙ is)))
 
@@ -342,8 +342,8 @@ placed_found xs job at h = record {
 -- ---- the loop over jobs
 
 module _ (ans : List Answer) (e : ans ≡ []) where
-  pub start_kept : (known : Option FileContents) → AreKept known ans
-  start_kept known = subst (AreKept known) (sym e) (λ k d l. absurd (omega arith))
+  pub start_kept : (known : Option FileContents) → AgreeWithContents known ans
+  start_kept known = subst (AgreeWithContents known) (sym e) (λ k d l. absurd (omega arith))
 
   pub start_faults : (n : ℕ) → n ≡ one_more_times n (unreadable_count ans)
   unfolding one_more_times

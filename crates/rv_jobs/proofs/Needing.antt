@@ -14,7 +14,7 @@ use Rattle.rv_jobs.specs.Placed.{ArePlaced}
 use Rattle.rv_jobs.specs.declared.answers.Answer.{Answer}
 use Rattle.rv_jobs.specs.declared.kept.Kept.TheVariants.{Unreadable}
 use Rattle.rv_jobs.specs.Plans.{with_path, with_path_if, with_job, paths_used, jobs_named_by, jobs_needed_at, jobs_needed_for}
-use Rattle.rv_jobs.specs.Plans.{paths_of, kept_of_path, HasAnswers}
+use Rattle.rv_jobs.specs.Plans.{paths_of, result_of_path, HasAnswers}
 use Rattle.std.proofs.Common.{IsTrue, subst}
 use Rattle.rv_jobs.proofs.Answering.{cached_or_invalidated_at}
 use Rattle.rv_jobs.proofs.Answering.{with_path-old, with_path-new, no_place, new_place, keeps_place}
@@ -122,14 +122,14 @@ job_used js k d inside = has_old (fold with_job [] js) (get_or js k d) (has_used
 
 -- ---- answers
 
-answered : (answers : List Answer) (p : List ℕ) → IsThere (paths_of answers) p → IsTrue (is_some (kept_of_path answers p))
+answered : (answers : List Answer) (p : List ℕ) → IsThere (paths_of answers) p → IsTrue (is_some (result_of_path answers p))
 answered answers p h =
     let t = place_there (index_in (paths_of answers) p) h in
     ap is_some (cached_or_invalidated_at answers p t.0 (record { path = p; kept = Unreadable }) t.1)
 
 answered_if : (answers : List Answer) (o : Option (List ℕ))
     → ((p : List ℕ) → o ≡ Some p → IsThere (paths_of answers) p)
-    → IfSome o (λ p. IsTrue (is_some (kept_of_path answers p)))
+    → IfSome o (λ p. IsTrue (is_some (result_of_path answers p)))
 answered_if answers None there = tt
 answered_if answers (Some p) there = answered answers p (there p refl)
 

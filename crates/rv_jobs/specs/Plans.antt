@@ -45,13 +45,13 @@ unfoldable pub paths_used : List Job → List (List ℕ)
 paths_used jobs = fold with_job [] jobs
 
 -- the result for a path, or `None` if it has none
-abbrev pub kept_of_path : List Answer → List ℕ → Option Kept
-kept_of_path answers path =
+abbrev pub result_of_path : List Answer → List ℕ → Option Kept
+result_of_path answers path =
     option_map (λ (a : Answer). a.kept) (find (λ (a : Answer). bytes_eq path a.path) answers)
 
 -- the result for a path; a path without one counts as unreadable
-abbrev pub kept_for : List Answer → List ℕ → Kept
-kept_for answers path = unwrap_or (kept_of_path answers path) Unreadable
+abbrev pub result_for_path : List Answer → List ℕ → Kept
+result_for_path answers path = unwrap_or (result_of_path answers path) Unreadable
 
 -- the job at an index in a list of one, or no job if there is no index; the index is that of a job's `same_as`
 abbrev pub jobs_named_by : List Job → Option ℕ → List Job
@@ -69,14 +69,14 @@ jobs_needed_for jobs places = flat_map (jobs_needed_at jobs) places
 
 -- each path of the job has a result
 pub record HasAnswers (answers : List Answer) (job : Job) : Type 0 where
-  pub image : IsTrue (is_some (kept_of_path answers job.image))
-  pub reference : IfSome job.expect_signature (λ path. IsTrue (is_some (kept_of_path answers path)))
+  pub image : IsTrue (is_some (result_of_path answers job.image))
+  pub reference : IfSome job.expect_signature (λ path. IsTrue (is_some (result_of_path answers path)))
   pub console :
-      IfSome (console_path job.expect_console) (λ path. IsTrue (is_some (kept_of_path answers path)))
+      IfSome (console_path job.expect_console) (λ path. IsTrue (is_some (result_of_path answers path)))
 
 -- every result agrees with the contents of the files, if these are known
-abbrev pub AreKept : Option FileContents → List Answer → Type 0
-AreKept known answers = All (λ (a : Answer). IsKeptOf known a.path a.kept) answers
+abbrev pub AgreeWithContents : Option FileContents → List Answer → Type 0
+AgreeWithContents known answers = All (λ (a : Answer). IsKeptOf known a.path a.kept) answers
 
 -- the number of unreadable paths among these results
 abbrev pub unreadable_count : List Answer → ℕ

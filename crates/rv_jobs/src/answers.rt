@@ -2,9 +2,9 @@
 
 ghost use Rattle.std.specs.Prelude.{◌≡◌, ℕ, [], IfOk, Some, map};
 ghost use Rattle.rv_base.specs.Names.{index_in};
-ghost use Rattle.rv_jobs.specs.Plans.{paths_of, with_path, AreKept, unreadable_count, one_more_times};
+ghost use Rattle.rv_jobs.specs.Plans.{paths_of, with_path, AgreeWithContents, unreadable_count, one_more_times};
 
-use crate::kept::{Kept, keep_path_answer};
+use crate::kept::{Kept, read_path};
 use rv_base::Store;
 use rv_lists::Text;
 use std::alloc::{AllocError, Global};
@@ -66,8 +66,8 @@ impl<'a> Answers<'a> {
         ensures same { S.contents store.new ≡ S.contents store.old }
         ensures paths { IfOk result (λ a. paths_of a.0 ≡ with_path (paths_of self.entry) path.now) }
         ensures place { IfOk result (λ a. index_in (paths_of a.0) path.now ≡ Some a.1) }
-        ensures kept { AreKept (S.contents store.old) self.entry
-            → IfOk result (λ a. AreKept (S.contents store.old) a.0) }
+        ensures kept { AgreeWithContents (S.contents store.old) self.entry
+            → IfOk result (λ a. AgreeWithContents (S.contents store.old) a.0) }
         ensures faults { (n : ℕ) → S.faulted store.old ≡ one_more_times n (unreadable_count self.entry)
             → IfOk result (λ a. S.faulted store.new ≡ one_more_times n (unreadable_count a.0)) }
     {
@@ -86,7 +86,7 @@ impl<'a> Answers<'a> {
             };
             return Ok((asked, place));
         }
-        let kept = keep_path_answer(alloc, store, path)?;
+        let kept = read_path(alloc, store, path)?;
         answers.push(kept)?;
         paths.push(path)?;
         let asked = Answers {

@@ -18,7 +18,7 @@ pub enum Kept {
 }
 
 /// Reads a path, and returns the result.
-pub(crate) fn keep_path_answer<S: Store>(
+pub(crate) fn read_path<S: Store>(
     alloc: Global,
     store: &mut S,
     path: &str,

@@ -6,7 +6,7 @@ ghost use Rattle.std.specs.List.{fold};
 ghost use Rattle.rv_lists.specs.Jobs.{AreJobs, console_path, single_job};
 ghost use Rattle.rv_base.specs.Names.{index_in};
 ghost use Rattle.rv_jobs.specs.Plans.{paths_of, with_job, with_path_if, jobs_needed_at};
-ghost use Rattle.rv_jobs.specs.Plans.{AreKept, unreadable_count, one_more_times};
+ghost use Rattle.rv_jobs.specs.Plans.{AgreeWithContents, unreadable_count, one_more_times};
 ghost use Rattle.rv_jobs.specs.Placed.{ArePlaced, AreNoted, IsFound, AreFound};
 
 use crate::answers::Answers;
@@ -61,8 +61,8 @@ impl<'a> Answers<'a> {
         ensures paths { IfOk result (λ a. paths_of a
             ≡ fold with_job (paths_of self.entry) (jobs_needed_at jobs.now place)) }
         ensures noted { IfOk result (λ a. AreNoted (paths_of a) jobs.now noted.new.items) }
-        ensures kept { AreKept (S.contents store.old) self.entry
-            → IfOk result (AreKept (S.contents store.old)) }
+        ensures kept { AgreeWithContents (S.contents store.old) self.entry
+            → IfOk result (AgreeWithContents (S.contents store.old)) }
         ensures faults { (n : ℕ) → S.faulted store.old ≡ one_more_times n (unreadable_count self.entry)
             → IfOk result (λ a. S.faulted store.new ≡ one_more_times n (unreadable_count a)) }
     {
@@ -88,8 +88,8 @@ impl<'a> Answers<'a> {
         ensures paths { IfOk result (λ a. paths_of a
             ≡ with_job (paths_of self.entry) (slice_index_or jobs.now place (single_job [] 0 []))) }
         ensures noted { IfOk result (λ a. AreNoted (paths_of a) jobs.now noted.new.items) }
-        ensures kept { AreKept (S.contents store.old) self.entry
-            → IfOk result (AreKept (S.contents store.old)) }
+        ensures kept { AgreeWithContents (S.contents store.old) self.entry
+            → IfOk result (AgreeWithContents (S.contents store.old)) }
         ensures faults { (n : ℕ) → S.faulted store.old ≡ one_more_times n (unreadable_count self.entry)
             → IfOk result (λ a. S.faulted store.new ≡ one_more_times n (unreadable_count a)) }
     {
@@ -112,8 +112,8 @@ fn read_paths_of_job<'a, S: Store>(
     ensures same { S.contents store.new ≡ S.contents store.old }
     ensures paths { IfOk result (λ a. paths_of a.0 ≡ with_job (paths_of asked.entry) job.now) }
     ensures places { IfOk result (λ a. ArePlaced (paths_of a.0) job.now a.1) }
-    ensures kept { AreKept (S.contents store.old) asked.entry
-        → IfOk result (λ a. AreKept (S.contents store.old) a.0) }
+    ensures kept { AgreeWithContents (S.contents store.old) asked.entry
+        → IfOk result (λ a. AgreeWithContents (S.contents store.old) a.0) }
     ensures faults { (n : ℕ) → S.faulted store.old ≡ one_more_times n (unreadable_count asked.entry)
         → IfOk result (λ a. S.faulted store.new ≡ one_more_times n (unreadable_count a.0)) }
 {
@@ -160,8 +160,8 @@ fn read_path_if_named<'a, S: Store>(
         ≡ with_path_if (paths_of asked.entry) (option_map (λ p. p.now) path.entry)) }
     ensures place { IfOk result (λ a. option_map (index_in (paths_of a.0))
         (option_map (λ p. p.now) path.entry) ≡ option_map (λ k. Some k) a.1) }
-    ensures kept { AreKept (S.contents store.old) asked.entry
-        → IfOk result (λ a. AreKept (S.contents store.old) a.0) }
+    ensures kept { AgreeWithContents (S.contents store.old) asked.entry
+        → IfOk result (λ a. AgreeWithContents (S.contents store.old) a.0) }
     ensures faults { (n : ℕ) → S.faulted store.old ≡ one_more_times n (unreadable_count asked.entry)
         → IfOk result (λ a. S.faulted store.new ≡ one_more_times n (unreadable_count a.0)) }
 {
@@ -176,7 +176,7 @@ fn read_path_if_named<'a, S: Store>(
 
 /// Returns, for each job, the indices of the results for its paths: those that are recorded, or, for a job whose paths were not read, those
 /// of the paths that were read for other jobs.
-pub(crate) fn places_of_answers(
+pub(crate) fn result_indices(
     alloc: Global,
     asked: &Answers,
     jobs: &[Job],

@@ -7,13 +7,13 @@ ghost use Rattle.std.specs.Prelude.{slice_index_or, option_map};
 ghost use Rattle.std.specs.List.{All};
 ghost use Rattle.rv_lists.specs.Jobs.{IsJob, console_path};
 ghost use Rattle.rv_base.specs.Names.{index_in};
-ghost use Rattle.rv_jobs.specs.Plans.{paths_of, paths_used, jobs_needed_for, kept_for};
-ghost use Rattle.rv_jobs.specs.Plans.{AreKept, unreadable_count, one_more_times};
+ghost use Rattle.rv_jobs.specs.Plans.{paths_of, paths_used, jobs_needed_for, result_for_path};
+ghost use Rattle.rv_jobs.specs.Plans.{AgreeWithContents, unreadable_count, one_more_times};
 
 use crate::answers::Answers;
 use crate::kept::Kept;
 use crate::path_reading::{
-    Found, blank_job_places, console_path, places_of_answers, reference_path,
+    Found, blank_job_places, console_path, result_indices, reference_path,
 };
 use rv_base::Store;
 use rv_lists::{Job, JobList};
@@ -51,7 +51,7 @@ pub fn gather<S: Store>(alloc: Global, jobs: JobList, store: &mut S) -> Result<P
     ensures same { S.contents store.new ≡ S.contents store.old }
     ensures jobs { IfOk result (λ p. p.jobs ≡ jobs) }
     ensures paths { IfOk result (λ p. paths_of p.answers ≡ paths_used jobs) }
-    ensures kept { IfOk result (λ p. AreKept (S.contents store.old) p.answers) }
+    ensures kept { IfOk result (λ p. AgreeWithContents (S.contents store.old) p.answers) }
     ensures faults { IfOk result (λ p. S.faulted store.new
         ≡ one_more_times (S.faulted store.old) (unreadable_count p.answers)) }
 {
@@ -72,7 +72,7 @@ pub fn gather_jobs<S: Store>(
     ensures jobs { IfOk result (λ p. p.jobs ≡ jobs) }
     ensures paths { IfOk result (λ p. paths_of p.answers
         ≡ paths_used (jobs_needed_for jobs places.items)) }
-    ensures kept { IfOk result (λ p. AreKept (S.contents store.old) p.answers) }
+    ensures kept { IfOk result (λ p. AgreeWithContents (S.contents store.old) p.answers) }
     ensures faults { IfOk result (λ p. S.faulted store.new
         ≡ one_more_times (S.faulted store.old) (unreadable_count p.answers)) }
 {
@@ -82,7 +82,7 @@ pub fn gather_jobs<S: Store>(
     for place in places.as_slice() {
         asked = asked.read_paths_for_row(alloc, store, jobs.as_slice(), *place, &mut noted)?;
     }
-    let found = places_of_answers(alloc, &asked, jobs.as_slice(), noted.as_slice())?;
+    let found = result_indices(alloc, &asked, jobs.as_slice(), noted.as_slice())?;
     let answers = asked.into_kept();
     Ok(Plan {
         jobs,
@@ -129,7 +129,7 @@ impl Plan {
     pub fn image(&self, i: usize) -> &Kept
         requires { i < length self.now.jobs }
         ensures { (d : AJob) → result.now
-            ≡ kept_for self.now.answers (slice_index_or self.now.jobs i d).image }
+            ≡ result_for_path self.now.answers (slice_index_or self.now.jobs i d).image }
     {
         self.kept_or_unread(self.found[i].image)
     }
@@ -139,7 +139,7 @@ impl Plan {
     pub fn reference(&self, i: usize) -> Option<&Kept>
         requires { i < length self.now.jobs }
         ensures { (d : AJob) → option_map (λ k. k.now) result
-            ≡ option_map (kept_for self.now.answers)
+            ≡ option_map (result_for_path self.now.answers)
             (slice_index_or self.now.jobs i d).expect_signature }
     {
         match reference_path(self.job(i)) {
@@ -153,7 +153,7 @@ impl Plan {
     pub fn console_reference(&self, i: usize) -> Option<&Kept>
         requires { i < length self.now.jobs }
         ensures { (d : AJob) → option_map (λ k. k.now) result
-            ≡ option_map (kept_for self.now.answers)
+            ≡ option_map (result_for_path self.now.answers)
             (console_path (slice_index_or self.now.jobs i d).expect_console) }
     {
         match console_path(self.job(i)) {
@@ -166,7 +166,7 @@ impl Plan {
     fn kept_or_unread(&self, at: Option<usize>) -> &Kept
         requires { IfSome at (λ k. k < length self.now.answers) }
         ensures { (path : List ℕ) → index_in (paths_of self.now.answers) path ≡ at
-            → result.now ≡ kept_for self.now.answers path }
+            → result.now ≡ result_for_path self.now.answers path }
     {
         match at {
             Some(place) => &self.answers[place],

@@ -3,13 +3,13 @@ use Rattle.std.proofs.Common.{◌≡◌, ℕ, List, Option, Some, None, refl, su
 use Rattle.toml.specs.Data.{Data, Members, array, as_table, string, integer, float, boolean, datetime, table}
 use Rattle.rv_lists.specs.declared.error.What.{What}
 use Rattle.rv_lists.specs.declared.error.What.TheVariants as what
-use Rattle.rv_list_errors.specs.JobFaults.{IsToldOf, TellsExplanation, TellsFaultOfTable, TellsJobFault, TellsNoTable, TellsOwnFault}
+use Rattle.rv_list_errors.specs.JobFaults.{IsToldOf, ExplainsKey, TellsFaultOfTable, TellsJobFault, TellsNoTable, TellsOwnFault}
 use Rattle.rv_list_errors.specs.declared.explanations.Explanation.{Explanation}
 
 -- ---- of a table
 
 pub own_told : (wrong : What) (ms : Members) (explained : Explanation) (told : List ℕ) → (wrong ≡ what.UnknownKey → ⊥)
-    → (wrong ≡ what.WrongType → ⊥) → (wrong ≡ what.Region → ⊥) → IsToldOf wrong ms explained → TellsExplanation explained ms told → TellsOwnFault wrong ms told
+    → (wrong ≡ what.WrongType → ⊥) → (wrong ≡ what.Region → ⊥) → IsToldOf wrong ms explained → ExplainsKey explained ms told → TellsOwnFault wrong ms told
 own_told what.NotToml ms explained told key kind region is so = (explained, is, so)
 own_told what.NoJobs ms explained told key kind region is so = (explained, is, so)
 own_told what.TooMany ms explained told key kind region is so = (explained, is, so)

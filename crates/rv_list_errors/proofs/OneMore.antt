@@ -5,7 +5,7 @@ use Rattle.std.specs.Prelude.{Err, Ok, OnOk, Result}
 use Rattle.std.proofs.lemmas.List.Concat.{flat_map-append}
 use Rattle.rv_lists.specs.declared.error.JobError.{JobError}
 use Rattle.rv_text.specs.Printable.{printable_text}
-use Rattle.rv_list_errors.specs.Lines.{AppendsLineOfEach, PutsLines, TellEach, printable_line}
+use Rattle.rv_list_errors.specs.Lines.{AppendsLineOfEach, AppendsLines, TellEach, printable_line}
 
 -- no line
 pub no_lines : (Is : JobError → List ℕ → Type 0) (bytes : List ℕ) → AppendsLineOfEach Is [] bytes bytes
@@ -60,6 +60,6 @@ count_each Is (fault ∷ faults) [] told = elim told [ ]
 
 pub count_of_lines : {T E : Type 0} (result : Result T E) (Is : JobError → List ℕ → Type 0) (faults : List JobError)
     (before after : List ℕ) → OnOk result (AppendsLineOfEach Is faults before after)
-    → OnOk result (PutsLines (length faults) before after)
+    → OnOk result (AppendsLines (length faults) before after)
 count_of_lines (Ok done) Is faults before after (messages, told, is) = (messages, count_each Is faults messages told, is)
 count_of_lines (Err error) Is faults before after puts = tt

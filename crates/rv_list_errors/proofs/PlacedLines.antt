@@ -10,8 +10,8 @@ use Rattle.toml.specs.Data.{Members}
 use Rattle.rv_lists.specs.JobList.{document_of}
 use Rattle.rv_lists.specs.declared.error.JobError.{JobError}
 use Rattle.rv_list_errors.specs.FaultHeads.{fault_head, job_names, place_in_document}
-use Rattle.rv_list_errors.specs.Lines.{BeginsWith, PutsFaultLines, TellFaults, printable_line}
-use Rattle.rv_list_errors.specs.PlacedFaults.{IsToldFault, IsToldInDocument, IsToldInList, PutsEachFault, PutsLinesThat}
+use Rattle.rv_list_errors.specs.Lines.{BeginsWith, AppendsFaultLines, TellFaults, printable_line}
+use Rattle.rv_list_errors.specs.PlacedFaults.{IsToldFault, IsToldInDocument, IsToldInList, AppendsEachFault, AppendsLinesThat}
 
 -- so many lines
 abbrev pub PutsSo : (List ℕ → Type 0) → ℕ → List ℕ → List ℕ → Type 0
@@ -31,41 +31,41 @@ puts_more Is n before bytes after message (messages, count, are, eq) is shows = 
 )
 
 pub puts_some : (Is : List ℕ → Type 0) (n : ℕ) (before after : List ℕ) → 0 < n → PutsSo Is n before after
-    → PutsLinesThat Is before after
+    → AppendsLinesThat Is before after
 puts_some Is n before after some (messages, count, are, eq) = (messages, omega (arith, count, some), are, eq)
 
 -- one line
 pub puts_one : (Is : List ℕ → Type 0) (before after message : List ℕ) → Is message → after ≡ before ++ printable_line message
-    → PutsLinesThat Is before after
+    → AppendsLinesThat Is before after
 puts_one Is before after message is shows =
     puts_some Is 1 before after (omega arith) (puts_more Is 0 before before after message (puts_none Is before) is shows)
 
 pub puts_weaker : (Is Other : List ℕ → Type 0) (before after : List ℕ) → ((message : List ℕ) → Is message → Other message)
-    → PutsLinesThat Is before after → PutsLinesThat Other before after
+    → AppendsLinesThat Is before after → AppendsLinesThat Other before after
 puts_weaker Is Other before after weaker (messages, some, are, eq) =
     (messages, some, All-weaker Is Other weaker messages are, eq)
 
 -- ---- the lines of one more fault
 
 each_snoc : (Is : JobError → List ℕ → Type 0) (faults : List JobError) (fault : JobError) (before bytes after : List ℕ)
-    → PutsEachFault Is faults before bytes → PutsLinesThat (Is fault) bytes after
-    → PutsEachFault Is (faults ++ fault ∷ []) before after
+    → AppendsEachFault Is faults before bytes → AppendsLinesThat (Is fault) bytes after
+    → AppendsEachFault Is (faults ++ fault ∷ []) before after
 each_snoc Is [] fault before bytes after same puts =
-    (after, subst (λ b. PutsLinesThat (Is fault) b after) same puts, refl)
+    (after, subst (λ b. AppendsLinesThat (Is fault) b after) same puts, refl)
 each_snoc Is (f ∷ faults) fault before bytes after (middle, first, rest) puts =
     (middle, first, each_snoc Is faults fault middle bytes after rest puts)
 
 pub each_more : (Is : JobError → List ℕ → Type 0) (faults : List JobError) (i : ℕ) (d : JobError) (before bytes after : List ℕ)
-    → i < length faults → PutsEachFault Is (take i faults) before bytes
-    → PutsLinesThat (Is (get_or faults i d)) bytes after → PutsEachFault Is (take (i + 1) faults) before after
+    → i < length faults → AppendsEachFault Is (take i faults) before bytes
+    → AppendsLinesThat (Is (get_or faults i d)) bytes after → AppendsEachFault Is (take (i + 1) faults) before after
 each_more Is faults i d before bytes after low puts more =
     rw (take_more faults i d low) (each_snoc Is (take i faults) (get_or faults i d) before bytes after puts more)
 
 -- ---- the same in other words
 
 each_weaker : (Is Other : JobError → List ℕ → Type 0) (faults : List JobError) (before after : List ℕ)
-    → ((fault : JobError) (message : List ℕ) → Is fault message → Other fault message) → PutsEachFault Is faults before after
-    → PutsEachFault Other faults before after
+    → ((fault : JobError) (message : List ℕ) → Is fault message → Other fault message) → AppendsEachFault Is faults before after
+    → AppendsEachFault Other faults before after
 each_weaker Is Other [] before after weaker same = same
 each_weaker Is Other (fault ∷ faults) before after weaker (middle, first, rest) = (
   middle,
@@ -76,7 +76,7 @@ each_weaker Is Other (fault ∷ faults) before after weaker (middle, first, rest
 -- a line for each fault
 each_of_lines : (head : JobError → List ℕ) (faults : List JobError) (messages : List (List ℕ)) (before after : List ℕ)
     → TellFaults head faults messages → after ≡ before ++ flat_map printable_line messages
-    → PutsEachFault (λ fault message. BeginsWith (head fault) message) faults before after
+    → AppendsEachFault (λ fault message. BeginsWith (head fault) message) faults before after
 each_of_lines head [] [] before after told eq = eq ∙ append-nil before
 each_of_lines head (fault ∷ faults) (message ∷ messages) before after told eq = (
   before ++ printable_line message,
@@ -90,8 +90,8 @@ each_of_lines head (fault ∷ faults) [] before after told eq = elim told [ ]
 -- in a document
 pub told_in_document : {T E : Type 0} (result : Result T E) (path text : List ℕ) (ms : Members) (names : List (Option (List ℕ)))
     (faults : List JobError) (before after : List ℕ) → document_of text ≡ Some ms → names ≡ job_names ms
-    → OnOk result (PutsEachFault (IsToldInList path text names) faults before after)
-    → OnOk result (PutsEachFault (IsToldFault path text) faults before after)
+    → OnOk result (AppendsEachFault (IsToldInList path text names) faults before after)
+    → OnOk result (AppendsEachFault (IsToldFault path text) faults before after)
 told_in_document (Ok done) path text ms names faults before after parsed named puts =
     each_weaker (IsToldInList path text names) (IsToldFault path text) faults before after
     (λ fault message told. subst (λ document. IsToldInDocument path text document fault message) (sym parsed)
@@ -101,8 +101,8 @@ told_in_document (Err error) path text ms names faults before after parsed named
 -- where there is none
 pub told_without_document : {T E : Type 0} (result : Result T E) (path text : List ℕ) (head : JobError → List ℕ)
     (faults : List JobError) (before after : List ℕ) → document_of text ≡ None
-    → ((fault : JobError) → head fault ≡ path) → OnOk result (PutsFaultLines head faults before after)
-    → OnOk result (PutsEachFault (IsToldFault path text) faults before after)
+    → ((fault : JobError) → head fault ≡ path) → OnOk result (AppendsFaultLines head faults before after)
+    → OnOk result (AppendsEachFault (IsToldFault path text) faults before after)
 told_without_document (Ok done) path text head faults before after refused heads (messages, told, eq) =
     each_weaker (λ fault message. BeginsWith (head fault) message) (IsToldFault path text) faults before after
     (λ fault message begins. subst (λ document. IsToldInDocument path text document fault message) (sym refused)

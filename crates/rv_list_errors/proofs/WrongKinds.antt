@@ -6,7 +6,7 @@ use Rattle.std.specs.Fmt.{decimal}
 use Rattle.std.specs.List.{find}
 use Rattle.toml.specs.Data.{Members, get_member}
 use Rattle.rv_lists.specs.declared.keys.Kind.{Kind}
-use Rattle.rv_list_errors.specs.JobFaults.{BeginsWithRegion, BeginsWithValue, TellsSameAs, TellsName, TellsWanted}
+use Rattle.rv_list_errors.specs.JobFaults.{BeginsWithRegion, BeginsWithValue, ExplainsSameAs, ExplainsName, ExplainsExpectedValue}
 use Rattle.rv_list_errors.specs.JobFaults.{is_known_of_other_kind, is_of_other_kind, key_and_kind}
 use Rattle.rv_list_errors.specs.Lines.{BeginsWith}
 use Rattle.rv_list_errors.specs.Explanation.{IsKeyAndValue, IsExpectedValue, region_number_text}
@@ -14,7 +14,7 @@ use Rattle.rv_list_errors.specs.declared.explanations.Expected.{Expected}
 use Rattle.rv_list_errors.proofs.NamesFound.{find_of_map}
 
 pub value_of_wanted : (wanted : Expected) (key : List ℕ) (ms : Members) (told : List ℕ) → wanted.key.now ≡ key
-    → TellsWanted wanted ms told → BeginsWithValue key ms told
+    → ExplainsExpectedValue wanted ms told → BeginsWithValue key ms told
 value_of_wanted wanted key ms told e (met, is, so) =
     (met, subst (λ name. IsKeyAndValue name (get_member name ms) met) e is, (_, so))
 
@@ -41,10 +41,10 @@ found_in_names ms keys found is =
 -- ---- names
 
 pub same_as_alone : (names : List (Option (List ℕ))) (ms : Members) (told : List ℕ)
-    → TellsName names (codes "same_as") (codes "expected the name of an earlier job") ms told → TellsSameAs names ms told
+    → ExplainsName names (codes "same_as") (codes "expected the name of an earlier job") ms told → ExplainsSameAs names ms told
 same_as_alone names ms told is = (told, is, ([], sym (append-nil told)))
 
 pub same_as_and_more : (names : List (Option (List ℕ))) (ms : Members) (told more : List ℕ)
-    → TellsName names (codes "same_as") (codes "expected the name of an earlier job") ms told → BeginsWith [] more
-    → TellsSameAs names ms (told ++ more)
+    → ExplainsName names (codes "same_as") (codes "expected the name of an earlier job") ms told → BeginsWith [] more
+    → ExplainsSameAs names ms (told ++ more)
 same_as_and_more names ms told more is any = (told, is, (more, refl))

@@ -17,8 +17,8 @@ abbrev pub path_words : List ℕ
 path_words = codes "expected a path of 1 to " ++ (decimal most_path ++ codes " bytes")
 
 -- whether a text may not be a path: it is empty, or longer than `most_path`
-abbrev pub is_no_path : List ℕ → Bool
-is_no_path path = (length path == 0) || nat_lt most_path (length path)
+abbrev pub is_invalid_path : List ℕ → Bool
+is_invalid_path path = (length path == 0) || nat_lt most_path (length path)
 
 -- whether there is a number, and it is below 0
 abbrev pub is_negative : Option ℤ → Bool
@@ -38,8 +38,8 @@ exit_told number = (
 )
 
 -- the explanation of a bad `expect_end`: the key whose value is shown, and the words, which list all kinds of faults
-abbrev pub kinds_told : Option (List ℕ) × List ℕ
-kinds_told = (
+abbrev pub kinds_explanation : Option (List ℕ) × List ℕ
+kinds_explanation = (
   Some (codes "expect_end"),
   codes "expected \"budget\" or a fault kind: " ++ first_kinds_text (length fault_kinds),
 )
@@ -47,10 +47,10 @@ kinds_told = (
 -- the explanation of a bad `expect_end` with this text: the key whose value is shown, if any, and the words; for `exit`, that `expect_exit`
 -- is the key to use
 abbrev pub end_told : Option (List ℕ) → Option (List ℕ) × List ℕ
-end_told None = kinds_told
+end_told None = kinds_explanation
 end_told (Some end) =
     if bytes_eq end (codes "exit")
-    then (None, codes "expect_end = \"exit\": to expect an exit, set \"expect_exit\" to its code") else kinds_told
+    then (None, codes "expect_end = \"exit\": to expect an exit, set \"expect_exit\" to its code") else kinds_explanation
 
 -- the explanation of a bad `expect_console`, `expect_console_file` or `expect_end`, given the texts at these keys: the key whose value is
 -- shown, if any, and the words
@@ -61,7 +61,7 @@ console_told (Some text) None end =
     if nat_lt most_console (length text)
     then (Some (codes "expect_console"), codes "expected at most " ++ (decimal most_console ++ codes " bytes")) else end_told end
 console_told None (Some path) end =
-    if is_no_path path then (Some (codes "expect_console_file"), path_words) else end_told end
+    if is_invalid_path path then (Some (codes "expect_console_file"), path_words) else end_told end
 console_told None None end = end_told end
 
 -- the explanation of a bad `expect_signature`, given its text: the key whose value is shown, and the words; `asked` is whether the job has
@@ -69,7 +69,7 @@ console_told None None end = end_told end
 abbrev pub reference_told : Bool → Option (List ℕ) → Option (List ℕ) × List ℕ → Option (List ℕ) × List ℕ
 reference_told asked None rest = rest
 reference_told asked (Some path) rest =
-    if asked then if is_no_path path then (Some (codes "expect_signature"), path_words) else rest
+    if asked then if is_invalid_path path then (Some (codes "expect_signature"), path_words) else rest
     else (
       Some (codes "expect_signature"),
       codes "cannot be used without \"signature\"",
@@ -77,21 +77,21 @@ reference_told asked (Some path) rest =
 
 -- the explanation of a job's bad `expect_console`, `expect_console_file` or `expect_end`: the key whose value is shown, if any, and the
 -- words
-abbrev pub console_told_of : Members → Option (List ℕ) × List ℕ
-console_told_of ms = console_told (text_at_key (codes "expect_console") ms)
+abbrev pub console_explanation_of : Members → Option (List ℕ) × List ℕ
+console_explanation_of ms = console_told (text_at_key (codes "expect_console") ms)
     (text_at_key (codes "expect_console_file") ms) (text_at_key (codes "expect_end") ms)
 
 -- the explanation of a job's bad `expect_signature`, or, if that is missing or good, of the expected console or end
-abbrev pub reference_told_of : Members → Option (List ℕ) × List ℕ
-reference_told_of ms = reference_told (is_some (get_member (codes "signature") ms))
-    (text_at_key (codes "expect_signature") ms) (console_told_of ms)
+abbrev pub reference_explanation_of : Members → Option (List ℕ) × List ℕ
+reference_explanation_of ms = reference_told (is_some (get_member (codes "signature") ms))
+    (text_at_key (codes "expect_signature") ms) (console_explanation_of ms)
 
 -- `told`, the key whose value is shown and the words, explains the first bad expectation of the job: `expect_exit`, if the job has this
 -- key, or another expectation
 abbrev pub IsExpectationTold : Members → Option (List ℕ) × List ℕ → Type 0
 IsExpectationTold ms told =
     ((is_some (get_member (codes "expect_exit") ms) ≡ true) × (told ≡ exit_told (number_at_key (codes "expect_exit") ms)))
-    ⊎ (told ≡ reference_told_of ms)
+    ⊎ (told ≡ reference_explanation_of ms)
 
 -- ---- instruction sets
 

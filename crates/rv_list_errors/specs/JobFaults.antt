@@ -77,8 +77,8 @@ pub record IsOverlap (regions : List Region) (place later address : ℕ) : Type 
   pub shared : IsFirstShared (region_at regions place) (region_at regions later) address
 
 -- no region at a greater index shares an address with the region at the index `place`
-abbrev pub IsApartBehind : List Region → ℕ → Type 0
-IsApartBehind regions place = (later : ℕ) → place < later → later < length regions
+abbrev pub IsDisjointFromRest : List Region → ℕ → Type 0
+IsDisjointFromRest regions place = (later : ℕ) → place < later → later < length regions
     → AreApart (region_at regions place) (region_at regions later)
 
 -- no region at an index between `place` and `later` shares an address with the region at the index `place`
@@ -90,12 +90,12 @@ IsApartBefore regions place later = (between : ℕ) → place < between → betw
 -- the first address that they share
 pub record IsFirstOverlap (regions : List Region) (place later address : ℕ) : Type 0 where
   pub overlaps : IsOverlap regions place later address
-  pub first : (other : ℕ) → other < place → IsApartBehind regions other
+  pub first : (other : ℕ) → other < place → IsDisjointFromRest regions other
   pub nearest : IsApartBefore regions place later
 
 -- no two regions of a list share an address
 abbrev pub AreAllApart : List Region → Type 0
-AreAllApart regions = (place : ℕ) → IsApartBehind regions place
+AreAllApart regions = (place : ℕ) → IsDisjointFromRest regions place
 
 -- the explanation that the regions at the indices `place` and `later` overlap at this address
 abbrev pub overlap_text : ℕ → ℕ → ℕ → List ℕ
@@ -103,14 +103,14 @@ overlap_text place later address = region_number_text place ++ (codes " and " ++
     ++ (codes " overlap at 0x" ++ (word_digits address ++ codes ": expected disjoint regions"))))
 
 -- `told` explains the first overlap of the regions
-abbrev pub TellsOverlap : List Region → List ℕ → Type 0
-TellsOverlap regions told = (place later address : ℕ) × IsFirstOverlap regions place later address
+abbrev pub ExplainsOverlap : List Region → List ℕ → Type 0
+ExplainsOverlap regions told = (place later address : ℕ) × IsFirstOverlap regions place later address
     × (told ≡ overlap_text place later address)
 
 -- `told` explains why regions do not form a map: it begins with a region's number or the number of regions, or says what their sizes add up
 -- to
-abbrev pub TellsRegions : List ℕ → Type 0
-TellsRegions told = BeginsWith (codes "region") told ⊎ BeginsWith (codes "the sizes of the regions add up to ") told
+abbrev pub ExplainsRegions : List ℕ → Type 0
+ExplainsRegions told = BeginsWith (codes "region") told ⊎ BeginsWith (codes "the sizes of the regions add up to ") told
 
 -- ---- the script
 
@@ -133,8 +133,8 @@ script_told None (Some digits) = (
 script_told None None = (None, codes "input")
 
 -- the explanation of a job's bad script: the key whose value is shown, if any, and the words
-abbrev pub script_told_of : Members → Option (List ℕ) × List ℕ
-script_told_of ms = script_told (text_at_key (codes "input") ms) (text_at_key (codes "input_hex") ms)
+abbrev pub script_explanation_of : Members → Option (List ℕ) × List ℕ
+script_explanation_of ms = script_told (text_at_key (codes "input") ms) (text_at_key (codes "input_hex") ms)
 
 -- ---- the explanation of one key
 
@@ -160,19 +160,19 @@ text_length None = 0
 text_length (Some text) = length text
 
 -- what is expected of the value of a key
-abbrev pub wanted_words : Expected → List ℕ
-wanted_words wanted = wanted.before.now ++ (rest_words wanted.rest ++ wanted.behind.now)
+abbrev pub expected_words : Expected → List ℕ
+expected_words wanted = wanted.before.now ++ (rest_words wanted.rest ++ wanted.behind.now)
 
 -- `told` is the key with its value, or that it is missing, then the number of bytes if there are too many, and then what is expected
-abbrev pub TellsWanted : Expected → Members → List ℕ → Type 0
-TellsWanted wanted ms told = (met : List ℕ) × IsKeyAndValue wanted.key.now (get_member wanted.key.now ms) met
+abbrev pub ExplainsExpectedValue : Expected → Members → List ℕ → Type 0
+ExplainsExpectedValue wanted ms told = (met : List ℕ) × IsKeyAndValue wanted.key.now (get_member wanted.key.now ms) met
     × (told ≡ met ++ (bytes_text wanted.rest (told_bytes wanted.bytes (text_length (text_at_key wanted.key.now ms)))
-    ++ (codes ": " ++ wanted_words wanted)))
+    ++ (codes ": " ++ expected_words wanted)))
 
 -- `told` is the text of an explanation, given the values of the job
-abbrev pub TellsExplanation : Explanation → Members → List ℕ → Type 0
-TellsExplanation (told.Text text) ms told = told ≡ text.now
-TellsExplanation (told.Expected wanted) ms told = TellsWanted wanted.now ms told
+abbrev pub ExplainsKey : Explanation → Members → List ℕ → Type 0
+ExplainsKey (told.Text text) ms told = told ≡ text.now
+ExplainsKey (told.Expected wanted) ms told = ExplainsExpectedValue wanted.now ms told
 
 -- the key whose value is bad, given the error, or `None` if it depends on more than the error
 abbrev pub key_of : What → Option (List ℕ)
@@ -195,9 +195,9 @@ abbrev pub BeginsWithRegion : List ℕ → Members → List ℕ → Type 0
 BeginsWithRegion key ms told = BeginsWithValue key ms told ⊎ BeginsWith (codes "region ") told
 
 -- `told` explains that the value of this key does not have the type of this kind
-abbrev pub TellsOtherKind : List ℕ → Kind → Members → List ℕ → Type 0
-TellsOtherKind key kind.Regions ms told = BeginsWithRegion key ms told
-TellsOtherKind key _ ms told = BeginsWithValue key ms told
+abbrev pub ExplainsWrongType : List ℕ → Kind → Members → List ℕ → Type 0
+ExplainsWrongType key kind.Regions ms told = BeginsWithRegion key ms told
+ExplainsWrongType key _ ms told = BeginsWithValue key ms told
 
 -- the keys of a job in the order of the format, each with the type of its value
 abbrev pub kinds_of_keys : List (List ℕ × Kind)
@@ -240,13 +240,13 @@ abbrev pub is_known_of_other_kind : Members → Bor (List ℕ) × Kind → Bool
 is_known_of_other_kind ms known = is_of_other_kind ms (key_and_kind known)
 
 -- `told` explains that the value of this key has the wrong type; without a key, that some type is invalid
-abbrev pub TellsWrongKey : Members → Option (List ℕ × Kind) → List ℕ → Type 0
-TellsWrongKey ms None told = told ≡ codes "invalid type"
-TellsWrongKey ms (Some known) told = TellsOtherKind known.0 known.1 ms told
+abbrev pub ExplainsWrongKey : Members → Option (List ℕ × Kind) → List ℕ → Type 0
+ExplainsWrongKey ms None told = told ≡ codes "invalid type"
+ExplainsWrongKey ms (Some known) told = ExplainsWrongType known.0 known.1 ms told
 
 -- `told` explains the first key of the job, in the order of the format, whose value has the wrong type
-abbrev pub TellsWrongKind : Members → List ℕ → Type 0
-TellsWrongKind ms told = TellsWrongKey ms (find (is_of_other_kind ms) kinds_of_keys) told
+abbrev pub ExplainsWrongRegionType : Members → List ℕ → Type 0
+ExplainsWrongRegionType ms told = ExplainsWrongKey ms (find (is_of_other_kind ms) kinds_of_keys) told
 
 -- ---- errors of a job
 
@@ -256,8 +256,8 @@ job_of_name_text None = []
 job_of_name_text (Some number) = codes ", but job " ++ (decimal number ++ codes " has this name")
 
 -- `told` is a key for a name with its value, then `wanted`, which is expected, and then the number of the first job with this name, if any
-abbrev pub TellsName : List (Option (List ℕ)) → List ℕ → List ℕ → Members → List ℕ → Type 0
-TellsName names key wanted ms told = (met : List ℕ) × IsKeyAndValue key (get_member key ms) met
+abbrev pub ExplainsName : List (Option (List ℕ)) → List ℕ → List ℕ → Members → List ℕ → Type 0
+ExplainsName names key wanted ms told = (met : List ℕ) × IsKeyAndValue key (get_member key ms) met
     × (told ≡ met ++ (codes ": " ++ (wanted ++ job_of_name_text (number_of_name names (text_at_key key ms)))))
 
 -- what is expected of a name that an earlier job has
@@ -265,9 +265,9 @@ abbrev pub free_words : List ℕ
 free_words = codes "expected a unique name"
 
 -- `told` begins with `same_as` and its value, what is expected of it, and the number of the first job with this name, if any
-abbrev pub TellsSameAs : List (Option (List ℕ)) → Members → List ℕ → Type 0
-TellsSameAs names ms told = (head : List ℕ)
-    × TellsName names (codes "same_as") (codes "expected the name of an earlier job") ms head × BeginsWith head told
+abbrev pub ExplainsSameAs : List (Option (List ℕ)) → Members → List ℕ → Type 0
+ExplainsSameAs names ms told = (head : List ℕ)
+    × ExplainsName names (codes "same_as") (codes "expected the name of an earlier job") ms head × BeginsWith head told
 
 -- the explanation of a key belongs to this error of the job
 pub record IsToldOf (wrong : What) (ms : Members) (explained : Explanation) : Type 0 where
@@ -275,21 +275,21 @@ pub record IsToldOf (wrong : What) (ms : Members) (explained : Explanation) : Ty
   pub words : IfSome (key_words wrong) (λ words. explained_words explained ≡ words)
   -- the key is that of the error, if it depends on nothing else
   pub key : IfSome (key_of wrong) (λ key. explained_key explained ≡ Some key)
-  pub script : wrong ≡ what.Input → (explained_key explained, explained_words explained) ≡ script_told_of ms
+  pub script : wrong ≡ what.Input → (explained_key explained, explained_words explained) ≡ script_explanation_of ms
   pub expectation : wrong ≡ what.Expect → IsExpectationTold ms (explained_key explained, explained_words explained)
   pub isa : wrong ≡ what.Isa → (explained_key explained, explained_words explained) ≡ isa_told ms
 
 -- `told` explains this error of a job, which does not depend on the other jobs
 abbrev pub TellsOwnFault : What → Members → List ℕ → Type 0
-TellsOwnFault what.WrongType ms told = TellsWrongKind ms told
+TellsOwnFault what.WrongType ms told = ExplainsWrongRegionType ms told
 TellsOwnFault what.UnknownKey ms told = TellsUnknownKey ms told
-TellsOwnFault what.Region ms told = TellsRegions told
-TellsOwnFault wrong ms told = (explained : Explanation) × IsToldOf wrong ms explained × TellsExplanation explained ms told
+TellsOwnFault what.Region ms told = ExplainsRegions told
+TellsOwnFault wrong ms told = (explained : Explanation) × IsToldOf wrong ms explained × ExplainsKey explained ms told
 
 -- `told` explains this error of a job that is a table, in a list whose jobs have these names
 abbrev pub TellsFaultOfTable : List (Option (List ℕ)) → Members → What → List ℕ → Type 0
-TellsFaultOfTable names ms what.Duplicate told = TellsName names (codes "name") free_words ms told
-TellsFaultOfTable names ms what.SameAs told = TellsSameAs names ms told
+TellsFaultOfTable names ms what.Duplicate told = ExplainsName names (codes "name") free_words ms told
+TellsFaultOfTable names ms what.SameAs told = ExplainsSameAs names ms told
 TellsFaultOfTable names ms wrong told = TellsOwnFault wrong ms told
 
 -- `told` explains that an element of `job` is not a table

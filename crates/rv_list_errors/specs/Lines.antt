@@ -23,8 +23,8 @@ abbrev pub TellFaults : (JobError → List ℕ) → List JobError → List (List
 TellFaults head faults messages = TellEach (λ fault message. BeginsWith (head fault) message) faults messages
 
 -- the text went from `before` to `after` by appending this many lines
-abbrev pub PutsLines : ℕ → List ℕ → List ℕ → Type 0
-PutsLines count before after =
+abbrev pub AppendsLines : ℕ → List ℕ → List ℕ → Type 0
+AppendsLines count before after =
     (messages : List (List ℕ)) × (length messages ≡ count)
     × (after ≡ before ++ flat_map printable_line messages)
 
@@ -35,6 +35,6 @@ AppendsLineOfEach Is faults before after =
     × (after ≡ before ++ flat_map printable_line messages)
 
 -- the text went from `before` to `after` by appending a line for each error, in order, whose message begins with the head of the error
-abbrev pub PutsFaultLines : (JobError → List ℕ) → List JobError → List ℕ → List ℕ → Type 0
-PutsFaultLines head faults before after =
+abbrev pub AppendsFaultLines : (JobError → List ℕ) → List JobError → List ℕ → List ℕ → Type 0
+AppendsFaultLines head faults before after =
     AppendsLineOfEach (λ fault message. BeginsWith (head fault) message) faults before after

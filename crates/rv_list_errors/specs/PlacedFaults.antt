@@ -37,12 +37,12 @@ abbrev pub IsToldFault : List ℕ → List ℕ → JobError → List ℕ → Typ
 IsToldFault path text fault message = IsToldInDocument path text (document_of text) fault message
 
 -- the text went from `before` to `after` by appending one or more lines, whose messages satisfy the predicate
-abbrev pub PutsLinesThat : (List ℕ → Type 0) → List ℕ → List ℕ → Type 0
-PutsLinesThat Is before after = (messages : List (List ℕ)) × (0 < length messages) × All Is messages
+abbrev pub AppendsLinesThat : (List ℕ → Type 0) → List ℕ → List ℕ → Type 0
+AppendsLinesThat Is before after = (messages : List (List ℕ)) × (0 < length messages) × All Is messages
     × (after ≡ before ++ flat_map printable_line messages)
 
 -- the text went from `before` to `after` by appending one or more lines for each error, in order, whose messages satisfy the predicate
-abbrev pub PutsEachFault : (JobError → List ℕ → Type 0) → List JobError → List ℕ → List ℕ → Type 0
-PutsEachFault Is [] before after = after ≡ before
-PutsEachFault Is (fault ∷ faults) before after =
-    (middle : List ℕ) × PutsLinesThat (Is fault) before middle × PutsEachFault Is faults middle after
+abbrev pub AppendsEachFault : (JobError → List ℕ → Type 0) → List JobError → List ℕ → List ℕ → Type 0
+AppendsEachFault Is [] before after = after ≡ before
+AppendsEachFault Is (fault ∷ faults) before after =
+    (middle : List ℕ) × AppendsLinesThat (Is fault) before middle × AppendsEachFault Is faults middle after

@@ -4,7 +4,7 @@ ghost use Rattle.std.specs.Prelude.{◌≡◌, ◌<◌, ◌++◌, IfOk, OnOk, co
 ghost use Rattle.std.specs.Fmt.{decimal};
 ghost use Rattle.rv_list_errors.specs.FaultHeads.{borrowed_names};
 ghost use Rattle.rv_list_errors.specs.Lines.{BeginsWith, printable_line};
-ghost use Rattle.rv_list_errors.specs.PlacedFaults.{IsPlacedMessage, IsToldFault, IsToldInList, PutsEachFault, PutsLinesThat};
+ghost use Rattle.rv_list_errors.specs.PlacedFaults.{IsPlacedMessage, IsToldFault, IsToldInList, AppendsEachFault, AppendsLinesThat};
 ghost use Rattle.rv_list_errors.specs.PlacedFaults.{placed_head};
 
 use crate::fault_text::{list_fault_message, push_job_number_and_name};
@@ -27,7 +27,7 @@ pub fn push_all_faults<'a>(
     text: &'a [u8],
     faults: &[JobError],
 ) -> Result<(), AllocError>
-    ensures { OnOk result (PutsEachFault (IsToldFault file.now text.now) faults.now
+    ensures { OnOk result (AppendsEachFault (IsToldFault file.now text.now) faults.now
         bytes.old.items bytes.new.items) }
 {
     match toml::table_from_slice(alloc, text) {
@@ -70,7 +70,7 @@ impl<'a> PlacedLines<'a> {
         bytes: &mut Vec<u8>,
         faults: &[JobError],
     ) -> Result<(), AllocError>
-        ensures { OnOk result (PutsEachFault
+        ensures { OnOk result (AppendsEachFault
             (IsToldInList self.old.file.now self.old.cursor.text.now (borrowed_names self.old.list.names.items))
             faults.now bytes.old.items bytes.new.items) }
     {
@@ -91,7 +91,7 @@ impl<'a> PlacedLines<'a> {
         ensures file { self.new.file ≡ self.old.file }
         ensures list { self.new.list ≡ self.old.list }
         ensures text { self.new.cursor.text.now ≡ self.old.cursor.text.now }
-        ensures told { OnOk result (PutsLinesThat
+        ensures told { OnOk result (AppendsLinesThat
             (IsToldInList self.old.file.now self.old.cursor.text.now (borrowed_names self.old.list.names.items) fault)
             bytes.old.items bytes.new.items) }
     {
@@ -116,7 +116,7 @@ impl<'a> PlacedLines<'a> {
         ensures file { self.new.file ≡ self.old.file }
         ensures list { self.new.list ≡ self.old.list }
         ensures text { self.new.cursor.text.now ≡ self.old.cursor.text.now }
-        ensures told { OnOk result (PutsLinesThat
+        ensures told { OnOk result (AppendsLinesThat
             (IsPlacedMessage self.old.file.now self.old.cursor.text.now (borrowed_names self.old.list.names.items) number)
             bytes.old.items bytes.new.items) }
     {
@@ -142,7 +142,7 @@ impl<'a> PlacedLines<'a> {
             (placed_head self.old.file.now self.old.cursor.text.now (borrowed_names self.old.list.names.items) number
             fault.now.place) message.items) }
     {
-        let place = self.cursor.place_at(fault.place);
+        let place = self.cursor.location_at(fault.place);
         let mut message = Vec::new(alloc);
         push_text(&mut message, self.file)?;
         push_line_and_column(&mut message, place)?;

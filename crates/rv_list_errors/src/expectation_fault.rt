@@ -4,8 +4,8 @@
 ghost use Rattle.std.specs.Prelude.{◌≡◌, codes};
 ghost use Rattle.toml.specs.View.{table_view};
 ghost use Rattle.rv_lists.specs.Keys.{text_at_key};
-ghost use Rattle.rv_list_errors.specs.Expectations.{IsExpectationTold, console_told, console_told_of, end_told, is_no_path};
-ghost use Rattle.rv_list_errors.specs.Expectations.{exit_told, reference_told, reference_told_of};
+ghost use Rattle.rv_list_errors.specs.Expectations.{IsExpectationTold, console_told, console_explanation_of, end_told, is_invalid_path};
+ghost use Rattle.rv_list_errors.specs.Expectations.{exit_told, reference_told, reference_explanation_of};
 ghost use Rattle.rv_list_errors.specs.FaultHeads.{borrowed_name};
 ghost use Rattle.rv_list_errors.specs.JobFaults.{explained_key};
 ghost use Rattle.rv_list_errors.specs.Explanation.{explained_words};
@@ -41,7 +41,7 @@ pub(crate) fn exit_explanation(number: Option<i64>) -> Explanation
 
 // Returns the explanation of a bad expectation other than the exit.
 fn reference_or_console_explanation(table: &Table) -> Explanation
-    ensures { (explained_key result, explained_words result) ≡ reference_told_of (table_view table.now) }
+    ensures { (explained_key result, explained_words result) ≡ reference_explanation_of (table_view table.now) }
 {
     reference_explanation(
         value_at_key(table, "signature").is_some(),
@@ -57,21 +57,21 @@ fn reference_explanation(is_asked: bool, path: Option<&str>, rest: Explanation) 
 {
     match path {
         Some(_) if !is_asked => Explanation::Expected(&UNASKED),
-        Some(path) if is_no_path(path) => Explanation::Expected(&EXPECT_SIGNATURE),
+        Some(path) if is_invalid_path(path) => Explanation::Expected(&EXPECT_SIGNATURE),
         _ => rest,
     }
 }
 
 // Whether a text may not be a path: it is empty or too long.
-fn is_no_path(path: &str) -> bool
-    ensures { result ≡ is_no_path path.now }
+fn is_invalid_path(path: &str) -> bool
+    ensures { result ≡ is_invalid_path path.now }
 {
     path.is_empty() || MOST_PATH < path.len()
 }
 
 // Returns the explanation of a job's bad `expect_console`, `expect_console_file` or `expect_end`.
 fn console_or_end_explanation(table: &Table) -> Explanation
-    ensures { (explained_key result, explained_words result) ≡ console_told_of (table_view table.now) }
+    ensures { (explained_key result, explained_words result) ≡ console_explanation_of (table_view table.now) }
 {
     console_explanation(
         text_at_key(table, "expect_console"),
@@ -88,7 +88,7 @@ fn console_explanation(text: Option<&str>, path: Option<&str>, end: Option<&str>
     match (text, path) {
         (Some(_), Some(_)) => Explanation::Text(BOTH_CONSOLES),
         (Some(text), None) if MOST_CONSOLE < text.len() => Explanation::Expected(&EXPECT_CONSOLE),
-        (None, Some(path)) if is_no_path(path) => Explanation::Expected(&EXPECT_CONSOLE_FILE),
+        (None, Some(path)) if is_invalid_path(path) => Explanation::Expected(&EXPECT_CONSOLE_FILE),
         _ => end_text_explanation(end),
     }
 }

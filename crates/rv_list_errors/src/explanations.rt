@@ -5,7 +5,7 @@ ghost use Rattle.toml.specs.View.{table_view};
 ghost use Rattle.rv_lists.specs.Keys.{text_at_key};
 ghost use Rattle.rv_machine.specs.Faults.{fault_kinds};
 ghost use Rattle.rv_list_errors.specs.FaultHeads.{borrowed_name};
-ghost use Rattle.rv_list_errors.specs.JobFaults.{TellsExplanation, TellsWanted, bytes_text, text_length, told_bytes, wanted_words};
+ghost use Rattle.rv_list_errors.specs.JobFaults.{ExplainsKey, ExplainsExpectedValue, bytes_text, text_length, told_bytes, expected_words};
 ghost use Rattle.rv_list_errors.specs.NearNames.{Adds};
 ghost use Rattle.rv_list_errors.specs.Explanation.{AddsSome, first_kinds_text, kind_text, rest_words};
 
@@ -225,7 +225,7 @@ pub(crate) fn taken_texts(key: &str) -> Option<&'static Expected>
 
 /// Appends an explanation of a bad value of a job.
 pub(crate) fn push_explanation(message: &mut Message, table: &Table, told: Explanation)
-    ensures { AddsSome message.old message.new (TellsExplanation told (table_view table.now)) }
+    ensures { AddsSome message.old message.new (ExplainsKey told (table_view table.now)) }
 {
     match told {
         Explanation::Text(text) => message.push(text),
@@ -235,15 +235,15 @@ pub(crate) fn push_explanation(message: &mut Message, table: &Table, told: Expla
 
 // Appends a key, its value, and what is expected of it.
 fn push_wanted(message: &mut Message, table: &Table, wanted: &Expected)
-    ensures { AddsSome message.old message.new (TellsWanted wanted.now (table_view table.now)) }
+    ensures { AddsSome message.old message.new (ExplainsExpectedValue wanted.now (table_view table.now)) }
 {
     push_key_and_value(message, table, wanted.key);
-    push_wanted_words(message, reported_byte_count(table, wanted), wanted);
+    push_expected_words(message, reported_byte_count(table, wanted), wanted);
 }
 
 // Appends the number of bytes, if it exceeds the maximum, and what is expected.
-fn push_wanted_words(message: &mut Message, bytes: u64, wanted: &Expected)
-    ensures { Adds message.old message.new (bytes_text wanted.now.rest bytes ++ (codes ": " ++ wanted_words wanted.now)) }
+fn push_expected_words(message: &mut Message, bytes: u64, wanted: &Expected)
+    ensures { Adds message.old message.new (bytes_text wanted.now.rest bytes ++ (codes ": " ++ expected_words wanted.now)) }
 {
     push_byte_count(message, bytes, wanted.rest);
     message.push(": ");
@@ -299,11 +299,11 @@ fn push_fault_kind(message: &mut Message, place: usize)
 fn reported_byte_count(table: &Table, wanted: &Expected) -> u64
     ensures { result ≡ told_bytes wanted.now.bytes (text_length (text_at_key wanted.now.key.now (table_view table.now))) }
 {
-    told_byte_count(wanted.bytes, text_at_key(table, wanted.key))
+    shown_byte_count(wanted.bytes, text_at_key(table, wanted.key))
 }
 
 // Returns the number of bytes that a text represents, or 0 if it is not to be shown.
-fn told_byte_count(bytes: Bytes, text: Option<&str>) -> u64
+fn shown_byte_count(bytes: Bytes, text: Option<&str>) -> u64
     ensures { result ≡ told_bytes bytes (text_length (borrowed_name text.entry)) }
 {
     let len = match text {

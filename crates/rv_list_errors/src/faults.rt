@@ -4,7 +4,7 @@ ghost use Rattle.std.specs.Prelude.{◌++◌, OnOk, length};
 ghost use Rattle.rv_list_errors.specs.FaultHeads.{fault_head, location_in_view};
 ghost use Rattle.rv_list_errors.specs.FaultsTold.{TellsFaultOfText};
 ghost use Rattle.rv_list_errors.specs.JobFaults.{EndsSo, TellsFoundFault};
-ghost use Rattle.rv_list_errors.specs.Lines.{PutsFaultLines, AppendsLineOfEach, PutsLines};
+ghost use Rattle.rv_list_errors.specs.Lines.{AppendsFaultLines, AppendsLineOfEach, AppendsLines};
 
 use crate::fault_text::{FaultView, message_of_fault};
 use crate::list::List;
@@ -25,9 +25,9 @@ pub fn push_faults(
     text: &[u8],
     faults: &[JobError],
 ) -> Result<(), AllocError>
-    ensures lines { OnOk result (PutsLines (length faults.now) bytes.old.items bytes.new.items) }
+    ensures lines { OnOk result (AppendsLines (length faults.now) bytes.old.items bytes.new.items) }
     // Each begins with the path and the job in error.
-    ensures heads { OnOk result (PutsFaultLines (fault_head file.now text.now) faults.now
+    ensures heads { OnOk result (AppendsFaultLines (fault_head file.now text.now) faults.now
         bytes.old.items bytes.new.items) }
     // The explanation of the error follows, based on the values of that job.
     ensures told { OnOk result (AppendsLineOfEach (TellsFaultOfText file.now text.now) faults.now

@@ -7,8 +7,8 @@ ghost use Rattle.toml.specs.View.{items_view, table_view, view};
 ghost use Rattle.rv_lists.specs.declared.error.What.TheVariants.{Expect, Input, Isa};
 ghost use Rattle.rv_list_errors.specs.Expectations.{IsExpectationTold, isa_told, set_words};
 ghost use Rattle.rv_list_errors.specs.FaultHeads.{borrowed_name, borrowed_names};
-ghost use Rattle.rv_list_errors.specs.JobFaults.{TellsFaultOfTable, TellsJobFault, TellsNoTable, TellsName, TellsOwnFault, element_at, free_words};
-ghost use Rattle.rv_list_errors.specs.JobFaults.{are_digit_pairs, key_of, script_told, script_told_of, explained_key};
+ghost use Rattle.rv_list_errors.specs.JobFaults.{TellsFaultOfTable, TellsJobFault, TellsNoTable, ExplainsName, TellsOwnFault, element_at, free_words};
+ghost use Rattle.rv_list_errors.specs.JobFaults.{are_digit_pairs, key_of, script_told, script_explanation_of, explained_key};
 ghost use Rattle.rv_list_errors.specs.Explanation.{AddsSome, is_unsimulated, key_words, letters_words, explained_words};
 
 use crate::expectation_fault::expectation_explanation;
@@ -91,7 +91,7 @@ fn push_fault_of_table(message: &mut Message, job: FaultyJob<'_>, what: What)
 /// Appends that an earlier job has the name of the job.
 pub(crate) fn push_taken_name(message: &mut Message, list: &List<'_>, table: &Table)
     ensures { AddsSome message.old message.new
-        (TellsName (borrowed_names list.now.names.items) (codes "name") free_words (table_view table.now)) }
+        (ExplainsName (borrowed_names list.now.names.items) (codes "name") free_words (table_view table.now)) }
 {
     push_name_fault(message, list, table, "name", FREE)
 }
@@ -114,7 +114,7 @@ fn push_fault_within_job(message: &mut Message, table: &Table, what: What)
 fn key_explanation(table: &Table, what: What) -> Explanation
     ensures words { IfSome (key_words what) (λ words. explained_words result ≡ words) }
     ensures key { IfSome (key_of what) (λ key. explained_key result ≡ Some key) }
-    ensures script { what ≡ Input → (explained_key result, explained_words result) ≡ script_told_of (table_view table.now) }
+    ensures script { what ≡ Input → (explained_key result, explained_words result) ≡ script_explanation_of (table_view table.now) }
     ensures expectation { what ≡ Expect → IsExpectationTold (table_view table.now) (explained_key result, explained_words result) }
     ensures isa { what ≡ Isa → (explained_key result, explained_words result) ≡ isa_told (table_view table.now) }
 {
@@ -184,7 +184,7 @@ fn is_unsimulated(letter: u8) -> bool
 
 // Returns the explanation of a job's bad script.
 fn input_explanation(table: &Table) -> Explanation
-    ensures { (explained_key result, explained_words result) ≡ script_told_of (table_view table.now) }
+    ensures { (explained_key result, explained_words result) ≡ script_explanation_of (table_view table.now) }
 {
     script_explanation(text_at_key(table, "input"), text_at_key(table, "input_hex"))
 }

@@ -8,7 +8,7 @@ use crate::explanations::{
     INPUT_HEX, LOAD, MISALIGNED, NAME, PAIRS, SIGNATURE, UNASKED, push_explanation,
 };
 use crate::job_fault::{BOTH_INPUTS, are_hex_digit_pairs, isa_explanation, push_taken_name};
-use crate::keys::{push_unknown_job_key_of, push_unknown_region_key, region_with_unknown_key};
+use crate::keys::{push_unknown_key_of_job, push_unknown_region_key, region_with_unknown_key};
 use crate::kinds::{is_of_toml_kind, push_value_of_wrong_kind};
 use crate::list::List;
 use crate::message::Message;
@@ -96,7 +96,7 @@ impl<'a> FaultyJob<'a> {
             return false;
         };
         match fault {
-            KeyFault::Unknown => push_unknown_job_key_of(message, key, self.suggestion),
+            KeyFault::Unknown => push_unknown_key_of_job(message, key, self.suggestion),
             KeyFault::UnknownInRegion => push_unknown_region_key(message, self.table),
             KeyFault::OtherKind(kind) => push_value_of_wrong_kind(message, self.table, key, kind),
             KeyFault::Expected(told) => push_explanation(message, self.table, told),
@@ -183,19 +183,19 @@ impl<'a> FaultyJob<'a> {
             if MOST_SCRIPT < text.len() {
                 Some(Explanation::Expected(&INPUT))
             } else {
-                self.told_of_two("input_hex", met, BOTH_INPUTS)
+                self.both_set_explanation("input_hex", met, BOTH_INPUTS)
             }
         } else if !are_hex_digit_pairs(text) {
             Some(Explanation::Expected(&PAIRS))
         } else if MOST_SCRIPT < text.len() / 2 {
             Some(Explanation::Expected(&INPUT_HEX))
         } else {
-            self.told_of_two("input", met, BOTH_INPUTS)
+            self.both_set_explanation("input", met, BOTH_INPUTS)
         }
     }
 
     // Returns the explanation `both` if the other of two keys that exclude each other comes before and has a text.
-    fn told_of_two(&self, other: &str, met: &FoundKeys, both: &'static str) -> Option<Explanation> {
+    fn both_set_explanation(&self, other: &str, met: &FoundKeys, both: &'static str) -> Option<Explanation> {
         if met.has(other) && text_at_key(self.table, other).is_some() {
             Some(Explanation::Text(both))
         } else {
@@ -215,11 +215,11 @@ impl<'a> FaultyJob<'a> {
             "expect_console" if MOST_CONSOLE < text.len() => Some(Explanation::Expected(
                 &EXPECT_CONSOLE,
             )),
-            "expect_console" => self.told_of_two("expect_console_file", met, BOTH_CONSOLES),
+            "expect_console" => self.both_set_explanation("expect_console_file", met, BOTH_CONSOLES),
             "expect_console_file" if !is_path(text) => Some(Explanation::Expected(
                 &EXPECT_CONSOLE_FILE,
             )),
-            "expect_console_file" => self.told_of_two("expect_console", met, BOTH_CONSOLES),
+            "expect_console_file" => self.both_set_explanation("expect_console", met, BOTH_CONSOLES),
             "image" if !is_path(text) => Some(Explanation::Expected(&IMAGE)),
             _ => self.choice_fault(key, text),
         }

@@ -98,13 +98,13 @@ pub(crate) fn push_unknown_job_key(message: &mut Message, table: &Table)
     ensures { AddsSome message.old message.new (TellsUnknownKey (table_view table.now)) }
 {
     match unknown_key(table, Owner::Job) {
-        Some(key) => push_unknown_job_key_of(message, key, Suggestion::Nearest),
+        Some(key) => push_unknown_key_of_job(message, key, Suggestion::Nearest),
         None => push_unknown_region_key(message, table),
     }
 }
 
 /// Says that a job has this unknown key. If suggestions are requested, adds the nearest known key, or all known keys if none is near.
-pub(crate) fn push_unknown_job_key_of(message: &mut Message, key: &str, suggestion: Suggestion)
+pub(crate) fn push_unknown_key_of_job(message: &mut Message, key: &str, suggestion: Suggestion)
     ensures { AddsSome message.old message.new (BeginsWith (unknown_key_text key.now)) }
 {
     push_unknown_key(message, key);

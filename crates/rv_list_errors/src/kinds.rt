@@ -6,7 +6,7 @@ ghost use Rattle.std.specs.Option.{option_map_or};
 ghost use Rattle.toml.specs.View.{table_view, view};
 ghost use Rattle.rv_lists.specs.Keys.{absent_or, has_kinds_of_keys, is_boolean, is_number, is_region, is_region_array, is_text};
 ghost use Rattle.rv_lists.specs.Keys.{is_text_array, region_keys};
-ghost use Rattle.rv_list_errors.specs.JobFaults.{BeginsWithRegion, BeginsWithValue, TellsOtherKind, TellsWrongKind, is_known_of_other_kind};
+ghost use Rattle.rv_list_errors.specs.JobFaults.{BeginsWithRegion, BeginsWithValue, ExplainsWrongType, ExplainsWrongRegionType, is_known_of_other_kind};
 ghost use Rattle.rv_list_errors.specs.JobFaults.{is_of_kind, is_of_other_kind, key_and_kind};
 ghost use Rattle.rv_list_errors.specs.Lines.{BeginsWith};
 ghost use Rattle.rv_list_errors.specs.Explanation.{AddsSome, region_number_text};
@@ -20,7 +20,7 @@ use toml::{Table, Value};
 
 /// Appends the first key of a job, in the order of the format, whose value has the wrong type, and the expected type.
 pub(crate) fn push_wrong_kind(message: &mut Message, table: &Table)
-    ensures { AddsSome message.old message.new (TellsWrongKind (table_view table.now)) }
+    ensures { AddsSome message.old message.new (ExplainsWrongRegionType (table_view table.now)) }
 {
     match wrong_key(table, &JOB_KEYS) {
         Some(known) => push_value_of_wrong_kind(message, table, known.0, known.1),
@@ -155,7 +155,7 @@ const NUMBER: &str = "expected an integer";
 
 /// Appends a key whose value does not have the type of this kind, its value, and the expected type. For regions, appends the bad region.
 pub(crate) fn push_value_of_wrong_kind(message: &mut Message, table: &Table, key: &str, kind: Kind)
-    ensures { AddsSome message.old message.new (TellsOtherKind key.now kind (table_view table.now)) }
+    ensures { AddsSome message.old message.new (ExplainsWrongType key.now kind (table_view table.now)) }
 {
     match kind {
         Kind::Text => push_text_of_wrong_kind(message, table, key),
@@ -180,14 +180,14 @@ fn push_regions_of_wrong_kind(message: &mut Message, table: &Table, key: &str)
     ensures { AddsSome message.old message.new (BeginsWithRegion key.now (table_view table.now)) }
 {
     let regions = elements_at_key(table, key);
-    match place_of_no_region(regions) {
+    match index_of_first_non_region(regions) {
         Some(place) => push_region_of_wrong_kind(message, place, &regions[place]),
         None => push_expected_value(message, table, key, "expected an array of tables"),
     }
 }
 
 // Returns the index of the first element that is not a table, or that has a value of the wrong type.
-fn place_of_no_region(elements: &[Value]) -> Option<usize>
+fn index_of_first_non_region(elements: &[Value]) -> Option<usize>
     ensures within { IfSome result (λ place. place < length elements.now) }
     ensures first { result ≡ position (λ v. not (is_region (view v))) elements.now }
 {

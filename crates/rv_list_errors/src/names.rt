@@ -6,7 +6,7 @@ ghost use Rattle.rv_list_errors.specs.FaultHeads.{borrowed_name, borrowed_names}
 ghost use Rattle.rv_list_errors.specs.NearNames.{Adds, IsNearName, most_told, name_distance, names_from, names_text, present};
 ghost use Rattle.rv_list_errors.specs.NearestJob.{IsNear};
 ghost use Rattle.toml.specs.View.{table_view};
-ghost use Rattle.rv_list_errors.specs.JobFaults.{TellsName, TellsSameAs, job_of_name_text};
+ghost use Rattle.rv_list_errors.specs.JobFaults.{ExplainsName, ExplainsSameAs, job_of_name_text};
 ghost use Rattle.rv_list_errors.specs.Lines.{BeginsWith};
 ghost use Rattle.rv_list_errors.specs.NearNames.{quoted, separator};
 ghost use Rattle.rv_list_errors.specs.Explanation.{AddsSome, IsNearestJob};
@@ -27,7 +27,7 @@ pub(crate) fn push_name_fault(
     wanted: &str,
 )
     ensures { AddsSome message.old message.new
-        (TellsName (borrowed_names list.now.names.items) key.now wanted.now (table_view table.now)) }
+        (ExplainsName (borrowed_names list.now.names.items) key.now wanted.now (table_view table.now)) }
 {
     push_key_and_value(message, table, key);
     message.push(": ");
@@ -62,7 +62,7 @@ pub(crate) fn push_unknown_same_as(
     suggestion: Suggestion,
 )
     ensures { AddsSome message.old message.new
-        (TellsSameAs (borrowed_names list.now.names.items) (table_view table.now)) }
+        (ExplainsSameAs (borrowed_names list.now.names.items) (table_view table.now)) }
 {
     push_name_fault(
         message,

@@ -1,8 +1,8 @@
 //! Regions that overlap one another or the console.
 
 ghost use Rattle.std.specs.Prelude.{◌≡◌, ◌+◌, ◌^◌, ◌<◌, IfSome, MatchOption, length};
-ghost use Rattle.rv_list_errors.specs.JobFaults.{AreAllApart, AreApart, IsApartBefore, IsApartBehind, IsFirstOverlap, IsFirstShared};
-ghost use Rattle.rv_list_errors.specs.JobFaults.{IsOverlap, TellsOverlap, TellsRegions, overlap_text};
+ghost use Rattle.rv_list_errors.specs.JobFaults.{AreAllApart, AreApart, IsApartBefore, IsDisjointFromRest, IsFirstOverlap, IsFirstShared};
+ghost use Rattle.rv_list_errors.specs.JobFaults.{IsOverlap, ExplainsOverlap, ExplainsRegions, overlap_text};
 ghost use Rattle.rv_list_errors.specs.NearNames.{Adds};
 ghost use Rattle.rv_list_errors.specs.Explanation.{AddsSome};
 
@@ -48,8 +48,8 @@ struct Overlap {
 /// Appends the first two regions that overlap, and where.
 pub(crate) fn push_region_overlap(message: &mut Message, regions: &[Region])
     ensures overlap { length regions.now < 2 ^ 64 → (AreAllApart regions.now → ⊥)
-        → AddsSome message.old message.new (TellsOverlap regions.now) }
-    ensures regions { length regions.now < 2 ^ 64 → AddsSome message.old message.new TellsRegions }
+        → AddsSome message.old message.new (ExplainsOverlap regions.now) }
+    ensures regions { length regions.now < 2 ^ 64 → AddsSome message.old message.new ExplainsRegions }
 {
     match first_overlap(regions) {
         Some(overlap) => push_overlap(message, overlap),
@@ -86,7 +86,7 @@ fn first_overlap(regions: &[Region]) -> Option<Overlap>
 // Returns the region at an index and the first later region that overlaps it, or `None` if none does.
 fn overlap_with_later(regions: &[Region], at: usize) -> Option<Overlap>
     requires { at < length regions.now }
-    ensures { MatchOption result (IsApartBehind regions.now at)
+    ensures { MatchOption result (IsDisjointFromRest regions.now at)
         (λ overlap. (overlap.at ≡ at) × IsOverlap regions.now overlap.at overlap.later overlap.address
         × IsApartBefore regions.now overlap.at overlap.later) }
 {
@@ -100,7 +100,7 @@ fn overlap_with_later(regions: &[Region], at: usize) -> Option<Overlap>
 
 /// Appends the first region that has an address of the console, and the first such address.
 pub(crate) fn push_console_overlap(message: &mut Message, regions: &[Region])
-    ensures { length regions.now < 2 ^ 64 → AddsSome message.old message.new TellsRegions }
+    ensures { length regions.now < 2 ^ 64 → AddsSome message.old message.new ExplainsRegions }
 {
     match first_shared_with_console(regions) {
         Some((place, address)) => push_shared_with_console(message, place, address),
@@ -122,7 +122,7 @@ fn first_shared_with_console(regions: &[Region]) -> Option<(usize, u32)>
 
 // Appends that the region at an index overlaps the console at an address.
 fn push_shared_with_console(message: &mut Message, at: usize, address: u32)
-    ensures { at + 1 < 2 ^ 64 → AddsSome message.old message.new TellsRegions }
+    ensures { at + 1 < 2 ^ 64 → AddsSome message.old message.new ExplainsRegions }
 {
     push_region_number(message, at);
     message.push(" overlaps the console at 0x");

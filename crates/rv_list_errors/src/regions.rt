@@ -1,7 +1,7 @@
 //! Regions that do not form a map.
 
 ghost use Rattle.std.specs.Prelude.{◌+◌, ◌^◌, ◌<◌, IfSome, length};
-ghost use Rattle.rv_list_errors.specs.JobFaults.{TellsRegions};
+ghost use Rattle.rv_list_errors.specs.JobFaults.{ExplainsRegions};
 ghost use Rattle.rv_list_errors.specs.NearNames.{Adds};
 ghost use Rattle.rv_list_errors.specs.Explanation.{AddsSome, region_number_text};
 
@@ -46,7 +46,7 @@ fn first_regions(elements: &[Value]) -> [Region; 4] {
 
 /// Appends why the regions of a job do not form a map.
 pub(crate) fn push_region_fault(message: &mut Message, table: &Table)
-    ensures { AddsSome message.old message.new TellsRegions }
+    ensures { AddsSome message.old message.new ExplainsRegions }
 {
     let elements = elements_at_key(table, "region");
     match place_of_unreadable_region(elements) {
@@ -66,7 +66,7 @@ fn place_of_unreadable_region(elements: &[Value]) -> Option<usize>
 
 // Appends why elements, each of which is a region, do not form a map.
 fn push_fault_of_regions(message: &mut Message, elements: &[Value])
-    ensures { AddsSome message.old message.new TellsRegions }
+    ensures { AddsSome message.old message.new ExplainsRegions }
 {
     let regions = first_regions(elements);
     if elements.len() <= regions.len() {
@@ -106,7 +106,7 @@ fn region_of_element(element: &Value) -> Option<Region> {
 
 // Appends the base of the region at an index, or its size if the base is good, which is not a 32-bit number.
 fn push_bad_base_or_size(message: &mut Message, at: usize, element: &Value)
-    ensures { at + 1 < 2 ^ 64 → AddsSome message.old message.new TellsRegions }
+    ensures { at + 1 < 2 ^ 64 → AddsSome message.old message.new ExplainsRegions }
 {
     push_region_number(message, at);
     message.push(": ");
@@ -121,7 +121,7 @@ fn push_bad_base_or_size(message: &mut Message, at: usize, element: &Value)
 
 // Appends why these regions do not form a map.
 fn push_map_error(message: &mut Message, regions: &[Region])
-    ensures { AddsSome message.old message.new TellsRegions }
+    ensures { AddsSome message.old message.new ExplainsRegions }
 {
     match Map::of(regions) {
         Ok(_) => message.push(What::Region.name()),
@@ -135,14 +135,14 @@ fn push_map_error(message: &mut Message, regions: &[Region])
 
 // Appends how many regions there are, and how many are expected.
 fn push_region_count(message: &mut Message, count: usize)
-    ensures { AddsSome message.old message.new TellsRegions }
+    ensures { AddsSome message.old message.new ExplainsRegions }
 {
     message.push_number_between("region has ", count as u64, " tables: expected 1 to 4");
 }
 
 // Appends the first base or size that is not a multiple of 4.
 fn push_unaligned_region(message: &mut Message, regions: &[Region])
-    ensures { AddsSome message.old message.new TellsRegions }
+    ensures { AddsSome message.old message.new ExplainsRegions }
 {
     match place_of_unaligned_region(regions) {
         Some(place) => push_unaligned(message, place, &regions[place]),
@@ -161,7 +161,7 @@ fn place_of_unaligned_region(regions: &[Region]) -> Option<usize>
 
 // Appends the base or the size of the region at an index that is not a multiple of 4.
 fn push_unaligned(message: &mut Message, at: usize, region: &Region)
-    ensures { at + 1 < 2 ^ 64 → AddsSome message.old message.new TellsRegions }
+    ensures { at + 1 < 2 ^ 64 → AddsSome message.old message.new ExplainsRegions }
 {
     if region.base % 4 != 0 {
         push_region_base(message, at, region.base);
@@ -174,7 +174,7 @@ fn push_unaligned(message: &mut Message, at: usize, region: &Region)
 
 // Appends the first region that is too small or extends past the last address, or that the sizes add up to too much.
 fn push_region_size_fault(message: &mut Message, regions: &[Region])
-    ensures { AddsSome message.old message.new TellsRegions }
+    ensures { AddsSome message.old message.new ExplainsRegions }
 {
     match place_of_region_without_room(regions) {
         Some(place) => push_region_without_room(message, place, &regions[place]),
@@ -196,7 +196,7 @@ const ADDRESSES: u64 = 0x1_0000_0000;
 
 // Appends that the region at an index is too small, or extends past the last address.
 fn push_region_without_room(message: &mut Message, at: usize, region: &Region)
-    ensures { at + 1 < 2 ^ 64 → AddsSome message.old message.new TellsRegions }
+    ensures { at + 1 < 2 ^ 64 → AddsSome message.old message.new ExplainsRegions }
 {
     if region.size < 4 {
         push_wrong_region_size(message, at, region.size);
@@ -216,7 +216,7 @@ fn total_size(regions: &[Region]) -> u64 {
 
 // Appends that the sizes of the regions add up to too much.
 fn push_total_size(message: &mut Message, total: u64)
-    ensures { AddsSome message.old message.new TellsRegions }
+    ensures { AddsSome message.old message.new ExplainsRegions }
 {
     message.push_number_between(
         "the sizes of the regions add up to ",
@@ -227,7 +227,7 @@ fn push_total_size(message: &mut Message, total: u64)
 
 // Appends that the region at an index extends past the last address.
 fn push_region_past_end(message: &mut Message, at: usize, region: &Region)
-    ensures { at + 1 < 2 ^ 64 → AddsSome message.old message.new TellsRegions }
+    ensures { at + 1 < 2 ^ 64 → AddsSome message.old message.new ExplainsRegions }
 {
     push_region_base(message, at, region.base);
     let wanted = ": the region extends past 0xffffffff";
@@ -236,7 +236,7 @@ fn push_region_past_end(message: &mut Message, at: usize, region: &Region)
 
 // Appends the number of the region at an index, and its base.
 fn push_region_base(message: &mut Message, at: usize, base: u32)
-    ensures { at + 1 < 2 ^ 64 → AddsSome message.old message.new TellsRegions }
+    ensures { at + 1 < 2 ^ 64 → AddsSome message.old message.new ExplainsRegions }
 {
     push_region_number(message, at);
     message.push(": base = 0x");
@@ -245,7 +245,7 @@ fn push_region_base(message: &mut Message, at: usize, base: u32)
 
 // Appends the number of the region at an index, its size, and what is expected of a size.
 fn push_wrong_region_size(message: &mut Message, at: usize, size: u32)
-    ensures { at + 1 < 2 ^ 64 → AddsSome message.old message.new TellsRegions }
+    ensures { at + 1 < 2 ^ 64 → AddsSome message.old message.new ExplainsRegions }
 {
     push_region_number(message, at);
     message.push_number_between(": size = ", u64::from(size), ": ");

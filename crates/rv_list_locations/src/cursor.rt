@@ -32,7 +32,7 @@ impl<'a> Cursor<'a> {
     }
 
     /// Returns the line and column of the byte at an index, or of the end of the text if it is shorter.
-    pub fn place_at(&mut self, place: usize) -> Place
+    pub fn location_at(&mut self, place: usize) -> Place
         ensures text { self.new.text.now ≡ self.old.text.now }
         ensures line { result.line ≡ line_at place self.old.text.now }
         ensures column { result.column ≡ column_at place self.old.text.now }

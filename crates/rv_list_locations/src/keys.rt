@@ -45,14 +45,14 @@ pub fn job_keys<'a>(alloc: Global, job: &'a str) -> Result<Vec<JobKey<'a>>, Allo
     ensures { IfOk result (λ keys. All IsNamedKey keys.items) }
 {
     let mut keys = Vec::new(alloc);
-    match note_job_keys(alloc, job, &mut keys) {
+    match push_job_keys(alloc, job, &mut keys) {
         Err(ParseError::OutOfMemory) => Err(AllocError),
         Ok(()) | Err(_) => Ok(keys),
     }
 }
 
 // Appends the keys of the job that a text begins with.
-fn note_job_keys<'a>(
+fn push_job_keys<'a>(
     alloc: Global,
     job: &'a str,
     keys: &mut Vec<JobKey<'a>>,

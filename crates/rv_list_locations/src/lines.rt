@@ -38,7 +38,7 @@ impl<'a> Lines<'a> {
 
     /// Records the line of the byte with `left` bytes from it to the end of the text, or the line of the last recorded byte if that is
     /// later.
-    pub(crate) fn note_line(&mut self, left: usize) -> Result<(), AllocError>
+    pub(crate) fn push_line(&mut self, left: usize) -> Result<(), AllocError>
         ensures text { self.new.text.now ≡ self.old.text.now }
         ensures counted { self.new.counted ≡ max (length self.old.text.now - left) self.old.counted }
         ensures noted { OnOk result (self.new.noted.items

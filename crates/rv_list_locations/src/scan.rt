@@ -26,7 +26,7 @@ pub fn job_line_numbers(alloc: Global, text: &str) -> Result<Vec<usize>, AllocEr
         (λ line. (0 < line) × (line ≤ text_line_count text.now)) lines.items) }
 {
     let mut lines = Lines::new(alloc, text);
-    match note_job_lines(alloc, skip_byte_order_mark(text), &mut lines) {
+    match push_job_lines(alloc, skip_byte_order_mark(text), &mut lines) {
         Err(ParseError::OutOfMemory) => Err(AllocError),
         Ok(()) | Err(_) => Ok(lines.into_line_numbers()),
     }
@@ -64,14 +64,14 @@ pub fn job_texts<'a>(alloc: Global, text: &'a str) -> Result<Vec<&'a str>, Alloc
     ensures { IfOk result (λ jobs. now_texts jobs.items ≡ spec.jobs_of_text (skip_bom text.now)) }
 {
     let mut jobs = Vec::new(alloc);
-    match note_job_texts(alloc, skip_byte_order_mark(text), &mut jobs) {
+    match push_job_texts(alloc, skip_byte_order_mark(text), &mut jobs) {
         Err(ParseError::OutOfMemory) => Err(AllocError),
         Ok(()) | Err(_) => Ok(jobs),
     }
 }
 
 // Appends the text from each job on, for a list's text without a byte order mark.
-fn note_job_texts<'a>(
+fn push_job_texts<'a>(
     alloc: Global,
     text: &'a str,
     jobs: &mut Vec<&'a str>,
@@ -93,7 +93,7 @@ fn note_job_texts<'a>(
 }
 
 // Records the line on which each job begins, for a list's text without a byte order mark.
-fn note_job_lines(alloc: Global, text: &str, lines: &mut Lines<'_>) -> Result<(), ParseError>
+fn push_job_lines(alloc: Global, text: &str, lines: &mut Lines<'_>) -> Result<(), ParseError>
     requires { lines.old.counted + length text.now ≤ length lines.old.text.now }
     ensures text { lines.new.text.now ≡ lines.old.text.now }
     ensures noted { UnlessMemory result (lines.new.noted.items ≡ lines.old.noted.items
@@ -104,7 +104,7 @@ fn note_job_lines(alloc: Global, text: &str, lines: &mut Lines<'_>) -> Result<()
     'steps: while !here.is_empty() {
         let Step { is_job, next, rest } = scan_step(alloc, here, what)?;
         if is_job {
-            lines.note_line(here.len())?;
+            lines.push_line(here.len())?;
         }
         what = next;
         here = rest;

@@ -29,14 +29,14 @@ pub fn value_spans(alloc: Global, text: &str) -> Result<Vec<ValueSpan>, AllocErr
     ensures { IfOk result (λ spans. All (IsSpanIn text.now) spans.items) }
 {
     let mut spans = Vec::new(alloc);
-    match note_value_spans(alloc, text, &mut spans) {
+    match push_value_spans(alloc, text, &mut spans) {
         Err(ParseError::OutOfMemory) => Err(AllocError),
         Ok(()) | Err(_) => Ok(spans),
     }
 }
 
 // Appends where the values of the jobs with a header `[[job]]` are.
-fn note_value_spans(alloc: Global, text: &str, spans: &mut Vec<ValueSpan>) -> Result<(), ParseError>
+fn push_value_spans(alloc: Global, text: &str, spans: &mut Vec<ValueSpan>) -> Result<(), ParseError>
     requires { All (IsSpanIn text.now) spans.old.items }
     ensures { All (IsSpanIn text.now) spans.new.items }
 {
@@ -52,7 +52,7 @@ fn note_value_spans(alloc: Global, text: &str, spans: &mut Vec<ValueSpan>) -> Re
         if is_header(here, what) {
             is_in_job = is_job;
         } else if is_in_job {
-            note_value_span(alloc, text, here, jobs.saturating_sub(1), spans)?;
+            push_value_span(alloc, text, here, jobs.saturating_sub(1), spans)?;
         }
         what = next;
         here = rest;
@@ -69,7 +69,7 @@ fn is_header(here: &str, what: Next) -> bool {
 }
 
 // Appends where the value of an entry is, given the text from the entry on. A dotted key is left out.
-fn note_value_span(
+fn push_value_span(
     alloc: Global,
     text: &str,
     entry: &str,

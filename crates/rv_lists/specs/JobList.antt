@@ -221,13 +221,13 @@ abbrev pub names_of_jobs : List Job → List (List ℕ)
 names_of_jobs jobs = map (λ (j : Job). j.name) jobs
 
 -- the index of the job that `same_as` names, or an error if there is no index
-abbrev pub same_as_from_place : Option ℕ → Result (Option ℕ) What
-same_as_from_place None = Err what.SameAs
-same_as_from_place (Some k) = Ok (Some k)
+abbrev pub same_as_from_index : Option ℕ → Result (Option ℕ) What
+same_as_from_index None = Err what.SameAs
+same_as_from_index (Some k) = Ok (Some k)
 
 -- the index of the job that `same_as` names, or an error if no earlier job has this name
 abbrev pub same_as_from_name : List (List ℕ) → List ℕ → Result (Option ℕ) What
-same_as_from_name earlier t = same_as_from_place (index_in earlier t)
+same_as_from_name earlier t = same_as_from_index (index_in earlier t)
 
 -- the index of the job whose results a job must have, or `None` if there is no `same_as`; `earlier` are the names of the earlier jobs
 unfoldable pub same_as_from_table : List (List ℕ) → Members → Result (Option ℕ) What

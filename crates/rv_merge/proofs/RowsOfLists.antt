@@ -8,7 +8,7 @@ use Rattle.std.proofs.lemmas.Bool.{and_parts, cases_lt, false≢true}
 use Rattle.std.proofs.lemmas.List.{get_or_default, length-map}
 use Rattle.std.proofs.lemmas.List.Elements.{recursion_from_All}
 use Rattle.rv_jobs.specs.declared.answers.Answer.{Answer}
-use Rattle.rv_jobs.specs.Plans.{Planned, kept_for}
+use Rattle.rv_jobs.specs.Plans.{Planned, result_for_path}
 use Rattle.rv_jobs.specs.declared_job.Job.{Job}
 use Rattle.rv_jobs.specs.Jobs.{console_path}
 use Rattle.rv_jobs.specs.JobList.{job_list_of, names_of_jobs as job_names}
@@ -52,8 +52,8 @@ words (Some found) h few = (few found refl, h)
 is_row : (plan : Planned) (job : Job) → is_name job.name ≡ true → HasNumbers (row_of plan job) → IsRow (row_of plan job)
 unfolding row_of
 is_row plan job name has =
-    let o = fine job (kept_for plan.answers job.image) (option_map (kept_for plan.answers) job.expect_signature)
-    (option_map (kept_for plan.answers) (console_path job.expect_console)) in
+    let o = fine job (result_for_path plan.answers job.image) (option_map (result_for_path plan.answers) job.expect_signature)
+    (option_map (result_for_path plan.answers) (console_path job.expect_console)) in
     record {
       name = name;
       ending = ends _ has.ending o.end;

@@ -37,12 +37,12 @@ pub record HasWholeRows (bytes : List ℕ) (report : SavedReport) (count : ℕ) 
   pub most : count < length report.rows → BeginsWith bytes (first_rows_text (count + 1) report) → ⊥
 
 -- no report has this text
-abbrev pub IsNoReport : List ℕ → Type 0
-IsNoReport bytes = (report : SavedReport) → IsSaved report → saved_text report ≡ bytes → ⊥
+abbrev pub IsNotAReport : List ℕ → Type 0
+IsNotAReport bytes = (report : SavedReport) → IsSaved report → saved_text report ≡ bytes → ⊥
 
 -- `read` is the result for bytes that may be cut off: if the Boolean is false, the report with this text; if it is true, no report has this
 -- text, and `read` has its complete rows
 abbrev pub IsReadAs : List ℕ → Bool → SavedReport → Type 0
 IsReadAs bytes false read = IsSaved read × (saved_text read ≡ bytes)
-IsReadAs bytes true read = IsNoReport bytes
+IsReadAs bytes true read = IsNotAReport bytes
     × ((report : SavedReport) × (count : ℕ) × HasWholeRows bytes report count × (read ≡ rows_up_to_failure count report))

@@ -16,7 +16,7 @@ use Rattle.rv_machine.specs.declared.ending.Ending.{Ending}
 use Rattle.rv_machine.specs.declared.ending.Ending.TheVariants as machine
 use Rattle.rv_machine.specs.Run.{Ran, run_of}
 use Rattle.rv_machine.specs.State.{State}
-use Rattle.rv_machine.specs.Sets.{is_of_any_set as ends_in_any_set}
+use Rattle.rv_machine.specs.Sets.{is_independent_of_isa as ends_in_any_set}
 use Rattle.rv_machine.proofs.Public.{run_wider}
 use Rattle.rv_rows.specs.declared.outcome.Loadable.{Loadable}
 use Rattle.rv_report.specs.declared.row.Refusal.{Refusal}

@@ -3,7 +3,7 @@ use Rattle.std.specs.Prelude.{ℕ, zero, suc, Bool, true, false, not, List, [], 
 use Rattle.rv_isa.specs.declared.sets.Isa.TheVariants.{Imc}
 use Rattle.rv_jobs.specs.declared_job.Job.{Job}
 use Rattle.rv_jobs.specs.Plans.{Planned}
-use Rattle.rv_machine.specs.Sets.{is_of_set}
+use Rattle.rv_machine.specs.Sets.{depends_on_isa}
 use Rattle.rv_report.specs.declared.row.RowEnd.{RowEnd}
 use Rattle.rv_report.specs.declared.row.RowEnd.TheVariants.{Exit, Fault, Budget, Refused}
 
@@ -25,6 +25,6 @@ widened_plan place plan = record plan { jobs = widened_jobs place plan.jobs }
 -- `fetch-misaligned`
 abbrev pub is_end_of_any_set : RowEnd → Bool
 is_end_of_any_set (Exit code) = true
-is_end_of_any_set (Fault kind pc value) = not (is_of_set kind)
+is_end_of_any_set (Fault kind pc value) = not (depends_on_isa kind)
 is_end_of_any_set Budget = true
 is_end_of_any_set (Refused why) = false

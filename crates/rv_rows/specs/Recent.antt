@@ -2,7 +2,7 @@
 use Rattle.std.specs.Prelude.{◌≡◌, ℕ, List, Option, Some, All, option_map, slice_get}
 use Rattle.rv_jobs.specs.Plans.{Planned}
 use Rattle.rv_rows.specs.declared.outcome.Outcome.{Outcome}
-use Rattle.rv_rows.specs.declared.recent_outcomes.RecentOutcome.{RecentOutcome}
+use Rattle.rv_rows.specs.declared.recent_outcomes.CachedOutcome.{CachedOutcome}
 use Rattle.rv_rows.specs.Rows.{outcome_in}
 
 -- the outcome of the job at an index of a plan, or `None` if there is no such job
@@ -10,6 +10,6 @@ abbrev pub outcome_at : Planned → ℕ → Option Outcome
 outcome_at plan place = option_map (outcome_in plan.answers) (slice_get plan.jobs place)
 
 -- each cached outcome is that of the job at its index
-abbrev pub AreOutcomes : Planned → List RecentOutcome → Type 0
+abbrev pub AreOutcomes : Planned → List CachedOutcome → Type 0
 AreOutcomes plan recent =
-    All (λ (kept : RecentOutcome). outcome_at plan kept.place ≡ Some kept.outcome) recent
+    All (λ (kept : CachedOutcome). outcome_at plan kept.place ≡ Some kept.outcome) recent

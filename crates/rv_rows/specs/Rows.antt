@@ -10,7 +10,7 @@ use Rattle.rv_jobs.specs.declared_job.Job.{Job}
 use Rattle.rv_jobs.specs.declared.kept.Kept.{Kept}
 use Rattle.rv_jobs.specs.declared.kept.Kept.TheVariants as kept
 use Rattle.rv_jobs.specs.Jobs.{console_path, single_job}
-use Rattle.rv_jobs.specs.Plans.{Planned, kept_for}
+use Rattle.rv_jobs.specs.Plans.{Planned, result_for_path}
 use Rattle.rv_rows.specs.declared.outcome.Outcome.{Outcome}
 use Rattle.rv_machine.specs.State.{State}
 use Rattle.rv_report.specs.declared.row.Refusal.{Refusal}
@@ -22,14 +22,14 @@ use Rattle.rv_rows.specs.Verdict.{verdict_of}
 -- the outcome of a job, given the results for the paths of a plan
 abbrev pub outcome_in : List Answer → Job → Outcome
 outcome_in answers job =
-    outcome_of job (kept_for answers job.image) (option_map (kept_for answers) job.expect_signature)
-    (option_map (kept_for answers) (console_path job.expect_console))
+    outcome_of job (result_for_path answers job.image) (option_map (result_for_path answers) job.expect_signature)
+    (option_map (result_for_path answers) (console_path job.expect_console))
 
 -- the state in which the run of a job begins, given the results for the paths of a plan, or why the job is refused
 abbrev pub start_in : List Answer → Job → Result State Refusal
 start_in answers job =
-    start_of job (kept_for answers job.image) (option_map (kept_for answers) job.expect_signature)
-    (option_map (kept_for answers) (console_path job.expect_console))
+    start_of job (result_for_path answers job.image) (option_map (result_for_path answers) job.expect_signature)
+    (option_map (result_for_path answers) (console_path job.expect_console))
 
 -- the bytes of a file, if the job names one and it was read
 abbrev pub content_if_read : Option Kept → Option (List ℕ)
@@ -43,16 +43,16 @@ image_if_read isa (Some file) = result_ok (image_of isa file)
 
 -- the image of a job, if its file was read and is an image
 abbrev pub image_in : List Answer → Job → Option Image
-image_in answers job = image_if_read job.isa (content_if_read (Some (kept_for answers job.image)))
+image_in answers job = image_if_read job.isa (content_if_read (Some (result_for_path answers job.image)))
 
 -- the bytes of the file with a job's expected signature, if it names one and it was read
 abbrev pub signature_reference_bytes : List Answer → Job → Option (List ℕ)
-signature_reference_bytes answers job = content_if_read (option_map (kept_for answers) job.expect_signature)
+signature_reference_bytes answers job = content_if_read (option_map (result_for_path answers) job.expect_signature)
 
 -- the bytes of the file with a job's expected console text, if it names one and it was read
 abbrev pub expected_console_bytes : List Answer → Job → Option (List ℕ)
 expected_console_bytes answers job =
-    content_if_read (option_map (kept_for answers) (console_path job.expect_console))
+    content_if_read (option_map (result_for_path answers) (console_path job.expect_console))
 
 -- the outcome of the job that a job's `same_as` names, if it names one
 abbrev pub named_job_outcome : Planned → Job → Option Outcome

@@ -10,7 +10,7 @@ use std::marker::Model;
 
 /// The outcome of the job at an index of a plan.
 #[derive(Drop)]
-pub struct RecentOutcome {
+pub struct CachedOutcome {
     pub place: usize,
     pub outcome: Outcome,
 }
@@ -24,14 +24,14 @@ const ROOM: usize = 64_000;
 /// A cache of a few outcomes, the oldest first.
 #[derive(Drop)]
 pub struct Recent {
-    items: Vec<RecentOutcome>,
+    items: Vec<CachedOutcome>,
 }
 
 impl Model for Recent {
     ghost use Rattle.std.specs.Prelude.{List};
-    ghost use Rattle.rv_rows.specs.declared.recent_outcomes.RecentOutcome.{RecentOutcome};
+    ghost use Rattle.rv_rows.specs.declared.recent_outcomes.CachedOutcome.{CachedOutcome};
 
-    ghost Value = { List RecentOutcome };
+    ghost Value = { List CachedOutcome };
 
     ghost view = { λ recent. recent.items.items };
 }
@@ -84,7 +84,7 @@ impl Recent {
             ≡ Some outcome
             → OnOk result (AreOutcomes plan self.new) }
     {
-        self.items.push(RecentOutcome { place, outcome })?;
+        self.items.push(CachedOutcome { place, outcome })?;
         Ok(())
     }
 

@@ -6,7 +6,7 @@ use Rattle.rv_gdb_protocol.specs.Frames.{Frame, frame_after, incoming_at}
 use Rattle.rv_gdb_protocol.specs.Packets.{request_of}
 use Rattle.rv_gdb_protocol.specs.declared.frame.Incoming.{Incoming}
 use Rattle.rv_session.specs.Answers.{IsAnswered}
-use Rattle.rv_session.specs.Incoming.{IsAppended, IsByteFed, IsRespondedTo, IsResponse, IsResponseUnless, IsTaken, acknowledgement, packets_of, with_sent}
+use Rattle.rv_session.specs.Incoming.{IsAppended, IsByteReceived, IsRespondedTo, IsResponse, IsResponseUnless, IsTaken, acknowledgement, packets_of, with_sent}
 use Rattle.rv_session.specs.declared.reply.Reply.{Reply}
 use Rattle.rv_session.specs.declared.session.Session.{Session}
 
@@ -66,7 +66,7 @@ taken session behind next body old middle last reply acknowledged answered sent 
 -- a byte is heard by the reader first
 pub byte_heard : (session next : Session) (reader : Frame) (heard : Option Incoming) (byte : ℕ) (out : List ℕ)
     → reader ≡ frame_after session.reader byte → heard ≡ incoming_at session.reader byte
-    → IsRespondedTo (record session { reader = reader }) heard out next → IsByteFed session byte out next
+    → IsRespondedTo (record session { reader = reader }) heard out next → IsByteReceived session byte out next
 byte_heard session next reader heard byte out is same response =
     subst (λ (f : Frame). IsRespondedTo (record session { reader = f }) (incoming_at session.reader byte) out next) is
     (subst (λ (h : Option Incoming). IsRespondedTo (record session { reader = reader }) h out next) same response)

@@ -1,7 +1,7 @@
 -- A session is not over that a move is asked for in.
 use Rattle.std.proofs.Common.{◌≡◌, ◌∙◌, ◌&&◌, ℕ, List, Bool, true, false, Some, None, ap, inl, inr, refl}
 use Rattle.std.specs.Prelude.{Option, Result, Ok, Err, if◌then◌else◌, nat_le}
-use Rattle.rv_history.specs.Places.{last_place}
+use Rattle.rv_history.specs.Places.{last_step}
 use Rattle.rv_history.specs.declared.stops.Stops.{Stops}
 use Rattle.rv_gdb_protocol.specs.Frames.{frame_after, incoming_at}
 use Rattle.rv_gdb_protocol.specs.Packets.{request_of}
@@ -14,9 +14,9 @@ use Rattle.rv_gdb_protocol.specs.declared.request.Register.TheVariants as reg
 use Rattle.rv_gdb_protocol.specs.declared.request.Request.{Request}
 use Rattle.rv_gdb_protocol.specs.declared.request.Request.TheVariants as ask
 use Rattle.rv_session.specs.Answers.{IsAnswered, IsSet, IsWritten, is_reset}
-use Rattle.rv_session.specs.Incoming.{IsByteFed, IsJudged, IsRespondedTo, IsResponse, IsResponseUnless, IsTaken, is_wrong, with_sent}
+use Rattle.rv_session.specs.Incoming.{IsByteReceived, IsJudged, IsRespondedTo, IsResponse, IsResponseUnless, IsTaken, is_wrong_checksum, with_sent}
 use Rattle.rv_session.specs.Replies.{refused}
-use Rattle.rv_session.specs.Sessions.{MayAsk, at_place}
+use Rattle.rv_session.specs.Sessions.{IsOpenIfRequested, at_place}
 use Rattle.rv_session.specs.declared.reply.Reply.{Reply}
 use Rattle.rv_session.specs.declared.session.Session.{Session}
 
@@ -38,14 +38,14 @@ written_unasked : (session next : Session) (register : Register) (value : ℕ) (
     → IsWritten session register value reply next → next.asked ≡ None
 written_unasked session next (reg.Hart number) value reply none written = unasked next session written.1 none
 written_unasked session next reg.Steps value reply none written =
-    placed_unasked session next value (nat_le value (last_place session.history.budget session.history.start)) none written.1
+    placed_unasked session next value (nat_le value (last_step session.history.budget session.history.start)) none written.1
 written_unasked session next reg.Printed value reply none written =
     unasked next (at_place session next.history.place) written.run none
 written_unasked session next reg.Taken value reply none written =
     unasked next (at_place session next.history.place) written.run none
 
 answered_may : (session next : Session) (request : Request) (reply : Reply) → session.is_over ≡ false → session.asked ≡ None
-    → IsAnswered session request reply next → MayAsk next
+    → IsAnswered session request reply next → IsOpenIfRequested next
 answered_may session next (ask.Move asked) reply going none answered = inr (ap (λ (s : Session). s.is_over) answered.1 ∙ going)
 answered_may session next (ask.WriteRegister register value) reply going none answered =
     inl (written_unasked session next register value reply none answered)
@@ -56,7 +56,7 @@ answered_may session next (ask.Command text) reply going none answered =
 answered_may session next request reply going none answered = inl (unasked next _ answered.1 none)
 
 taken_may : (session next : Session) (body out : List ℕ) → session.is_over ≡ false → session.asked ≡ None
-    → IsTaken session body out next → MayAsk next
+    → IsTaken session body out next → IsOpenIfRequested next
 taken_may session next body out going none took =
     elim (answered_may session took.behind (request_of body) took.reply going none took.answered) [
       | inl unasks ↦ inl (unasked next (with_sent took.behind took.reply) took.next_is unasks)
@@ -64,32 +64,32 @@ taken_may session next body out going none took =
     ]
 
 judged_may : (session next : Session) (again : Bool) (body out : List ℕ) → session.is_over ≡ false → session.asked ≡ None
-    → IsJudged session again body out next → MayAsk next
+    → IsJudged session again body out next → IsOpenIfRequested next
 judged_may session next true body out going none judged = inl (unasked next session judged.1 none)
 judged_may session next false body out going none judged = taken_may session next body out going none judged
 
 response_may : (session next : Session) (heard : Incoming) (out : List ℕ) → session.is_over ≡ false → session.asked ≡ None
-    → IsResponse session heard out next → MayAsk next
+    → IsResponse session heard out next → IsOpenIfRequested next
 response_may session next heard.Interrupt out going none response = inl (unasked next session response.1 none)
 response_may session next heard.Arrived out going none response = inl (unasked next session response.1 none)
 response_may session next heard.Again out going none response = inl (unasked next session response.1 none)
 response_may session next heard.TooLong out going none response =
     inl (unasked next (with_sent session (refused refusal.TooLong)) response.1 none)
 response_may session next (heard.Packet body sum) out going none response =
-    judged_may session next (session.acknowledges && is_wrong sum) body out going none response
+    judged_may session next (session.acknowledges && is_wrong_checksum sum) body out going none response
 
 unless_may : (session next : Session) (over : Bool) (heard : Incoming) (out : List ℕ) → session.is_over ≡ over → session.asked ≡ None
-    → IsResponseUnless over session heard out next → MayAsk next
+    → IsResponseUnless over session heard out next → IsOpenIfRequested next
 unless_may session next true heard out is none response = inl (unasked next session response.1 none)
 unless_may session next false heard out is none response = response_may session next heard out is none response
 
 responded_may : (session next : Session) (heard : Option Incoming) (out : List ℕ) → session.asked ≡ None
-    → IsRespondedTo session heard out next → MayAsk next
+    → IsRespondedTo session heard out next → IsOpenIfRequested next
 responded_may session next None out none response = inl (unasked next session response.1 none)
 responded_may session next (Some heard) out none response =
     unless_may session next session.is_over heard out refl none response
 
-pub byte_may : (session next : Session) (byte : ℕ) (out : List ℕ) → session.asked ≡ None → IsByteFed session byte out next
-    → MayAsk next
+pub byte_may : (session next : Session) (byte : ℕ) (out : List ℕ) → session.asked ≡ None → IsByteReceived session byte out next
+    → IsOpenIfRequested next
 byte_may session next byte out none fed =
     responded_may (record session { reader = frame_after session.reader byte }) next (incoming_at session.reader byte) out none fed

@@ -1,7 +1,7 @@
 -- Moves that may be broken off for more than one reason.
 use Rattle.std.proofs.Common.{◌≡◌, ◌∙◌, ℕ, List, Bool, true, None, ap}
 use Rattle.rv_gdb_protocol.specs.declared.request.Move.{Move}
-use Rattle.rv_session.specs.Incoming.{IsWorked}
+use Rattle.rv_session.specs.Incoming.{IsRequestedMoveMade}
 use Rattle.rv_session.specs.Moved.{IsMoved}
 use Rattle.rv_session.specs.declared.reply.Reply.{Reply}
 use Rattle.rv_session.specs.declared.session.Session.{Session}
@@ -19,7 +19,7 @@ moved_more end_text one other session next asked reply more moved = record {
 
 -- what may be broken off for one reason may be broken off for a wider one
 pub worked_more : (end_text : List ℕ) (one other : Bool) (session next : Session) (out : List ℕ) → (one ≡ true → other ≡ true)
-    → IsWorked end_text one session out next → IsWorked end_text other session out next
+    → IsRequestedMoveMade end_text one session out next → IsRequestedMoveMade end_text other session out next
 worked_more end_text one other session next out more made = record {
   asked = made.asked;
   asked_is = made.asked_is;
@@ -32,6 +32,6 @@ worked_more end_text one other session next out more made = record {
 
 -- no move is asked for once it is made
 pub worked_unasked : (end_text : List ℕ) (may_break : Bool) (session next : Session) (out : List ℕ)
-    → IsWorked end_text may_break session out next → next.asked ≡ None
+    → IsRequestedMoveMade end_text may_break session out next → next.asked ≡ None
 worked_unasked end_text may_break session next out made =
     ap (λ (s : Session). s.asked) made.next_is ∙ ap (λ (s : Session). s.asked) made.moved.next_is

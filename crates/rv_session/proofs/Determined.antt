@@ -29,12 +29,12 @@ use Rattle.rv_gdb_protocol.specs.declared.request.Request.{Request}
 use Rattle.rv_gdb_protocol.specs.declared.request.Request.TheVariants as ask
 use Rattle.rv_gdb_protocol.specs.declared.request.Stoppoint.{Stoppoint}
 use Rattle.rv_gdb_protocol.specs.declared.request.Stoppoint.TheVariants as trap
-use Rattle.rv_session.specs.Answers.{IsAnswered, IsSet, IsSought, IsSoughtAs, IsTrapAsked, IsWritten}
-use Rattle.rv_session.specs.Incoming.{HasNoInterrupt, IsByteFed, IsFed, IsJudged, IsRespondedTo, IsResponse, IsResponseUnless, IsTaken, IsWorked, acknowledgement, byte_first, is_interrupted, is_wrong, move_first, no_bytes, packets_of, with_sent}
+use Rattle.rv_session.specs.Answers.{IsAnswered, IsSet, IsSought, IsSoughtAs, IsStoppointSet, IsWritten}
+use Rattle.rv_session.specs.Incoming.{HasNoInterrupt, IsByteReceived, IsReceived, IsJudged, IsRespondedTo, IsResponse, IsResponseUnless, IsTaken, IsRequestedMoveMade, acknowledgement, byte_first, is_interrupted, is_wrong_checksum, move_first, no_bytes, packets_of, with_sent}
 use Rattle.rv_session.specs.Moved.{IsMoveResult, IsMoved, end_text_at, printed_on, shown_on, stop_of}
 use Rattle.rv_session.specs.Replies.{granted_if, stopping}
 use Rattle.rv_session.specs.Sessions.{at_place, state_at}
-use Rattle.rv_session.specs.Traps.{IsAdded, IsAddedUnless, IsTrapped, is_on, is_set, trap_refusal, watches_of, with_watches}
+use Rattle.rv_session.specs.Traps.{IsAdded, IsAddedUnless, IsStoppointAdded, is_on, is_set, stoppoint_refusal, watches_of, with_watches}
 use Rattle.rv_session.specs.declared.reply.Reply.{Reply}
 use Rattle.rv_session.specs.declared.session.Session.{Session}
 
@@ -152,14 +152,14 @@ added_unless_one : (stops one other : Stops) (place : Stoppoint) (is : Bool) →
 added_unless_one stops one other place true first second = first ∙ sym second
 added_unless_one stops one other place false first second = added_one stops one other place first second
 
-trapped_one : (stops : Stops) (bus : Contents) (place : Stoppoint) (one other : Result Stops Refusal) → IsTrapped stops bus place one
-    → IsTrapped stops bus place other → one ≡ other
+trapped_one : (stops : Stops) (bus : Contents) (place : Stoppoint) (one other : Result Stops Refusal) → IsStoppointAdded stops bus place one
+    → IsStoppointAdded stops bus place other → one ≡ other
 trapped_one stops bus place (Ok one) (Ok other) first second =
     ap (λ (s : Stops). Ok s) (added_unless_one stops one other place (is_set stops place) first.1 second.1)
 trapped_one stops bus place (Ok one) (Err other) first second =
-    let none : trap_refusal stops bus place ≡ None = first.0 in absurd (cc (none, second))
+    let none : stoppoint_refusal stops bus place ≡ None = first.0 in absurd (cc (none, second))
 trapped_one stops bus place (Err one) (Ok other) first second =
-    let none : trap_refusal stops bus place ≡ None = second.0 in absurd (cc (none, first))
+    let none : stoppoint_refusal stops bus place ≡ None = second.0 in absurd (cc (none, first))
 trapped_one stops bus place (Err one) (Err other) first second = cc (first, second)
 
 set_one : (session one other : Session) (outcome : Result Stops Refusal) (reply again : Reply) → IsSet session outcome reply one
@@ -167,8 +167,8 @@ set_one : (session one other : Session) (outcome : Result Stops Refusal) (reply 
 set_one session one other (Ok stops) reply again first second = (first.0 ∙ sym second.0, first.1 ∙ sym second.1)
 set_one session one other (Err refusal) reply again first second = (first.0 ∙ sym second.0, first.1 ∙ sym second.1)
 
-trap_one : (session one other : Session) (place : Stoppoint) (reply again : Reply) → IsTrapAsked session place reply one
-    → IsTrapAsked session place again other → (reply ≡ again) × (one ≡ other)
+trap_one : (session one other : Session) (place : Stoppoint) (reply again : Reply) → IsStoppointSet session place reply one
+    → IsStoppointSet session place again other → (reply ≡ again) × (one ≡ other)
 trap_one session one other place reply again first second =
     let same = trapped_one session.stops (state_at session session.history.place).bus place first.outcome second.outcome
     first.trapped second.trapped in
@@ -203,7 +203,7 @@ judged_one session one other false body out more first second = taken_one sessio
 response_one : (session one other : Session) (heard : Incoming) (out more : List ℕ) → IsResponse session heard out one
     → IsResponse session heard more other → (out ≡ more) × (one ≡ other)
 response_one session one other (heard.Packet body sum) out more first second =
-    judged_one session one other (session.acknowledges && is_wrong sum) body out more first second
+    judged_one session one other (session.acknowledges && is_wrong_checksum sum) body out more first second
 response_one session one other heard.Interrupt out more first second = (first.0 ∙ sym second.0, first.1 ∙ sym second.1)
 response_one session one other heard.Arrived out more first second = (first.0 ∙ sym second.0, first.1 ∙ sym second.1)
 response_one session one other heard.Again out more first second = (first.0 ∙ sym second.0, first.1 ∙ sym second.1)
@@ -220,8 +220,8 @@ responded_one session one other None out more first second = (first.0 ∙ sym se
 responded_one session one other (Some heard) out more first second =
     unless_one session one other session.is_over heard out more first second
 
-byte_one : (session one other : Session) (byte : ℕ) (out more : List ℕ) → IsByteFed session byte out one
-    → IsByteFed session byte more other → (out ≡ more) × (one ≡ other)
+byte_one : (session one other : Session) (byte : ℕ) (out more : List ℕ) → IsByteReceived session byte out one
+    → IsByteReceived session byte more other → (out ≡ more) × (one ≡ other)
 byte_one session one other byte out more first second =
     responded_one (record session { reader = frame_after session.reader byte }) one other (incoming_at session.reader byte) out more
     first second
@@ -229,7 +229,7 @@ byte_one session one other byte out more first second =
 -- ---- bytes and moves
 
 worked_one : (end_text : List ℕ) (may_break : Bool) (session one other : Session) (out more : List ℕ) → may_break ≡ false
-    → IsWorked end_text may_break session out one → IsWorked end_text may_break session more other → (out ≡ more) × (one ≡ other)
+    → IsRequestedMoveMade end_text may_break session out one → IsRequestedMoveMade end_text may_break session more other → (out ≡ more) × (one ≡ other)
 worked_one end_text may_break session one other out more never first second =
     let asked : first.asked ≡ second.asked = some_one first.asked second.asked (sym first.asked_is ∙ second.asked_is) in
     let same = moved_one end_text may_break (record session { asked = None }) first.behind second.behind second.asked first.reply
@@ -245,7 +245,7 @@ worked_one end_text may_break session one other out more never first second =
     some_one a b is = cc is
 
 not_asked : (end_text : List ℕ) (may_break : Bool) (session next : Session) (out : List ℕ) → session.asked ≡ None
-    → IsWorked end_text may_break session out next → ⊥
+    → IsRequestedMoveMade end_text may_break session out next → ⊥
 not_asked end_text may_break session next out going made = absurd (cc (going, made.asked_is))
 
 none_next : (bytes : List ℕ) → HasNoInterrupt bytes → is_interrupted bytes false ≡ false
@@ -253,7 +253,7 @@ none_next [] none = refl
 none_next (byte ∷ rest) none = ne_eqb byte 3 none.0
 
 pub fed_one : (end_text : List ℕ) (session one other : Session) (bytes out more : List ℕ) → HasNoInterrupt bytes
-    → IsFed end_text false session bytes out one → one.asked ≡ None → IsFed end_text false session bytes more other
+    → IsReceived end_text false session bytes out one → one.asked ≡ None → IsReceived end_text false session bytes more other
     → other.asked ≡ None → (out ≡ more) × (one ≡ other)
 fed_one end_text session one other bytes out more none (no_bytes same) going (no_bytes again) opened = (refl, refl)
 fed_one end_text session one other bytes out more none (no_bytes same) going (move_first again middle end rest said shown made further) opened =
@@ -270,11 +270,11 @@ fed_one end_text session one other bytes out more none (byte_first same between 
     (byte_first again middle end again_byte again_rest said shown still second further) opened =
     let here = byte_one session between middle byte told said first second in
     let there = fed_one end_text between one other rest sent shown none.1 later going
-    (subst (λ (s : Session). IsFed end_text false s rest shown other) (sym here.1) further) opened in
+    (subst (λ (s : Session). IsReceived end_text false s rest shown other) (sym here.1) further) opened in
     (ap (λ (front : List ℕ). front ++ sent) here.0 ∙ ap (λ (behind : List ℕ). said ++ behind) there.0, there.1)
 fed_one end_text session one other bytes out more none (move_first same between last rest told sent made later) going
     (move_first again middle end again_rest said shown again_made further) opened =
     let here = worked_one end_text (is_interrupted bytes false) session between middle told said (none_next bytes none) made again_made in
     let there = fed_one end_text between one other bytes sent shown none later going
-    (subst (λ (s : Session). IsFed end_text false s bytes shown other) (sym here.1) further) opened in
+    (subst (λ (s : Session). IsReceived end_text false s bytes shown other) (sym here.1) further) opened in
     (ap (λ (front : List ℕ). front ++ sent) here.0 ∙ ap (λ (behind : List ℕ). said ++ behind) there.0, there.1)

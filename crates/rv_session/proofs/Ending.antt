@@ -9,26 +9,26 @@ use Rattle.rv_machine.specs.declared.ending.Ending.{Ending}
 use Rattle.rv_machine.specs.declared.ending.Ending.TheVariants as ending
 use Rattle.rv_machine.specs.declared.ending.FaultKind.{FaultKind}
 use Rattle.rv_machine.specs.declared.ending.FaultKind.TheVariants as fault
-use Rattle.rv_gdb_protocol.specs.Stops.{NoEnding, Told, told_by, told_by_fault}
+use Rattle.rv_gdb_protocol.specs.Stops.{NoEnding, Told, told_by, end_kind_of_fault}
 use Rattle.rv_gdb_protocol.specs.declared.request.Move.{Move}
-use Rattle.rv_session.specs.Endings.{text_with, told_by_ending, told_by_found}
-use Rattle.rv_session.specs.Moved.{IsMoved, end_stop, end_text_at, is_forward, stop_of, watch_between, watch_told}
+use Rattle.rv_session.specs.Endings.{text_with, end_kind_of_ending, end_kind_of_found}
+use Rattle.rv_session.specs.Moved.{IsMoved, end_stop, end_text_at, is_forward, stop_of, watch_between, stop_of_watch_hit}
 use Rattle.rv_session.specs.declared.reply.Reply.{Reply}
 use Rattle.rv_session.specs.declared.session.Session.{Session}
 
-watch_is_none : (found : Option WatchHit) → told_by (watch_told found) ≡ NoEnding
+watch_is_none : (found : Option WatchHit) → told_by (stop_of_watch_hit found) ≡ NoEnding
 watch_is_none (Some (set_off.Change address)) = refl
 watch_is_none (Some (set_off.Read address)) = refl
 watch_is_none (Some (set_off.Access address)) = refl
 watch_is_none None = refl
 
-end_is_told : (ending : Ending) → told_by (end_stop ending) ≡ told_by_ending ending
+end_is_told : (ending : Ending) → told_by (end_stop ending) ≡ end_kind_of_ending ending
 end_is_told (ending.Exit code) = refl
 end_is_told (ending.Fault kind pc value) = refl
 end_is_told ending.Budget = refl
 
 stop_is_told : (session : Session) (asked : Move) (place : ℕ) (found : Found)
-    → told_by (stop_of session asked place found) ≡ told_by_found found
+    → told_by (stop_of session asked place found) ≡ end_kind_of_found found
 stop_is_told session asked place found.Done = refl
 stop_is_told session asked place found.Break = refl
 stop_is_told session asked place found.Change = watch_is_none
@@ -37,7 +37,7 @@ stop_is_told session asked place (found.End ending) = end_is_told ending
 stop_is_told session asked place found.Begin = refl
 stop_is_told session asked place found.Interrupted = refl
 
-fault_has_text : (kind : FaultKind) (end_text : List ℕ) → text_with (told_by_fault kind) end_text ≡ end_text
+fault_has_text : (kind : FaultKind) (end_text : List ℕ) → text_with (end_kind_of_fault kind) end_text ≡ end_text
 fault_has_text fault.FetchAccess end_text = refl
 fault_has_text fault.LoadAccess end_text = refl
 fault_has_text fault.StoreAccess end_text = refl
@@ -50,7 +50,7 @@ fault_has_text fault.Breakpoint end_text = refl
 fault_has_text fault.UnknownCall end_text = refl
 fault_has_text fault.ConsoleFull end_text = refl
 
-text_is_told : (end_text : List ℕ) (found : Found) → end_text_at end_text found ≡ text_with (told_by_found found) end_text
+text_is_told : (end_text : List ℕ) (found : Found) → end_text_at end_text found ≡ text_with (end_kind_of_found found) end_text
 text_is_told end_text (found.End (ending.Exit code)) = refl
 text_is_told end_text (found.End (ending.Fault kind pc value)) = sym (fault_has_text kind end_text)
 text_is_told end_text (found.End ending.Budget) = refl
@@ -62,9 +62,9 @@ text_is_told end_text found.Interrupted = refl
 
 pub end_told : (end_text : List ℕ) (may_break : Bool) (session next : Session) (asked : Move) (reply : Reply)
     (moved : IsMoved end_text may_break session asked reply next)
-    → (told_by next.last ≡ told_by_found moved.found) × (reply.end_text ≡ text_with (told_by next.last) end_text)
+    → (told_by next.last ≡ end_kind_of_found moved.found) × (reply.end_text ≡ text_with (told_by next.last) end_text)
 end_told end_text may_break session next asked reply moved =
-    let told : told_by next.last ≡ told_by_found moved.found =
+    let told : told_by next.last ≡ end_kind_of_found moved.found =
     ap (λ (s : Session). told_by s.last) moved.next_is ∙ stop_is_told session asked moved.place moved.found in (
       told,
       ap (λ (r : Reply). r.end_text) moved.reply_is ∙ text_is_told end_text moved.found

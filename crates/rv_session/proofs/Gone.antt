@@ -1,8 +1,8 @@
 -- Moves, and the stops that are told.
 use Rattle.std.proofs.Common.{◌≡◌, ◌∙◌, ◌<◌, ◌≤◌, ℕ, Bool, List, true, ap, arith, subst, sym}
 use Rattle.std.proofs.lemmas.Bool.{false≢true}
-use Rattle.rv_history.specs.Moves.{IsInterrupted, IsNextStep, MeetsAhead}
-use Rattle.rv_history.specs.Places.{IsReached, last_place}
+use Rattle.rv_history.specs.Moves.{IsInterrupted, IsNextStep, IsStopAhead}
+use Rattle.rv_history.specs.Places.{IsReached, last_step}
 use Rattle.rv_history.specs.declared.bounds.Bounds.{Bounds}
 use Rattle.rv_history.specs.declared.bounds.Bounds.TheVariants as bounds
 use Rattle.rv_history.specs.declared.found.Found.{Found}
@@ -15,7 +15,7 @@ use Rattle.rv_gdb_protocol.specs.declared.request.Move.TheVariants as move
 use Rattle.rv_gdb_protocol.specs.declared.stop.Stop.{Stop}
 use Rattle.rv_trace.proofs.Public.{completes}
 use Rattle.rv_trace.specs.Trace.{state_after}
-use Rattle.rv_session.specs.Moved.{CanTell, IsMoveResult, IsMoved, end_text_at, is_forward, printed_on, shown_on, stop_of}
+use Rattle.rv_session.specs.Moved.{CanReportHit, IsMoveResult, IsMoved, end_text_at, is_forward, printed_on, shown_on, stop_of}
 use Rattle.rv_session.specs.Replies.{stopping}
 use Rattle.rv_session.specs.Sessions.{at_place, here, state_at}
 use Rattle.rv_session.specs.declared.reply.Reply.{Reply}
@@ -23,7 +23,7 @@ use Rattle.rv_session.specs.declared.session.Session.{Session}
 
 -- the machine of a session stands at its place of the run
 pub stands : (session : Session) (start : State) (place : ℕ) (s : State) → start ≡ session.history.start
-    → place ≡ session.history.place → place ≤ last_place session.history.budget session.history.start
+    → place ≡ session.history.place → place ≤ last_step session.history.budget session.history.start
     → s ≡ state_after session.history.place session.history.start → IsReached start place s
 stands session start place s starts is within same =
     subst (λ (t : State). IsReached t place s) (sym starts) (record {
@@ -32,12 +32,12 @@ stands session start place s starts is within same =
     })
 
 changes_within : (stops : Stops) (limits : Bounds) (budget from place : ℕ) (start : State) (what : Found)
-    → MeetsAhead stops limits budget start from place what → what ≡ found.Change → place < last_place budget start
+    → IsStopAhead stops limits budget start from place what → what ≡ found.Change → place < last_step budget start
 changes_within stops limits budget from place start what meets is =
-    let change = subst (λ (f : Found). MeetsAhead stops limits budget start from place f) is meets in change.0.completes
+    let change = subst (λ (f : Found). IsStopAhead stops limits budget start from place f) is meets in change.0.completes
 
 step_changes_within : (stops : Stops) (budget from place : ℕ) (start : State) (what : Found)
-    → IsNextStep stops budget start from place what → what ≡ found.Change → place < last_place budget start
+    → IsNextStep stops budget start from place what → what ≡ found.Change → place < last_step budget start
 step_changes_within stops budget from place start what meets is =
     let change = subst (λ (f : Found). IsNextStep stops budget start from place f) is meets in
     let same = change.0 in
@@ -47,7 +47,7 @@ step_changes_within stops budget from place start what meets is =
 -- a change that a move forward finds is by a step that completes
 gone_within : (asked : Move) (stops : Stops) (budget from place : ℕ) (start : State) (what : Found)
     → IsMoveResult asked stops budget start from place what → what ≡ found.Change → is_forward asked ≡ true
-    → place < last_place budget start
+    → place < last_step budget start
 gone_within move.Continue stops budget from place start what gone is forward =
     changes_within stops bounds.All budget from place start what gone.meets is
 gone_within move.Step stops budget from place start what gone is forward =
@@ -59,14 +59,14 @@ gone_within move.StepBack stops budget from place start what gone is forward = a
 
 pub can_tell : (session between : Session) (asked : Move) (found : Found) → between ≡ at_place session between.history.place
     → IsMoveResult asked session.stops session.history.budget session.history.start session.history.place between.history.place found
-    → CanTell between asked found
+    → CanReportHit between asked found
 can_tell session between asked found same gone is forward =
     let within = gone_within asked session.stops session.history.budget session.history.place between.history.place
     session.history.start found gone is forward in
     let budget : between.history.budget ≡ session.history.budget = ap (λ (s : Session). s.history.budget) same in
     let start : between.history.start ≡ session.history.start = ap (λ (s : Session). s.history.start) same in
-    subst (λ (s : State). between.history.place < last_place between.history.budget s) (sym start)
-    (subst (λ (b : ℕ). between.history.place < last_place b session.history.start) (sym budget) within)
+    subst (λ (s : State). between.history.place < last_step between.history.budget s) (sym start)
+    (subst (λ (b : ℕ). between.history.place < last_step b session.history.start) (sym budget) within)
 
 moved_at : (end_text : List ℕ) (may_break : Bool) (session next : Session) (asked : Move) (reply : Reply) (place : ℕ) (found : Found) (told : Stop)
     → IsMoveResult asked session.stops session.history.budget session.history.start session.history.place place found

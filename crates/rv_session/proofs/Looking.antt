@@ -6,7 +6,7 @@ use Rattle.std.specs.List.{flat_map, list_any, range_with_len}
 use Rattle.std.proofs.lemmas.Bool.{cases_lt}
 use Rattle.std.proofs.lemmas.List.{at_drop_more, drop_all, flat_map_more, take_all, take_min}
 use Rattle.rv_memory.specs.Bus.{Contents}
-use Rattle.rv_session.specs.Memory.{end_of_addresses, is_byte, leading, stand_at}
+use Rattle.rv_session.specs.Memory.{end_of_addresses, is_byte, leading, has_bytes_at}
 
 -- ---- reads
 
@@ -107,40 +107,40 @@ three true y z = refl
 three false y z = refl
 
 stand_more : (bus : Contents) (a i byte : ℕ) (bytes : List ℕ) → i < length bytes
-    → stand_at bus (a + i) (drop i bytes)
-    ≡ (stands_at bus (a + i) (get_or bytes i byte) && stand_at bus (a + i + 1) (drop (i + 1) bytes))
-unfolding stand_at
+    → has_bytes_at bus (a + i) (drop i bytes)
+    ≡ (stands_at bus (a + i) (get_or bytes i byte) && has_bytes_at bus (a + i + 1) (drop (i + 1) bytes))
+unfolding has_bytes_at
 stand_more bus a i byte bytes within =
-    at_drop_more (λ (rest : List ℕ). stand_at bus (a + i) rest) bytes i byte within
+    at_drop_more (λ (rest : List ℕ). has_bytes_at bus (a + i) rest) bytes i byte within
     ∙ three (nat_lt (a + i) end_of_addresses) (is_byte (fin.get bus.memory (a + i)) (get_or bytes i byte))
-    (stand_at bus (a + i + 1) (drop (i + 1) bytes))
+    (has_bytes_at bus (a + i + 1) (drop (i + 1) bytes))
 
-pub stand_start : (bus : Contents) (a : ℕ) (bytes : List ℕ) → stand_at bus a bytes ≡ stand_at bus (a + 0) (drop 0 bytes)
-stand_start bus a bytes = let at : a ≡ a + 0 = omega arith in ap (λ (k : ℕ). stand_at bus k bytes) at
+pub stand_start : (bus : Contents) (a : ℕ) (bytes : List ℕ) → has_bytes_at bus a bytes ≡ has_bytes_at bus (a + 0) (drop 0 bytes)
+stand_start bus a bytes = let at : a ≡ a + 0 = omega arith in ap (λ (k : ℕ). has_bytes_at bus k bytes) at
 
 pub stand_later : (bus : Contents) (a i byte : ℕ) (bytes : List ℕ) (all : Bool) → i < length bytes
-    → stands_at bus (a + i) (get_or bytes i byte) ≡ true → all ≡ stand_at bus (a + i) (drop i bytes)
-    → all ≡ stand_at bus (a + (i + 1)) (drop (i + 1) bytes)
+    → stands_at bus (a + i) (get_or bytes i byte) ≡ true → all ≡ has_bytes_at bus (a + i) (drop i bytes)
+    → all ≡ has_bytes_at bus (a + (i + 1)) (drop (i + 1) bytes)
 stand_later bus a i byte bytes all within here so_far =
     let next : a + i + 1 ≡ a + (i + 1) = omega arith in
     so_far ∙ stand_more bus a i byte bytes within
-    ∙ ap (λ (is : Bool). is && stand_at bus (a + i + 1) (drop (i + 1) bytes)) here
-    ∙ ap (λ (k : ℕ). stand_at bus k (drop (i + 1) bytes)) next
+    ∙ ap (λ (is : Bool). is && has_bytes_at bus (a + i + 1) (drop (i + 1) bytes)) here
+    ∙ ap (λ (k : ℕ). has_bytes_at bus k (drop (i + 1) bytes)) next
 
 pub stand_not : (bus : Contents) (a i byte : ℕ) (bytes : List ℕ) (all : Bool) → i < length bytes
-    → stands_at bus (a + i) (get_or bytes i byte) ≡ false → all ≡ stand_at bus (a + i) (drop i bytes) → false ≡ all
+    → stands_at bus (a + i) (get_or bytes i byte) ≡ false → all ≡ has_bytes_at bus (a + i) (drop i bytes) → false ≡ all
 stand_not bus a i byte bytes all within here so_far =
     sym (so_far ∙ stand_more bus a i byte bytes within
-    ∙ ap (λ (is : Bool). is && stand_at bus (a + i + 1) (drop (i + 1) bytes)) here)
+    ∙ ap (λ (is : Bool). is && has_bytes_at bus (a + i + 1) (drop (i + 1) bytes)) here)
 
-stand_none : (bus : Contents) (a : ℕ) → stand_at bus a [] ≡ true
-unfolding stand_at
+stand_none : (bus : Contents) (a : ℕ) → has_bytes_at bus a [] ≡ true
+unfolding has_bytes_at
 stand_none bus a = refl
 
 pub stand_all : (bus : Contents) (a i : ℕ) (bytes : List ℕ) (all : Bool) → length bytes ≤ i
-    → all ≡ stand_at bus (a + i) (drop i bytes) → true ≡ all
+    → all ≡ has_bytes_at bus (a + i) (drop i bytes) → true ≡ all
 stand_all bus a i bytes all done so_far =
-    sym (so_far ∙ ap (stand_at bus (a + i)) (drop_all i bytes done) ∙ stand_none bus (a + i))
+    sym (so_far ∙ ap (has_bytes_at bus (a + i)) (drop_all i bytes done) ∙ stand_none bus (a + i))
 
 -- ---- packets of printed bytes
 

@@ -1,7 +1,7 @@
 -- The run stays the same, whatever is fed.
 use Rattle.std.proofs.Common.{◌≡◌, ◌∙◌, ◌&&◌, ℕ, List, Bool, true, false, Some, None, ap, refl}
 use Rattle.std.specs.Prelude.{Result, Ok, Err, Option, if◌then◌else◌, nat_le}
-use Rattle.rv_history.specs.Places.{last_place}
+use Rattle.rv_history.specs.Places.{last_step}
 use Rattle.rv_gdb_protocol.specs.Frames.{frame_after, incoming_at}
 use Rattle.rv_gdb_protocol.specs.Packets.{request_of}
 use Rattle.rv_gdb_protocol.specs.declared.frame.Incoming.{Incoming}
@@ -14,7 +14,7 @@ use Rattle.rv_gdb_protocol.specs.declared.request.Request.TheVariants as ask
 use Rattle.rv_history.specs.declared.stops.Stops.{Stops}
 use Rattle.rv_gdb_protocol.specs.declared.request.Refusal.TheVariants as refusal
 use Rattle.rv_session.specs.Answers.{IsAnswered, IsSet, IsWritten, is_reset}
-use Rattle.rv_session.specs.Incoming.{IsByteFed, IsFed, IsJudged, IsRespondedTo, IsResponse, IsResponseUnless, IsTaken, IsWorked, byte_first, is_interrupted, is_wrong, move_first, no_bytes, with_sent}
+use Rattle.rv_session.specs.Incoming.{IsByteReceived, IsReceived, IsJudged, IsRespondedTo, IsResponse, IsResponseUnless, IsTaken, IsRequestedMoveMade, byte_first, is_interrupted, is_wrong_checksum, move_first, no_bytes, with_sent}
 use Rattle.rv_session.specs.Replies.{refused}
 use Rattle.rv_session.specs.Sessions.{IsSameRun, at_place}
 use Rattle.rv_session.specs.declared.reply.Reply.{Reply}
@@ -88,7 +88,7 @@ written_quiet : (session next : Session) (register : Register) (value : ℕ) (re
     → IsWritten session register value reply next → IsQuiet session next
 written_quiet session next (reg.Hart number) value reply written = stays session next written.1
 written_quiet session next reg.Steps value reply written =
-    stays_or_goes session next value (nat_le value (last_place session.history.budget session.history.start)) written.1
+    stays_or_goes session next value (nat_le value (last_step session.history.budget session.history.start)) written.1
 written_quiet session next reg.Printed value reply written = goes session next next.history.place written.run
 written_quiet session next reg.Taken value reply written = goes session next next.history.place written.run
 
@@ -127,7 +127,7 @@ response_quiet session next heard.Arrived out response = stays session next resp
 response_quiet session next heard.Again out response = stays session next response.1
 response_quiet session next heard.TooLong out response = sent_quiet session next (refused refusal.TooLong) response.1
 response_quiet session next (heard.Packet body sum) out response =
-    judged_quiet session next (session.acknowledges && is_wrong sum) body out response
+    judged_quiet session next (session.acknowledges && is_wrong_checksum sum) body out response
 
 unless_quiet : (session next : Session) (over : Bool) (heard : Incoming) (out : List ℕ)
     → IsResponseUnless over session heard out next → IsQuiet session next
@@ -139,7 +139,7 @@ responded_quiet : (session next : Session) (heard : Option Incoming) (out : List
 responded_quiet session next None out response = stays session next response.1
 responded_quiet session next (Some heard) out response = unless_quiet session next session.is_over heard out response
 
-byte_quiet : (session next : Session) (byte : ℕ) (out : List ℕ) → IsByteFed session byte out next → IsQuiet session next
+byte_quiet : (session next : Session) (byte : ℕ) (out : List ℕ) → IsByteReceived session byte out next → IsQuiet session next
 byte_quiet session next byte out fed =
     let listening : Session = record session { reader = frame_after session.reader byte } in
     let heard = responded_quiet listening next (incoming_at session.reader byte) out fed in record {
@@ -153,11 +153,11 @@ byte_quiet session next byte out fed =
     }
 
 -- a byte that is heard leaves the run as it is
-pub byte_same : (session next : Session) (byte : ℕ) (out : List ℕ) → IsByteFed session byte out next → IsSameRun session next
+pub byte_same : (session next : Session) (byte : ℕ) (out : List ℕ) → IsByteReceived session byte out next → IsSameRun session next
 byte_same session next byte out fed = (byte_quiet session next byte out fed).run
 
 -- and no printed byte goes out in front of a stop
-pub byte_shows_none : (session next : Session) (byte : ℕ) (out : List ℕ) → IsByteFed session byte out next
+pub byte_shows_none : (session next : Session) (byte : ℕ) (out : List ℕ) → IsByteReceived session byte out next
     → next.shown ≡ session.shown
 byte_shows_none session next byte out fed = (byte_quiet session next byte out fed).shown_is
 
@@ -165,14 +165,14 @@ byte_shows_none session next byte out fed = (byte_quiet session next byte out fe
 
 -- a move leaves the run as it is
 pub worked_same : (end_text : List ℕ) (may_break : Bool) (session next : Session) (out : List ℕ)
-    → IsWorked end_text may_break session out next → IsSameRun session next
+    → IsRequestedMoveMade end_text may_break session out next → IsSameRun session next
 worked_same end_text may_break session next out made = same_run_on session made.behind next
     (same_run_by session made.behind _ made.moved.next_is
     (record { start_is = refl; budget_is = refl; program_is = refl; script_is = refl }))
     (sent_quiet made.behind next made.reply made.next_is).run
 
 pub fed_same : (end_text : List ℕ) (behind : Bool) (session next : Session) (bytes out : List ℕ)
-    → IsFed end_text behind session bytes out next → IsSameRun session next
+    → IsReceived end_text behind session bytes out next → IsSameRun session next
 fed_same end_text behind session next bytes out (no_bytes same) = same_run session
 fed_same end_text behind session next bytes out (byte_first same between last byte rest told more going one fed) =
     same_run_on session between next (byte_same session between byte told one)

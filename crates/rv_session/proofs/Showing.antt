@@ -4,7 +4,7 @@ use Rattle.std.proofs.Math.Seq.{take-append_seam}
 use Rattle.std.proofs.lemmas.Bool.{cases_lt}
 use Rattle.std.proofs.lemmas.List.{drop_all, take-append-drop, take-append-le}
 use Rattle.rv_history.specs.Moves.{IsNextStep}
-use Rattle.rv_history.specs.Places.{last_place}
+use Rattle.rv_history.specs.Places.{last_step}
 use Rattle.rv_history.specs.declared.found.Found.{Found}
 use Rattle.rv_history.specs.declared.found.Found.TheVariants as found
 use Rattle.rv_history.specs.declared.stops.Stops.{Stops}
@@ -13,7 +13,7 @@ use Rattle.rv_machine.specs.State.{State}
 use Rattle.rv_gdb_protocol.specs.declared.request.Move.{Move}
 use Rattle.rv_gdb_protocol.specs.declared.request.Move.TheVariants as move
 use Rattle.rv_session.specs.Console.{HasShown, printed_by}
-use Rattle.rv_session.specs.Incoming.{IsByteFed}
+use Rattle.rv_session.specs.Incoming.{IsByteReceived}
 use Rattle.rv_session.specs.Moved.{IsMoveResult, IsMoved, is_forward, printed_on, shown_on}
 use Rattle.rv_session.specs.Sessions.{state_at}
 use Rattle.rv_trace.specs.Trace.{state_after}
@@ -44,7 +44,7 @@ shown_within front rest shown within = let long = length-append front rest in om
 -- ---- of moves
 
 stepped_within : (stops : Stops) (budget from place : ℕ) (start : State) (found : Found)
-    → IsNextStep stops budget start from place found → place ≤ last_place budget start
+    → IsNextStep stops budget start from place found → place ≤ last_step budget start
 stepped_within stops budget from place start found.Done step = let there = step.0 in let goes = step.1 in omega arith
 stepped_within stops budget from place start (found.End ending) step =
     let there = step.0 in let end = step.1.0 in omega arith
@@ -55,7 +55,7 @@ stepped_within stops budget from place start found.Begin step = absurd step
 stepped_within stops budget from place start found.Interrupted step = absurd step
 
 went_within : (asked : Move) (stops : Stops) (budget from place : ℕ) (start : State) (found : Found)
-    → is_forward asked ≡ true → IsMoveResult asked stops budget start from place found → place ≤ last_place budget start
+    → is_forward asked ≡ true → IsMoveResult asked stops budget start from place found → place ≤ last_step budget start
 went_within move.Continue stops budget from place start found forward gone = gone.within
 went_within move.Step stops budget from place start found forward gone =
     stepped_within stops budget from place start found gone
@@ -84,10 +84,10 @@ shows_on : (session : Session) (asked : Move) (place : ℕ) (found : Found) (sho
     → is_forward asked ≡ forward
     → IsMoveResult asked session.stops session.history.budget session.history.start session.history.place place found
     → HasShown session shown
-    → Shows session (state_at session (last_place session.history.budget session.history.start))
+    → Shows session (state_at session (last_step session.history.budget session.history.start))
     (printed_on session asked (state_at session place)) (shown_on session asked (state_at session place)) shown
 shows_on session asked place found shown true forward gone before =
-    let last = last_place session.history.budget session.history.start in
+    let last = last_step session.history.budget session.history.start in
     let within = went_within asked session.stops session.history.budget session.history.place place session.history.start found
     forward gone in
     let stays = printed_stays place last session.history.start within in
@@ -99,7 +99,7 @@ shows_on session asked place found shown false forward gone before =
 pub shown_once : (end_text : List ℕ) (may_break : Bool) (session next : Session) (asked : Move) (reply : Reply) (shown : List ℕ) → HasShown session shown
     → IsMoved end_text may_break session asked reply next → HasShown next (shown ++ reply.printed)
 shown_once end_text may_break session next asked reply shown before moved =
-    let last = last_place session.history.budget session.history.start in
+    let last = last_step session.history.budget session.history.start in
     let shows = shows_on session asked moved.place moved.found shown (is_forward asked) refl moved.gone before in
     let printed : reply.printed ≡ printed_on session asked (state_at session moved.place) =
     ap (λ (r : Reply). r.printed) moved.reply_is in
@@ -114,14 +114,14 @@ shown_once end_text may_break session next asked reply shown before moved =
 
 -- ---- of bytes that are heard
 
-pub shown_still : (session next : Session) (byte : ℕ) (out shown : List ℕ) → HasShown session shown → IsByteFed session byte out next
+pub shown_still : (session next : Session) (byte : ℕ) (out shown : List ℕ) → HasShown session shown → IsByteReceived session byte out next
     → HasShown next shown
 shown_still session next byte out shown before fed =
     let run = byte_same session next byte out fed in
     let counted = byte_shows_none session next byte out fed in
     let same : printed_by next ≡ printed_by session =
-    ap (λ (start : State). (state_after (last_place next.history.budget start) start).bus.output) run.start_is
-    ∙ ap (λ (budget : ℕ). (state_at session (last_place budget session.history.start)).bus.output) run.budget_is in record {
+    ap (λ (start : State). (state_after (last_step next.history.budget start) start).bus.output) run.start_is
+    ∙ ap (λ (budget : ℕ). (state_at session (last_step budget session.history.start)).bus.output) run.budget_is in record {
       first_bytes = before.first_bytes ∙ ap (λ (k : ℕ). take k (printed_by session)) (sym counted) ∙ ap (take next.shown) (sym same);
       within = subst (λ (text : List ℕ). next.shown ≤ length text) (sym same)
           (subst (λ (k : ℕ). k ≤ length (printed_by session)) (sym counted) before.within);

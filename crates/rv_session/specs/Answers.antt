@@ -6,7 +6,7 @@ use Rattle.std.specs.List.{flat_map}
 use Rattle.std.specs.Str.{bytes_eq}
 use Rattle.hex.specs.Hex.{encode_lower}
 use Rattle.rv_history.specs.Counts.{IsFirstWith, IsFound}
-use Rattle.rv_history.specs.Places.{last_place}
+use Rattle.rv_history.specs.Places.{last_step}
 use Rattle.rv_history.specs.declared.counts.Count.{Count}
 use Rattle.rv_history.specs.declared.counts.Count.TheVariants as count
 use Rattle.rv_history.specs.declared.stops.Stops.{Stops}
@@ -24,10 +24,10 @@ use Rattle.rv_gdb_protocol.specs.declared.request.Request.TheVariants as ask
 use Rattle.rv_gdb_protocol.specs.declared.request.Stoppoint.{Stoppoint}
 use Rattle.rv_gdb_protocol.specs.declared.stop.Stop.TheVariants as stop
 use Rattle.rv_gdb_protocol.specs.declared.target.TheConstants.{TARGET}
-use Rattle.rv_session.specs.Memory.{bytes_from, stand_at}
+use Rattle.rv_session.specs.Memory.{bytes_from, has_bytes_at}
 use Rattle.rv_session.specs.Replies.{granted, granted_if, printing, refused, with_body, silent}
 use Rattle.rv_session.specs.Sessions.{at_place, here}
-use Rattle.rv_session.specs.Traps.{IsTrapped, without_trap}
+use Rattle.rv_session.specs.Traps.{IsStoppointAdded, without_stoppoint}
 use Rattle.rv_session.specs.declared.monitor.TheConstants.{HELP}
 use Rattle.rv_session.specs.declared.reply.Reply.{Reply}
 use Rattle.rv_session.specs.declared.session.Session.{Session}
@@ -39,8 +39,8 @@ abbrev pub shown_count : ℕ → ℕ
 shown_count count = min count 4294967295
 
 -- the number of bytes that the program has consumed from the input script at the session's current step
-abbrev pub taken_here : Session → ℕ
-taken_here session = session.script - length (here session).bus.script
+abbrev pub script_bytes_consumed : Session → ℕ
+script_bytes_consumed session = session.script - length (here session).bus.script
 
 -- the value of x0 to x31 by its number at the current step, or of the pc for any greater number
 abbrev pub hart_value : Session → ℕ → ℕ
@@ -51,7 +51,7 @@ abbrev pub value_of : Session → Register → ℕ
 value_of session (reg.Hart number) = hart_value session number
 value_of session reg.Steps = session.history.place
 value_of session reg.Printed = shown_count (length (here session).bus.output)
-value_of session reg.Taken = shown_count (taken_here session)
+value_of session reg.Taken = shown_count (script_bytes_consumed session)
 
 -- x0 to x31 and the pc at the current step, as hexadecimal digits
 abbrev pub registers_here : Session → List ℕ
@@ -104,7 +104,7 @@ shown_reply session (ask.ReadFile part) = file_reply (file_part session.program.
 shown_reply session (ask.WriteRegisters bytes) =
     granted_if (bytes_eq (registers_here session) (encode_lower bytes)) refusal.WouldChange
 shown_reply session (ask.WriteMemory address bytes) =
-    granted_if (stand_at (here session).bus address bytes) refusal.WouldChange
+    granted_if (has_bytes_at (here session).bus address bytes) refusal.WouldChange
 shown_reply session request = fixed_answer request
 
 -- ---- commands
@@ -119,7 +119,7 @@ command_text session text =
     if bytes_eq text (codes "when") then decimal session.history.place ++ codes " steps executed\n"
     else if bytes_eq text (codes "console") then (here session).bus.output
     else if bytes_eq text (codes "input") then
-    decimal (taken_here session) ++ codes " of " ++ decimal session.script ++ codes " bytes read\n"
+    decimal (script_bytes_consumed session) ++ codes " of " ++ decimal session.script ++ codes " bytes read\n"
     else HELP.now
 
 -- ---- requests that change the session
@@ -142,8 +142,8 @@ pub record IsSought (session : Session) (count : Count) (value : ℕ) (reply : R
 -- a seek to the step `place`: the reply is `OK` if the run reaches it; otherwise it is a refusal, and the session is unchanged
 abbrev pub IsPlaceSought : Session → ℕ → Reply → Session → Type 0
 IsPlaceSought session place reply next =
-    (reply ≡ granted_if (nat_le place (last_place session.history.budget session.history.start)) refusal.NotReached)
-    × (next ≡ (if nat_le place (last_place session.history.budget session.history.start) then at_place session place else session))
+    (reply ≡ granted_if (nat_le place (last_step session.history.budget session.history.start)) refusal.NotReached)
+    × (next ≡ (if nat_le place (last_step session.history.budget session.history.start) then at_place session place else session))
 
 -- a write to a register: one of the hart is granted only if the value does not change; a write to a count of the run is a seek
 abbrev pub IsWritten : Session → Register → ℕ → Reply → Session → Type 0
@@ -159,9 +159,9 @@ IsSet session (Ok stops) reply next = (reply ≡ granted) × (next ≡ record se
 IsSet session (Err refusal) reply next = (reply ≡ refused refusal) × (next ≡ session)
 
 -- the reply to setting the stoppoint `place`, and the session after it
-pub record IsTrapAsked (session : Session) (place : Stoppoint) (reply : Reply) (next : Session) : Type 0 where
+pub record IsStoppointSet (session : Session) (place : Stoppoint) (reply : Reply) (next : Session) : Type 0 where
   pub outcome : Result Stops Refusal
-  pub trapped : IsTrapped session.stops (here session).bus place outcome
+  pub trapped : IsStoppointAdded session.stops (here session).bus place outcome
   pub set : IsSet session outcome reply next
 
 -- the reply to a `monitor` command: its output, then `OK`
@@ -177,9 +177,9 @@ IsCommanded session text reply next =
 abbrev pub IsAnswered : Session → Request → Reply → Session → Type 0
 IsAnswered session (ask.Move asked) reply next = (reply ≡ silent) × (next ≡ record session { asked = Some asked })
 IsAnswered session (ask.WriteRegister register value) reply next = IsWritten session register value reply next
-IsAnswered session (ask.Set place) reply next = IsTrapAsked session place reply next
+IsAnswered session (ask.Set place) reply next = IsStoppointSet session place reply next
 IsAnswered session (ask.Clear place) reply next =
-    (reply ≡ granted) × (next ≡ record session { stops = without_trap session.stops place })
+    (reply ≡ granted) × (next ≡ record session { stops = without_stoppoint session.stops place })
 IsAnswered session (ask.Command text) reply next = IsCommanded session text reply next
 IsAnswered session ask.Restart reply next =
     (reply ≡ with_body (stop_text stop.Here)) × (next ≡ record (at_place session 0) { last = stop.Here })

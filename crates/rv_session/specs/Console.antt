@@ -1,12 +1,12 @@
 -- The console output that was sent to gdb.
 use Rattle.std.specs.Prelude.{ℕ, List, ◌≡◌, ◌≤◌, length, take}
-use Rattle.rv_history.specs.Places.{last_place}
+use Rattle.rv_history.specs.Places.{last_step}
 use Rattle.rv_session.specs.Sessions.{state_at}
 use Rattle.rv_session.specs.declared.session.Session.{Session}
 
 -- the console output of the session's whole run
 abbrev pub printed_by : Session → List ℕ
-printed_by session = (state_at session (last_place session.history.budget session.history.start)).bus.output
+printed_by session = (state_at session (last_step session.history.budget session.history.start)).bus.output
 
 -- `shown` is the output of the run that was sent to gdb so far: the first bytes of the whole output, as many as the session counts
 pub record HasShown (session : Session) (shown : List ℕ) : Type 0 where

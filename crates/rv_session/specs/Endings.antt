@@ -4,22 +4,22 @@ use Rattle.rv_history.specs.declared.found.Found.{Found}
 use Rattle.rv_history.specs.declared.found.Found.TheVariants as found
 use Rattle.rv_machine.specs.declared.ending.Ending.{Ending}
 use Rattle.rv_machine.specs.declared.ending.Ending.TheVariants as ending
-use Rattle.rv_gdb_protocol.specs.Stops.{Aborted, BadCall, BusError, Exited, FileTooLarge, IllegalInstruction, NoEnding, SegmentFault, Told, UsedUp, told_by_fault}
+use Rattle.rv_gdb_protocol.specs.Stops.{Aborted, BadCall, BusError, Exited, FileTooLarge, IllegalInstruction, NoEnding, SegmentFault, Told, UsedUp, end_kind_of_fault}
 
 -- the kind of end that a stop at this ending reports
-abbrev pub told_by_ending : Ending → Told
-told_by_ending (ending.Exit code) = Exited
-told_by_ending (ending.Fault kind pc value) = told_by_fault kind
-told_by_ending ending.Budget = UsedUp
+abbrev pub end_kind_of_ending : Ending → Told
+end_kind_of_ending (ending.Exit code) = Exited
+end_kind_of_ending (ending.Fault kind pc value) = end_kind_of_fault kind
+end_kind_of_ending ending.Budget = UsedUp
 
 -- the kind of end that a move with this result reports; `NoEnding` if it did not reach the end of the run
-abbrev pub told_by_found : Found → Told
-told_by_found (found.End ending) = told_by_ending ending
-told_by_found found.Done = NoEnding
-told_by_found found.Break = NoEnding
-told_by_found found.Change = NoEnding
-told_by_found found.Begin = NoEnding
-told_by_found found.Interrupted = NoEnding
+abbrev pub end_kind_of_found : Found → Told
+end_kind_of_found (found.End ending) = end_kind_of_ending ending
+end_kind_of_found found.Done = NoEnding
+end_kind_of_found found.Break = NoEnding
+end_kind_of_found found.Change = NoEnding
+end_kind_of_found found.Begin = NoEnding
+end_kind_of_found found.Interrupted = NoEnding
 
 -- the text, if a stop reports an end of the run; empty otherwise
 abbrev pub text_with : Told → List ℕ → List ℕ

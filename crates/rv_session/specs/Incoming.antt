@@ -85,9 +85,9 @@ IsJudged session true body out next = (out ≡ 45 ∷ []) × (next ≡ session)
 IsJudged session false body out next = IsTaken session body out next
 
 -- whether a checksum is wrong
-abbrev pub is_wrong : Sum → Bool
-is_wrong verdict.Wrong = true
-is_wrong verdict.Right = false
+abbrev pub is_wrong_checksum : Sum → Bool
+is_wrong_checksum verdict.Wrong = true
+is_wrong_checksum verdict.Right = false
 
 -- what is sent for a received item, and the session after it; Ctrl-C has no effect, since no move is in progress
 abbrev pub IsResponse : Session → Incoming → List ℕ → Session → Type 0
@@ -97,7 +97,7 @@ IsResponse session heard.Again out next = (out ≡ sent_again session) × (next 
 IsResponse session heard.TooLong out next =
     (out ≡ acknowledgement session ++ packets_of (refused refusal.TooLong)) × (next ≡ with_sent session (refused refusal.TooLong))
 IsResponse session (heard.Packet body sum) out next =
-    IsJudged session (session.acknowledges && is_wrong sum) body out next
+    IsJudged session (session.acknowledges && is_wrong_checksum sum) body out next
 
 -- what is sent for a received item, and the session after it; nothing if the Bool says that the session is over
 abbrev pub IsResponseUnless : Bool → Session → Incoming → List ℕ → Session → Type 0
@@ -110,12 +110,12 @@ IsRespondedTo session None out next = (out ≡ []) × (next ≡ session)
 IsRespondedTo session (Some heard) out next = IsResponseUnless session.is_over session heard out next
 
 -- what is sent when a byte is received, and the session after it
-abbrev pub IsByteFed : Session → ℕ → List ℕ → Session → Type 0
-IsByteFed session byte out next = IsRespondedTo (record session { reader = frame_after session.reader byte })
+abbrev pub IsByteReceived : Session → ℕ → List ℕ → Session → Type 0
+IsByteReceived session byte out next = IsRespondedTo (record session { reader = frame_after session.reader byte })
     (incoming_at session.reader byte) out next
 
 -- the requested move is made: `out` is sent for it, and the session becomes `next`; `may_break` says whether it can be interrupted
-pub record IsWorked (end_text : List ℕ) (may_break : Bool) (session : Session) (out : List ℕ) (next : Session) : Type 0 where
+pub record IsRequestedMoveMade (end_text : List ℕ) (may_break : Bool) (session : Session) (out : List ℕ) (next : Session) : Type 0 where
   -- the requested move
   pub asked : Move
   pub asked_is : session.asked ≡ Some asked
@@ -139,11 +139,11 @@ HasNoInterrupt (byte ∷ rest) = (byte ≢ 3) × HasNoInterrupt rest
 
 -- `out` is sent while bytes are received one after another; a requested move is made before the next byte is received, and `behind` says
 -- whether a move that the last byte requests can be interrupted
-pub data IsFed (end_text : List ℕ) (behind : Bool) : Session → List ℕ → List ℕ → Session → Type 0 where
-  no_bytes : (session : Session) → IsFed end_text behind session [] [] session
+pub data IsReceived (end_text : List ℕ) (behind : Bool) : Session → List ℕ → List ℕ → Session → Type 0 where
+  no_bytes : (session : Session) → IsReceived end_text behind session [] [] session
   byte_first : (session between next : Session) (byte : ℕ) (rest out more : List ℕ) → session.asked ≡ None
-      → IsByteFed session byte out between → IsFed end_text behind between rest more next
-      → IsFed end_text behind session (byte ∷ rest) (out ++ more) next
+      → IsByteReceived session byte out between → IsReceived end_text behind between rest more next
+      → IsReceived end_text behind session (byte ∷ rest) (out ++ more) next
   move_first : (session between next : Session) (bytes out more : List ℕ)
-      → IsWorked end_text (is_interrupted bytes behind) session out between → IsFed end_text behind between bytes more next
-      → IsFed end_text behind session bytes (out ++ more) next
+      → IsRequestedMoveMade end_text (is_interrupted bytes behind) session out between → IsReceived end_text behind between bytes more next
+      → IsReceived end_text behind session bytes (out ++ more) next

@@ -1,7 +1,7 @@
 -- Moves in the run, and the stops that are reported for them.
 use Rattle.std.specs.Prelude.{ℕ, List, [], ◌≡◌, ◌+◌, ◌-◌, ◌<◌, Bool, true, false, Option, Some, None, drop, if◌then◌else◌, length, max}
 use Rattle.rv_history.specs.Moves.{IsInterrupted, IsNextStep, IsNextStop, IsStepBefore, IsStopBefore}
-use Rattle.rv_history.specs.Places.{last_place}
+use Rattle.rv_history.specs.Places.{last_step}
 use Rattle.rv_history.specs.Stops.{first_triggered}
 use Rattle.rv_history.specs.declared.bounds.Bounds.TheVariants as bounds
 use Rattle.rv_history.specs.declared.found.Found.{Found}
@@ -47,11 +47,11 @@ end_stop (ending.Fault kind pc value) = stop.Fault kind
 end_stop ending.Budget = stop.Budget
 
 -- the stop that reports this watchpoint hit; a plain stop without a hit
-abbrev pub watch_told : Option WatchHit → Stop
-watch_told (Some (set_off.Change address)) = stop.Watch watch.Writes address
-watch_told (Some (set_off.Read address)) = stop.Watch watch.Reads address
-watch_told (Some (set_off.Access address)) = stop.Watch watch.Accesses address
-watch_told None = stop.Here
+abbrev pub stop_of_watch_hit : Option WatchHit → Stop
+stop_of_watch_hit (Some (set_off.Change address)) = stop.Watch watch.Writes address
+stop_of_watch_hit (Some (set_off.Read address)) = stop.Watch watch.Reads address
+stop_of_watch_hit (Some (set_off.Access address)) = stop.Watch watch.Accesses address
+stop_of_watch_hit None = stop.Here
 
 -- the first watchpoint that is hit on the way from step `one` to step `other`
 abbrev pub watch_between : Session → ℕ → ℕ → Option WatchHit
@@ -59,13 +59,13 @@ watch_between session one other = first_triggered session.stops (state_at sessio
 
 -- the stop at step `place` for a watchpoint hit: by the next step after a forward move, by the preceding step after a backward move
 abbrev pub watch_stop : Session → Move → ℕ → Stop
-watch_stop session asked place = watch_told
+watch_stop session asked place = stop_of_watch_hit
     (if is_forward asked then watch_between session place (place + 1) else watch_between session (place - 1) place)
 
 -- if a forward move found a watchpoint hit, the session is before the last step of its run
-abbrev pub CanTell : Session → Move → Found → Type 0
-CanTell session asked what = what ≡ found.Change → is_forward asked ≡ true
-    → session.history.place < last_place session.history.budget session.history.start
+abbrev pub CanReportHit : Session → Move → Found → Type 0
+CanReportHit session asked what = what ≡ found.Change → is_forward asked ≡ true
+    → session.history.place < last_step session.history.budget session.history.start
 
 -- the stop that reports the result `found` of a move to the step `place`
 abbrev pub stop_of : Session → Move → ℕ → Found → Stop

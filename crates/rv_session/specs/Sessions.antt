@@ -38,8 +38,8 @@ abbrev pub at_place : Session → ℕ → Session
 at_place session place = record session { history = record session.history { place = place } }
 
 -- a session in which a move is requested is not over
-abbrev pub MayAsk : Session → Type 0
-MayAsk session = (session.asked ≡ None) ⊎ (session.is_over ≡ false)
+abbrev pub IsOpenIfRequested : Session → Type 0
+IsOpenIfRequested session = (session.asked ≡ None) ⊎ (session.is_over ≡ false)
 
 -- both sessions debug one run: with the same start, budget, program and script
 pub record IsSameRun (session next : Session) : Type 0 where

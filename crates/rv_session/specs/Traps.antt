@@ -14,8 +14,8 @@ use Rattle.rv_gdb_protocol.specs.declared.request.Watched.{Watched}
 use Rattle.rv_gdb_protocol.specs.declared.request.Watched.TheVariants as watch
 
 -- the maximum number of breakpoints and watchpoints together
-abbrev pub most_traps : ℕ
-most_traps = 1024
+abbrev pub most_stoppoints : ℕ
+most_stoppoints = 1024
 
 -- whether the watchpoint is for exactly this range
 abbrev pub is_on : Range → Watch → Bool
@@ -49,20 +49,20 @@ can_be_set bus (trap.Watch kind range) = nat_le (range.address + range.count) 42
 
 -- whether the maximum number of breakpoints and watchpoints is set
 abbrev pub is_full : Stops → Bool
-is_full stops = nat_le most_traps ((length stops.breaks + length stops.watches) + (length stops.reads + length stops.accesses))
+is_full stops = nat_le most_stoppoints ((length stops.breaks + length stops.watches) + (length stops.reads + length stops.accesses))
 
 -- why the stoppoint cannot be set: it is invalid, or it is new and the maximum number is set; none if it can be set
-abbrev pub trap_refusal : Stops → Contents → Stoppoint → Option Refusal
-trap_refusal stops bus place =
+abbrev pub stoppoint_refusal : Stops → Contents → Stoppoint → Option Refusal
+stoppoint_refusal stops bus place =
     if not (can_be_set bus place) then Some refusal.Malformed
     else if is_set stops place then None
     else if is_full stops then Some refusal.TooManyTraps else None
 
 -- the stops without this stoppoint
-abbrev pub without_trap : Stops → Stoppoint → Stops
-without_trap stops (trap.Break address) =
+abbrev pub without_stoppoint : Stops → Stoppoint → Stops
+without_stoppoint stops (trap.Break address) =
     record stops { breaks = filter (λ other. not (other == address)) stops.breaks }
-without_trap stops (trap.Watch kind range) =
+without_stoppoint stops (trap.Watch kind range) =
     with_watches stops kind (filter (λ watch. not (is_on range watch)) (watches_of stops kind))
 
 -- `next` are the watchpoints with one for this range added at the end
@@ -88,7 +88,7 @@ IsAddedUnless true stops place next = next ≡ stops
 IsAddedUnless false stops place next = IsAdded stops place next
 
 -- the result of setting the stoppoint `place`: the new stops, which are unchanged if it was already set, or the refusal
-abbrev pub IsTrapped : Stops → Contents → Stoppoint → Result Stops Refusal → Type 0
-IsTrapped stops bus place (Ok next) = (trap_refusal stops bus place ≡ None)
+abbrev pub IsStoppointAdded : Stops → Contents → Stoppoint → Result Stops Refusal → Type 0
+IsStoppointAdded stops bus place (Ok next) = (stoppoint_refusal stops bus place ≡ None)
     × IsAddedUnless (is_set stops place) stops place next
-IsTrapped stops bus place (Err refusal) = trap_refusal stops bus place ≡ Some refusal
+IsStoppointAdded stops bus place (Err refusal) = stoppoint_refusal stops bus place ≡ Some refusal

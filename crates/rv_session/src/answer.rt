@@ -4,14 +4,14 @@ ghost use Rattle.std.specs.Prelude.{◌≡◌, IfOk, Some, false, true};
 ghost use Rattle.rv_gdb_protocol.specs.Replies.{part_text};
 ghost use Rattle.rv_gdb_protocol.specs.Stops.{stop_text};
 ghost use Rattle.rv_gdb_protocol.specs.declared.stop.Stop.TheVariants as stop;
-ghost use Rattle.rv_session.specs.Answers.{IsAnswered, IsTrapAsked, fixed_answer, shown_reply};
+ghost use Rattle.rv_session.specs.Answers.{IsAnswered, IsStoppointSet, fixed_answer, shown_reply};
 ghost use Rattle.rv_session.specs.Replies.{granted, with_body, silent};
 ghost use Rattle.rv_session.specs.Sessions.{at_place};
-ghost use Rattle.rv_session.specs.Traps.{without_trap};
+ghost use Rattle.rv_session.specs.Traps.{without_stoppoint};
 
 use crate::reply::Reply;
 use crate::session::Session;
-use crate::traps::{with_trap, without_trap};
+use crate::traps::{with_stoppoint, without_stoppoint};
 use rv_gdb_protocol::{
     Move, Part, Request, Stop, Stoppoint, TARGET, fixed_reply, push_part, push_stop,
 };
@@ -71,9 +71,9 @@ impl Session {
 
     // Handles `Z`: sets a breakpoint or watchpoint.
     fn set(&mut self, alloc: Global, trap: Stoppoint) -> Result<Reply, AllocError>
-        ensures { IfOk result (λ reply. IsTrapAsked self.old trap reply self.new) }
+        ensures { IfOk result (λ reply. IsStoppointSet self.old trap reply self.new) }
     {
-        match with_trap(alloc, &self.stops, self.history.machine().bus(), trap)? {
+        match with_stoppoint(alloc, &self.stops, self.history.machine().bus(), trap)? {
             Ok(stops) => {
                 let reply = Reply::granted(alloc)?;
                 self.stops = stops;
@@ -86,10 +86,10 @@ impl Session {
     // Handles `z`: clears a breakpoint or watchpoint.
     fn clear(&mut self, alloc: Global, trap: Stoppoint) -> Result<Reply, AllocError>
         ensures { IfOk result (λ reply. (reply ≡ granted)
-            × (self.new ≡ record self.old { stops = without_trap self.old.stops trap })) }
+            × (self.new ≡ record self.old { stops = without_stoppoint self.old.stops trap })) }
     {
         let reply = Reply::granted(alloc)?;
-        self.stops = without_trap(alloc, &self.stops, trap)?;
+        self.stops = without_stoppoint(alloc, &self.stops, trap)?;
         Ok(reply)
     }
 

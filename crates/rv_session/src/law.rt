@@ -4,8 +4,8 @@ ghost use Rattle.std.specs.Prelude.{◌≡◌, ◌++◌, ℕ, Bool, List, None, 
 ghost use Rattle.rv_gdb_protocol.specs.Stops.{told_by};
 ghost use Rattle.rv_gdb_protocol.specs.declared.request.Move.{Move};
 ghost use Rattle.rv_session.specs.Console.{HasShown};
-ghost use Rattle.rv_session.specs.Endings.{text_with, told_by_found};
-ghost use Rattle.rv_session.specs.Incoming.{HasNoInterrupt, IsByteFed, IsFed, is_interrupted};
+ghost use Rattle.rv_session.specs.Endings.{text_with, end_kind_of_found};
+ghost use Rattle.rv_session.specs.Incoming.{HasNoInterrupt, IsByteReceived, IsReceived, is_interrupted};
 ghost use Rattle.rv_session.specs.Moved.{IsMoved};
 ghost use Rattle.rv_session.specs.declared.reply.Reply.{Reply};
 ghost use Rattle.rv_session.specs.declared.session.Session.{Session};
@@ -13,16 +13,16 @@ ghost use Rattle.rv_session.specs.declared.session.Session.{Session};
 /// What is sent does not depend on whether bytes arrive in one read or in two.
 pub fn reads_can_be_split()
     ensures { (end_text : List ℕ) (behind : Bool) (session between next : Session) (front rest out more : List ℕ)
-        → IsFed end_text (is_interrupted rest behind) session front out between → IsFed end_text behind between rest more next
-        → IsFed end_text behind session (front ++ rest) (out ++ more) next }
+        → IsReceived end_text (is_interrupted rest behind) session front out between → IsReceived end_text behind between rest more next
+        → IsReceived end_text behind session (front ++ rest) (out ++ more) next }
 {}
 
 /// If no 0x03 is received, the session and the received bytes determine what is sent and the resulting session, once all requested moves
 /// are made.
 pub fn answers_are_determined()
     ensures { (end_text : List ℕ) (session one other : Session) (bytes out more : List ℕ)
-        → HasNoInterrupt bytes → IsFed end_text false session bytes out one → one.asked ≡ None
-        → IsFed end_text false session bytes more other → other.asked ≡ None → (out ≡ more) × (one ≡ other) }
+        → HasNoInterrupt bytes → IsReceived end_text false session bytes out one → one.asked ≡ None
+        → IsReceived end_text false session bytes more other → other.asked ≡ None → (out ≡ more) × (one ≡ other) }
 {}
 
 /// The console output that is sent before stops is a prefix of what the run prints: in order, and each byte once.
@@ -35,13 +35,13 @@ pub fn printed_bytes_go_out_once()
 /// Console output of the run is sent only for moves, never for received bytes.
 pub fn only_moves_show_printed_bytes()
     ensures { (session next : Session) (byte : ℕ) (out shown : List ℕ)
-        → HasShown session shown → IsByteFed session byte out next → HasShown next shown }
+        → HasShown session shown → IsByteReceived session byte out next → HasShown next shown }
 {}
 
 /// A move reports the end of the run if it reaches it, and otherwise reports no end. The text about the run's end is sent with the stop at
 /// the end, and with no other.
-pub fn ends_are_told()
+pub fn ends_are_reported()
     ensures { (end_text : List ℕ) (may_break : Bool) (session next : Session) (asked : Move) (reply : Reply)
         (moved : IsMoved end_text may_break session asked reply next)
-        → (told_by next.last ≡ told_by_found moved.found) × (reply.end_text ≡ text_with (told_by next.last) end_text) }
+        → (told_by next.last ≡ end_kind_of_found moved.found) × (reply.end_text ≡ text_with (told_by next.last) end_text) }
 {}

@@ -2,7 +2,7 @@
 
 ghost use Rattle.std.specs.Prelude.{◌≡◌, ◌++◌, IfOk, codes};
 ghost use Rattle.std.specs.Fmt.{decimal};
-ghost use Rattle.rv_session.specs.Answers.{IsCommanded, command_text, is_reset, taken_here};
+ghost use Rattle.rv_session.specs.Answers.{IsCommanded, command_text, is_reset, script_bytes_consumed};
 
 use crate::reading::are_same;
 use crate::reply::Reply;
@@ -50,7 +50,7 @@ impl Session {
 
     fn input_text(&self, alloc: Global) -> Result<Vec<u8>, AllocError>
         ensures { IfOk result (λ text. text.items
-            ≡ decimal (taken_here self.now) ++ codes " of " ++ decimal self.now.script ++ codes " bytes read\n") }
+            ≡ decimal (script_bytes_consumed self.now) ++ codes " of " ++ decimal self.now.script ++ codes " bytes read\n") }
     {
         let taken = self.taken();
         let text = format!(in alloc; "{taken} of {} bytes read\n", self.script)?;

@@ -4,8 +4,8 @@ ghost use Rattle.std.specs.Prelude.{◌≡◌, IfOk, None, OnOk, is_some, true};
 ghost use Rattle.rv_history.specs.Moves.{IsInterrupted};
 ghost use Rattle.rv_history.specs.declared.found.Found.TheVariants as found;
 ghost use Rattle.rv_gdb_protocol.specs.Stops.{stop_text};
-ghost use Rattle.rv_session.specs.Moved.{CanTell, IsMoveResult, IsMoved, end_stop, end_text_at, is_forward, printed_on, shown_on, stop_of, watch_stop, watch_told};
-ghost use Rattle.rv_session.specs.Incoming.{IsWorked};
+ghost use Rattle.rv_session.specs.Moved.{CanReportHit, IsMoveResult, IsMoved, end_stop, end_text_at, is_forward, printed_on, shown_on, stop_of, watch_stop, stop_of_watch_hit};
+ghost use Rattle.rv_session.specs.Incoming.{IsRequestedMoveMade};
 ghost use Rattle.rv_session.specs.Replies.{stopping};
 ghost use Rattle.rv_session.specs.Sessions.{IsSameRun, at_place, here};
 
@@ -30,7 +30,7 @@ impl Session {
         requires asked { is_some self.old.asked ≡ true }
         requires of_run { E.start end.now ≡ self.old.history.start }
         ensures worked { IfOk result
-            (λ out. IsWorked (E.end_text end.now) (I.was_raised interrupt.new) self.old out.items self.new) }
+            (λ out. IsRequestedMoveMade (E.end_text end.now) (I.was_raised interrupt.new) self.old out.items self.new) }
         ensures made { OnOk result (self.new.asked ≡ None) }
         ensures run { OnOk result (IsSameRun self.old self.new) }
     {
@@ -90,7 +90,7 @@ impl Session {
 
     // Returns the stop that reports the result of a move.
     fn stop_of(&self, alloc: Global, asked: Move, found: Found) -> Result<Stop, AllocError>
-        requires { CanTell self.now asked found }
+        requires { CanReportHit self.now asked found }
         ensures { IfOk result (λ stop. stop ≡ stop_of self.now asked self.now.history.place found) }
     {
         match found {
@@ -104,15 +104,15 @@ impl Session {
 
     // Returns the stop for a watchpoint hit: by the next step after a forward move, by the preceding step after a backward move.
     fn watch_stop(&self, alloc: Global, asked: Move) -> Result<Stop, AllocError>
-        requires { CanTell self.now asked found.Change }
+        requires { CanReportHit self.now asked found.Change }
         ensures { IfOk result (λ stop. stop ≡ watch_stop self.now asked self.now.history.place) }
     {
         if is_forward(asked) {
             let ahead = self.history.watch_ahead(alloc, &self.stops)?;
-            Ok(watch_told(ahead))
+            Ok(stop_of_watch_hit(ahead))
         } else {
             let behind = self.history.watch_hit_by_last_step(alloc, &self.stops)?;
-            Ok(watch_told(behind))
+            Ok(stop_of_watch_hit(behind))
         }
     }
 
@@ -186,8 +186,8 @@ fn is_forward(asked: Move) -> bool
 }
 
 // Returns the stop that reports this watchpoint hit; a plain stop without a hit.
-fn watch_told(set_off: Option<WatchHit>) -> Stop
-    ensures { result ≡ watch_told set_off }
+fn stop_of_watch_hit(set_off: Option<WatchHit>) -> Stop
+    ensures { result ≡ stop_of_watch_hit set_off }
 {
     match set_off {
         Some(WatchHit::Change(address)) => Stop::Watch(Watched::Writes, address),

@@ -3,8 +3,8 @@
 ghost use Rattle.std.specs.Prelude.{◌≡◌, IfOk};
 ghost use Rattle.std.specs.Str.{bytes_eq};
 ghost use Rattle.rv_gdb_protocol.specs.Shown.{register_text};
-ghost use Rattle.rv_session.specs.Answers.{hart_value, memory_reply, registers_here, shown_count, taken_here, value_of};
-ghost use Rattle.rv_session.specs.Memory.{bytes_asked, bytes_from};
+ghost use Rattle.rv_session.specs.Answers.{hart_value, memory_reply, registers_here, shown_count, script_bytes_consumed, value_of};
+ghost use Rattle.rv_session.specs.Memory.{bytes_requested, bytes_from};
 ghost use Rattle.rv_session.specs.Replies.{with_body};
 ghost use Rattle.rv_session.specs.Sessions.{here};
 
@@ -63,7 +63,7 @@ impl Session {
 
     /// Returns the number of bytes that the program has consumed from the input script.
     pub(crate) fn taken(&self) -> usize
-        ensures { result ≡ taken_here self.now }
+        ensures { result ≡ script_bytes_consumed self.now }
     {
         let left = self.history.machine().bus().script_remaining();
         self.script.saturating_sub(left)
@@ -98,8 +98,8 @@ pub(crate) fn shown_count(count: usize) -> u32
 }
 
 // Returns how many bytes of a range are read: as many as fit in a reply, and none past the last address.
-fn bytes_asked(range: Range) -> u32
-    ensures { result ≡ bytes_asked range }
+fn bytes_requested(range: Range) -> u32
+    ensures { result ≡ bytes_requested range }
 {
     let room = (1u64 << 32) - u64::from(range.address);
     let count = range.count.min(MOST_BYTES);
@@ -110,7 +110,7 @@ fn bytes_asked(range: Range) -> u32
 fn bytes_from(alloc: Global, bus: &Bus, range: Range) -> Result<Vec<u8>, AllocError>
     ensures { IfOk result (λ bytes. bytes.items ≡ bytes_from bus.now range) }
 {
-    let count = bytes_asked(range);
+    let count = bytes_requested(range);
     let mut bytes = Vec::new(alloc);
     for offset in 0..count {
         match bus.byte(range.address + offset) {

@@ -2,9 +2,9 @@
 
 ghost use Rattle.std.specs.Prelude.{◌≡◌, ◌++◌, ◌∷◌, ◌&&◌, [], IfOk, None, OnOk, Some};
 ghost use Rattle.rv_gdb_protocol.specs.Sums.{framed};
-ghost use Rattle.rv_session.specs.Incoming.{IsAppended, IsByteFed, IsRespondedTo, IsTaken, acknowledgement, is_wrong, packets_of, printed_packet, printed_packets, printed_part, sent_again, with_sent};
+ghost use Rattle.rv_session.specs.Incoming.{IsAppended, IsByteReceived, IsRespondedTo, IsTaken, acknowledgement, is_wrong_checksum, packets_of, printed_packet, printed_packets, printed_part, sent_again, with_sent};
 ghost use Rattle.rv_session.specs.Replies.{refused};
-ghost use Rattle.rv_session.specs.Sessions.{IsSameRun, MayAsk};
+ghost use Rattle.rv_session.specs.Sessions.{IsSameRun, IsOpenIfRequested};
 ghost use Rattle.rv_gdb_protocol.specs.declared.request.Refusal.TheVariants as refusal;
 
 use crate::reply::Reply;
@@ -21,8 +21,8 @@ impl Session {
     /// byte is received. After an error the session must be abandoned.
     pub fn receive(&mut self, alloc: Global, byte: u8) -> Result<Vec<u8>, AllocError>
         requires { self.old.asked ≡ None }
-        ensures heard { IfOk result (λ out. IsByteFed self.old byte out.items self.new) }
-        ensures not_over { OnOk result (MayAsk self.new) }
+        ensures heard { IfOk result (λ out. IsByteReceived self.old byte out.items self.new) }
+        ensures not_over { OnOk result (IsOpenIfRequested self.new) }
         ensures run { OnOk result (IsSameRun self.old self.new) }
     {
         let mut out = Vec::new(alloc);
@@ -33,7 +33,7 @@ impl Session {
     // Appends the bytes to send when this byte is received.
     fn receive_byte(&mut self, alloc: Global, out: &mut Vec<u8>, byte: u8) -> Result<(), AllocError>
         ensures { OnOk result (IsAppended out.old.items out.new.items
-            (λ told. IsByteFed self.old byte told self.new)) }
+            (λ told. IsByteReceived self.old byte told self.new)) }
     {
         match self.reader.take(alloc, byte)? {
             Some(heard) => self.respond(alloc, out, &heard),
@@ -91,9 +91,9 @@ impl Session {
 
     // Whether a packet must be requested again. Without acknowledgements its checksum is not checked.
     fn is_refused(&self, sum: Sum) -> bool
-        ensures { result ≡ (self.now.acknowledges && is_wrong sum) }
+        ensures { result ≡ (self.now.acknowledges && is_wrong_checksum sum) }
     {
-        self.acknowledges && is_wrong(sum)
+        self.acknowledges && is_wrong_checksum(sum)
     }
 
     // Acknowledges a packet, and appends the reply to it.
@@ -157,8 +157,8 @@ fn ask_again(out: &mut Vec<u8>) -> Result<(), AllocError>
 }
 
 // Whether a checksum is wrong.
-fn is_wrong(sum: Sum) -> bool
-    ensures { result ≡ is_wrong sum }
+fn is_wrong_checksum(sum: Sum) -> bool
+    ensures { result ≡ is_wrong_checksum sum }
 {
     match sum {
         Sum::Right => false,

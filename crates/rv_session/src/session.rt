@@ -1,7 +1,7 @@
 //! A gdb session.
 
 ghost use Rattle.std.specs.Prelude.{◌≡◌, ◌≤◌, IfOk, is_some};
-ghost use Rattle.rv_history.specs.Places.{last_place};
+ghost use Rattle.rv_history.specs.Places.{last_step};
 ghost use Rattle.rv_session.specs.Sessions.{at_first};
 
 use crate::program::Program;
@@ -74,7 +74,7 @@ impl Session {
     /// Returns the current step: how many steps of the run are completed.
     pub fn place(&self) -> u32
         ensures value { result ≡ self.now.history.place }
-        ensures within { result ≤ last_place self.now.history.budget self.now.history.start }
+        ensures within { result ≤ last_step self.now.history.budget self.now.history.start }
     {
         self.history.place()
     }

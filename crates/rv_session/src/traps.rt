@@ -1,7 +1,7 @@
 //! Breakpoints and watchpoints as gdb sets and clears them.
 
 ghost use Rattle.std.specs.Prelude.{◌≡◌, ◌≤◌, ◌+◌, ◌^◌, IfOk};
-ghost use Rattle.rv_session.specs.Traps.{IsTrapped, has_byte, is_full, is_on, is_set, watches_of, with_watches, without_trap};
+ghost use Rattle.rv_session.specs.Traps.{IsStoppointAdded, has_byte, is_full, is_on, is_set, watches_of, with_watches, without_stoppoint};
 ghost use Rattle.rv_memory.specs.Bus.{Contents};
 ghost use Rattle.rv_gdb_protocol.specs.declared.request.Stoppoint.TheVariants as trap;
 
@@ -15,13 +15,13 @@ use std::alloc::{AllocError, Global};
 const MOST_TRAPS: usize = 1024;
 
 /// Returns the stops with a stoppoint added, unless it is already set, or why it cannot be set.
-pub(crate) fn with_trap(
+pub(crate) fn with_stoppoint(
     alloc: Global,
     stops: &Stops,
     bus: &Bus,
     trap: Stoppoint,
 ) -> Result<Result<Stops, Refusal>, AllocError>
-    ensures { IfOk result (IsTrapped stops.now bus.now trap) }
+    ensures { IfOk result (IsStoppointAdded stops.now bus.now trap) }
 {
     match trap {
         Stoppoint::Break(address) => with_break(alloc, stops, address),
@@ -30,12 +30,12 @@ pub(crate) fn with_trap(
 }
 
 /// Returns the stops without a stoppoint, which need not be set.
-pub(crate) fn without_trap(
+pub(crate) fn without_stoppoint(
     alloc: Global,
     stops: &Stops,
     trap: Stoppoint,
 ) -> Result<Stops, AllocError>
-    ensures { IfOk result (λ next. next ≡ without_trap stops.now trap) }
+    ensures { IfOk result (λ next. next ≡ without_stoppoint stops.now trap) }
 {
     match trap {
         Stoppoint::Break(address) => without_break(alloc, stops, address),
@@ -59,7 +59,7 @@ fn with_break(
     stops: &Stops,
     address: u32,
 ) -> Result<Result<Stops, Refusal>, AllocError>
-    ensures { (bus : Contents) → IfOk result (IsTrapped stops.now bus (trap.Break address)) }
+    ensures { (bus : Contents) → IfOk result (IsStoppointAdded stops.now bus (trap.Break address)) }
 {
     if has_break(stops, address) {
         let same = copied(alloc, stops)?;
@@ -82,7 +82,7 @@ fn with_watch(
     kind: Watched,
     range: Range,
 ) -> Result<Result<Stops, Refusal>, AllocError>
-    ensures { IfOk result (IsTrapped stops.now bus.now (trap.Watch kind range)) }
+    ensures { IfOk result (IsStoppointAdded stops.now bus.now (trap.Watch kind range)) }
 {
     let end = u64::from(range.address) + u64::from(range.count);
     if end > 1 << 32 {
@@ -108,7 +108,7 @@ fn with_watch(
 }
 
 fn without_break(alloc: Global, stops: &Stops, address: u32) -> Result<Stops, AllocError>
-    ensures { IfOk result (λ next. next ≡ without_trap stops.now (trap.Break address)) }
+    ensures { IfOk result (λ next. next ≡ without_stoppoint stops.now (trap.Break address)) }
 {
     let breaks = stops
         .breaks
@@ -128,7 +128,7 @@ fn without_watch(
     kind: Watched,
     range: Range,
 ) -> Result<Stops, AllocError>
-    ensures { IfOk result (λ next. next ≡ without_trap stops.now (trap.Watch kind range)) }
+    ensures { IfOk result (λ next. next ≡ without_stoppoint stops.now (trap.Watch kind range)) }
 {
     let watches = watches_of(stops, kind)
         .iter()

@@ -6,7 +6,7 @@ ghost use Rattle.std.specs.Str.{bytes_eq};
 ghost use Rattle.hex.specs.Hex.{encode_lower};
 ghost use Rattle.rv_gdb_protocol.specs.declared.request.Refusal.TheVariants as refusal;
 ghost use Rattle.rv_session.specs.Answers.{IsWritten, registers_here};
-ghost use Rattle.rv_session.specs.Memory.{end_of_addresses, is_byte, stand_at};
+ghost use Rattle.rv_session.specs.Memory.{end_of_addresses, is_byte, has_bytes_at};
 ghost use Rattle.rv_session.specs.Replies.{granted_if};
 ghost use Rattle.rv_session.specs.Sessions.{here};
 
@@ -64,16 +64,16 @@ impl Session {
         bytes: &[u8],
     ) -> Result<Reply, AllocError>
         ensures { IfOk result (λ reply. reply
-            ≡ granted_if (stand_at (here self.now).bus address bytes.now) refusal.WouldChange) }
+            ≡ granted_if (has_bytes_at (here self.now).bus address bytes.now) refusal.WouldChange) }
     {
-        let same = stand_at(self.history.machine().bus(), address, bytes);
+        let same = has_bytes_at(self.history.machine().bus(), address, bytes);
         Reply::granted_if(alloc, same, Refusal::WouldChange)
     }
 }
 
 // Whether memory has these bytes from the address on, none of them past the last address.
-fn stand_at(bus: &Bus, address: u32, bytes: &[u8]) -> bool
-    ensures { result ≡ stand_at bus.now address bytes.now }
+fn has_bytes_at(bus: &Bus, address: u32, bytes: &[u8]) -> bool
+    ensures { result ≡ has_bytes_at bus.now address bytes.now }
 {
     for (offset, byte) in bytes.iter().enumerate() {
         if !stands_at(bus, u64::from(address) + offset as u64, *byte) {

@@ -5,13 +5,13 @@ use Rattle.std.proofs.lemmas.Bool.Decides.{nat_tests}
 use Rattle.std.specs.Prelude.{nat_le}
 use Rattle.rv_count_tables.specs.declared.table.AddressCounts.{AddressCounts}
 use Rattle.rv_count_tables.specs.Table.{begun_at, rise_from}
-use Rattle.rv_counting.specs.Coverage.{behind, begun_in_run, fetch_at, is_begun, once_if, AreCountsOf}
+use Rattle.rv_counting.specs.Coverage.{behind, executed_in_run, fetch_at, is_begun, once_if, AreCountsOf}
 use Rattle.rv_machine.specs.declared.ending.Ending.{Ending}
 use Rattle.rv_machine.specs.Run.{step_of}
 use Rattle.rv_machine.specs.State.{State}
 use Rattle.rv_call_tree.specs.declared.spot.Spot.{Spot}
 use Rattle.rv_call_tree.specs.Trees.{own_in}
-use Rattle.rv_stacks.specs.Stacks.{begun_in_function, counts_of_function, AreStacksOf}
+use Rattle.rv_stacks.specs.Stacks.{executed_in_function, counts_of_function, AreStacksOf}
 
 module _ (function : ℕ → ℕ) (f : ℕ) where
   -- the sum of numbers of addresses, over those of the function
@@ -152,44 +152,44 @@ module _ (function : ℕ → ℕ) (f : ℕ) where
 
   -- what begins within fewer steps begins within more
   behind_more : (address n : ℕ) (r : Result State Ending) (t : State) → r ≡ Ok t
-      → behind r (λ u. begun_in_run address n u) ≡ begun_in_run address n t
-  behind_more address n r t is = ap (λ (q : Result State Ending). behind q (λ u. begun_in_run address n u)) is
+      → behind r (λ u. executed_in_run address n u) ≡ executed_in_run address n t
+  behind_more address n r t is = ap (λ (q : Result State Ending). behind q (λ u. executed_in_run address n u)) is
 
-  first_begun : (address n : ℕ) (s : State) → begun_in_run address (suc n) s
-      ≡ once_if (is_begun (fetch_at s) && (s.pc == address)) + behind (step_of s) (λ t. begun_in_run address n t)
-  unfolding begun_in_run
+  first_begun : (address n : ℕ) (s : State) → executed_in_run address (suc n) s
+      ≡ once_if (is_begun (fetch_at s) && (s.pc == address)) + behind (step_of s) (λ t. executed_in_run address n t)
+  unfolding executed_in_run
   first_begun address n s = refl
 
-  first_in_function : (n : ℕ) (s : State) → begun_in_function function f (suc n) s
-      ≡ once_if (is_begun (fetch_at s) && (function s.pc == f)) + behind (step_of s) (λ t. begun_in_function function f n t)
-  unfolding begun_in_function
+  first_in_function : (n : ℕ) (s : State) → executed_in_function function f (suc n) s
+      ≡ once_if (is_begun (fetch_at s) && (function s.pc == f)) + behind (step_of s) (λ t. executed_in_function function f n t)
+  unfolding executed_in_function
   first_in_function n s = refl
 
-  none_in_run : (address : ℕ) (s : State) → begun_in_run address 0 s ≡ 0
-  unfolding begun_in_run
+  none_in_run : (address : ℕ) (s : State) → executed_in_run address 0 s ≡ 0
+  unfolding executed_in_run
   none_in_run address s = refl
 
-  none_in_function : (s : State) → begun_in_function function f 0 s ≡ 0
-  unfolding begun_in_function
+  none_in_function : (s : State) → executed_in_function function f 0 s ≡ 0
+  unfolding executed_in_function
   none_in_function s = refl
 
   over_behind : (cs : List AddressCounts) (n : ℕ) (r : Result State Ending)
-      → ((t : State) → ((a : ℕ) → 0 < begun_in_run a n t → 0 < begun_at a cs)
-      → over (λ a. begun_in_run a n t) cs ≡ begun_in_function function f n t)
-      → ((a : ℕ) → 0 < behind r (λ t. begun_in_run a n t) → 0 < begun_at a cs)
-      → over (λ a. behind r (λ t. begun_in_run a n t)) cs ≡ behind r (λ t. begun_in_function function f n t)
+      → ((t : State) → ((a : ℕ) → 0 < executed_in_run a n t → 0 < begun_at a cs)
+      → over (λ a. executed_in_run a n t) cs ≡ executed_in_function function f n t)
+      → ((a : ℕ) → 0 < behind r (λ t. executed_in_run a n t) → 0 < begun_at a cs)
+      → over (λ a. behind r (λ t. executed_in_run a n t)) cs ≡ behind r (λ t. executed_in_function function f n t)
   over_behind cs n (Ok t) rest some = rest t some
   over_behind cs n (Err e) rest some = over_none cs
 
   over_run : (cs : List AddressCounts) → rise_from 0 cs ≡ true → (n : ℕ) (s : State)
-      → ((a : ℕ) → 0 < begun_in_run a n s → 0 < begun_at a cs)
-      → over (λ a. begun_in_run a n s) cs ≡ begun_in_function function f n s
-  over_run cs h zero s some = over_same (λ a. begun_in_run a 0 s) (λ a. 0) (λ a. none_in_run a s) cs
+      → ((a : ℕ) → 0 < executed_in_run a n s → 0 < begun_at a cs)
+      → over (λ a. executed_in_run a n s) cs ≡ executed_in_function function f n s
+  over_run cs h zero s some = over_same (λ a. executed_in_run a 0 s) (λ a. 0) (λ a. none_in_run a s) cs
       ∙ over_none cs ∙ sym (none_in_function s)
   over_run cs h (suc n) s some =
-      let split = over_same (λ a. begun_in_run a (suc n) s)
-      (λ a. once_if (is_begun (fetch_at s) && (s.pc == a)) + behind (step_of s) (λ t. begun_in_run a n t)) (λ a. first_begun a n s) cs
-      ∙ over_sum (λ a. once_if (is_begun (fetch_at s) && (s.pc == a))) (λ a. behind (step_of s) (λ t. begun_in_run a n t)) cs in
+      let split = over_same (λ a. executed_in_run a (suc n) s)
+      (λ a. once_if (is_begun (fetch_at s) && (s.pc == a)) + behind (step_of s) (λ t. executed_in_run a n t)) (λ a. first_begun a n s) cs
+      ∙ over_sum (λ a. once_if (is_begun (fetch_at s) && (s.pc == a))) (λ a. behind (step_of s) (λ t. executed_in_run a n t)) cs in
       let here = one_begun (is_begun (fetch_at s)) s.pc cs h (λ begun.
       let one = ap (λ (b : Bool). once_if (b && (s.pc == s.pc))) begun ∙ ap once_if (equal s.pc) in
       let first = first_begun s.pc n s in
@@ -204,5 +204,5 @@ pub own_counts : (function : ℕ → ℕ) (f n : ℕ) (s : State) (cs : List Add
 own_counts function f n s cs spots counts stacks =
     stacks.own f
     ∙ sym (counts_are_over function f 0 cs counts.tallied.rising
-    ∙ over_same function f (λ a. begun_at a cs) (λ a. begun_in_run a n s) counts.begun cs
+    ∙ over_same function f (λ a. begun_at a cs) (λ a. executed_in_run a n s) counts.begun cs
     ∙ over_run function f cs counts.tallied.rising n s (λ a there. let is = counts.begun a in omega (arith, is, there)))

@@ -6,7 +6,7 @@ use Rattle.std.specs.Str.{bytes_eq}
 use Rattle.rv_count_tables.specs.declared.table.CountTable.{CountTable}
 use Rattle.rv_count_tables.specs.declared.table.ImageCounts.{ImageCounts}
 use Rattle.rv_count_tables.specs.Sum.{Agree, IsSum}
-use Rattle.rv_count_tables.specs.Table.{begun_at, taken_at, begun_in, taken_in, path_in, name_at, name_in, arrivals_in, steps_in, digests_rise, is_behind, least_path_of, IsImage, IsTable}
+use Rattle.rv_count_tables.specs.Table.{begun_at, taken_at, executed_in, taken_in, path_in, name_at, name_in, arrivals_in, steps_in, digests_rise, is_greater_than_last, least_path_of, IsImage, IsTable}
 use Rattle.rv_counting.proofs.Public.{no_names, no_owners, no_spots}
 use Rattle.rv_counting.specs.JobTables.{jobs_at, IsTableOfPlaces}
 use Rattle.rv_jobs.specs.Plans.{Planned}
@@ -39,7 +39,7 @@ each_bare (i ∷ is) h = (
 bare_rises : (last : Option (List ℕ)) (is : List ImageCounts) → digests_rise last (bare is) ≡ digests_rise last is
 unfolding digests_rise
 bare_rises last [] = refl
-bare_rises last (i ∷ is) = ap (λ (b : Bool). is_behind last i.digest && b) (bare_rises (Some i.digest) is)
+bare_rises last (i ∷ is) = ap (λ (b : Bool). is_greater_than_last last i.digest && b) (bare_rises (Some i.digest) is)
 
 bare_is_table : (t : CountTable) → IsTable t → IsTable (without_stacks t)
 bare_is_table t h = record {
@@ -62,7 +62,7 @@ zero_picked true n h = omega (arith, h)
 zero_picked false n h = omega (arith, h)
 
 module _ (digest : List ℕ) where
-  same_begun : (address : ℕ) (is : List ImageCounts) → begun_in digest address (bare is) ≡ begun_in digest address is
+  same_begun : (address : ℕ) (is : List ImageCounts) → executed_in digest address (bare is) ≡ executed_in digest address is
   same_begun address [] = refl
   same_begun address (i ∷ is) =
       ap (λ (n : ℕ). cond (bytes_eq i.digest digest) (begun_at address i.addresses) 0 + n) (same_begun address is)
@@ -143,7 +143,7 @@ each_stacked (i ∷ is) h = (
 stacked_rises : (last : Option (List ℕ)) (is : List ImageCounts) → digests_rise last (stacked is) ≡ digests_rise last is
 unfolding digests_rise
 stacked_rises last [] = refl
-stacked_rises last (i ∷ is) = ap (λ (b : Bool). is_behind last i.digest && b) (stacked_rises (Some i.digest) is)
+stacked_rises last (i ∷ is) = ap (λ (b : Bool). is_greater_than_last last i.digest && b) (stacked_rises (Some i.digest) is)
 
 stacks_are_table : (t : CountTable) → IsTable t → IsTable (stacks_alone t)
 stacks_are_table t h = record {
@@ -156,10 +156,10 @@ stacks_are_table t h = record {
 }
 
 module _ (digest : List ℕ) where
-  no_begun : (address : ℕ) (is : List ImageCounts) → begun_in digest address (stacked is) ≡ 0
+  no_begun : (address : ℕ) (is : List ImageCounts) → executed_in digest address (stacked is) ≡ 0
   no_begun address [] = refl
   no_begun address (i ∷ is) =
-      zero_picked (bytes_eq i.digest digest) (begun_in digest address (stacked is)) (no_begun address is)
+      zero_picked (bytes_eq i.digest digest) (executed_in digest address (stacked is)) (no_begun address is)
 
   no_taken : (address : ℕ) (is : List ImageCounts) → taken_in digest address (stacked is) ≡ 0
   no_taken address [] = refl

@@ -5,7 +5,7 @@ use Rattle.rv_calls.specs.declared.frames.Frame.{Frame}
 use Rattle.rv_calls.specs.declared.transfer.Transfer.{Transfer}
 use Rattle.rv_calls.specs.Calls.{transfer_of}
 use Rattle.rv_calls.specs.Stack.{after_transfer}
-use Rattle.rv_counting.specs.Coverage.{behind, begun_in_run, fetch_at, is_begun, once_if}
+use Rattle.rv_counting.specs.Coverage.{behind, executed_in_run, fetch_at, is_begun, once_if}
 use Rattle.rv_counting.specs.JobTables.{begun_from}
 use Rattle.rv_machine.specs.declared.ending.Ending.{Ending}
 use Rattle.rv_machine.specs.Run.{step_of}
@@ -61,12 +61,12 @@ module _ (function : ℕ → ℕ) (path : List ℕ) where
   steps_at_most n None = omega arith
   steps_at_most n (Some s) = few_steps n [] s
 
-few_begun : (address n : ℕ) (s : State) → begun_in_run address n s ≤ n
-unfolding begun_in_run
+few_begun : (address n : ℕ) (s : State) → executed_in_run address n s ≤ n
+unfolding executed_in_run
 few_begun address zero s = omega arith
 few_begun address (suc n) s =
     let a = once_at_most (is_begun (fetch_at s) && (s.pc == address)) in
-    let b = behind_at_most (step_of s) (λ t. begun_in_run address n t) n (λ t. few_begun address n t) in
+    let b = behind_at_most (step_of s) (λ t. executed_in_run address n t) n (λ t. few_begun address n t) in
     omega (arith, a, b)
 
 pub begun_at_most : (address n : ℕ) (o : Option State) → begun_from address n o ≤ n

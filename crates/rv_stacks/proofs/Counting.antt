@@ -5,13 +5,13 @@ use Rattle.std.specs.Str.{bytes_eq}
 use Rattle.rv_calls.specs.declared.frames.Frame.{Frame}
 use Rattle.rv_calls.specs.Calls.{transfer_of}
 use Rattle.rv_calls.specs.Stack.{after_transfer}
-use Rattle.rv_counting.specs.Coverage.{behind, begun_steps, completes, fetch_at, is_begun, once_if, StaysOr}
+use Rattle.rv_counting.specs.Coverage.{behind, executed_steps, completes, fetch_at, is_begun, once_if, IsStateAfter}
 use Rattle.rv_machine.specs.declared.ending.Ending.{Ending}
 use Rattle.rv_machine.specs.Run.{step_of}
 use Rattle.rv_machine.specs.State.{State}
 use Rattle.rv_stacks.specs.declared.walk.Walk.{Walk}
 use Rattle.rv_stacks.specs.Nodes.{all_arrivals, all_steps}
-use Rattle.rv_stacks.specs.Stacks.{arrivals_by, arrivals_in, begun_in_function, path_at, steps_in, AreStacksOf}
+use Rattle.rv_stacks.specs.Stacks.{arrivals_by, arrivals_in, executed_in_function, path_at, steps_in, AreStacksOf}
 use Rattle.rv_call_tree.specs.declared.spot.Spot.{Spot}
 use Rattle.rv_stacks.specs.declared.node.Node.{Node}
 use Rattle.rv_stacks.specs.Walks.{AreSpotsOf}
@@ -19,20 +19,20 @@ use Rattle.rv_stacks.specs.StackSteps.{AreNodesOf, BeginsAt, SoFar, StacksStep}
 
 -- ---- one step ahead
 
-pub all_next : (n i : ℕ) (s : State) → i < n → begun_steps (n - i) s
-    ≡ once_if (is_begun (fetch_at s)) + behind (step_of s) (λ t. begun_steps (n - (i + 1)) t)
-unfolding begun_steps
-all_next n i s h = let e : n - i ≡ suc (n - (i + 1)) = omega arith in ap (λ (m : ℕ). begun_steps m s) e
+pub all_next : (n i : ℕ) (s : State) → i < n → executed_steps (n - i) s
+    ≡ once_if (is_begun (fetch_at s)) + behind (step_of s) (λ t. executed_steps (n - (i + 1)) t)
+unfolding executed_steps
+all_next n i s h = let e : n - i ≡ suc (n - (i + 1)) = omega arith in ap (λ (m : ℕ). executed_steps m s) e
 
-pub own_next : (function : ℕ → ℕ) (f n i : ℕ) (s : State) → i < n → begun_in_function function f (n - i) s
-    ≡ once_if (is_begun (fetch_at s) && (function s.pc == f)) + behind (step_of s) (λ t. begun_in_function function f (n - (i + 1)) t)
-unfolding begun_in_function
+pub own_next : (function : ℕ → ℕ) (f n i : ℕ) (s : State) → i < n → executed_in_function function f (n - i) s
+    ≡ once_if (is_begun (fetch_at s) && (function s.pc == f)) + behind (step_of s) (λ t. executed_in_function function f (n - (i + 1)) t)
+unfolding executed_in_function
 own_next function f n i s h =
-    let e : n - i ≡ suc (n - (i + 1)) = omega arith in ap (λ (m : ℕ). begun_in_function function f m s) e
+    let e : n - i ≡ suc (n - (i + 1)) = omega arith in ap (λ (m : ℕ). executed_in_function function f m s) e
 
-no_own : (function : ℕ → ℕ) (f n i : ℕ) (s : State) → n ≤ i → begun_in_function function f (n - i) s ≡ 0
-unfolding begun_in_function
-no_own function f n i s h = let e : n - i ≡ 0 = omega arith in ap (λ (m : ℕ). begun_in_function function f m s) e
+no_own : (function : ℕ → ℕ) (f n i : ℕ) (s : State) → n ≤ i → executed_in_function function f (n - i) s ≡ 0
+unfolding executed_in_function
+no_own function f n i s h = let e : n - i ≡ 0 = omega arith in ap (λ (m : ℕ). executed_in_function function f m s) e
 
 pub steps_next : (function : ℕ → ℕ) (path : List ℕ) (n i : ℕ) (frames : List Frame) (s : State) → i < n
     → steps_in function path (n - i) frames s
@@ -62,11 +62,11 @@ unfolding arrivals_in
 no_arrivals function path n i frames s h =
     let e : n - i ≡ 0 = omega arith in ap (λ (m : ℕ). arrivals_in function path m frames s) e
 
-none_begun : (n i : ℕ) (s : State) → n ≤ i → begun_steps (n - i) s ≡ 0
-unfolding begun_steps
-none_begun n i s h = let e : n - i ≡ 0 = omega arith in ap (λ (m : ℕ). begun_steps m s) e
+none_begun : (n i : ℕ) (s : State) → n ≤ i → executed_steps (n - i) s ≡ 0
+unfolding executed_steps
+none_begun n i s h = let e : n - i ≡ 0 = omega arith in ap (λ (m : ℕ). executed_steps m s) e
 
-behind_completed : (r : Result State Ending) (s t : State) (rest : State → ℕ) → true ≡ completes r → StaysOr r s t
+behind_completed : (r : Result State Ending) (s t : State) (rest : State → ℕ) → true ≡ completes r → IsStateAfter r s t
     → behind r rest ≡ rest t
 behind_completed (Ok u) s t rest h k = ap rest (sym k)
 behind_completed (Err e) s t rest h k = absurd (false≢true (sym h))
@@ -91,9 +91,9 @@ none_so_far function n s walk h =
       at = record { walk = h.walk; path = h.path };
       few = omega (arith, arrived);
       fewer = omega (arith, stepped);
-      all = (let k = ap (λ (m : ℕ). begun_steps m s) e in omega (arith, k, stepped));
+      all = (let k = ap (λ (m : ℕ). executed_steps m s) e in omega (arith, k, stepped));
       own = λ f.
-          let k = ap (λ (m : ℕ). begun_in_function function f m s) e in
+          let k = ap (λ (m : ℕ). executed_in_function function f m s) e in
           let none = h.own f in
           omega (arith, k, none);
       steps = λ path.
@@ -124,13 +124,13 @@ module _ (function : ℕ → ℕ) (n i : ℕ) (start s t : State) (frames after 
         fewer = few_more step;
         all = (let b = step.all_steps in
             let k = all_next n i s under in
-            let d = behind_completed (step_of s) s t (λ u. begun_steps (n - (i + 1)) u) step.completed step.state in
+            let d = behind_completed (step_of s) s t (λ u. executed_steps (n - (i + 1)) u) step.completed step.state in
             let all = h.all in
             omega (arith, b, k, d, all));
         own = λ f.
             let b = step.own f in
             let k = own_next function f n i s under in
-            let d = behind_completed (step_of s) s t (λ u. begun_in_function function f (n - (i + 1)) u) step.completed step.state in
+            let d = behind_completed (step_of s) s t (λ u. executed_in_function function f (n - (i + 1)) u) step.completed step.state in
             let all = h.own f in
             omega (arith, b, k, d, all);
         steps = λ path.
@@ -170,12 +170,12 @@ module _ (function : ℕ → ℕ) (n i : ℕ) (start s t : State) (frames after 
     own = λ f.
         let b = step.own f in
         let k = own_next function f n i s under in
-        let d = behind_ended (step_of s) (λ u. begun_in_function function f (n - (i + 1)) u) step.completed in
+        let d = behind_ended (step_of s) (λ u. executed_in_function function f (n - (i + 1)) u) step.completed in
         let all = h.own f in
         omega (arith, b, k, d, all);
     all = (let b = step.all_steps in
         let k = all_next n i s under in
-        let d = behind_ended (step_of s) (λ u. begun_steps (n - (i + 1)) u) step.completed in
+        let d = behind_ended (step_of s) (λ u. executed_steps (n - (i + 1)) u) step.completed in
         let all = h.all in
         omega (arith, b, k, d, all));
   }

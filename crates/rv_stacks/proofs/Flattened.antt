@@ -10,7 +10,7 @@ use Rattle.rv_call_tree.specs.Trees as spots
 use Rattle.rv_call_tree.proofs.Public.{last_parts, stand_of_parts}
 use Rattle.rv_stacks.specs.declared.flat.Flat.{Flat}
 use Rattle.rv_stacks.specs.declared.node.Node.{Node}
-use Rattle.rv_stacks.specs.Nodes.{all_steps, arrivals_at, is_empty, own_in, path_below, path_of, steps_at, weighed, weighed_behind}
+use Rattle.rv_stacks.specs.Nodes.{all_steps, arrivals_at, is_empty, own_in, path_below, path_of, steps_at, weighed, weighted_sum_after}
 use Rattle.rv_stacks.specs.Walks.{AreSpotsOf, GoesBack, IsFlat, IsNext, IsTrail, Moves}
 use Rattle.rv_stacks.proofs.Growing.{trail_longer, trail_stays}
 use Rattle.rv_stacks.proofs.Nodes.{first_paths, path_with, paths_with, weighed_with, IsOfSame}
@@ -234,7 +234,7 @@ no_counts n h =
 
 empty_weight : (w : List ℕ → Node → ℕ) (ps : List (List ℕ)) (ns : List Node)
     → ((p : List ℕ) (n : Node) → (n.arrivals ≡ 0) × (n.steps ≡ 0) → w p n ≡ 0) → list_all is_empty ns ≡ true
-    → weighed_behind w ps ns ≡ 0
+    → weighted_sum_after w ps ns ≡ 0
 empty_weight w ps [] none h = refl
 empty_weight w ps (n ∷ ns) none h =
     let parts = and_parts (is_empty n) (list_all is_empty ns) h in

@@ -7,7 +7,7 @@ use Rattle.std.specs.Str.{bytes_eq}
 use Rattle.rv_call_tree.specs.Trees.{ends_with, once_if, steps_if}
 use Rattle.rv_stacks.specs.declared.node.Node.{Node}
 use Rattle.rv_stacks.specs.declared.walk.Walk.{Walk}
-use Rattle.rv_stacks.specs.Nodes.{all_arrivals, all_steps, arrivals_at, own_in, path_below, paths_behind, path_of, paths_of, steps_at, weighed, ArrivesOnce, HasChild, IsChild, KeepsPaths, StepsMore, times_if}
+use Rattle.rv_stacks.specs.Nodes.{all_arrivals, all_steps, arrivals_at, own_in, path_below, paths_appended, path_of, paths_of, steps_at, weighed, ArrivesOnce, HasChild, IsChild, KeepsPaths, StepsMore, times_if}
 use Rattle.rv_stacks.specs.Walks.{Arrives, IsTrail, Returns}
 use Rattle.rv_stacks.proofs.Nodes.{first_paths, long_paths, path_with, paths_more, paths_with, weighed_more, weighed_with, IsOfSame}
 
@@ -91,13 +91,13 @@ last_of f (y ∷ z ∷ zs) x = last_of f (z ∷ zs) x
 
 -- the functions of a node end with its own
 ends_at : (ps : List (List ℕ)) (ns : List Node) (place : ℕ) (d : Node) (f : ℕ) → place < length ns
-    → ends_with f (get_or (paths_behind ps ns) (length ps + place) []) ≡ ((get_or ns place d).function == f)
+    → ends_with f (get_or (paths_appended ps ns) (length ps + place) []) ≡ ((get_or ns place d).function == f)
 ends_at ps [] place d f within = absurd (omega (arith, within))
 ends_at ps (m ∷ ms) zero d f within =
     let longer = ps ++ path_below ps m ∷ [] in
     let one = length-append ps (path_below ps m ∷ []) in
     let at : length ps + 0 ≡ length ps = omega arith in
-    ap (λ (k : ℕ). ends_with f (get_or (paths_behind longer ms) k [])) at
+    ap (λ (k : ℕ). ends_with f (get_or (paths_appended longer ms) k [])) at
     ∙ ap (ends_with f) (first_paths longer ms (length ps) [] (omega (arith, one))
     ∙ get_or-append_seam ps (path_below ps m) [] [])
     ∙ last_of f (get_or ps m.parent []) m.function
@@ -105,7 +105,7 @@ ends_at ps (m ∷ ms) (suc place) d f within =
     let longer = ps ++ path_below ps m ∷ [] in
     let one = length-append ps (path_below ps m ∷ []) in
     let at : length ps + suc place ≡ length longer + place = omega (arith, one) in
-    ap (λ (k : ℕ). ends_with f (get_or (paths_behind longer ms) k [])) at
+    ap (λ (k : ℕ). ends_with f (get_or (paths_appended longer ms) k [])) at
     ∙ ends_at longer ms place d f (omega (arith, within))
 
 module _ (nodes : List Node) (number : ℕ) (some : 0 < number) (within : number < length nodes + 1) (old : Node)

@@ -3,10 +3,10 @@ use Rattle.std.proofs.Common.{◌≡◌, ◌∙◌, ◌<◌, ℕ, List, length, 
 use Rattle.std.proofs.lemmas.Bool.{cases_eq}
 use Rattle.std.proofs.lemmas.List.{get_or-set_other, get_or-set_same}
 use Rattle.rv_stacks.specs.declared.functions.Known.{Known}
-use Rattle.rv_stacks.specs.StackSteps.{AreKnown}
+use Rattle.rv_stacks.specs.StackSteps.{IsFunctionCache}
 
-pub one_more_known : (function : ℕ → ℕ) (known : List Known) (place : ℕ) (x : Known) → AreKnown function known
-    → place < length known → x.function ≡ function x.address → AreKnown function (set known place x)
+pub one_more_known : (function : ℕ → ℕ) (known : List Known) (place : ℕ) (x : Known) → IsFunctionCache function known
+    → place < length known → x.function ≡ function x.address → IsFunctionCache function (set known place x)
 one_more_known function known place x h within is =
     let long = length-set known place x in
     let many = h.many in record {
@@ -20,7 +20,7 @@ one_more_known function known place x h within is =
     }
 
 -- the one at a place answers for its address
-pub answers : (function : ℕ → ℕ) (known : List Known) (place address : ℕ) (x : Known) → AreKnown function known
+pub answers : (function : ℕ → ℕ) (known : List Known) (place address : ℕ) (x : Known) → IsFunctionCache function known
     → place < length known → x ≡ get_or known place x → x.address ≡ address → x.function ≡ function address
 answers function known place address x h within is here =
     ap (λ (y : Known). y.function) is ∙ h.each place x within

@@ -3,22 +3,22 @@ use Rattle.std.proofs.Common.{◌≡◌, ◌∙◌, ◌+◌, ◌-◌, ◌<◌, �
 use Rattle.std.proofs.lemmas.List.{get_or_append_left}
 use Rattle.std.proofs.Math.Seq.{get_or-append_seam}
 use Rattle.rv_stacks.specs.declared.node.Node.{Node}
-use Rattle.rv_stacks.specs.Nodes.{path_below, paths_behind, paths_of, path_of, weighed_behind, weighed}
+use Rattle.rv_stacks.specs.Nodes.{path_below, paths_appended, paths_of, path_of, weighted_sum_after, weighed}
 
 -- ---- one more
 
 pub paths_more : (ps : List (List ℕ)) (ns : List Node) (n : Node)
-    → paths_behind ps (ns ++ n ∷ []) ≡ paths_behind ps ns ++ path_below (paths_behind ps ns) n ∷ []
+    → paths_appended ps (ns ++ n ∷ []) ≡ paths_appended ps ns ++ path_below (paths_appended ps ns) n ∷ []
 paths_more ps [] n = refl
 paths_more ps (m ∷ ms) n = paths_more (ps ++ path_below ps m ∷ []) ms n
 
 pub weighed_more : (w : List ℕ → Node → ℕ) (ps : List (List ℕ)) (ns : List Node) (n : Node)
-    → weighed_behind w ps (ns ++ n ∷ []) ≡ weighed_behind w ps ns + w (path_below (paths_behind ps ns) n) n
+    → weighted_sum_after w ps (ns ++ n ∷ []) ≡ weighted_sum_after w ps ns + w (path_below (paths_appended ps ns) n) n
 weighed_more w ps [] n = omega arith
 weighed_more w ps (m ∷ ms) n =
     let rest = weighed_more w (ps ++ path_below ps m ∷ []) ms n in omega (arith, rest)
 
-pub long_paths : (ps : List (List ℕ)) (ns : List Node) → length (paths_behind ps ns) ≡ length ps + length ns
+pub long_paths : (ps : List (List ℕ)) (ns : List Node) → length (paths_appended ps ns) ≡ length ps + length ns
 long_paths ps [] = omega arith
 long_paths ps (m ∷ ms) =
     let rest = long_paths (ps ++ path_below ps m ∷ []) ms in
@@ -27,7 +27,7 @@ long_paths ps (m ∷ ms) =
 
 -- the first of them stay
 pub first_paths : (ps : List (List ℕ)) (ns : List Node) (k : ℕ) (d : List ℕ) → k < length ps
-    → get_or (paths_behind ps ns) k d ≡ get_or ps k d
+    → get_or (paths_appended ps ns) k d ≡ get_or ps k d
 first_paths ps [] k d h = refl
 first_paths ps (m ∷ ms) k d h =
     let one = length-append ps (path_below ps m ∷ []) in
@@ -37,18 +37,18 @@ first_paths ps (m ∷ ms) k d h =
 -- the functions of a node are those of the one above it, and its own
 pub path_at : (ps : List (List ℕ)) (ns : List Node) (place : ℕ) (d : Node) → place < length ns
     → (get_or ns place d).parent < length ps + place
-    → get_or (paths_behind ps ns) (length ps + place) []
-    ≡ get_or (paths_behind ps ns) (get_or ns place d).parent [] ++ (get_or ns place d).function ∷ []
+    → get_or (paths_appended ps ns) (length ps + place) []
+    ≡ get_or (paths_appended ps ns) (get_or ns place d).parent [] ++ (get_or ns place d).function ∷ []
 path_at ps [] place d within above = absurd (omega (arith, within))
 path_at ps (m ∷ ms) zero d within above =
     let longer = ps ++ path_below ps m ∷ [] in
     let one = length-append ps (path_below ps m ∷ []) in
     let at : length ps + 0 ≡ length ps = omega arith in
-    let here : get_or (paths_behind longer ms) (length ps + 0) [] ≡ path_below ps m =
-    ap (λ (k : ℕ). get_or (paths_behind longer ms) k []) at
+    let here : get_or (paths_appended longer ms) (length ps + 0) [] ≡ path_below ps m =
+    ap (λ (k : ℕ). get_or (paths_appended longer ms) k []) at
     ∙ first_paths longer ms (length ps) [] (omega (arith, one))
     ∙ get_or-append_seam ps (path_below ps m) [] [] in
-    let there : get_or (paths_behind longer ms) m.parent [] ≡ get_or ps m.parent [] =
+    let there : get_or (paths_appended longer ms) m.parent [] ≡ get_or ps m.parent [] =
     first_paths longer ms m.parent [] (omega (arith, one, above))
     ∙ get_or_append_left ps (path_below ps m ∷ []) [] m.parent (omega (arith, above)) in
     here ∙ ap (λ (p : List ℕ). p ++ m.function ∷ []) (sym there)
@@ -56,7 +56,7 @@ path_at ps (m ∷ ms) (suc place) d within above =
     let longer = ps ++ path_below ps m ∷ [] in
     let one = length-append ps (path_below ps m ∷ []) in
     let at : length ps + suc place ≡ length longer + place = omega (arith, one) in
-    ap (λ (k : ℕ). get_or (paths_behind longer ms) k []) at
+    ap (λ (k : ℕ). get_or (paths_appended longer ms) k []) at
     ∙ path_at longer ms place d (omega (arith, within)) (omega (arith, above, one))
 
 -- ---- a node in place of another, below the same one and of the same function
@@ -70,27 +70,27 @@ same_below ps n m h =
     ap (λ (k : ℕ). get_or ps k [] ++ n.function ∷ []) h.parent ∙ ap (λ (f : ℕ). get_or ps m.parent [] ++ f ∷ []) h.function
 
 pub paths_stay : (ps : List (List ℕ)) (ns : List Node) (place : ℕ) (n d : Node) → place < length ns
-    → IsOfSame n (get_or ns place d) → paths_behind ps (set ns place n) ≡ paths_behind ps ns
+    → IsOfSame n (get_or ns place d) → paths_appended ps (set ns place n) ≡ paths_appended ps ns
 paths_stay ps [] place n d within h = absurd (omega (arith, within))
 paths_stay ps (m ∷ ms) zero n d within h =
-    ap (λ (p : List ℕ). paths_behind (ps ++ p ∷ []) ms) (same_below ps n m h)
+    ap (λ (p : List ℕ). paths_appended (ps ++ p ∷ []) ms) (same_below ps n m h)
 paths_stay ps (m ∷ ms) (suc place) n d within h = paths_stay (ps ++ path_below ps m ∷ []) ms place n d (omega (arith, within)) h
 
 pub weighed_set : (w : List ℕ → Node → ℕ) (ps : List (List ℕ)) (ns : List Node) (place : ℕ) (n d : Node) → place < length ns
     → IsOfSame n (get_or ns place d)
-    → weighed_behind w ps (set ns place n) + w (get_or (paths_behind ps ns) (length ps + place) []) (get_or ns place d)
-    ≡ weighed_behind w ps ns + w (get_or (paths_behind ps ns) (length ps + place) []) n
+    → weighted_sum_after w ps (set ns place n) + w (get_or (paths_appended ps ns) (length ps + place) []) (get_or ns place d)
+    ≡ weighted_sum_after w ps ns + w (get_or (paths_appended ps ns) (length ps + place) []) n
 weighed_set w ps [] place n d within h = absurd (omega (arith, within))
 weighed_set w ps (m ∷ ms) zero n d within h =
     let longer = ps ++ path_below ps m ∷ [] in
     let one = length-append ps (path_below ps m ∷ []) in
     let at : length ps + 0 ≡ length ps = omega arith in
-    let here : get_or (paths_behind longer ms) (length ps + 0) [] ≡ path_below ps m =
-    ap (λ (k : ℕ). get_or (paths_behind longer ms) k []) at
+    let here : get_or (paths_appended longer ms) (length ps + 0) [] ≡ path_below ps m =
+    ap (λ (k : ℕ). get_or (paths_appended longer ms) k []) at
     ∙ first_paths longer ms (length ps) [] (omega (arith, one))
     ∙ get_or-append_seam ps (path_below ps m) [] [] in
-    let moved : weighed_behind w ps (n ∷ ms) ≡ w (path_below ps m) n + weighed_behind w longer ms =
-    ap (λ (p : List ℕ). w p n + weighed_behind w (ps ++ p ∷ []) ms) (same_below ps n m h) in
+    let moved : weighted_sum_after w ps (n ∷ ms) ≡ w (path_below ps m) n + weighted_sum_after w longer ms =
+    ap (λ (p : List ℕ). w p n + weighted_sum_after w (ps ++ p ∷ []) ms) (same_below ps n m h) in
     let of_old = ap (λ (p : List ℕ). w p m) here in
     let of_new = ap (λ (p : List ℕ). w p n) here in
     omega (arith, moved, of_old, of_new)
@@ -98,7 +98,7 @@ weighed_set w ps (m ∷ ms) (suc place) n d within h =
     let longer = ps ++ path_below ps m ∷ [] in
     let one = length-append ps (path_below ps m ∷ []) in
     let at : length ps + suc place ≡ length longer + place = omega (arith, one) in
-    let there = ap (λ (k : ℕ). get_or (paths_behind longer ms) k []) at in
+    let there = ap (λ (k : ℕ). get_or (paths_appended longer ms) k []) at in
     let rest = weighed_set w longer ms place n d (omega (arith, within)) h in
     let of_old = ap (λ (p : List ℕ). w p (get_or ms place d)) there in
     let of_new = ap (λ (p : List ℕ). w p n) there in
@@ -106,7 +106,7 @@ weighed_set w ps (m ∷ ms) (suc place) n d within h =
 
 -- what one node weighs is in the sum of all
 pub at_most_all : (w : List ℕ → Node → ℕ) (ps : List (List ℕ)) (ns : List Node) (place : ℕ) (d : Node) → place < length ns
-    → ((p : List ℕ) (n : Node) → w p n ≡ w [] n) → w [] (get_or ns place d) ≤ weighed_behind w ps ns
+    → ((p : List ℕ) (n : Node) → w p n ≡ w [] n) → w [] (get_or ns place d) ≤ weighted_sum_after w ps ns
 at_most_all w ps [] place d within alike = absurd (omega (arith, within))
 at_most_all w ps (m ∷ ms) zero d within alike = let a = alike (path_below ps m) m in omega (arith, a)
 at_most_all w ps (m ∷ ms) (suc place) d within alike =

@@ -7,7 +7,7 @@ use Rattle.rv_calls.specs.declared.frames.Frame.{Frame}
 use Rattle.rv_calls.specs.declared.transfer.Transfer.{Transfer}
 use Rattle.rv_calls.specs.Calls.{transfer_of}
 use Rattle.rv_calls.specs.Stack.{after_transfer}
-use Rattle.rv_counting.specs.Coverage.{completes, fetch_at, is_begun, once_if, StaysOr}
+use Rattle.rv_counting.specs.Coverage.{completes, fetch_at, is_begun, once_if, IsStateAfter}
 use Rattle.rv_machine.specs.declared.ending.Ending.{Ending}
 use Rattle.rv_machine.specs.Run.{Ran, go_on, run_of, step_of}
 use Rattle.rv_machine.specs.State.{State}
@@ -75,7 +75,7 @@ not_completed : (r : Result State Ending) → is_ok r ≡ false → false ≡ co
 not_completed (Ok t) h = sym h
 not_completed (Err e) h = refl
 
-stays : (r : Result State Ending) (s t : State) → is_ok r ≡ false → t ≡ s → StaysOr r s t
+stays : (r : Result State Ending) (s t : State) → is_ok r ≡ false → t ≡ s → IsStateAfter r s t
 stays (Ok u) s t h same = cc
 stays (Err e) s t h same = same
 
@@ -107,7 +107,7 @@ whole_step function s t tr frames after old mid new at steps is begun counts fra
     subst (λ (x : Transfer). Follows function frames x mid new) is follows in record {
       walk = goes.at.walk;
       completed = ap completes (sym steps);
-      state = subst (λ (r : Result State Ending). StaysOr r s t) (sym steps) refl;
+      state = subst (λ (r : Result State Ending). IsStateAfter r s t) (sym steps) refl;
       goes = (
         there,
         subst (λ (fs : List Frame). IsAt function fs t.pc new) (sym there) goes.at,

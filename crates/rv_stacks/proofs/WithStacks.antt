@@ -8,7 +8,7 @@ use Rattle.std.specs.List.Sorted.{IsPermutation}
 use Rattle.rv_count_tables.proofs.Public.{one_table_of}
 use Rattle.rv_count_tables.specs.declared.table.CountTable.{CountTable}
 use Rattle.rv_count_tables.specs.Sum.{IsSum, no_counts}
-use Rattle.rv_count_tables.specs.Table.{begun_in, taken_in, path_in, name_in, arrivals_in, steps_in, has_name, is_before, least_path_of, IsTable}
+use Rattle.rv_count_tables.specs.Table.{executed_in, taken_in, path_in, name_in, arrivals_in, steps_in, has_name, is_before, least_path_of, IsTable}
 use Rattle.rv_counting.proofs.Public.{first_moved, first_path-append, no_counts_is_table}
 use Rattle.rv_counting.specs.JobTables.{begun_by, first_path, jobs_at, runs_by, taken_by}
 use Rattle.rv_jobs.specs.declared.answers.Answer.{Answer}
@@ -23,7 +23,7 @@ use Rattle.rv_stacks.proofs.Tables.{budgets_of_both, names_of_both, same_either}
 pub record IsOfJobs (answers : List Answer) (jobs : List Job) (t : CountTable) : Type 0 where
   pub table : IsTable t
   pub begun : (digest : List ℕ) (address : ℕ)
-      → begun_in digest address t.images ≡ sum_by (begun_by answers digest address) jobs
+      → executed_in digest address t.images ≡ sum_by (begun_by answers digest address) jobs
   pub taken : (digest : List ℕ) (address : ℕ)
       → taken_in digest address t.images ≡ sum_by (taken_by answers digest address) jobs
   pub paths : (digest : List ℕ) → path_in digest t.images ≡ first_path answers digest jobs

@@ -11,13 +11,13 @@ abbrev pub path_below : List (List ℕ) → Node → List ℕ
 path_below paths n = slice_index_or paths n.parent [] ++ n.function ∷ []
 
 -- the paths `paths`, followed by the path of each of these nodes
-abbrev pub paths_behind : List (List ℕ) → List Node → List (List ℕ)
-paths_behind paths [] = paths
-paths_behind paths (n ∷ ns) = paths_behind (paths ++ path_below paths n ∷ []) ns
+abbrev pub paths_appended : List (List ℕ) → List Node → List (List ℕ)
+paths_appended paths [] = paths
+paths_appended paths (n ∷ ns) = paths_appended (paths ++ path_below paths n ∷ []) ns
 
 -- the path of each node by number, from 1 on; number 0 has the empty path
 abbrev pub paths_of : List Node → List (List ℕ)
-paths_of nodes = paths_behind ([] ∷ []) nodes
+paths_of nodes = paths_appended ([] ∷ []) nodes
 
 -- the path of the node with this number; empty for 0
 abbrev pub path_of : ℕ → List Node → List ℕ
@@ -26,14 +26,14 @@ path_of number nodes = slice_index_or (paths_of nodes) number []
 -- ---- counts
 
 -- the sum over these nodes of a weight of the node's path and the node, given the paths of the nodes before them
-abbrev pub weighed_behind : (List ℕ → Node → ℕ) → List (List ℕ) → List Node → ℕ
-weighed_behind weight paths [] = 0
-weighed_behind weight paths (n ∷ ns) =
-    weight (path_below paths n) n + weighed_behind weight (paths ++ path_below paths n ∷ []) ns
+abbrev pub weighted_sum_after : (List ℕ → Node → ℕ) → List (List ℕ) → List Node → ℕ
+weighted_sum_after weight paths [] = 0
+weighted_sum_after weight paths (n ∷ ns) =
+    weight (path_below paths n) n + weighted_sum_after weight (paths ++ path_below paths n ∷ []) ns
 
 -- the sum over all nodes of a weight of the node's path and the node
 abbrev pub weighed : (List ℕ → Node → ℕ) → List Node → ℕ
-weighed weight nodes = weighed_behind weight ([] ∷ []) nodes
+weighed weight nodes = weighted_sum_after weight ([] ∷ []) nodes
 
 -- how often a run entered the path `path`, by the counts of the nodes
 abbrev pub arrivals_at : List ℕ → List Node → ℕ

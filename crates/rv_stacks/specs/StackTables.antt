@@ -12,7 +12,7 @@ use Rattle.rv_count_tables.specs.declared.table.CountTable.{CountTable}
 use Rattle.rv_count_tables.specs.declared.table.FunctionName.{FunctionName}
 use Rattle.rv_count_tables.specs.declared.table.ImageCounts.{ImageCounts}
 use Rattle.rv_count_tables.specs.Sum.{HaveNoSum, IsSum}
-use Rattle.rv_count_tables.specs.Table.{begun_in, taken_in, path_in, name_in, arrivals_in, steps_in, has_name, name_of, AreNames, AreNamesOf, IsTable}
+use Rattle.rv_count_tables.specs.Table.{executed_in, taken_in, path_in, name_in, arrivals_in, steps_in, has_name, name_of, AreNames, AreNamesOf, IsTable}
 use Rattle.rv_counting.specs.Coverage.{once_if}
 use Rattle.rv_counting.specs.JobTables.{first_path, jobs_at, start_over, IsTableOfPlaces}
 use Rattle.rv_elf.specs.declared.image.Image.{Image}
@@ -135,7 +135,7 @@ RunsWithinABudget answers job = (s : State) → start_in answers job ≡ Ok s �
 -- `t` is the table of the jobs' call trees alone, without counts and runs: each of its numbers is the sum over the jobs
 pub record AreStacksOfJobs (answers : List Answer) (jobs : List Job) (t : CountTable) : Type 0 where
   pub table : IsTable t
-  pub begun : (digest : List ℕ) (address : ℕ) → begun_in digest address t.images ≡ 0
+  pub begun : (digest : List ℕ) (address : ℕ) → executed_in digest address t.images ≡ 0
   pub taken : (digest : List ℕ) (address : ℕ) → taken_in digest address t.images ≡ 0
   pub paths : (digest : List ℕ) → path_in digest t.images ≡ first_path answers digest jobs
   pub arrivals : (digest path : List ℕ)

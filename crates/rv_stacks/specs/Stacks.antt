@@ -6,7 +6,7 @@ use Rattle.rv_calls.specs.declared.transfer.Transfer.{Transfer}
 use Rattle.rv_calls.specs.Calls.{transfer_of}
 use Rattle.rv_calls.specs.Stack.{after_transfer, frame_of, is_pushed, popped}
 use Rattle.rv_count_tables.specs.declared.table.AddressCounts.{AddressCounts}
-use Rattle.rv_counting.specs.Coverage.{behind, begun_steps, fetch_at, is_begun, once_if, AreCountsOf}
+use Rattle.rv_counting.specs.Coverage.{behind, executed_steps, fetch_at, is_begun, once_if, AreCountsOf}
 use Rattle.rv_elf.specs.declared.image.Image.{Image}
 use Rattle.rv_elf.specs.SymbolSearch.{symbol_at}
 use Rattle.rv_machine.specs.Run.{step_of}
@@ -81,10 +81,10 @@ arrivals_in function path (suc n) frames s = behind (step_of s)
     + arrivals_in function path n (after_transfer frames (transfer_of s t)) t)
 
 -- how many instructions are executed in function `f`, on all paths that end in it, within a budget of n steps from a state on
-unfoldable pub begun_in_function : (ℕ → ℕ) → ℕ → ℕ → State → ℕ
-begun_in_function function f zero s = 0
-begun_in_function function f (suc n) s =
-    once_if (is_begun (fetch_at s) && (function s.pc == f)) + behind (step_of s) (λ t. begun_in_function function f n t)
+unfoldable pub executed_in_function : (ℕ → ℕ) → ℕ → ℕ → State → ℕ
+executed_in_function function f zero s = 0
+executed_in_function function f (suc n) s =
+    once_if (is_begun (fetch_at s) && (function s.pc == f)) + behind (step_of s) (λ t. executed_in_function function f n t)
 
 -- `spots` are the call-tree nodes of a run of at most n steps from a state on, which begins without frames and so enters its first function
 pub record AreStacksOf (function : ℕ → ℕ) (n : ℕ) (s : State) (spots : List Spot) : Type 0 where
@@ -93,8 +93,8 @@ pub record AreStacksOf (function : ℕ → ℕ) (n : ℕ) (s : State) (spots : L
   pub steps : (path : List ℕ) → steps_at path spots ≡ steps_in function path n [] s
   pub arrivals : (path : List ℕ) → arrivals_at path spots
       ≡ once_if (bytes_eq (function s.pc ∷ []) path) + arrivals_in function path n [] s
-  pub own : (f : ℕ) → own_in f spots ≡ begun_in_function function f n s
-  pub all : all_steps spots ≡ begun_steps n s
+  pub own : (f : ℕ) → own_in f spots ≡ executed_in_function function f n s
+  pub all : all_steps spots ≡ executed_steps n s
 
 -- the counts and the call tree of a job that begins in this state, within a budget of n steps; none if the job is refused
 abbrev pub AreCountsAndStacksOfJob : (ℕ → ℕ) → ℕ → Result State Refusal → Option (List AddressCounts × List Spot) → Type 0

@@ -2,7 +2,7 @@
 
 ghost use Rattle.std.specs.Prelude.{◌≡◌, ◌+◌, ◌<◌, ◌≤◌, ℕ, IfOk, length};
 ghost use Rattle.rv_counting.specs.Blocks.{address_at};
-ghost use Rattle.rv_stacks.specs.StackSteps.{AreKnown};
+ghost use Rattle.rv_stacks.specs.StackSteps.{IsFunctionCache};
 ghost use Rattle.rv_elf.specs.SymbolSearch.{symbol_at};
 ghost use Rattle.rv_stacks.specs.Stacks.{function_at, no_function, start_of};
 
@@ -25,12 +25,12 @@ pub struct Known {
 }
 
 /// Returns a new cache of functions, each entry of which has the function of this address.
-pub(crate) fn known_functions(
+pub(crate) fn new_function_cache(
     alloc: Global,
     symbols: &CodeSymbols<'_>,
     address: u32,
 ) -> Result<Vec<Known>, AllocError>
-    ensures { IfOk result (λ known. AreKnown (function_at symbols.now.image.now symbols.now.bytes.now) known.items) }
+    ensures { IfOk result (λ known. IsFunctionCache (function_at symbols.now.image.now symbols.now.bytes.now) known.items) }
 {
     let function = function_of(symbols, address);
     let mut known = Vec::with_capacity(alloc, PLACES)?;
@@ -40,9 +40,9 @@ pub(crate) fn known_functions(
 
 /// Returns the function of a code address, from the cache or by a search, and caches it.
 pub(crate) fn look_up(known: &mut Vec<Known>, symbols: &CodeSymbols<'_>, address: u32) -> u32
-    requires { AreKnown (function_at symbols.now.image.now symbols.now.bytes.now) known.old.items }
+    requires { IsFunctionCache (function_at symbols.now.image.now symbols.now.bytes.now) known.old.items }
     ensures value { result ≡ function_at symbols.now.image.now symbols.now.bytes.now address }
-    ensures known { AreKnown (function_at symbols.now.image.now symbols.now.bytes.now) known.new.items }
+    ensures known { IsFunctionCache (function_at symbols.now.image.now symbols.now.bytes.now) known.new.items }
 {
     let place = address as usize / 2 % PLACES;
     let there = known[place];
@@ -62,9 +62,9 @@ pub(crate) fn steps_in_function(
     counts: &[AddressCounts],
     block: Block,
 ) -> u32
-    requires known { AreKnown (function_at symbols.now.image.now symbols.now.bytes.now) known.old.items }
+    requires known { IsFunctionCache (function_at symbols.now.image.now symbols.now.bytes.now) known.old.items }
     requires within { 0 < block.steps → block.place + block.steps ≤ length counts.now }
-    ensures known { AreKnown (function_at symbols.now.image.now symbols.now.bytes.now) known.new.items }
+    ensures known { IsFunctionCache (function_at symbols.now.image.now symbols.now.bytes.now) known.new.items }
     ensures fewer { 0 < result → result < block.steps }
     ensures own { (j : ℕ) → 0 < result → j ≤ result
         → function_at symbols.now.image.now symbols.now.bytes.now (address_at counts.now (block.place + j))

@@ -1,6 +1,6 @@
 //! The table of each job of a batch, with its call tree.
 
-use crate::table::count_place_with_stacks;
+use crate::table::stack_table_of_job;
 use rv_counting::JobTable;
 use rv_engine::{Work, WorkerState};
 use rv_fleet::Batch;
@@ -37,7 +37,7 @@ impl Work<JobTable> for StackWork<'_> {
         number: usize,
         _bench: &mut WorkerState,
     ) -> Result<JobTable, AllocError> {
-        let table = count_place_with_stacks(alloc, self.batch.plan, self.batch.places[number])?;
+        let table = stack_table_of_job(alloc, self.batch.plan, self.batch.places[number])?;
         Ok(JobTable::new(table))
     }
 }

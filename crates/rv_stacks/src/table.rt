@@ -17,7 +17,7 @@ use std::alloc::{AllocError, Global};
 
 /// Runs the job at an index once more, and returns its table: the counts and the call tree of its run. A refused job has the table of no
 /// runs.
-pub(crate) fn count_place_with_stacks(
+pub(crate) fn stack_table_of_job(
     alloc: Global,
     plan: &Plan,
     place: usize,

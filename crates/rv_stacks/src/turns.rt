@@ -4,7 +4,7 @@ ghost use Rattle.std.specs.Prelude.{◌≡◌, ◌^◌, ◌<◌, OnOk, length};
 ghost use Rattle.rv_calls.specs.Stack.{after_transfer};
 ghost use Rattle.rv_stacks.specs.Nodes.{all_arrivals};
 ghost use Rattle.rv_stacks.specs.Walks.{IsWalk};
-ghost use Rattle.rv_stacks.specs.StackSteps.{AreKnown, Follows, GoesOn, IsAt};
+ghost use Rattle.rv_stacks.specs.StackSteps.{IsFunctionCache, Follows, GoesOn, IsAt};
 ghost use Rattle.rv_stacks.specs.Stacks.{function_at};
 
 use crate::functions::{Known, look_up};
@@ -21,10 +21,10 @@ pub(crate) fn follow(
     walk: &mut Walk,
     transfer: Transfer,
 ) -> Result<(), AllocError>
-    requires known { AreKnown (function_at symbols.now.image.now symbols.now.bytes.now) known.old.items }
+    requires known { IsFunctionCache (function_at symbols.now.image.now symbols.now.bytes.now) known.old.items }
     requires at { IsAt (function_at symbols.now.image.now symbols.now.bytes.now) frames.old.items transfer.from walk.old }
     requires few { all_arrivals walk.old.nodes.items < 2 ^ 40 }
-    ensures known { OnOk result (AreKnown (function_at symbols.now.image.now symbols.now.bytes.now) known.new.items) }
+    ensures known { OnOk result (IsFunctionCache (function_at symbols.now.image.now symbols.now.bytes.now) known.new.items) }
     ensures frames { OnOk result (frames.new.items ≡ after_transfer frames.old.items transfer) }
     ensures walk { OnOk result (Follows (function_at symbols.now.image.now symbols.now.bytes.now) frames.old.items transfer
         walk.old walk.new) }

@@ -2,7 +2,7 @@
 use Rattle.std.proofs.Common.{◌≡◌, ◌==◌, ◌≤◌, ap, arith, refl, ℕ, List, Option, false}
 use Rattle.std.proofs.lemmas.Bool.{ne_eqb}
 use Rattle.rv_base.specs.Counts.{one_more}
-use Rattle.rv_terminal.specs.ColorSinks.{IsCounted, IsPutBy, failures_below, first_course}
+use Rattle.rv_terminal.specs.ColorSinks.{IsCounted, IsPutBy, failures_below, first_state}
 use Rattle.rv_terminal.specs.declared.colors.Colors.{Colors}
 use Rattle.rv_terminal.specs.declared.colors.Colors.TheVariants as colors
 use Rattle.rv_terminal.specs.declared.course.OutputState.{OutputState}
@@ -36,6 +36,6 @@ counted_none (course.Colored here) course.CutOff more old new failures below put
 counted_none course.CutOff next more old new failures below put is = rw put.0 is
 
 -- a sink begins by the failures of the one below
-pub counted_first : (colors : Colors) (below : ℕ) → IsCounted (first_course colors) below below
+pub counted_first : (colors : Colors) (below : ℕ) → IsCounted (first_state colors) below below
 counted_first colors.Without below = refl
 counted_first colors.With below = refl

@@ -6,8 +6,8 @@ use Rattle.std.proofs.lemmas.List.Sums.{fold-append}
 use Rattle.std.specs.Io.KnownBytes.{Appends, Keeps}
 use Rattle.std.proofs.KnownBytes.{Appends-nil}
 use Rattle.rv_terminal.specs.Colors.{InText, beginning, colored, place_behind, uncolored}
-use Rattle.rv_terminal.specs.ColorSinks.{IsMarkBegun, IsOnCourse, IsOut, IsOutInPart, IsPutBy, IsShownInPart}
-use Rattle.rv_terminal.specs.ColorSinks.{IsShownUpTo, first_course, is_cut_off, results_of}
+use Rattle.rv_terminal.specs.ColorSinks.{IsMarkBegun, IsOutputState, IsOut, IsOutInPart, IsPutBy, IsShownInPart}
+use Rattle.rv_terminal.specs.ColorSinks.{IsShownUpTo, first_state, is_cut_off, results_of}
 use Rattle.rv_terminal.specs.declared.colors.Colors.{Colors}
 use Rattle.rv_terminal.specs.declared.colors.Colors.TheVariants as colors
 use Rattle.rv_terminal.specs.declared.course.OutputState.{OutputState}
@@ -25,7 +25,7 @@ results_begun colors.With None = refl
 results_begun colors.With (Some before) =
     ap Some (ap (λ xs. before ++ uncolored InText xs) (drop-length before) ∙ append-nil before)
 
-pub course_begun : (colors : Colors) (before : Option (List ℕ)) → IsOnCourse colors before before (first_course colors)
+pub course_begun : (colors : Colors) (before : Option (List ℕ)) → IsOutputState colors before before (first_state colors)
 unfolding colored
 course_begun colors.Without before = tt
 course_begun colors.With None = tt
@@ -99,7 +99,7 @@ module _ (here : Place) (before old new more part : List ℕ) (shown : IsShownUp
 
 -- a put keeps a sink on its course
 pub course_kept : (colors : Colors) (before old new : Option (List ℕ)) (here next : OutputState) (more : List ℕ)
-    → IsOnCourse colors before old here → IsPutBy here next more old new → IsOnCourse colors before new next
+    → IsOutputState colors before old here → IsPutBy here next more old new → IsOutputState colors before new next
 course_kept colors.Without before old new course.Plain next more is put = rw put.0 tt
 course_kept colors.Without before old new (course.Colored here) next more is put = absurd is
 course_kept colors.Without before old new course.CutOff next more is put = absurd is
@@ -117,7 +117,7 @@ course_kept colors.With (Some before) (Some old) new course.CutOff next more is 
 
 -- what was put are results
 pub results_taken : (colors : Colors) (before old new : Option (List ℕ)) (here next : OutputState) (more : List ℕ)
-    → IsOnCourse colors before old here → IsPutBy here next more old new
+    → IsOutputState colors before old here → IsPutBy here next more old new
     → Appends (results_of colors before old) (results_of colors before new) more
 results_taken colors.Without before old new course.Plain next more is put = put.1
 results_taken colors.Without before old new (course.Colored here) next more is put = absurd is
@@ -143,7 +143,7 @@ nothing_taken (Some old) (Some new) put = put ∙ append-nil old
 
 -- ---- the end
 
-pub out_whole : (colors : Colors) (before out : Option (List ℕ)) (here : OutputState) → IsOnCourse colors before out here
+pub out_whole : (colors : Colors) (before out : Option (List ℕ)) (here : OutputState) → IsOutputState colors before out here
     → is_cut_off here ≡ false → IsOut colors before (results_of colors before out) out
 out_whole colors.Without before out here is whole = refl
 out_whole colors.With None out here is whole = tt
@@ -156,7 +156,7 @@ out_whole colors.With (Some before) (Some out) (course.Colored here) is whole = 
 }
 out_whole colors.With (Some before) (Some out) course.CutOff is whole = absurd (true≢false whole)
 
-pub out_in_part : (colors : Colors) (before out : Option (List ℕ)) (here : OutputState) → IsOnCourse colors before out here
+pub out_in_part : (colors : Colors) (before out : Option (List ℕ)) (here : OutputState) → IsOutputState colors before out here
     → IsOutInPart colors before (results_of colors before out) out
 out_in_part colors.Without before out here is = refl
 out_in_part colors.With None out here is = tt

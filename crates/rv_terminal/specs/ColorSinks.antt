@@ -35,22 +35,22 @@ pub record IsColoredInPart (before plain out : List ℕ) : Type 0 where
   pub shown : out ≡ before ++ (colored beginning text ++ part)
 
 -- both texts are present, and the relation holds between them
-abbrev pub AreTold : (List ℕ → List ℕ → Type 0) → Option (List ℕ) → Option (List ℕ) → Type 0
-AreTold are None out = ⊥
-AreTold are (Some plain) None = ⊥
-AreTold are (Some plain) (Some out) = are plain out
+abbrev pub AreBothKnown : (List ℕ → List ℕ → Type 0) → Option (List ℕ) → Option (List ℕ) → Type 0
+AreBothKnown are None out = ⊥
+AreBothKnown are (Some plain) None = ⊥
+AreBothKnown are (Some plain) (Some out) = are plain out
 
 -- `out` is the plain results, or with colours `before` followed by the results in their colours; any bytes if `before` is unknown
 abbrev pub IsOut : Colors → Option (List ℕ) → Option (List ℕ) → Option (List ℕ) → Type 0
 IsOut colors.Without before plain out = out ≡ plain
 IsOut colors.With None plain out = ⊤
-IsOut colors.With (Some before) plain out = AreTold (IsColored before) plain out
+IsOut colors.With (Some before) plain out = AreBothKnown (IsColored before) plain out
 
 -- as `IsOut`, but with colours the last write may have failed within an escape sequence
 abbrev pub IsOutInPart : Colors → Option (List ℕ) → Option (List ℕ) → Option (List ℕ) → Type 0
 IsOutInPart colors.Without before plain out = out ≡ plain
 IsOutInPart colors.With None plain out = ⊤
-IsOutInPart colors.With (Some before) plain out = AreTold (IsColoredInPart before) plain out
+IsOutInPart colors.With (Some before) plain out = AreBothKnown (IsColoredInPart before) plain out
 
 -- ---- the state of a sink
 
@@ -68,9 +68,9 @@ results_of colors.With (Some before) out =
     option_map (λ bytes. before ++ uncolored InText (drop (length before) bytes)) out
 
 -- how the output of a sink with or without colours begins
-abbrev pub first_course : Colors → OutputState
-first_course colors.Without = course.Plain
-first_course colors.With = course.Colored beginning
+abbrev pub first_state : Colors → OutputState
+first_state colors.Without = course.Plain
+first_state colors.With = course.Colored beginning
 
 -- whether the output ends because a write failed
 abbrev pub is_cut_off : OutputState → Bool
@@ -116,16 +116,16 @@ pub record IsShownInPart (before out : List ℕ) : Type 0 where
   pub shown : out ≡ before ++ (colored beginning text ++ part)
 
 -- how coloured output continues, given that `out` was written, of which `before` are the earlier bytes
-abbrev pub IsCourseBehind : List ℕ → List ℕ → OutputState → Type 0
-IsCourseBehind before out course.Plain = ⊥
-IsCourseBehind before out (course.Colored here) = IsShownUpTo here before out
-IsCourseBehind before out course.CutOff = IsShownInPart before out
+abbrev pub IsStateAfter : List ℕ → List ℕ → OutputState → Type 0
+IsStateAfter before out course.Plain = ⊥
+IsStateAfter before out (course.Colored here) = IsShownUpTo here before out
+IsStateAfter before out course.CutOff = IsShownInPart before out
 
 -- how the output of a sink with or without colours continues, if the bytes that were written are known
-abbrev pub IsOnCourse : Colors → Option (List ℕ) → Option (List ℕ) → OutputState → Type 0
-IsOnCourse colors.Without before out course.Plain = ⊤
-IsOnCourse colors.Without before out (course.Colored here) = ⊥
-IsOnCourse colors.Without before out course.CutOff = ⊥
-IsOnCourse colors.With None out course = ⊤
-IsOnCourse colors.With (Some before) None course = ⊥
-IsOnCourse colors.With (Some before) (Some out) course = IsCourseBehind before out course
+abbrev pub IsOutputState : Colors → Option (List ℕ) → Option (List ℕ) → OutputState → Type 0
+IsOutputState colors.Without before out course.Plain = ⊤
+IsOutputState colors.Without before out (course.Colored here) = ⊥
+IsOutputState colors.Without before out course.CutOff = ⊥
+IsOutputState colors.With None out course = ⊤
+IsOutputState colors.With (Some before) None course = ⊥
+IsOutputState colors.With (Some before) (Some out) course = IsStateAfter before out course

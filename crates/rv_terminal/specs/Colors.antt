@@ -122,10 +122,10 @@ pub data Seat : Type 0 where
   BehindMark : Seat
 
 -- where the next byte is, given where a byte is; the byte right after a mark belongs to the text, whichever it is
-abbrev pub seat_behind : Seat → ℕ → Seat
-seat_behind InText byte = if is_escape byte then InMark else InText
-seat_behind InMark byte = if byte == end_of_mark then BehindMark else InMark
-seat_behind BehindMark byte = InText
+abbrev pub seat_after : Seat → ℕ → Seat
+seat_after InText byte = if is_escape byte then InMark else InText
+seat_after InMark byte = if byte == end_of_mark then BehindMark else InMark
+seat_after BehindMark byte = InText
 
 -- the bytes of the plain text that a byte of a coloured text gives: itself, or none within a mark
 abbrev pub text_of_byte : Seat → ℕ → List ℕ
@@ -136,4 +136,4 @@ text_of_byte BehindMark byte = byte ∷ []
 -- a coloured text without its marks, given where its first byte is
 unfoldable pub uncolored : Seat → List ℕ → List ℕ
 uncolored here [] = []
-uncolored here (byte ∷ rest) = text_of_byte here byte ++ uncolored (seat_behind here byte) rest
+uncolored here (byte ∷ rest) = text_of_byte here byte ++ uncolored (seat_after here byte) rest

@@ -1,10 +1,10 @@
 //! A sink that colours results.
 
 ghost use Rattle.std.specs.Prelude.{◌≡◌, ◌≤◌, IfErr, OnOk, is_err};
-ghost use Rattle.rv_terminal.specs.ColorSinks.{IsOut, IsOutInPart, first_course, is_cut_off, results_of};
+ghost use Rattle.rv_terminal.specs.ColorSinks.{IsOut, IsOutInPart, first_state, is_cut_off, results_of};
 
 use crate::colors::Colors;
-use crate::course::{OutputState, put_by_course};
+use crate::course::{OutputState, put_in_state};
 use rv_base::{Sink, SinkFailed};
 use std::marker::{Brand, Model, PhantomData};
 
@@ -38,13 +38,13 @@ pub struct ColorSink<J: Results, S: Sink + Drop> {
 }
 
 impl<J: Results, S: Sink + Drop> Model for ColorSink<J, S> {
-    ghost use Rattle.rv_terminal.specs.ColorSinks.{InColors, IsCounted, IsOnCourse};
+    ghost use Rattle.rv_terminal.specs.ColorSinks.{InColors, IsCounted, IsOutputState};
 
     ghost Value = { InColors S };
 
     ghost view = { λ s. record { sink = s.sink; failures = s.failures; course = s.course } };
 
-    ghost invariant = { λ s. IsOnCourse J.colors J.before (S.taken s.sink) s.course
+    ghost invariant = { λ s. IsOutputState J.colors J.before (S.taken s.sink) s.course
         × IsCounted s.course s.failures (S.failed s.sink) };
 }
 
@@ -55,7 +55,7 @@ impl<J: Results, S: Sink + Drop> ColorSink<J, S> {
         requires before { S.taken sink ≡ J.before }
         ensures taken { results_of J.colors J.before (S.taken result.sink) ≡ S.taken sink }
         ensures failures { result.failures ≡ S.failed sink }
-        ensures course { result.course ≡ first_course colors }
+        ensures course { result.course ≡ first_state colors }
     {
         let failures = sink.failures();
         ColorSink {
@@ -98,7 +98,7 @@ impl<J: Results, S: Sink + Drop> Sink for ColorSink<J, S> {
     ghost failed = { λ s. s.failures };
 
     fn put(&mut self, bytes: &[u8]) -> Result<usize, SinkFailed> {
-        let (count, course) = put_by_course(&mut self.sink, self.course, bytes);
+        let (count, course) = put_in_state(&mut self.sink, self.course, bytes);
         self.course = course;
         if count == 0 {
             self.failures = self.failures.saturating_add(1);

@@ -5,7 +5,7 @@ ghost use Rattle.std.specs.Io.KnownBytes.{Appends};
 ghost use Rattle.rv_base.specs.Counts.{one_more};
 ghost use Rattle.rv_base.specs.Sinks.{AppendsBeginning};
 ghost use Rattle.rv_terminal.specs.Colors.{colored, mark_before, mark_text};
-ghost use Rattle.rv_terminal.specs.ColorSinks.{IsPutBy, IsPutFrom, failures_below, first_course, is_cut_off};
+ghost use Rattle.rv_terminal.specs.ColorSinks.{IsPutBy, IsPutFrom, failures_below, first_state, is_cut_off};
 ghost use Rattle.rv_terminal.specs.declared.course.OutputState.TheVariants as course;
 
 use crate::colors::Colors;
@@ -26,7 +26,7 @@ pub(crate) enum OutputState {
 impl OutputState {
     /// Returns how output with or without colours begins: at the start of a line.
     pub(crate) fn first(colors: Colors) -> OutputState
-        ensures { result ≡ first_course colors }
+        ensures { result ≡ first_state colors }
     {
         match colors {
             Colors::Without => OutputState::Plain,
@@ -44,7 +44,7 @@ impl OutputState {
 
 /// Writes leading bytes of `bytes`, with their marks if the output is coloured. Returns how many, 0 only if a write failed, and how the
 /// output continues.
-pub(crate) fn put_by_course<S: Sink>(
+pub(crate) fn put_in_state<S: Sink>(
     sink: &mut S,
     course: OutputState,
     bytes: &[u8],
@@ -77,7 +77,7 @@ fn put_colored<S: Sink>(sink: &mut S, place: Place, bytes: &[u8]) -> (usize, Out
         let rest = &bytes[at..];
         match put_piece(sink, here, rest) {
             Ok(count) => {
-                here = here.behind_all(&rest[..count]);
+                here = here.after_all(&rest[..count]);
                 at += count;
             }
             Err(_) => return (at, OutputState::CutOff),

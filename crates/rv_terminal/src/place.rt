@@ -108,7 +108,7 @@ impl Place {
     }
 
     /// Returns the position after these bytes, the first of which is at this position.
-    pub(crate) fn behind_all(self, bytes: &[u8]) -> Place
+    pub(crate) fn after_all(self, bytes: &[u8]) -> Place
         ensures { result ≡ fold place_behind self bytes.now }
     {
         let mut place = self;

@@ -67,7 +67,7 @@ impl<'a, 'k, R: Wait, S: Sink + Drop, W: Write + Drop> Sink for TerminalSink<'a,
         let mut line = progress.lock_line(self.rt);
         let tally = progress.tally_so_far(self.rt);
         // A failure of the terminal to accept the line is ignored.
-        self.put_beside_counts(progress, &mut line, bytes, tally)
+        self.put_around_line(progress, &mut line, bytes, tally)
             .put
     }
 
@@ -78,7 +78,7 @@ impl<'a, 'k, R: Wait, S: Sink + Drop, W: Write + Drop> Sink for TerminalSink<'a,
 
 impl<'a, 'k, R: Wait, S: Sink + Drop, W: Write + Drop> TerminalSink<'a, 'k, R, S, W> {
     // Writes bytes to the sink: first the line is removed, and afterwards it is shown again with this tally.
-    fn put_beside_counts(
+    fn put_around_line(
         &mut self,
         progress: &Progress<'k, W>,
         line: &mut Line<W>,

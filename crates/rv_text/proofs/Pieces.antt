@@ -4,7 +4,7 @@ use Rattle.std.proofs.Common.{arith, ◌==◌, ne_eqb, false, cond}
 use Rattle.std.proofs.lemmas.Bool.{false_from_ne_true, le-ltb, lt-ltb}
 use Rattle.std.proofs.lemmas.Str.{IsUtf8-from_is_utf8}
 use Rattle.std.specs.Str.{IsUtf8, is_utf8}
-use Rattle.rv_text.specs.Printable.{behind_printable_front, escape, front_width, printable_front, plain_front_len}
+use Rattle.rv_text.specs.Printable.{after_printable_front, escape, front_width, printable_front, plain_front_len}
 use Rattle.rv_text.specs.Printable.{printable_from, printable_within}
 
 -- what is left of a character goes out as it is
@@ -40,7 +40,7 @@ piece f splits byte rest (suc count) =
 
 -- a text is its first piece and what is behind it
 pub shown-front : (text : List ℕ) → 0 < length text →
-    printable_from 0 text ≡ printable_front text ++ printable_from 0 (behind_printable_front text)
+    printable_from 0 text ≡ printable_front text ++ printable_from 0 (after_printable_front text)
 unfolding printable_from
 shown-front [] some = absurd (omega arith)
 shown-front (byte ∷ rest) some = piece printable_from printable_from-left byte rest (plain_front_len (byte ∷ rest))
@@ -48,7 +48,7 @@ shown-front (byte ∷ rest) some = piece printable_from printable_from-left byte
 -- the same where there is room for the piece
 pub printable_within-front : (room : ℕ) (text : List ℕ) → 0 < length text → front_width text ≤ room →
     printable_within room 0 text
-    ≡ printable_front text ++ printable_within (room - front_width text) 0 (behind_printable_front text)
+    ≡ printable_front text ++ printable_within (room - front_width text) 0 (after_printable_front text)
 unfolding printable_within
 printable_within-front room [] some fits = absurd (omega arith)
 printable_within-front room (byte ∷ rest) some fits =

@@ -15,7 +15,7 @@ use Rattle.std.proofs.lemmas.Str.{IsUtf8-append, IsUtf8-encode, IsUtf8-from_is_u
 use Rattle.std.proofs.lemmas.Str.{chars-nil, encode_ascii, len_utf8_bounds, length-encode}
 use lib.Utf8.{low_scalar, scalars}
 use Rattle.hex.specs.Hex.{IsBytes, encode_with, lower_digits}
-use Rattle.rv_text.specs.Printable.{IsUtf8WithoutControls, begins_with_control, begins_with_format, behind_printable_front, escape}
+use Rattle.rv_text.specs.Printable.{IsUtf8WithoutControls, begins_with_control, begins_with_format, after_printable_front, escape}
 use Rattle.rv_text.specs.Printable.{front_width, is_format}
 use Rattle.rv_text.specs.Printable.{front_character_bytes, plain_front_len, printable_from, printable_front, printable_within}
 use Rattle.rv_text.proofs.Pieces.{printable_within-empty, printable_within-front, printable_within-full, shown-empty, shown-front}
@@ -223,7 +223,7 @@ behind_piece (suc count) text are some =
     let not_empty : (suc count == 0) ≡ false = ne_eqb (suc count) 0 (omega arith) in
     rw not_empty (bytes_behind (suc count) text are, omega (arith, length-drop (suc count) text))
 
-shorter_behind : (text : List ℕ) → IsBytes text → 0 < length text → IsShorter text (behind_printable_front text)
+shorter_behind : (text : List ℕ) → IsBytes text → 0 < length text → IsShorter text (after_printable_front text)
 shorter_behind text = behind_piece (plain_front_len text) text
 
 -- ---- whole texts, of at most so many bytes
@@ -237,9 +237,9 @@ shown_of_length (suc n) (byte ∷ rest) within are =
     let some : 0 < length text = omega arith in
     let behind = shorter_behind text are some in
     rw (shown-front text some)
-    (shown_append (printable_front text) (printable_from 0 (behind_printable_front text))
+    (shown_append (printable_front text) (printable_from 0 (after_printable_front text))
     (shown_printable_front text are some)
-    (shown_of_length n (behind_printable_front text) (omega (arith, behind.1)) behind.0))
+    (shown_of_length n (after_printable_front text) (omega (arith, behind.1)) behind.0))
 
 shown_within_of_length : (n room : ℕ) (text : List ℕ) → length text ≤ n → IsBytes text →
     IsUtf8WithoutControls (printable_within room 0 text)
@@ -253,9 +253,9 @@ shown_within_of_length (suc n) room (byte ∷ rest) within are =
       | inl full ↦ rw (printable_within-full room text full) shown_nil
       | inr fits ↦
           rw (printable_within-front room text some fits)
-          (shown_append (printable_front text) (printable_within (room - front_width text) 0 (behind_printable_front text))
+          (shown_append (printable_front text) (printable_within (room - front_width text) 0 (after_printable_front text))
           (shown_printable_front text are some)
-          (shown_within_of_length n (room - front_width text) (behind_printable_front text) (omega (arith, behind.1)) behind.0))
+          (shown_within_of_length n (room - front_width text) (after_printable_front text) (omega (arith, behind.1)) behind.0))
     ]
 
 pub shown_text : (text : List ℕ) → IsBytes text → IsUtf8WithoutControls (printable_from 0 text)

@@ -16,7 +16,7 @@ use Rattle.hex.specs.Hex.{IsBytes, encode_with, lower_digits}
 use Rattle.std.proofs.lemmas.Str.{IsUtf8-from_is_utf8, len_utf8_bounds}
 use Rattle.rv_text.specs.declared.xml.Within.{Within}
 use Rattle.rv_text.specs.declared.xml.Within.TheVariants.{Attribute, Element}
-use Rattle.rv_text.specs.Xml.{IsXmlText, behind_xml_front, character_or_escape, character_text, escape, xml_text_from}
+use Rattle.rv_text.specs.Xml.{IsXmlText, after_xml_front, character_or_escape, character_text, escape, xml_text_from}
 use Rattle.rv_text.specs.Xml.{front_xml_character, xml_front_bytes, xml_front_text, is_xml_character, more_front_bytes, filter_xml_character}
 
 -- what is not UTF-8 is not by the test
@@ -34,7 +34,7 @@ xml_text_from-left within (suc left) (byte ∷ rest) = xml_text_from-left within
 
 -- the piece in front, and what is behind it
 pub escaped-front : (within : Within) (bytes : List ℕ) → 0 < length bytes →
-    xml_text_from within 0 bytes ≡ xml_front_text within bytes ++ xml_text_from within 0 (behind_xml_front bytes)
+    xml_text_from within 0 bytes ≡ xml_front_text within bytes ++ xml_text_from within 0 (after_xml_front bytes)
 unfolding xml_text_from
 escaped-front within [] some = absurd (omega arith)
 escaped-front within (byte ∷ rest) some =

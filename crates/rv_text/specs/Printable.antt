@@ -102,8 +102,8 @@ printable_front text =
     if plain_front_len text == 0 then escape (slice_index text 0) else take (plain_front_len text) text
 
 -- the text after its beginning: without its first character if that is shown as it is, else without its first byte
-abbrev pub behind_printable_front : List ℕ → List ℕ
-behind_printable_front text = if plain_front_len text == 0 then drop 1 text else drop (plain_front_len text) text
+abbrev pub after_printable_front : List ℕ → List ℕ
+after_printable_front text = if plain_front_len text == 0 then drop 1 text else drop (plain_front_len text) text
 
 -- ---- text that is safe to show on a terminal
 

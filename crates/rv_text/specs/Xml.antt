@@ -91,8 +91,8 @@ abbrev pub xml_front_text : Within → List ℕ → List ℕ
 xml_front_text within bytes = character_or_escape within (slice_index bytes 0) (front_xml_character bytes)
 
 -- the bytes after their first XML character, or after the first byte if they begin with none
-abbrev pub behind_xml_front : List ℕ → List ℕ
-behind_xml_front bytes = drop (more_front_bytes (front_xml_character bytes) + 1) bytes
+abbrev pub after_xml_front : List ℕ → List ℕ
+after_xml_front bytes = drop (more_front_bytes (front_xml_character bytes) + 1) bytes
 
 -- ---- text of XML documents
 

@@ -2,7 +2,7 @@
 
 ghost use Rattle.std.specs.Prelude.{◌≡◌, ◌<◌, ◌≤◌, ◌++◌, IfOk, OnOk, length};
 ghost use Rattle.std.specs.Str.{is_utf8};
-ghost use Rattle.rv_text.specs.Printable.{behind_printable_front, escape, front_width, front_character_bytes, printable_front, begins_with_control};
+ghost use Rattle.rv_text.specs.Printable.{after_printable_front, escape, front_width, front_character_bytes, printable_front, begins_with_control};
 ghost use Rattle.rv_text.specs.Printable.{begins_with_format, is_format, is_format_if_any, plain_front_len, printable_name, printable_text, printable_value};
 ghost use Rattle.rv_text.specs.Printable.{printable_within};
 
@@ -75,7 +75,7 @@ fn front_width(text: &[u8]) -> usize
 fn push_printable_front<'a>(bytes: &mut Vec<u8>, text: &'a [u8]) -> Result<&'a [u8], AllocError>
     requires { 0 < length text.now }
     ensures shown { OnOk result (bytes.new.items ≡ bytes.old.items ++ printable_front text.now) }
-    ensures behind { IfOk result (λ rest. rest.now ≡ behind_printable_front text.now) }
+    ensures behind { IfOk result (λ rest. rest.now ≡ after_printable_front text.now) }
     ensures shorter { IfOk result (λ rest. length rest.now < length text.now) }
 {
     let plain = plain_front_len(text);

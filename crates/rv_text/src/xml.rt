@@ -1,7 +1,7 @@
 //! Text in XML 1.0.
 
 ghost use Rattle.std.specs.Prelude.{◌≡◌, ◌<◌, ◌≤◌, ◌++◌, IfOk, OnOk, length, option_map, string_bytes};
-ghost use Rattle.rv_text.specs.Xml.{behind_xml_front, character_text, escape, xml_text, front_xml_character, xml_front_bytes};
+ghost use Rattle.rv_text.specs.Xml.{after_xml_front, character_text, escape, xml_text, front_xml_character, xml_front_bytes};
 ghost use Rattle.rv_text.specs.Xml.{xml_front_text, is_xml_character, character_reference, filter_xml_character};
 
 use crate::slices::{char_len, tail_from};
@@ -43,7 +43,7 @@ fn push_xml_front<'a>(
     requires { 0 < length bytes.now }
     ensures text { OnOk result (string_bytes text.new
         ≡ string_bytes text.old ++ xml_front_text within bytes.now) }
-    ensures behind { IfOk result (λ rest. rest.now ≡ behind_xml_front bytes.now) }
+    ensures behind { IfOk result (λ rest. rest.now ≡ after_xml_front bytes.now) }
     ensures shorter { IfOk result (λ rest. length rest.now < length bytes.now) }
 {
     match front_xml_character(bytes) {

@@ -14,7 +14,7 @@ use Rattle.rv_machine.specs.Fetch.{fetch, or_illegal, second_half, with_half}
 use Rattle.rv_machine.specs.State.{State}
 use Rattle.rv_trace.specs.declared.code.Code.{Code}
 use Rattle.rv_trace.specs.declared.code.Code.TheVariants.{Half, Word}
-use Rattle.rv_trace.specs.Code.{code_at, code_from, half_there, instr_of}
+use Rattle.rv_trace.specs.Code.{code_at, code_from, fetched_half, instr_of}
 use Rattle.rv_trace.specs.Showing.{IsCodeOf}
 
 -- what is fetched is no fault
@@ -40,7 +40,7 @@ module _ (s : State) (p : Instr × ℕ) where
       let g = given_is (meaning32 s.isa word) 4 word p e in
       let there : code_at s.bus s.pc ≡ Some (Word word) =
       begun low l
-      ∙ ap (λ b. cond b (option_map (λ above. Word (low + 0x1_0000 * above)) (half_there s.bus (second_half s.pc)))
+      ∙ ap (λ b. cond b (option_map (λ above. Word (low + 0x1_0000 * above)) (fetched_half s.bus (second_half s.pc)))
       (Some (Half low))) long
       ∙ ap (λ r. option_map (λ above. Word (low + 0x1_0000 * above)) (result_ok r)) h in (
         Word word,
@@ -58,7 +58,7 @@ module _ (s : State) (p : Instr × ℕ) where
       let g = given_is (meaning16 s.isa low) 2 low p e in
       let there : code_at s.bus s.pc ≡ Some (Half low) =
       begun low l
-      ∙ ap (λ b. cond b (option_map (λ above. Word (low + 0x1_0000 * above)) (half_there s.bus (second_half s.pc)))
+      ∙ ap (λ b. cond b (option_map (λ above. Word (low + 0x1_0000 * above)) (fetched_half s.bus (second_half s.pc)))
       (Some (Half low))) short in (
         Half low,
         record {

@@ -161,15 +161,15 @@ ended_at_line image file pc =
 -- ---- the registers
 
 -- the symbol that a value points to, after a gap, or nothing if there is no symbol
-abbrev pub symbol_behind_value : Option (List ℕ × ℕ) → List ℕ
-symbol_behind_value None = []
-symbol_behind_value (Some place) = gap ++ symbol_text place
+abbrev pub symbol_after_value : Option (List ℕ × ℕ) → List ℕ
+symbol_after_value None = []
+symbol_after_value (Some place) = gap ++ symbol_text place
 
 -- the line of a register with this value
 unfoldable pub register_line : Image → List ℕ → ℕ → ℕ → List ℕ
 register_line image file number value =
     line (margin ++ padded_text 4 (register_name number) ++ gap ++ word_digits value
-    ++ symbol_behind_value (symbol_of_value image file value))
+    ++ symbol_after_value (symbol_of_value image file value))
 
 -- the lines of registers with these values, of which the first has the number `number`
 unfoldable pub register_lines : Image → List ℕ → ℕ → List ℕ → List ℕ

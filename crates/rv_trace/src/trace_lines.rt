@@ -3,7 +3,7 @@
 ghost use Rattle.std.specs.Prelude.{◌≡◌, ◌++◌, OnOk, option_map};
 ghost use Rattle.std.specs.List.{flat_map};
 ghost use Rattle.rv_elf.specs.SymbolSearch.{symbol_at, symbol_of_value};
-ghost use Rattle.rv_trace.specs.Text.{symbol_behind_value, end_instruction_line, ended_at_line, register_line, register_lines, step_line};
+ghost use Rattle.rv_trace.specs.Text.{symbol_after_value, end_instruction_line, ended_at_line, register_line, register_lines, step_line};
 ghost use Rattle.rv_text.specs.Symbol.{symbol_in_brackets};
 ghost use Rattle.rv_trace.specs.Text.{trace_text};
 
@@ -113,19 +113,19 @@ fn push_symbol_of_value(
     value: u32,
 ) -> Result<(), AllocError>
     ensures { OnOk result (bytes.new.items ≡ bytes.old.items
-        ++ symbol_behind_value (symbol_of_value elf.now.image.now elf.now.bytes.now value)) }
+        ++ symbol_after_value (symbol_of_value elf.now.image.now elf.now.bytes.now value)) }
 {
-    push_symbol_behind_value(alloc, bytes, elf.symbol_of_value(value))
+    push_symbol_after_value(alloc, bytes, elf.symbol_of_value(value))
 }
 
 // Appends a gap and a symbol, or nothing if there is no symbol.
-fn push_symbol_behind_value(
+fn push_symbol_after_value(
     alloc: Global,
     bytes: &mut Vec<u8>,
     place: Option<SymbolAt<'_>>,
 ) -> Result<(), AllocError>
     ensures { OnOk result (bytes.new.items ≡ bytes.old.items
-        ++ symbol_behind_value (option_map (λ s. (s.name.now, s.offset)) place.entry)) }
+        ++ symbol_after_value (option_map (λ s. (s.name.now, s.offset)) place.entry)) }
 {
     let Some(symbol) = place else {
         return Ok(());

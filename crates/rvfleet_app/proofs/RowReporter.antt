@@ -7,8 +7,8 @@ use Rattle.clap.specs.declared.error.kind.ErrorKind.{ErrorKind}
 use Rattle.clap.specs.declared.error.kind.ErrorKind.TheVariants.{OutOfMemory}
 use Rattle.rv_jobs.specs.Files.{FileContents}
 use Rattle.rvfleet_app.proofs.Failing.{any_why}
-use Rattle.rvfleet_app.specs.Answers.{IsQuiet, ReportsReason, TellsFailure, is_request_refused}
-use Rattle.rv_cli.specs.RvfleetCommand.{IsToAnswer, Request, faultless_request, fleet_app, are_arguments_accepted, request_beside_faults, request_of}
+use Rattle.rvfleet_app.specs.Answers.{IsQuiet, ReportsReason, ReportsFailure, is_request_refused}
+use Rattle.rv_cli.specs.RvfleetCommand.{IsToAnswer, Request, faultless_request, fleet_app, are_arguments_accepted, request_unless_faults, request_of}
 use Rattle.rvfleet_app.specs.Lines.{IsLinePut, bad_words_line}
 use Rattle.rv_cli.specs.RvfleetRequests.{request}
 use Rattle.rv_cli.specs.declared.rvfleet.Request.{Request as Value}
@@ -16,7 +16,7 @@ use Rattle.rv_cli.specs.declared.rvfleet.Request.{Request as Value}
 -- words in which no fault is found ask for what they say
 asked_without_fault : (words : List Text) → fault_of fleet_app words ≡ [] → faultless_request words ≡ request_of words
 unfolding faultless_request
-asked_without_fault words none = ap (λ kinds. request_beside_faults kinds (request_of words)) none
+asked_without_fault words none = ap (λ kinds. request_unless_faults kinds (request_of words)) none
 
 -- and so what was read of them is asked for
 pub asked_as_read : (words : List Text) (read asked : Option Value) → fault_of fleet_app words ≡ []
@@ -25,7 +25,7 @@ asked_as_read words read asked none reads same =
     asked_without_fault words none ∙ (sym reads ∙ ap (option_map request) same)
 
 nothing_beside : (kind : ErrorKind) (kinds : Kinds) (request : Option Request) → IsAmong kind kinds
-    → request_beside_faults kinds request ≡ None
+    → request_unless_faults kinds request ≡ None
 nothing_beside kind [] request among = absurd among
 nothing_beside kind (fault ∷ more) request among = refl
 
@@ -59,7 +59,7 @@ pub error_told : (words : List Text) (known : Option FileContents) (before after
     → (kind ≡ OutOfMemory → status ≡ 3) → (kind ≡ OutOfMemory) ⊎ IsAmong kind (fault_of fleet_app words)
     → (status ≡ 0 → IsQuiet before after failures_before failures_after)
     → (status ≡ 2 → IsLinePut before after failures_before failures_after bad_words_line)
-    → (status ≡ 3 → TellsFailure None before after failures_before failures_after)
+    → (status ≡ 3 → ReportsFailure None before after failures_before failures_after)
     → status ≡ 0 ⊎ status ≡ 2 ⊎ status ≡ 3
     → ReportsReason (faultless_request words) known before after failures_before failures_after status
 error_told words known before after failures_before failures_after status kind memory why quiet refused failed range =

@@ -114,9 +114,9 @@ pub record Answers (request : Option Request) (input : Option (List ℕ)) (store
 -- ---- the line on standard error
 
 -- a line says why a request is rejected: invalid arguments, or the error of its list
-abbrev pub TellsRefusal : Option Request → Option FileContents
+abbrev pub ReportsRefusal : Option Request → Option FileContents
     → Option (List ℕ) → Option (List ℕ) → ℕ → ℕ → Type 0
-TellsRefusal request known before after failures_before failures_after =
+ReportsRefusal request known before after failures_before failures_after =
     ((is_request_refused request ≡ true)
     × IsLinePut before after failures_before failures_after bad_words_line)
     ⊎ ((error : JobError) × (IsFaultOfRequest request known error
@@ -130,8 +130,8 @@ may_fail (Some (run path workers group)) failure = is_failure_of_list failure
 may_fail None failure = is_failure_of_sending failure
 
 -- a line reports a failure that the request can have
-abbrev pub TellsFailure : Option Request → Option (List ℕ) → Option (List ℕ) → ℕ → ℕ → Type 0
-TellsFailure request before after failures_before failures_after =
+abbrev pub ReportsFailure : Option Request → Option (List ℕ) → Option (List ℕ) → ℕ → ℕ → Type 0
+ReportsFailure request before after failures_before failures_after =
     (failure : Failure) × ((may_fail request failure ≡ true)
     × IsLinePut before after failures_before failures_after (failure_line failure))
 
@@ -145,5 +145,5 @@ pub record ReportsReason (request : Option Request) (known : Option FileContents
     (before after : Option (List ℕ)) (failures_before failures_after : ℕ) (status : ℕ)
     : Type 0 where
   pub quiet : status ≡ 0 ⊎ status ≡ 1 → IsQuiet before after failures_before failures_after
-  pub refused : status ≡ 2 → TellsRefusal request known before after failures_before failures_after
-  pub failed : status ≡ 3 → TellsFailure request before after failures_before failures_after
+  pub refused : status ≡ 2 → ReportsRefusal request known before after failures_before failures_after
+  pub failed : status ≡ 3 → ReportsFailure request before after failures_before failures_after

@@ -6,7 +6,7 @@ use Rattle.rv_jobs.specs.declared_error.JobError.{JobError}
 use Rattle.rv_jobs.specs.declared_job.Job.{Job}
 use Rattle.rv_jobs.specs.declared.kept.Kept.TheVariants.{Content}
 use Rattle.rv_jobs.specs.JobList.{job_list_of}
-use Rattle.rv_jobs.specs.Plans.{AreKept, Planned, one_more_times, paths_of, paths_used, unreadable_count}
+use Rattle.rv_jobs.specs.Plans.{AgreeWithContents, Planned, one_more_times, paths_of, paths_used, unreadable_count}
 use Rattle.rv_jobs.specs.Files.{FileContents}
 use Rattle.rv_jobs.specs.Kept.{IsKeptOf}
 use Rattle.rvfleet_app.specs.declared.error.ListError.{ListError}
@@ -26,7 +26,7 @@ stored_contents known before after = record { known = known; before = before; af
 pub record IsPossiblePlan (store : Stored) (list : List Job) (plan : Planned) : Type 0 where
   pub jobs : plan.jobs ≡ list
   pub paths : paths_of plan.answers ≡ paths_used list
-  pub kept : AreKept store.known plan.answers
+  pub kept : AgreeWithContents store.known plan.answers
   pub faults : store.after ≡ one_more_times store.before (unreadable_count plan.answers)
 
 -- the rows are those of a plan of these jobs, with results that the store may return for their paths

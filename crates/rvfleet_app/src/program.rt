@@ -6,9 +6,9 @@ ghost use Rattle.std.specs.Prelude.{true, false};
 ghost use Rattle.std.specs.Io.KnownBytes.{Keeps};
 ghost use Rattle.clap.specs.Words.{kind_of};
 ghost use Rattle.rv_fleet.specs.declared_row.Row.{Row};
-ghost use Rattle.rvfleet_app.specs.Answers.{Answers, IsReportPrefixWritten, IsQuiet, IsReportSent, ReportsReason, TellsFailure};
+ghost use Rattle.rvfleet_app.specs.Answers.{Answers, IsReportPrefixWritten, IsQuiet, IsReportSent, ReportsReason, ReportsFailure};
 ghost use Rattle.rvfleet_app.specs.Answers.{reads_input, reads_store};
-ghost use Rattle.rv_cli.specs.RvfleetCommand.{AsksHelp, IsToAnswer, faultless_request, are_arguments_accepted, one};
+ghost use Rattle.rv_cli.specs.RvfleetCommand.{RequestsHelp, IsToAnswer, faultless_request, are_arguments_accepted, one};
 ghost use Rattle.rv_cli.specs.RvfleetCommand.{raw, request_of, run};
 ghost use Rattle.rvfleet_app.specs.Lines.{IsLinePut, bad_words_line};
 ghost use Rattle.rvfleet_app.specs.Plans.{stored_contents};
@@ -62,7 +62,7 @@ pub fn run_words<'a, R: Threads + Wait, T: AsStr, S: Store, I: Read, O: Sink, E:
     // Status 0 or 1 means that the arguments make a request or request help.
     ensures helped { result ≡ 0 ⊎ result ≡ 1
         → is_some (faultless_request (map T.text words.entry.now)) ≡ true
-        ⊎ AsksHelp (map T.text words.entry.now) }
+        ⊎ RequestsHelp (map T.text words.entry.now) }
     // No file is read for arguments that request none.
     ensures unread { reads_store (faultless_request (map T.text words.entry.now)) ≡ false
         → S.faulted store.new ≡ S.faulted store.old }
@@ -92,7 +92,7 @@ struct Host<'a, R, G> {
 
 /// A request to run one image.
 #[derive(Clone, Copy)]
-struct ImageAsked<'a> {
+struct ImageArgs<'a> {
     path: &'a str,
     budget: u32,
     digits: Option<&'a str>,
@@ -137,7 +137,7 @@ impl<'a, R: Threads + Wait, G: Gate> Host<'a, R, G> {
                 budget,
                 input_hex,
             } => {
-                let asked = ImageAsked {
+                let asked = ImageArgs {
                     path: image,
                     budget,
                     digits: input_hex,
@@ -215,7 +215,7 @@ fn answer_raw<I: Read, O: Sink, E: Sink>(
         × IsReportPrefixWritten (O.taken out.old) (O.taken out.new) rows)) }
     ensures quiet { result ≡ DONE → IsQuiet (E.taken errors.old) (E.taken errors.new)
         (E.failed errors.old) (E.failed errors.new) }
-    ensures told { result ≡ FAILED → TellsFailure (Some (raw budget))
+    ensures told { result ≡ FAILED → ReportsFailure (Some (raw budget))
         (E.taken errors.old) (E.taken errors.new) (E.failed errors.old) (E.failed errors.new) }
     ensures range { result ≡ DONE ⊎ result ≡ FAILED }
 {
@@ -228,7 +228,7 @@ fn answer_raw<I: Read, O: Sink, E: Sink>(
 // Responds to a request to run one image, and returns the exit status. The path and the digits are checked before the store is read.
 fn answer_image<S: Store, O: Sink, E: Sink>(
     alloc: Global,
-    asked: &ImageAsked<'_>,
+    asked: &ImageArgs<'_>,
     store: &mut S,
     out: &mut O,
     errors: &mut E,
@@ -283,7 +283,7 @@ fn answer_clap_error<O: Sink, E: Sink>(
     ensures refused { result ≡ BAD_WORDS
         → IsLinePut (E.taken errors.old) (E.taken errors.new)
         (E.failed errors.old) (E.failed errors.new) bad_words_line }
-    ensures told { result ≡ FAILED → TellsFailure None (E.taken errors.old) (E.taken errors.new)
+    ensures told { result ≡ FAILED → ReportsFailure None (E.taken errors.old) (E.taken errors.new)
         (E.failed errors.old) (E.failed errors.new) }
     ensures range { result ≡ DONE ⊎ result ≡ BAD_WORDS ⊎ result ≡ FAILED }
 {
@@ -299,7 +299,7 @@ fn put_help<O: Sink, E: Sink>(alloc: Global, help: &Error, out: &mut O, errors: 
     ensures counted { result ≡ DONE → O.failed out.new ≡ O.failed out.old }
     ensures quiet { result ≡ DONE → IsQuiet (E.taken errors.old) (E.taken errors.new)
         (E.failed errors.old) (E.failed errors.new) }
-    ensures told { result ≡ FAILED → TellsFailure None (E.taken errors.old) (E.taken errors.new)
+    ensures told { result ≡ FAILED → ReportsFailure None (E.taken errors.old) (E.taken errors.new)
         (E.failed errors.old) (E.failed errors.new) }
     ensures range { result ≡ DONE ⊎ result ≡ FAILED }
 {

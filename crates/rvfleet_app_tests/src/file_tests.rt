@@ -1,6 +1,6 @@
 //! The store over files.
 
-use crate::testing::told_over;
+use crate::testing::output_with_store;
 use rv_files::FileStore;
 use rv_jobs::{ReadError, Store};
 use samples::{agree, cell_of, file, numbers};
@@ -23,7 +23,7 @@ done 1
 fn runs_a_file(rt: HostRuntime) -> Result<(), Fail> {
     fs::write(&rt, "image.elf", file(rt.alloc(), "one")?)?;
     let line = "rvfleet one image.elf --budget 10";
-    let told = told_over(&rt, rt.alloc(), line, &mut FileStore::new(&rt))?;
+    let told = output_with_store(&rt, rt.alloc(), line, &mut FileStore::new(&rt))?;
     fs::remove_file(&rt, "image.elf")?;
     agree(line, told.as_str(), IMAGE_REPORT)
 }
@@ -53,7 +53,7 @@ pages.bin| 01 02 03 5a*8190 | these bytes
 ";
 
 // Writes the file of a line, checks that the store returns the line's result, and that it finds no file once the file is removed.
-fn reads_file(rt: &HostRuntime, line: &str) -> Result<(), Fail> {
+fn check_file_row(rt: &HostRuntime, line: &str) -> Result<(), Fail> {
     let path = line.split('|').next().unwrap_or("");
     let bytes = numbers(rt.alloc(), cell_of(line, 1))?;
     fs::write(rt, path, bytes.as_slice())?;
@@ -66,7 +66,7 @@ fn reads_file(rt: &HostRuntime, line: &str) -> Result<(), Fail> {
 #[test]
 fn reads_files(rt: HostRuntime) -> Result<(), Fail> {
     for line in FILES.lines() {
-        reads_file(&rt, line)?;
+        check_file_row(&rt, line)?;
     }
     agree(
         "no folder",

@@ -2,7 +2,7 @@
 
 ghost use Rattle.std.specs.Prelude.{Some};
 
-use crate::testing::told_over;
+use crate::testing::output_with_store;
 use rv_jobs::{ReadError, Store};
 use samples::{ONE_SEGMENT, agree};
 use std::alloc::Global;
@@ -65,7 +65,7 @@ fn answers(
     bytes: &[u8],
     wanted: &str,
 ) -> Result<(), Fail> {
-    let told = told_over(rt, alloc, line, &mut KnownStore { bytes })?;
+    let told = output_with_store(rt, alloc, line, &mut KnownStore { bytes })?;
     agree(line, told.as_str(), wanted)
 }
 

@@ -5,7 +5,7 @@ ghost use Rattle.std.specs.Prelude.{None};
 use crate::forms::part;
 use crate::testing::number;
 use rv_jobs::{ReadError, Store};
-use samples::{BadSample, CHECKSUM, UPPER, file, file_bytes, numbers};
+use samples::{SampleError, CHECKSUM, UPPER, file, file_bytes, numbers};
 use std::alloc::Global;
 
 /// A store that makes each file of a case when it is read. A line of its files, such as `image = one 51`, describes the file at a path;
@@ -33,13 +33,13 @@ impl<'a> SampleStore<'a> {
     }
 
     // Returns the file at a path, unless this read is one of those that fail.
-    fn bytes(&self, alloc: Global, path: &str) -> Result<Vec<u8>, BadSample> {
+    fn bytes(&self, alloc: Global, path: &str) -> Result<Vec<u8>, SampleError> {
         let faults = part(self.case, 5);
         if self.reads == number(faults, "no_memory=") {
-            return Err(BadSample::OutOfMemory);
+            return Err(SampleError::OutOfMemory);
         }
         if self.reads == number(faults, "no_file=") {
-            return Err(BadSample::Name);
+            return Err(SampleError::Name);
         }
         match sample_at(part(self.case, 4), path) {
             "jobs" => Ok(part(self.case, 3).as_bytes().to_vec(alloc)?),
@@ -60,7 +60,7 @@ fn sample_at<'a>(files: &'a str, path: &'a str) -> &'a str {
 }
 
 // Returns the file that this text describes.
-fn bytes_of(alloc: Global, sample: &str) -> Result<Vec<u8>, BadSample> {
+fn bytes_of(alloc: Global, sample: &str) -> Result<Vec<u8>, SampleError> {
     let (kind, text) = sample.split_once(' ').unwrap_or((sample, ""));
     match kind {
         "long" => Ok(vec![in alloc; 0x30; 16_777_217]?),
@@ -84,7 +84,7 @@ impl<'a> Store for SampleStore<'a> {
         match self.bytes(alloc, path) {
             Ok(bytes) if bytes.len() <= 16_777_216 => Ok(bytes),
             Ok(_) => Err(ReadError::TooLong),
-            Err(BadSample::OutOfMemory) => Err(ReadError::OutOfMemory),
+            Err(SampleError::OutOfMemory) => Err(ReadError::OutOfMemory),
             Err(_) => {
                 self.faults = self.faults.saturating_add(1);
                 Err(ReadError::Unreadable)

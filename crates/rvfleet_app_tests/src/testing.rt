@@ -153,7 +153,7 @@ fn words_of(alloc: Global, line: &str) -> Result<Vec<&str>, AllocError> {
 }
 
 /// Runs the program with a store that records no paths, and without input, and returns the output as one text.
-pub(crate) fn told_over<S: Store>(
+pub(crate) fn output_with_store<S: Store>(
     rt: &(impl Threads + Wait),
     alloc: Global,
     line: &str,

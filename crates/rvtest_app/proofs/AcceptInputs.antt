@@ -5,7 +5,7 @@ use Rattle.rv_command.specs.Texts.{optional_text}
 use Rattle.rv_files.specs.Placed.{CommittedFile}
 use Rattle.rv_lists.specs.declared.job.Job.{Job}
 use Rattle.rvtest_cli.specs.declared.accept.AcceptArgs.{AcceptArgs}
-use Rattle.rvtest_app.specs.Overwrites.{AreAcceptFilesApart, IsUnread, golden_paths_of_marked, inputs_of_accept, is_golden_read, is_read, read_paths}
+use Rattle.rvtest_app.specs.Overwrites.{AreAcceptFilesApart, IsUnread, golden_paths_of_selected, inputs_of_accept, is_golden_read, is_read, read_paths}
 use Rattle.rvtest_app.specs.declared.read_files.ReadPath.{ReadPath}
 
 -- files are read if their paths are
@@ -16,7 +16,7 @@ any_of_paths read (file ∷ files) = ap (λ rest. is_golden_read read file || re
 
 pub accept_apart : (placed : Option (List CommittedFile)) (words : AcceptArgs) (jobs : List Job) (marks : List Bool)
     (list inputs : List (List ℕ)) (files : List ReadPath)
-    → read_paths files ≡ golden_paths_of_marked (optional_text words.run.root) jobs marks
+    → read_paths files ≡ golden_paths_of_selected (optional_text words.run.root) jobs marks
     → IfSome placed (λ _. list ≡ words.run.list.now ∷ [])
     → IfSome placed (λ _. inputs ≡ inputs_of_accept words jobs)
     → IfSome placed (λ _. IsUnread (inputs_of_accept words jobs) words.run.list.now)

@@ -12,8 +12,8 @@ use Rattle.rv_accept.proofs.Public.{IsAccepted, accepted_at, agreed, console_cla
 use Rattle.rv_accept.specs.Accepted.{accepted_job}
 use Rattle.rv_accept.specs.Claims.{golden_texts_of_runs}
 use Rattle.rv_accept.specs.Fates.{outcome_of_golden_file, names_file}
-use Rattle.rv_accept.specs.Meant.{meant_job, intended_jobs}
-use Rattle.rv_accept.specs.Passing.{FindsItsFiles, is_pass_or_unasked, outcome_of_row}
+use Rattle.rv_accept.specs.Meant.{intended_job, intended_jobs}
+use Rattle.rv_accept.specs.Passing.{FindsItsFiles, is_pass_or_none, outcome_of_row}
 use Rattle.rv_accept.specs.Runs.{accepted_row, is_accepted_run}
 use Rattle.rv_accept.specs.Sharing.{is_path, jobs_to_run, names_golden_file}
 use Rattle.rv_accept.specs.Targets.{is_of_accepted, is_target, with_target}
@@ -32,7 +32,7 @@ use Rattle.rv_command.specs.Texts.{IsTextAt, optional_text}
 use Rattle.rv_files.specs.UnreadPaths.{contents_below, resolved_path}
 use Rattle.rv_jobs.specs.Jobs.{console_path, single_job, without_expectations}
 use Rattle.rv_jobs.specs.Kept.{IsKeptOf}
-use Rattle.rv_jobs.specs.Plans.{AreKept, Planned, kept_for}
+use Rattle.rv_jobs.specs.Plans.{AgreeWithContents, Planned, result_for_path}
 use Rattle.rv_jobs.specs.declared.answers.Answer.{Answer}
 use Rattle.rv_jobs.specs.declared.kept.Kept.{Kept}
 use Rattle.rv_jobs.specs.declared.kept.Kept.TheVariants as kept
@@ -44,8 +44,8 @@ use Rattle.rv_rows.specs.Verdict.{did_run, lines_of_signature}
 use Rattle.rv_rows.specs.declared.outcome.Outcome.{Outcome}
 use Rattle.rvtest_app.proofs.Standings.{ended_well, stands_at}
 use Rattle.rvtest_app.proofs.StoreAfter.{any_elim, golden_files_there, image_stays, list_is_there, list_stays, stood}
-use Rattle.rvtest_app.specs.AcceptLaw.{AreFilesRead, HaveOneTextEach, IsRowIn, IsStoreAfter, IsWhollyAccepted, is_read}
-use Rattle.rvtest_app.specs.Accepts.{AreGoldenFiles, IsAcceptedOfMarks, IsOutcome, acceptance_of, written_files}
+use Rattle.rvtest_app.specs.AcceptLaw.{AreFilesRead, HaveOneTextEach, IsRowIn, IsStoreAfter, IsFullyAccepted, is_read}
+use Rattle.rvtest_app.specs.Accepts.{AreGoldenFiles, IsAcceptOfSelected, IsOutcome, acceptance_of, written_files}
 use Rattle.rvtest_app.specs.CommandOutputs.{CommandOutputs}
 
 -- ---- what was read
@@ -53,11 +53,11 @@ use Rattle.rvtest_app.specs.CommandOutputs.{CommandOutputs}
 -- a path that was read holds what is kept of it
 record IsRead (store : FileContents) (root : Option (List ℕ)) (answers : List Answer) (path : List ℕ) : Type 0 where
   bytes : List ℕ
-  content : kept_for answers path ≡ kept.Content bytes
+  content : result_for_path answers path ≡ kept.Content bytes
   holds : store (resolved_path root path) ≡ Some bytes
 
 read_here : (store : FileContents) (root : Option (List ℕ)) (answers : List Answer) (path : List ℕ)
-    → AreKept (contents_below root (Some store)) answers → is_read (kept_for answers path) ≡ true
+    → AgreeWithContents (contents_below root (Some store)) answers → is_read (result_for_path answers path) ≡ true
     → IsRead store root answers path
 read_here store root [] path are read = cc
 read_here store root (answer ∷ answers) path are read = go (bytes_eq path answer.path) refl
@@ -75,7 +75,7 @@ read_here store root (answer ∷ answers) path are read = go (bytes_eq path answ
     at_first kept.TooLong was of same read = cc
 
     go : (same : Bool) → bytes_eq path answer.path ≡ same
-        → (is_read (kept_for answers path) ≡ true → IsRead store root answers path)
+        → (is_read (result_for_path answers path) ≡ true → IsRead store root answers path)
         → IsRead store root (answer ∷ answers) path
     go true same behind = at_first answer.kept refl
         (All-head (λ (a : Answer). IsKeptOf (contents_below root (Some store)) a.path a.kept) answer answers are) same
@@ -95,8 +95,8 @@ content_same bytes others is = cc
 
 -- a path that was read, and holds these bytes, is kept with them
 content_of : (store : FileContents) (root : Option (List ℕ)) (answers : List Answer) (path bytes : List ℕ)
-    → AreKept (contents_below root (Some store)) answers → is_read (kept_for answers path) ≡ true
-    → store (resolved_path root path) ≡ Some bytes → kept_for answers path ≡ kept.Content bytes
+    → AgreeWithContents (contents_below root (Some store)) answers → is_read (result_for_path answers path) ≡ true
+    → store (resolved_path root path) ≡ Some bytes → result_for_path answers path ≡ kept.Content bytes
 content_of store root answers path bytes are read holds =
     let there = read_here store root answers path are read in
     there.content ∙ ap kept.Content (some_same there.bytes bytes (sym there.holds ∙ holds))
@@ -288,12 +288,12 @@ module _ (words : AcceptArgs) (before after : FileContents) (bytes : List ℕ) (
         left
 
     -- an image that ran is as it was
-    image_again : (earlier later : List Answer) → AreKept (contents_below root (Some before)) earlier
-        → AreKept (contents_below root (Some after)) later → is_read (kept_for later job.image) ≡ true
+    image_again : (earlier later : List Answer) → AgreeWithContents (contents_below root (Some before)) earlier
+        → AgreeWithContents (contents_below root (Some after)) later → is_read (result_for_path later job.image) ≡ true
         → did_run (outcome_in earlier (without_expectations job)).ending ≡ true
-        → kept_for later job.image ≡ kept_for earlier job.image
+        → result_for_path later job.image ≡ result_for_path earlier job.image
     image_again earlier later earlier_kept later_kept is_there ended =
-        let over = ran_over (without_expectations job) (kept_for earlier job.image) ended in
+        let over = ran_over (without_expectations job) (result_for_path earlier job.image) ended in
         let here = read_here before root earlier job.image earlier_kept (rw over.was refl) in
         let same : here.bytes ≡ over.file = content_same here.bytes over.file (sym here.content ∙ over.was) in
         let holds = here.holds ∙ ap Some same in
@@ -303,8 +303,8 @@ module _ (words : AcceptArgs) (before after : FileContents) (bytes : List ℕ) (
         no_image holds magic in
         content_of after root later job.image over.file later_kept is_there stays ∙ sym over.was
 
-    finds : (earlier : Planned) (later : List Answer) → AreKept (contents_below root (Some before)) earlier.answers
-        → AreKept (contents_below root (Some after)) later → AreFilesRead later job
+    finds : (earlier : Planned) (later : List Answer) → AgreeWithContents (contents_below root (Some before)) earlier.answers
+        → AgreeWithContents (contents_below root (Some after)) later → AreFilesRead later job
         → run.row ≡ row_of earlier (without_expectations job) → FindsItsFiles earlier.answers later job run.row
     finds earlier later earlier_kept later_kept read_now row_is = record {
       image = λ ended. image_again earlier.answers later earlier_kept later_kept read_now.image
@@ -327,7 +327,7 @@ new_job jobs others runs place job other run are at ran accepted stands =
     let meant = meant_at jobs runs place job (Some run) at ran in
     some_same other (accepted_job job run.row.ending run.row.console)
     (sym stands ∙ ap (λ jobs. slice_get jobs place) are ∙ meant
-    ∙ ap (λ row. Some (meant_job job row)) (accepted_row_of run accepted))
+    ∙ ap (λ row. Some (intended_job job row)) (accepted_row_of run accepted))
 
 -- what was read of the accepted job's files was read of the job's
 read_of_job : (answers : List Answer) (job : Job) (row : Row)
@@ -335,17 +335,17 @@ read_of_job : (answers : List Answer) (job : Job) (row : Row)
 read_of_job answers job row files = record {
   image = files.image;
   signature = files.signature;
-  console = subst (λ named. IfSome named (λ path. is_read (kept_for answers path) ≡ true))
+  console = subst (λ named. IfSome named (λ path. is_read (result_for_path answers path) ≡ true))
       (console_path_stays job.expect_console row.console) files.console;
 }
 
 pub passes_after : (words : AcceptArgs) (before after : FileContents) (bytes : List ℕ) (jobs : List Job)
     (chosen : List Bool) (status : ℕ) (from to : CommandOutputs) (place : ℕ) (job : Job) (row : Row)
     → IsTextAt (Some before) words.run.list.now bytes → job_list_of bytes ≡ Ok jobs
-    → (accepted : IsAcceptedOfMarks (Some before) words bytes jobs chosen status from to)
+    → (accepted : IsAcceptOfSelected (Some before) words bytes jobs chosen status from to)
     → (store : IsStoreAfter (written_files accepted.told) before after)
-    → HaveOneTextEach store.leads accepted.told.files.now → IsWhollyAccepted accepted.told place job
-    → IsRowIn after words.run place row → is_pass_or_unasked row.verdict ≡ true
+    → HaveOneTextEach store.leads accepted.told.files.now → IsFullyAccepted accepted.told place job
+    → IsRowIn after words.run place row → is_pass_or_none row.verdict ≡ true
 passes_after words before after bytes jobs chosen status from to place job row read listed accepted store alike whole later =
     let told = accepted.told in
     let outcome = accepted.outcome in

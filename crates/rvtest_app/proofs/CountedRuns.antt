@@ -14,10 +14,10 @@ use Rattle.rvtest_app.proofs.WriteStops.{unopened}
 use Rattle.rvtest_app.specs.Outlets.{AreFilesCommitted, AreFilesPartlyCommitted, HasTaken, file_path_at}
 use Rattle.rvtest_app.specs.WriteStops.{IsUnopenedStop}
 use Rattle.rvtest_app.specs.Puts.{IsShown}
-use Rattle.rvtest_app.specs.RunStops.{IsRunPutStop}
+use Rattle.rvtest_app.specs.RunStops.{IsRunWriteStop}
 use Rattle.rvtest_app.specs.Runs.{AreCountsWritten, AreRunFilesPlacedInPart, IsCountsText, IsRunWritten, junit_file, report_file}
 use Rattle.rvtest_app.specs.CommandOutputs.{CommandOutputs, placed_if_reported, with_placed_if_reported}
-use Rattle.rvtest_app.specs.StackStops.{IsCountsPutStop}
+use Rattle.rvtest_app.specs.StackStops.{IsCountsWriteStop}
 use Rattle.rvtest_app.specs.WrittenTexts.{IsWrittenAt}
 use Rattle.rvtest_app.specs.declared.outlets.Outlet.{Outlet}
 use Rattle.rvtest_app.specs.declared.outlets.Outlet.TheVariants as outlet
@@ -106,9 +106,9 @@ part_of_counts words reporter places shard old rows before after placed given fi
 -- ---- why
 
 pub unopened_counts : (words : RunArgs) (why : Stop)
-    → IsSomeAnd (file_path_at (optional_text words.counts)) (λ path. IsUnopenedStop path why) → IsRunPutStop words why
+    → IsSomeAnd (file_path_at (optional_text words.counts)) (λ path. IsUnopenedStop path why) → IsRunWriteStop words why
 unopened_counts words why is = inr (inl (unopened _ why is))
 
-pub unput_counts : (words : RunArgs) (why : Stop) → IsCountsPutStop words (file_path_at (optional_text words.counts)) why
-    → IsRunPutStop words why
+pub unput_counts : (words : RunArgs) (why : Stop) → IsCountsWriteStop words (file_path_at (optional_text words.counts)) why
+    → IsRunWriteStop words why
 unput_counts words why = ⊎_elim (λ memory. inl (inr (inl memory))) (⊎_elim (λ failed. inl (inr (inr (inl failed)))) (λ is. inr is))

@@ -18,7 +18,7 @@ use Rattle.rv_lists.specs.declared.job.Job.{Job}
 use Rattle.rv_report.specs.declared.row.Row.{Row}
 use Rattle.rv_report.specs.declared.row.RowEnd.{RowEnd}
 use Rattle.rv_rows.specs.Verdict.{did_run, expects_anything, has_expected_end, has_expected_exit}
-use Rattle.rvtest_app.specs.Standings.{AreCandidates, IsCandidateAt, IsStanding, standing_by, verdict_of_sides}
+use Rattle.rvtest_app.specs.Standings.{AreCandidates, IsCandidateAt, IsStanding, verdict_by, verdict_of_sides}
 
 -- ---- nothing is unmet
 
@@ -26,7 +26,7 @@ differing : {A : Type 0} (same : Bool) → (if same then standing.Differs else s
 differing true is = cc
 differing false is = cc
 
-passes_by : (ran : Bool) (found : List Unmet) → standing_by ran found ≡ standing.Passes → (ran ≡ true) × (found ≡ [])
+passes_by : (ran : Bool) (found : List Unmet) → verdict_by ran found ≡ standing.Passes → (ran ≡ true) × (found ≡ [])
 passes_by true [] is = (refl, refl)
 passes_by true (one ∷ more) is = differing (list_any is_same (one ∷ more)) is
 passes_by false found is = differing (list_any is_same found) is

@@ -15,7 +15,7 @@ use Rattle.rv_accept_text.specs.declared.accepting.AcceptSummary.{AcceptSummary}
 use Rattle.rv_accept_text.specs.declared.golden_file.GoldenFile.{GoldenFile}
 use Rattle.rv_accept_text.specs.declared.golden_file.ListFile.{ListFile}
 use Rattle.rv_base.specs.Files.{FileContents}
-use Rattle.rv_files.specs.Placed.{CommittedFile, placed_file}
+use Rattle.rv_files.specs.Placed.{CommittedFile, committed_file}
 use Rattle.rvtest_app.specs.AcceptLaw.{HaveOneTextEach, IsStoreAfter}
 use Rattle.rvtest_app.specs.Accepts.{AreGoldenFiles, file_if, new_list_text, written_files}
 
@@ -29,20 +29,20 @@ any_elim {X} {A} Q xs each some =
 -- ---- the files that are written
 
 of_file : (P : CommittedFile → Type 0) (path : List ℕ) (text : Option (List ℕ)) → All P (file_if path text)
-    → (written : List ℕ) → text ≡ Some written → P (placed_file path written)
+    → (written : List ℕ) → text ≡ Some written → P (committed_file path written)
 of_file P path None each written is = cc
 of_file P path (Some text) each written is =
     let same : text ≡ written = cc in
-    subst (λ written. P (placed_file path written)) same (All-head P (placed_file path text) [] each)
+    subst (λ written. P (committed_file path written)) same (All-head P (committed_file path text) [] each)
 
 to_file : (P : CommittedFile → Type 0) (path : List ℕ) (text : Option (List ℕ))
-    → ((written : List ℕ) → text ≡ Some written → P (placed_file path written)) → All P (file_if path text)
+    → ((written : List ℕ) → text ≡ Some written → P (committed_file path written)) → All P (file_if path text)
 to_file P path None each = All-nil P
-to_file P path (Some text) each = All-cons P (placed_file path text) [] (each text refl) (All-nil P)
+to_file P path (Some text) each = All-cons P (committed_file path text) [] (each text refl) (All-nil P)
 
 -- what holds of the text that a golden file is given
 abbrev OfNew : (CommittedFile → Type 0) → ListFile → GoldenFile → Type 0
-OfNew P list file = (text : List ℕ) → new_text list file ≡ Some text → P (placed_file file.place text)
+OfNew P list file = (text : List ℕ) → new_text list file ≡ Some text → P (committed_file file.place text)
 
 of_golden : (P : CommittedFile → Type 0) (list : ListFile) (files : List GoldenFile)
     → All P (flat_map (λ (file : GoldenFile). file_if file.place (new_text list file)) files)
@@ -65,7 +65,7 @@ golden_written told = flat_map (λ (file : GoldenFile). file_if file.place (new_
 
 -- what holds of each golden file's new text, and of the list's, holds of each file that is written
 to_written : (P : CommittedFile → Type 0) (told : AcceptSummary) → All (OfNew P told.list) told.files.now
-    → ((text : List ℕ) → new_list_text told ≡ Some text → P (placed_file told.list.path.now text))
+    → ((text : List ℕ) → new_list_text told ≡ Some text → P (committed_file told.list.path.now text))
     → All P (written_files told)
 to_written P told golden list = All-append P (golden_written told)
     (file_if told.list.path.now (new_list_text told))

@@ -16,7 +16,7 @@ use Rattle.rv_expect.specs.Judgement.{Judging}
 use Rattle.rv_files.specs.declared.recording_store.UnreadPath.{UnreadPath}
 use Rattle.rv_jobs.specs.Jobs.{single_job}
 use Rattle.rv_jobs.specs.Kept.{IsKeptOf}
-use Rattle.rv_jobs.specs.Plans.{AreKept, Planned, kept_for}
+use Rattle.rv_jobs.specs.Plans.{AgreeWithContents, Planned, result_for_path}
 use Rattle.rv_jobs.specs.declared.answers.Answer.{Answer}
 use Rattle.rv_jobs.specs.declared.kept.Kept.{Kept}
 use Rattle.rv_jobs.specs.declared.kept.Kept.TheVariants as kept
@@ -54,13 +54,13 @@ content_small known path kept.TooLong of = tt
 
 kept_small_by : (known : Option FileContents) (path : List ℕ) (answer : Answer) (answers : List Answer) (same : Bool)
     → bytes_eq path answer.path ≡ same → IsKeptOf known answer.path answer.kept
-    → IfSome (content_if_read (Some (kept_for answers path))) (λ bytes. length bytes ≤ most_bytes)
-    → IfSome (content_if_read (Some (kept_for (answer ∷ answers) path))) (λ bytes. length bytes ≤ most_bytes)
+    → IfSome (content_if_read (Some (result_for_path answers path))) (λ bytes. length bytes ≤ most_bytes)
+    → IfSome (content_if_read (Some (result_for_path (answer ∷ answers) path))) (λ bytes. length bytes ≤ most_bytes)
 kept_small_by known path answer answers true same of rest = rw same (content_small known answer.path answer.kept of)
 kept_small_by known path answer answers false same of rest = rw same rest
 
-kept_small : (known : Option FileContents) (path : List ℕ) (answers : List Answer) → AreKept known answers
-    → IfSome (content_if_read (Some (kept_for answers path))) (λ bytes. length bytes ≤ most_bytes)
+kept_small : (known : Option FileContents) (path : List ℕ) (answers : List Answer) → AgreeWithContents known answers
+    → IfSome (content_if_read (Some (result_for_path answers path))) (λ bytes. length bytes ≤ most_bytes)
 kept_small known path [] are = tt
 kept_small known path (answer ∷ answers) are =
     kept_small_by known path answer answers (bytes_eq path answer.path) refl
@@ -68,7 +68,7 @@ kept_small known path (answer ∷ answers) are =
     (kept_small known path answers (All-tail (λ (a : Answer). IsKeptOf known a.path a.kept) answer answers are))
 
 -- what is kept of paths is not larger than a store reads
-pub all_small : (known : Option FileContents) (answers : List Answer) → AreKept known answers → AreSmall answers
+pub all_small : (known : Option FileContents) (answers : List Answer) → AgreeWithContents known answers → AreSmall answers
 all_small known answers are job = kept_small known job.image answers are
 
 -- ---- tables

@@ -11,9 +11,9 @@ use Rattle.rv_files.specs.Placed.{CommittedFile}
 use Rattle.rv_report.specs.declared.report.WriteError.{WriteError}
 use Rattle.rv_report.specs.declared.report.WriteError.TheVariants as write
 use Rattle.rvtest_app.specs.Outlets.{HasTaken, file_path_at, outlet_path}
-use Rattle.rvtest_app.specs.WriteStops.{IsFileStop, IsOutputStop, IsPutStop, IsTextStop, IsUnopenedStop, IsUnplacedStop, IsUnwrittenStop, IsWriteErrorStop, stop_of_write_error}
+use Rattle.rvtest_app.specs.WriteStops.{IsFileStop, IsOutputStop, IsOutputWriteStop, IsTextStop, IsUnopenedStop, IsUnplacedStop, IsUnwrittenStop, IsWriteErrorStop, stop_of_write_error}
 use Rattle.rvtest_app.specs.IntoReports.{run_report_path}
-use Rattle.rvtest_app.specs.RunStops.{IsRunPutStop, IsShowStop}
+use Rattle.rvtest_app.specs.RunStops.{IsRunWriteStop, IsShowStop}
 use Rattle.rvtest_app.specs.declared.run_output.ShowError.{ShowError}
 use Rattle.rvtest_app.specs.declared.run_output.ShowError.TheVariants as show
 use Rattle.rvtest_app.specs.declared.outlets.Outlet.{Outlet}
@@ -40,11 +40,11 @@ file_text_stop path (Ok x) (Err why) stopped = elim stopped [ ]
 file_text_stop path (Err write.OutOfMemory) (Err why) stopped = (io.Other, inl stopped)
 file_text_stop path (Err write.Failed) (Err why) stopped = stopped
 
-pub put_of_report : (report junit : Option (List ℕ)) (why : Stop) → IsTextStop report why → IsPutStop report junit why
+pub put_of_report : (report junit : Option (List ℕ)) (why : Stop) → IsTextStop report why → IsOutputWriteStop report junit why
 put_of_report None junit why = ⊎_elim inl (λ failed. inr (inl failed))
 put_of_report (Some path) junit why = λ unwritten. inr (inr (inl (inr unwritten)))
 
-pub put_of_junit : (report junit : Option (List ℕ)) (why : Stop) → IsTextStop junit why → IsPutStop report junit why
+pub put_of_junit : (report junit : Option (List ℕ)) (why : Stop) → IsTextStop junit why → IsOutputWriteStop report junit why
 put_of_junit report None why = ⊎_elim inl (λ failed. inr (inl failed))
 put_of_junit report (Some path) why = λ unwritten. inr (inr (inr (inr unwritten)))
 
@@ -69,7 +69,7 @@ file_of_unplaced None why is = elim is [ ]
 
 -- two files that were written and not put in their places
 pub put_of_unplaced : {X : Type 0} (report junit : Option (List ℕ)) (answer : Result X Stop)
-    → IfErr answer (λ why. IsUnplacedStop report why ⊎ IsUnplacedStop junit why) → IfErr answer (IsPutStop report junit)
+    → IfErr answer (λ why. IsUnplacedStop report why ⊎ IsUnplacedStop junit why) → IfErr answer (IsOutputWriteStop report junit)
 put_of_unplaced report junit answer = IfErr-map answer _ _
     (λ why. ⊎_elim (λ is. inr (inr (inl (file_of_unplaced report why is))))
     (λ is. inr (inr (inr (file_of_unplaced junit why is)))))
@@ -80,7 +80,7 @@ module _ {P W : Type 0} (pending_path : P → List ℕ) (taken : W → Option (L
       (report junit : Outlet P W) (answer : Result X Stop)
       → HasTaken pending_path taken failed placed report_path [] report
       → HasTaken pending_path taken failed placed junit_path [] junit
-      → IfErr answer (IsPutStop (outlet_path report) (outlet_path junit))
+      → IfErr answer (IsOutputWriteStop (outlet_path report) (outlet_path junit))
       → IfErr answer (IsOutputStop report_path junit_path)
   output_of_put placed report_path junit_path report junit answer for_report for_junit stopped = rw (
     path_told pending_path taken failed placed report_path report [] for_report,
@@ -91,7 +91,7 @@ module _ {P W : Type 0} (pending_path : P → List ℕ) (taken : W → Option (L
 
 -- a run whose rows were not all shown and written, with the outlet of its report at the requested path
 pub run_of_show : (words : RunArgs) (path : Option (List ℕ)) (error : ShowError) (why : Stop) → path ≡ file_path_at (run_report_path words)
-    → IsShowStop path error why → IsRunPutStop words why
+    → IsShowStop path error why → IsRunWriteStop words why
 run_of_show words path show.OutOfMemory why is stopped = inl (inr (inl stopped))
 run_of_show words path show.NoWorker why is stopped = inl (inl stopped)
 run_of_show words path show.StreamFailed why is stopped = inl (inr (inr (inl stopped)))

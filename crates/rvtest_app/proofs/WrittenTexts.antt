@@ -2,7 +2,7 @@
 use Rattle.std.proofs.Common.{◌≡◌, ◌∙◌, ◌∷◌, ℕ, List, [], Option, Some, None, false, ap, append-nil, codes, refl, subst, sym}
 use Rattle.std.specs.Prelude.{IfSome, OnOk, Result}
 use Rattle.std.specs.Io.KnownBytes.{Appends}
-use Rattle.rv_files.specs.Placed.{CommittedFile, placed_file}
+use Rattle.rv_files.specs.Placed.{CommittedFile, committed_file}
 use Rattle.rvtest_app.proofs.PutTexts.{appends_nothing}
 use Rattle.rvtest_app.proofs.Results.{OnOk-from, OnOk-map}
 use Rattle.rvtest_app.specs.Outlets.{AreFilesCommitted, file_at, is_stdout}
@@ -37,7 +37,7 @@ written_out path text before after is out errors failures placed = rw is (record
 -- a text went to a file
 pub written_file : (path : Option (List ℕ)) (name text : List ℕ) (before after : CommandOutputs) → path ≡ Some name
     → is_stdout name ≡ false → after.out ≡ before.out → after.errors ≡ before.errors → after.failures ≡ before.failures
-    → AreFilesCommitted before.placed after.placed (Some (placed_file name text ∷ [])) → IsWrittenAt path text before after
+    → AreFilesCommitted before.placed after.placed (Some (committed_file name text ∷ [])) → IsWrittenAt path text before after
 written_file path name text before after is file out errors failures placed = rw is (record {
   out = rw file (subst (λ (o : Option (List ℕ)). Appends before.out o []) (sym out) (appends_nothing before.out));
   errors = errors;
@@ -73,7 +73,7 @@ pub written_file_where_told : {X Y : Type 0} (r : Result X Y) (earlier : Option 
     → after.out ≡ before.out → after.errors ≡ before.errors → after.failures ≡ before.failures
     → IfSome earlier (λ _. Empty)
     → (IfSome before.placed (λ _. Empty)
-    → OnOk r (AreFilesCommitted before.placed after.placed (Some (placed_file name text ∷ []))))
+    → OnOk r (AreFilesCommitted before.placed after.placed (Some (committed_file name text ∷ []))))
     → OnOk r (IsWrittenAt path text (with_placed_if_reported earlier before) after)
 written_file_where_told r None path name text before after Empty is file out errors failures empty placed =
     OnOk-from r _ (written_file path name text (with_placed_if_reported None before) after is file out errors failures tt)

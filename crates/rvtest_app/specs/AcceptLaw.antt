@@ -13,7 +13,7 @@ use Rattle.rv_files.specs.Placed.{CommittedFile}
 use Rattle.rv_files.specs.UnreadPaths.{contents_below}
 use Rattle.rv_files.specs.declared.recording_store.UnreadPath.{UnreadPath}
 use Rattle.rv_jobs.specs.Jobs.{console_path}
-use Rattle.rv_jobs.specs.Plans.{Planned, kept_for}
+use Rattle.rv_jobs.specs.Plans.{Planned, result_for_path}
 use Rattle.rv_jobs.specs.declared.answers.Answer.{Answer}
 use Rattle.rv_jobs.specs.declared.kept.Kept.{Kept}
 use Rattle.rv_jobs.specs.declared.kept.Kept.TheVariants as kept
@@ -46,7 +46,7 @@ HaveOneTextEach leads files = All (λ (file : GoldenFile). All (λ (other : Gold
 -- ---- the job
 
 -- `job` is at index `place` of the list, it is accepted, none of its golden files is skipped, and it has no `same_as`
-pub record IsWhollyAccepted (told : AcceptSummary) (place : ℕ) (job : Job) : Type 0 where
+pub record IsFullyAccepted (told : AcceptSummary) (place : ℕ) (job : Job) : Type 0 where
   -- the job is at index `place` of the list
   pub stands : slice_get told.list.jobs.now place ≡ Some job
   pub accepted : IsTrue (is_of_accepted (slice_get told.runs.now place))
@@ -63,9 +63,9 @@ is_read _ = false
 
 -- the image of the job and each of its expectation files were read
 pub record AreFilesRead (answers : List Answer) (job : Job) : Type 0 where
-  pub image : IsTrue (is_read (kept_for answers job.image))
-  pub signature : IfSome job.expect_signature (λ path. IsTrue (is_read (kept_for answers path)))
-  pub console : IfSome (console_path job.expect_console) (λ path. IsTrue (is_read (kept_for answers path)))
+  pub image : IsTrue (is_read (result_for_path answers job.image))
+  pub signature : IfSome job.expect_signature (λ path. IsTrue (is_read (result_for_path answers path)))
+  pub console : IfSome (console_path job.expect_console) (λ path. IsTrue (is_read (result_for_path answers path)))
 
 -- `row` is the row of the job at index `place` when the list runs against the store, and all files of the job were read
 pub record IsRowIn (store : FileContents) (words : RunArgs) (place : ℕ) (row : Row) : Type 0 where

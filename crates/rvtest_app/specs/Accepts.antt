@@ -27,7 +27,7 @@ use Rattle.rv_base.specs.Files.{FileContents}
 use Rattle.rv_choice.specs.Chosen.{IsChoice}
 use Rattle.rvtest_cli.specs.declared.accept.AcceptArgs.{AcceptArgs}
 use Rattle.rv_command.specs.Texts.{IsTextAt, optional_text}
-use Rattle.rv_files.specs.Placed.{CommittedFile, placed_file}
+use Rattle.rv_files.specs.Placed.{CommittedFile, committed_file}
 use Rattle.rv_files.specs.UnreadPaths.{contents_below, resolved_path}
 use Rattle.rv_files.specs.declared.recording_store.UnreadPath.{UnreadPath}
 use Rattle.rv_jobs.specs.Plans.{Planned}
@@ -39,7 +39,7 @@ use Rattle.rv_rows.specs.Rows.{rows_at}
 use Rattle.rvtest_app.specs.Commands.{failure_rule}
 use Rattle.rvtest_app.specs.MissingImages.{missing_images_note}
 use Rattle.rvtest_app.specs.Outlets.{AreFilesCommitted}
-use Rattle.rvtest_app.specs.Runs.{IsPlanFor, places_of_marks}
+use Rattle.rvtest_app.specs.Runs.{IsPlanFor, selected_job_indices}
 use Rattle.rvtest_app.specs.CommandOutputs.{IsOnlyStandardOutput, IsOnlyErrorOutput, CommandOutputs}
 use Rattle.rvtest_app.specs.Standings.{AreCandidates}
 
@@ -52,19 +52,19 @@ acceptance_of false = acceptance.Expected
 
 -- `rows` are the rows of the selected jobs of the list `bare`, each at the index of its job, with the files read from the store; `note` is
 -- the note about missing images
-pub record AreRowsOfMarked (known : Option FileContents) (root : Option (List ℕ)) (bare : List Job) (marks : List Bool)
+pub record AreRowsOfSelected (known : Option FileContents) (root : Option (List ℕ)) (bare : List Job) (marks : List Bool)
     (rows : List (Option Row)) (note : List ℕ) : Type 0 where
   pub plan : Planned
   pub unread : List UnreadPath
-  pub planned : IsPlanFor (contents_below root known) bare (places_of_marks marks) plan unread
-  pub are : rows ≡ indexed_rows marks (rows_at plan (places_of_marks marks))
-  pub noted : note ≡ missing_images_note plan.jobs unread (length (places_of_marks marks)) root
+  pub planned : IsPlanFor (contents_below root known) bare (selected_job_indices marks) plan unread
+  pub are : rows ≡ indexed_rows marks (rows_at plan (selected_job_indices marks))
+  pub noted : note ≡ missing_images_note plan.jobs unread (length (selected_job_indices marks)) root
 
 -- `rows` are the rows of the selected jobs, and only the note about missing images was output, to standard error
-pub record AreRowsPut (known : Option FileContents) (root : Option (List ℕ)) (bare : List Job) (marks : List Bool)
+pub record AreRowsMade (known : Option FileContents) (root : Option (List ℕ)) (bare : List Job) (marks : List Bool)
     (rows : List (Option Row)) (before after : CommandOutputs) : Type 0 where
   pub note : List ℕ
-  pub are : AreRowsOfMarked known root bare marks rows note
+  pub are : AreRowsOfSelected known root bare marks rows note
   pub told : IsOnlyErrorOutput note before after
 
 -- ---- the files
@@ -92,7 +92,7 @@ AreGoldenFiles known root _ _ = ⊥
 -- the file with this path and text; no file without a text
 abbrev pub file_if : List ℕ → Option (List ℕ) → List CommittedFile
 file_if path None = []
-file_if path (Some text) = placed_file path text ∷ []
+file_if path (Some text) = committed_file path text ∷ []
 
 -- the text of the new list, if `accept` writes one
 abbrev pub new_list_text : AcceptSummary → Option (List ℕ)
@@ -169,13 +169,13 @@ pub record AreJudged (known : Option FileContents) (words : AcceptArgs) (jobs : 
 
 -- `accept` ran the jobs that it needs for the chosen ones, without their expectations, and wrote the summary of their runs; before that it
 -- reported the golden files outside of the directory
-pub record IsAcceptedOfMarks (known : Option FileContents) (words : AcceptArgs) (bytes : List ℕ) (jobs : List Job)
+pub record IsAcceptOfSelected (known : Option FileContents) (words : AcceptArgs) (bytes : List ℕ) (jobs : List Job)
     (chosen : List Bool) (status : ℕ) (before after : CommandOutputs) : Type 0 where
   pub first : CommandOutputs
   pub outside : AreOutsideFilesReported before first
   pub rows : List (Option Row)
   pub middle : CommandOutputs
-  pub ran : AreRowsPut known (optional_text words.run.root) (map without_expectations jobs)
+  pub ran : AreRowsMade known (optional_text words.run.root) (map without_expectations jobs)
       (jobs_to_run jobs chosen) rows first middle
   pub judged : List (Option JobRun)
   pub judging : AreJudged known words jobs chosen rows judged
@@ -188,7 +188,7 @@ abbrev pub IsAcceptedOfChosen : Option FileContents → AcceptArgs → List ℕ 
     → CommandOutputs → CommandOutputs → Type 0
 IsAcceptedOfChosen known words bytes jobs None status before after = (status ≡ 0) × (after ≡ before)
 IsAcceptedOfChosen known words bytes jobs (Some chosen) status before after =
-    IsAcceptedOfMarks known words bytes jobs chosen status before after
+    IsAcceptOfSelected known words bytes jobs chosen status before after
 
 -- `accept` read the list at the path in the arguments, wrote the notes about the choice to standard error, and accepted the chosen jobs
 pub record IsAcceptedAt (known : Option FileContents) (words : AcceptArgs) (status : ℕ) (before after : CommandOutputs)

@@ -12,7 +12,7 @@ use Rattle.rv_job_text.specs.ResultLine.{optional_reason_text}
 use Rattle.rv_job_text.specs.TotalsLine.{job_word}
 use Rattle.rv_job_text.specs.UnreadFiles.{too_long_file_text, unread_file_text}
 use Rattle.rv_jobs.specs.Jobs.{console_path}
-use Rattle.rv_jobs.specs.Plans.{Planned, kept_for}
+use Rattle.rv_jobs.specs.Plans.{Planned, result_for_path}
 use Rattle.rv_jobs.specs.declared.kept.Kept.{Kept}
 use Rattle.rv_jobs.specs.declared.kept.Kept.TheVariants as kept
 use Rattle.rv_list_errors.specs.JobPlaces.{job_lines}
@@ -76,7 +76,7 @@ unread_reference_text path lines unread place job _ _ = []
 -- the error line for a job's expectation file; empty if it was read or none is named
 abbrev pub reference_text : List ℕ → List ℕ → Planned → List UnreadPath → ℕ → Job → Option (List ℕ) → List ℕ
 reference_text path lines plan unread place job file =
-    unread_reference_text path lines unread place job (option_map (kept_for plan.answers) file) file
+    unread_reference_text path lines unread place job (option_map (result_for_path plan.answers) file) file
 
 -- the error lines for a job's image and for the files with its expected signature and console
 unfoldable pub refused_files_text : List ℕ → List ℕ → Planned → List UnreadPath → ℕ → Job → List ℕ

@@ -22,18 +22,18 @@ colors_of_word (Some word) is_terminal = if bytes_eq word (codes "always") then 
 colors_of_word None is_terminal = terminal_colors is_terminal
 
 -- plain output if an output file goes to standard output, and the given colours otherwise
-abbrev pub beside_file : Bool → Colors → Colors
-beside_file uses_stdout args = if uses_stdout then colors.Without else args
+abbrev pub colors_unless_stdout_used : Bool → Colors → Colors
+colors_unless_stdout_used uses_stdout args = if uses_stdout then colors.Without else args
 
 -- the colours of a request's results, given whether standard output is a terminal that supports them; only the results of `run`, `explain`,
 -- `diff` and `show` are ever coloured
 abbrev pub requested_colors : Request → Bool → Colors
 requested_colors (request.Run words) is_terminal =
-    beside_file (uses_run_stdout words) (colors_of_word (optional_text words.color) is_terminal)
+    colors_unless_stdout_used (uses_run_stdout words) (colors_of_word (optional_text words.color) is_terminal)
 requested_colors (request.Explain words) is_terminal = colors_of_word (optional_text words.color) is_terminal
 requested_colors (request.Diff words) is_terminal = colors_of_word (optional_text words.color) is_terminal
 requested_colors (request.Show words) is_terminal =
-    beside_file (is_stdout_at (optional_text words.junit)) (colors_of_word (optional_text words.color) is_terminal)
+    colors_unless_stdout_used (is_stdout_at (optional_text words.junit)) (colors_of_word (optional_text words.color) is_terminal)
 requested_colors _ is_terminal = colors.Without
 
 -- the outputs `after` are the outputs `plain` with the results on standard output coloured, and nothing else changed

@@ -5,7 +5,7 @@ use Rattle.clap.specs.declared.error.kind.ErrorKind.{ErrorKind as WordsFault}
 use Rattle.rv_base.specs.Files.{FileContents}
 use Rattle.rv_choice.specs.ChoiceStops.{IsChoiceStop}
 use Rattle.rv_choice.specs.UnknownName.{IsUnknownNameStop}
-use Rattle.rvtest_cli.specs.RvtestWords.{words_of_request, misuse_text, words_fault_kinds, words_faults, words_misuse, words_request}
+use Rattle.rvtest_cli.specs.RvtestWords.{value_of_request, misuse_text, words_fault_kinds, words_faults, words_misuse, request_of_args}
 use Rattle.rvtest_cli.specs.declared.accept.AcceptArgs.{AcceptArgs}
 use Rattle.rvtest_cli.specs.declared.check.CheckArgs.{CheckArgs}
 use Rattle.rvtest_cli.specs.declared.console.ConsoleArgs.{ConsoleArgs}
@@ -150,5 +150,5 @@ IsWordsStop words why = (why ≡ stop.OutOfMemory)
 -- why the program stopped: the requested command stopped, or the arguments are invalid
 abbrev pub IsStopFor : Option FileContents → Bool → List (List ℕ) → Stop → Type 0
 IsStopFor known is_terminal words why =
-    ((args : Request) × ((words_request words ≡ Some (words_of_request args)) × IsCommandStop known is_terminal args why))
+    ((args : Request) × ((request_of_args words ≡ Some (value_of_request args)) × IsCommandStop known is_terminal args why))
     ⊎ IsWordsStop words why

@@ -19,13 +19,13 @@ use Rattle.rv_gdb.specs.declared.conversation.SessionError.{SessionError}
 use Rattle.rv_gdb.specs.declared.conversation.SessionError.TheVariants as broken
 use Rattle.rv_gdb.specs.JobSessions.{IsSessionOf}
 use Rattle.rv_job_text.specs.RowReporter.{outcome_text, row_line}
-use Rattle.rv_jobs.specs.Plans.{AreKept, Planned, jobs_needed_for, paths_of, paths_used}
+use Rattle.rv_jobs.specs.Plans.{AgreeWithContents, Planned, jobs_needed_for, paths_of, paths_used}
 use Rattle.rv_lists.specs.JobList.{job_list_of}
 use Rattle.rv_lists.specs.declared.job.Job.{Job}
 use Rattle.rv_machine.specs.State.{State}
 use Rattle.rv_rows.specs.Flat.{flat_state}
 use Rattle.rv_rows.specs.Rows.{row_of, start_in}
-use Rattle.rv_session.specs.Incoming.{IsFed}
+use Rattle.rv_session.specs.Incoming.{IsReceived}
 use Rattle.rv_session.specs.declared.session.Session.{Session}
 use Rattle.rvtest_app.specs.Reports.{AreNotesOf, IsFirstNamed}
 use Rattle.rvtest_app.specs.CommandOutputs.{IsOnlyStandardOutput, CommandOutputs}
@@ -51,7 +51,7 @@ pub record IsJobOpened (known : Option FileContents) (root : Option (List ℕ)) 
   pub plan : Planned
   pub listed : plan.jobs ≡ jobs
   pub paths : paths_of plan.answers ≡ paths_used (jobs_needed_for jobs (place ∷ []))
-  pub kept : AreKept known plan.answers
+  pub kept : AgreeWithContents known plan.answers
   pub unread : List UnreadPath
   pub noted : AreNotesOf plan.answers unread
   pub over : (d : Job) → IsSessionOf plan.answers (slice_index_or plan.jobs place d)
@@ -91,7 +91,7 @@ pub record IsGdbAnswered (known : Option FileContents) (is_terminal : Bool) (wor
   -- whether the end of the input may have interrupted a move; otherwise only the byte 0x03 did
   pub may_end : Bool
   pub at_end : may_end ≡ true → IsAtEnd rest
-  pub fed : IsFed end_text may_end first heard told last
+  pub fed : IsReceived end_text may_end first heard told last
   pub made : last.asked ≡ None
   pub ended : IsEnded last rest
   pub put : IsOnlyStandardOutput told before after
@@ -109,7 +109,7 @@ pub record IsRefusedJobStop (known : Option FileContents) (jobs : List Job) (pla
   pub plan : Planned
   pub listed : plan.jobs ≡ jobs
   pub paths : paths_of plan.answers ≡ paths_used (jobs_needed_for jobs (place ∷ []))
-  pub kept : AreKept known plan.answers
+  pub kept : AgreeWithContents known plan.answers
   pub unread : List UnreadPath
   pub noted : AreNotesOf plan.answers unread
   pub refused : (d : Job) → is_ok (start_in plan.answers (slice_index_or plan.jobs place d)) ≡ false

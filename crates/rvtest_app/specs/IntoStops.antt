@@ -50,10 +50,10 @@ not_whole_refusal path list (other.Name name) = name_refusal path list name.numb
 -- ---- which message is shown
 
 -- the number of jobs in the list of a partial report; none for a whole report
-abbrev pub jobs_beside_part : Extent → Option ℕ
-jobs_beside_part extent.Whole = None
-jobs_beside_part (extent.Choice jobs) = Some jobs
-jobs_beside_part (extent.Shard shard) = Some shard.jobs
+abbrev pub jobs_of_partial_report : Extent → Option ℕ
+jobs_of_partial_report extent.Whole = None
+jobs_of_partial_report (extent.Choice jobs) = Some jobs
+jobs_of_partial_report (extent.Shard shard) = Some shard.jobs
 
 -- `other` has the number, counted from 1, of the first name that differs between the two lists, and the name in each list
 pub record IsFirstOtherName (names all : List (List ℕ)) (other : OtherName) : Type 0 where
@@ -68,19 +68,19 @@ pub record IsFirstOtherName (names all : List (List ℕ)) (other : OtherName) : 
 -- why a report is not a report of all jobs of the list: it is partial, its number of rows differs, or the name of a row does
 abbrev pub IsNotWhole : List Job → SavedReport → NotWhole → Type 0
 IsNotWhole jobs report (other.Part rows count) = (rows ≡ length report.rows)
-    × (jobs_beside_part report.extent ≡ Some count)
+    × (jobs_of_partial_report report.extent ≡ Some count)
 IsNotWhole jobs report (other.Count rows count) = (report.extent ≡ extent.Whole)
     × ((rows ≡ length report.rows) × ((count ≡ length jobs) × ((rows == count) ≡ false)))
 IsNotWhole jobs report (other.Name name) = (report.extent ≡ extent.Whole)
     × ((length report.rows ≡ length jobs) × IsFirstOtherName (row_names report.rows) (job_names jobs) name)
 
 -- the report at `path` could not be read, or it is not a report of all jobs of the list at `list`
-abbrev pub IsNoWholeReportStop : Option FileContents → List ℕ → List ℕ → List Job → Stop → Type 0
-IsNoWholeReportStop known path list jobs why = IsReportReadError known path why
+abbrev pub IsNotWholeReportStop : Option FileContents → List ℕ → List ℕ → List Job → Stop → Type 0
+IsNotWholeReportStop known path list jobs why = IsReportReadError known path why
     ⊎ ((report : SavedReport) × (IsReportAt known path report
     × ((other : NotWhole) × (IsNotWhole jobs report other × IsStop 2 (not_whole_refusal path list other) why))))
 
 -- why the report of `--into` cannot be updated, if the option is given
 abbrev pub IsIntoStop : Option FileContents → RunArgs → List Job → Stop → Type 0
 IsIntoStop known words jobs why =
-    IsSomeAnd words.into (λ path. IsNoWholeReportStop known path.now words.list.now jobs why)
+    IsSomeAnd words.into (λ path. IsNotWholeReportStop known path.now words.list.now jobs why)

@@ -10,7 +10,7 @@ use Rattle.rv_lists.specs.JobList.{job_list_of}
 use Rattle.rv_lists.specs.declared.job.Job.{Job}
 use Rattle.rv_report.specs.Report.{line}
 use Rattle.rvtest_app.specs.Commands.{failure_rule}
-use Rattle.rvtest_app.specs.Runs.{places_of_marks}
+use Rattle.rvtest_app.specs.Runs.{selected_job_indices}
 use Rattle.rvtest_app.specs.CommandOutputs.{IsOnlyStandardOutput, IsOnlyErrorOutput, CommandOutputs}
 
 -- the name of a job, as a line
@@ -24,7 +24,7 @@ name_lines jobs places = flat_map (λ place. name_line (slice_index_or jobs plac
 -- the names of the selected jobs, one per line; nothing without a selection
 abbrev pub chosen_name_lines : List Job → Option (List Bool) → List ℕ
 chosen_name_lines jobs None = []
-chosen_name_lines jobs (Some marks) = name_lines jobs (places_of_marks marks)
+chosen_name_lines jobs (Some marks) = name_lines jobs (selected_job_indices marks)
 
 -- `names` are the lines that `list` prints for the list whose text is `bytes`, and `notes` are the notes about the choice
 pub record AreListedOf (known : Option FileContents) (words : RunArgs) (bytes names notes : List ℕ) : Type 0 where

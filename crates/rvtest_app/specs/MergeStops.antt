@@ -30,14 +30,14 @@ abbrev pub ArePartsUnread : Option FileContents → List (Bor (List ℕ)) → St
 ArePartsUnread known paths why = (why ≡ stop.OutOfMemory) ⊎ IsPartUnreadStop known paths why
 
 -- the report, the JUnit XML or the summary line could not be written
-abbrev pub IsMergedPutStop : MergeArgs → Stop → Type 0
-IsMergedPutStop words why = IsOutputStop
+abbrev pub IsMergeWriteStop : MergeArgs → Stop → Type 0
+IsMergeWriteStop words why = IsOutputStop
     (merged_report_path (optional_text words.report) (optional_text words.junit)) (optional_text words.junit) why
 
 -- the texts are not the parts of one run, or they are, and the merged report was not written
 abbrev pub IsMergeOfStop : MergeArgs → List (List ℕ) → Stop → Type 0
 IsMergeOfStop words texts why = ArePartsRefused words.parts.items texts why
-    ⊎ ((rows : List Row) × (AreParts rows texts × IsMergedPutStop words why))
+    ⊎ ((rows : List Row) × (AreParts rows texts × IsMergeWriteStop words why))
 
 -- why `merge` stopped: a file would overwrite a part, a part could not be read, or merging the parts stopped
 abbrev pub IsMergeStop : Option FileContents → MergeArgs → Stop → Type 0

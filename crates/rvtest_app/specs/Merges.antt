@@ -11,7 +11,7 @@ use Rattle.rv_report.specs.declared.row.Row.{Row}
 use Rattle.rvtest_app.specs.Commands.{report_judging}
 use Rattle.rv_files.specs.Placed.{CommittedFile}
 use Rattle.rvtest_app.specs.Outlets.{AreFilesCommitted, file_at, is_stdout}
-use Rattle.rvtest_app.specs.Puts.{WentOut}
+use Rattle.rvtest_app.specs.Puts.{IsOutputWritten}
 use Rattle.rvtest_app.specs.RunOutput.{rows_status}
 use Rattle.rvtest_app.specs.JunitTexts.{failures_junit, suite_name}
 use Rattle.rvtest_app.specs.CommandOutputs.{CommandOutputs}
@@ -46,7 +46,7 @@ pub record IsMergedAt (known : Option FileContents) (words : MergeArgs) (status 
   pub rows : List Row
   pub parts : AreParts rows texts
   pub judged : status ≡ rows_status (report_judging words.lenient) rows
-  pub put : WentOut (merged_report_path (optional_text words.report) (optional_text words.junit))
+  pub put : IsOutputWritten (merged_report_path (optional_text words.report) (optional_text words.junit))
       (optional_text words.junit) (totals_line (report_judging words.lenient) rows) (report_text rows)
       (merged_junit words rows) before after
 

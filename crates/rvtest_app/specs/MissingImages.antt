@@ -17,12 +17,12 @@ is_not_found kind.NotFound = true
 is_not_found _ = false
 
 -- whether a path could not be read because there is no file
-abbrev pub is_noted_missing : Option UnreadPath → Bool
-is_noted_missing note = option_map_or (λ one. is_not_found one.reason) note false
+abbrev pub is_reported_missing : Option UnreadPath → Bool
+is_reported_missing note = option_map_or (λ one. is_not_found one.reason) note false
 
 -- whether the job's image is missing, and its path is relative
 abbrev pub is_image_missing : List UnreadPath → Job → Bool
-is_image_missing unread job = not (starts_with nat_eq job.image (codes "/")) && is_noted_missing (unread_note unread job.image)
+is_image_missing unread job = not (starts_with nat_eq job.image (codes "/")) && is_reported_missing (unread_note unread job.image)
 
 -- whether the images of all jobs are missing, and their paths are relative
 abbrev pub are_images_missing : List Job → List UnreadPath → Bool

@@ -159,11 +159,11 @@ abbrev pub inputs_of_accept : AcceptArgs → List Job → List (List ℕ)
 inputs_of_accept words jobs = failed_of_run words.run ++ flat_map (image_paths (optional_text words.run.root)) jobs
 
 -- the paths of the golden files of the selected jobs, resolved against `root`
-unfoldable pub golden_paths_of_marked : Option (List ℕ) → List Job → List Bool → List (List ℕ)
-golden_paths_of_marked root [] marks = []
-golden_paths_of_marked root (job ∷ jobs) [] = []
-golden_paths_of_marked root (job ∷ jobs) (marked ∷ marks) =
-    (if marked then golden_paths_of_job root job else []) ++ golden_paths_of_marked root jobs marks
+unfoldable pub golden_paths_of_selected : Option (List ℕ) → List Job → List Bool → List (List ℕ)
+golden_paths_of_selected root [] marks = []
+golden_paths_of_selected root (job ∷ jobs) [] = []
+golden_paths_of_selected root (job ∷ jobs) (marked ∷ marks) =
+    (if marked then golden_paths_of_job root job else []) ++ golden_paths_of_selected root jobs marks
 
 -- whether the file at the path is among the inputs
 abbrev pub is_read : List (List ℕ) → List ℕ → Bool
@@ -176,8 +176,8 @@ is_golden_read read golden = is_read read (path_buf_bytes golden.path)
 -- the list is not among the other inputs of `accept`, and no golden file of a selected job is the list or an input
 pub record AreAcceptFilesApart (words : AcceptArgs) (jobs : List Job) (marks : List Bool) : Type 0 where
   pub list : IsUnread (inputs_of_accept words jobs) words.run.list.now
-  pub no_list : list_any (is_read (words.run.list.now ∷ [])) (golden_paths_of_marked (optional_text words.run.root) jobs marks) ≡ false
-  pub no_input : list_any (is_read (inputs_of_accept words jobs)) (golden_paths_of_marked (optional_text words.run.root) jobs marks) ≡ false
+  pub no_list : list_any (is_read (words.run.list.now ∷ [])) (golden_paths_of_selected (optional_text words.run.root) jobs marks) ≡ false
+  pub no_input : list_any (is_read (inputs_of_accept words jobs)) (golden_paths_of_selected (optional_text words.run.root) jobs marks) ≡ false
 
 -- the beginning of a message about a golden file outside of the directory: `head` and the words for the file
 abbrev pub outside_head : List ℕ → List ℕ → List ℕ

@@ -21,7 +21,7 @@ junit_of line texts = junit_text texts.suite.name.now (judging_of texts.suite.ju
     (row_text_list (line texts.reporter.now) texts.places.now (report_rows texts.report)) (report_rows texts.report)
 
 -- the text `shown` was written, to standard error if `is_beside` is true, and then the report and the JUnit XML to their paths
-pub record WentOutBeside (is_beside : Bool) (report_path junit_path : Option (List ℕ)) (shown report junit : List ℕ)
+pub record IsOutputWrittenTo (is_beside : Bool) (report_path junit_path : Option (List ℕ)) (shown report junit : List ℕ)
     (before after : CommandOutputs) : Type 0 where
   pub middle : CommandOutputs
   pub seen : IsShown is_beside shown before middle
@@ -30,6 +30,6 @@ pub record WentOutBeside (is_beside : Bool) (report_path junit_path : Option (Li
   pub placed : AreFilesCommitted middle.placed after.placed (Some (file_at junit_path junit ++ file_at report_path report))
 
 -- the text `shown` was written, to standard error if a path is standard output, and then the report and the JUnit XML to their paths
-abbrev pub WentOut : Option (List ℕ) → Option (List ℕ) → List ℕ → List ℕ → List ℕ → CommandOutputs → CommandOutputs → Type 0
-WentOut report_path junit_path shown report junit before after =
-    WentOutBeside (is_stdout_at report_path || is_stdout_at junit_path) report_path junit_path shown report junit before after
+abbrev pub IsOutputWritten : Option (List ℕ) → Option (List ℕ) → List ℕ → List ℕ → List ℕ → CommandOutputs → CommandOutputs → Type 0
+IsOutputWritten report_path junit_path shown report junit before after =
+    IsOutputWrittenTo (is_stdout_at report_path || is_stdout_at junit_path) report_path junit_path shown report junit before after

@@ -8,7 +8,7 @@ use Rattle.rvtest_cli.specs.declared.diff.DiffArgs.{DiffArgs}
 use Rattle.rvtest_cli.specs.declared.explain.ExplainArgs.{ExplainArgs}
 use Rattle.rv_command.specs.Messages.{cut_off_note}
 use Rattle.rv_command.specs.Texts.{IsReportRead, IsTextAt, optional_text}
-use Rattle.rv_diff.specs.Diff.{counts_of_differing, diff_text, rows_beside}
+use Rattle.rv_diff.specs.Diff.{counts_of_differing, diff_text, rows_in_both}
 use Rattle.rv_diff.specs.declared.change.Compare.{Compare}
 use Rattle.rv_diff.specs.declared.change.Compare.TheVariants.{Outcomes, Slower, Steps}
 use Rattle.rv_expect.specs.Judgement.{judging_by_rule}
@@ -19,10 +19,10 @@ use Rattle.rv_files.specs.declared.recording_store.UnreadPath.{UnreadPath}
 use Rattle.rv_hang.specs.declared.budget_use.BudgetUse.{BudgetUse}
 use Rattle.rv_job_text.specs.BudgetUseLine.{IsUseOfRow}
 use Rattle.rv_job_text.specs.RowReporter.{explanation_text}
-use Rattle.rv_jobs.specs.Plans.{AreKept, Planned, jobs_needed_for, one_more_times, paths_of, paths_used}
+use Rattle.rv_jobs.specs.Plans.{AgreeWithContents, Planned, jobs_needed_for, one_more_times, paths_of, paths_used}
 use Rattle.rv_jobs.specs.Plans.{unreadable_count}
 use Rattle.rv_jobs.specs.declared.answers.Answer.{Answer}
-use Rattle.rv_list_errors.specs.PlacedFaults.{IsToldFault, PutsEachFault}
+use Rattle.rv_list_errors.specs.PlacedFaults.{IsToldFault, AppendsEachFault}
 use Rattle.rv_lists.specs.JobList.{job_list_of}
 use Rattle.rv_lists.specs.Jobs.{with_budget}
 use Rattle.rv_lists.specs.ListFaults.{list_faults}
@@ -59,7 +59,7 @@ leaves_out _ _ = false
 
 -- the rows of `report` that are compared with `other`: only those of jobs in `other`, if it has only chosen jobs
 abbrev pub compared_rows : SavedReport → SavedReport → List Row
-compared_rows other report = if leaves_out other.extent report.extent then rows_beside other.rows report.rows
+compared_rows other report = if leaves_out other.extent report.extent then rows_in_both other.rows report.rows
     else report.rows
 
 -- the number of rows of both reports that are not compared
@@ -107,7 +107,7 @@ pub record IsPlanCheckOf (known : Option FileContents) (root : Option (List ℕ)
   pub plan : Planned
   pub listed : job_list_of bytes ≡ Ok plan.jobs
   pub paths : paths_of plan.answers ≡ paths_used plan.jobs
-  pub kept : AreKept known plan.answers
+  pub kept : AgreeWithContents known plan.answers
   pub unread : List UnreadPath
   pub noted : AreNotesOf plan.answers unread
   pub text : output ≡ check_text path bytes root plan unread
@@ -118,7 +118,7 @@ pub record IsPlanCheckOf (known : Option FileContents) (root : Option (List ℕ)
 abbrev pub IsCheckOf : Option FileContents → Option (List ℕ) → List JobError → List ℕ → List ℕ → List ℕ → ℕ → Type 0
 IsCheckOf known root [] path bytes output status = IsPlanCheckOf known root path bytes output status
 IsCheckOf known root (fault ∷ faults) path bytes output status =
-    PutsEachFault (IsToldFault path bytes) (fault ∷ faults) [] output × (status ≡ 2)
+    AppendsEachFault (IsToldFault path bytes) (fault ∷ faults) [] output × (status ≡ 2)
 
 -- the output and exit status of `check` for the list at the path in the arguments
 pub record IsCheckAt (known : Option FileContents) (words : CheckArgs) (output : List ℕ) (status : ℕ) : Type 0 where
@@ -144,7 +144,7 @@ pub record IsJobExplained (known : Option FileContents) (jobs : List Job) (place
   pub plan : Planned
   pub listed : plan.jobs ≡ jobs
   pub paths : paths_of plan.answers ≡ paths_used (jobs_needed_for jobs (place ∷ []))
-  pub kept : AreKept known plan.answers
+  pub kept : AgreeWithContents known plan.answers
   pub unread : List UnreadPath
   pub noted : AreNotesOf plan.answers unread
   pub text : IsTextExplaining plan unread place last output

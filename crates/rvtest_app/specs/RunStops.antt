@@ -58,18 +58,18 @@ IsShowStop path show.StreamFailed why = why ≡ stop.WriteFailed
 IsShowStop path show.ReportFailed why = IsSomeAnd path (λ path. IsUnwrittenStop path why)
 
 -- no thread could be started, or the results, the report or the JUnit XML could not be written
-abbrev pub IsRowsPutStop : RunArgs → Stop → Type 0
-IsRowsPutStop words why = (why ≡ stop.NoWorker)
+abbrev pub IsRowsWriteStop : RunArgs → Stop → Type 0
+IsRowsWriteStop words why = (why ≡ stop.NoWorker)
     ⊎ IsOutputStop (run_report_path words) (optional_text words.junit) why
 
 -- the rows or the table of counts could not be written, or the requested call stacks have no sum
-abbrev pub IsRunPutStop : RunArgs → Stop → Type 0
-IsRunPutStop words why = IsRowsPutStop words why
+abbrev pub IsRunWriteStop : RunArgs → Stop → Type 0
+IsRunWriteStop words why = IsRowsWriteStop words why
     ⊎ (IsFileStop (file_path_at (optional_text words.counts)) why ⊎ IsUnstackedStop words why)
 
 -- there are jobs to run, and then the run stopped
 abbrev pub IsUnfinishedStop : Option FileContents → RunArgs → Stop → Type 0
-IsUnfinishedStop known words why = AreJobsToRun known words × IsRunPutStop words why
+IsUnfinishedStop known words why = AreJobsToRun known words × IsRunWriteStop words why
 
 -- why `run` stopped: an output file would overwrite an input, the requested jobs or the known failures could not be found, or the run
 -- itself stopped

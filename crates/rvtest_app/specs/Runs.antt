@@ -12,7 +12,7 @@ use Rattle.rv_job_text.specs.RowReporter.{RowReporter, row_lines_at}
 use Rattle.rv_job_text.specs.declared.verbosity.Verbosity.TheVariants.{Failures}
 use Rattle.rv_junit.specs.Junit.{junit_text}
 use Rattle.rv_jobs.specs.Choices.{selected_indices}
-use Rattle.rv_jobs.specs.Plans.{AreKept, Planned, jobs_needed_for, one_more_times, paths_of, paths_used, unreadable_count}
+use Rattle.rv_jobs.specs.Plans.{AgreeWithContents, Planned, jobs_needed_for, one_more_times, paths_of, paths_used, unreadable_count}
 use Rattle.rv_lists.specs.JobList.{job_list_of}
 use Rattle.rv_lists.specs.Jobs.{with_budget}
 use Rattle.rv_lists.specs.declared.job.Job.{Job}
@@ -32,7 +32,7 @@ use Rattle.rvtest_app.specs.Commands.{failure_rule, requested_verbosity}
 use Rattle.rvtest_app.specs.KnownFiles.{IsKnownAt}
 use Rattle.rvtest_app.specs.MissingImages.{missing_images_note}
 use Rattle.rvtest_app.specs.Outlets.{AreFilesCommitted, file_at}
-use Rattle.rvtest_app.specs.Puts.{WentOutBeside}
+use Rattle.rvtest_app.specs.Puts.{IsOutputWrittenTo}
 use Rattle.rvtest_app.specs.RunOutput.{rows_status, run_output_text}
 use Rattle.rvtest_app.specs.IntoReports.{AreOldRows, run_report_path, run_report_text, uses_run_stdout}
 use Rattle.rvtest_app.specs.JunitTexts.{suite_name}
@@ -40,15 +40,15 @@ use Rattle.rvtest_app.specs.CommandOutputs.{IsOnlyErrorOutput, CommandOutputs}
 use Rattle.rvtest_app.specs.WrittenTexts.{IsWrittenAt}
 
 -- the indices of the selected jobs
-abbrev pub places_of_marks : List Bool → List ℕ
-places_of_marks marks = selected_indices marks (length marks)
+abbrev pub selected_job_indices : List Bool → List ℕ
+selected_job_indices marks = selected_indices marks (length marks)
 
 -- `marks` selects the requested jobs, those of the shard or else the chosen ones; `notes` are the notes about the choice
-abbrev pub AreRequestedMarks : Option FileContents → Option Shard → RunArgs → List Job → Option (List Bool) → List ℕ
+abbrev pub IsRequestedSelection : Option FileContents → Option Shard → RunArgs → List Job → Option (List Bool) → List ℕ
     → Type 0
-AreRequestedMarks known (Some shard) words jobs marks notes =
+IsRequestedSelection known (Some shard) words jobs marks notes =
     (marks ≡ Some (shard_selection shard.shards shard.number (length jobs))) × (notes ≡ [])
-AreRequestedMarks known None words jobs marks notes =
+IsRequestedSelection known None words jobs marks notes =
     IsChoice known words (failure_rule words.lenient) jobs marks notes
 
 -- the list in the arguments has these jobs, of which `marks` selects those that run; `shard`, `old` and `notes` are the shard, the rows
@@ -60,7 +60,7 @@ pub record AreRequestedJobs (known : Option FileContents) (words : RunArgs) (job
   pub listed : job_list_of bytes ≡ Ok jobs
   pub sharded : IsShardOf words.shard shard
   pub stamped : IfSome shard (λ shard. (shard.stamp ≡ stamp_for words.stamp bytes) × (shard.jobs ≡ length jobs))
-  pub marked : AreRequestedMarks known shard words jobs marks notes
+  pub marked : IsRequestedSelection known shard words jobs marks notes
   pub into : AreOldRows known words jobs old
 
 -- the requested jobs and the known failures were found, and there are jobs to run
@@ -80,7 +80,7 @@ pub record IsPlanFor (known : Option FileContents) (jobs : List Job) (places : L
     (unread : List UnreadPath) : Type 0 where
   pub listed : plan.jobs ≡ jobs
   pub paths : paths_of plan.answers ≡ paths_used (jobs_needed_for jobs places)
-  pub kept : AreKept known plan.answers
+  pub kept : AgreeWithContents known plan.answers
   pub noted : length unread ≡ one_more_times 0 (unreadable_count plan.answers)
 
 -- the JUnit document of the rows of the jobs at these indices, in which each failed row has its lines
@@ -123,7 +123,7 @@ report_file words reporter places shard old rows = file_at (run_report_path word
 -- a run of the jobs at these indices wrote its rows: the results, the report and the JUnit XML
 abbrev pub IsRunWritten : RunArgs → RowReporter → List ℕ → Option Shard → Option (List Row) → List Row → CommandOutputs → CommandOutputs → Type 0
 IsRunWritten words reporter places shard old rows before after =
-    WentOutBeside (uses_run_stdout words) (run_report_path words) (optional_text words.junit)
+    IsOutputWrittenTo (uses_run_stdout words) (run_report_path words) (optional_text words.junit)
     (run_output_text (row_lines_at reporter) reporter.judging reporter.plan places rows)
     (run_report_text old (length reporter.plan.jobs) (shown_indices places rows) shard rows)
     (run_junit words reporter (shown_indices places rows) rows) before after
@@ -167,11 +167,11 @@ pub record IsRunOfPlaces (known : Option FileContents) (words : RunArgs) (failur
   pub put : IsCountedRunWritten words (run_reporter words failures plan unread) places shard old rows middle after
 
 -- the selected jobs ran; without a selection, the status is 0 and nothing more is output
-abbrev pub IsRunOfMarked : Option FileContents → RunArgs → Option KnownJobs → List Job → Option (List Bool) → Option Shard
+abbrev pub IsRunOfSelected : Option FileContents → RunArgs → Option KnownJobs → List Job → Option (List Bool) → Option Shard
     → Option (List Row) → ℕ → CommandOutputs → CommandOutputs → Type 0
-IsRunOfMarked known words failures jobs None shard old status before after = (status ≡ 0) × (after ≡ before)
-IsRunOfMarked known words failures jobs (Some marks) shard old status before after =
-    IsRunOfPlaces known words failures jobs (places_of_marks marks) shard old status before after
+IsRunOfSelected known words failures jobs None shard old status before after = (status ≡ 0) × (after ≡ before)
+IsRunOfSelected known words failures jobs (Some marks) shard old status before after =
+    IsRunOfPlaces known words failures jobs (selected_job_indices marks) shard old status before after
 
 -- `run` wrote the notes about the choice to standard error, and then ran the requested jobs, with the known failures
 pub record IsRunAt (known : Option FileContents) (words : RunArgs) (status : ℕ) (before after : CommandOutputs) : Type 0 where
@@ -185,7 +185,7 @@ pub record IsRunAt (known : Option FileContents) (words : RunArgs) (status : ℕ
   pub known_to_fail : IsKnownAt known (optional_text words.known) jobs failures
   pub middle : CommandOutputs
   pub told : IsOnlyErrorOutput notes before middle
-  pub ran : IsRunOfMarked known words failures jobs marks shard old status middle after
+  pub ran : IsRunOfSelected known words failures jobs marks shard old status middle after
 
 -- ---- runs that an error ended
 
@@ -218,7 +218,7 @@ IsUndoneRunOfPlaces known words failures jobs places shard old before after =
 pub record IsRunInPartAt (known : Option FileContents) (words : RunArgs) (before after : Option (List CommittedFile))
     : Type 0 where
   pub found : AreJobsToRun known words
-  pub alone : IsRunInPart known words found.failures found.jobs (places_of_marks found.marks) found.shard found.old before after
+  pub alone : IsRunInPart known words found.failures found.jobs (selected_job_indices found.marks) found.shard found.old before after
 
 -- a run that ended with an error committed no file, or only a part of its output files
 abbrev pub IsUndoneRunAt : Option FileContents → RunArgs → Option (List CommittedFile) → Option (List CommittedFile) → Type 0

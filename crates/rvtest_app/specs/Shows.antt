@@ -10,7 +10,7 @@ use Rattle.rv_report.specs.declared.partial.PartialReport.{PartialReport}
 use Rattle.rv_report.specs.declared.row.Row.{Row}
 use Rattle.rvtest_app.specs.Commands.{report_judging}
 use Rattle.rvtest_app.specs.Outlets.{AreFilesCommitted, file_at}
-use Rattle.rvtest_app.specs.Puts.{WentOut}
+use Rattle.rvtest_app.specs.Puts.{IsOutputWritten}
 use Rattle.rvtest_app.specs.ReportSummary.{summary_text}
 use Rattle.rvtest_app.specs.RunOutput.{rows_status}
 use Rattle.rvtest_app.specs.JunitTexts.{failures_junit, suite_name}
@@ -29,7 +29,7 @@ pub record IsShownAt (known : Option FileContents) (words : ShowArgs) (status : 
   pub middle : CommandOutputs
   pub noted : IsOnlyErrorOutput (cut_off_note words.report.now found) before middle
   pub judged : status ≡ rows_status (report_judging words.lenient) found.report.rows
-  pub put : WentOut None (optional_text words.junit) (summary_text (report_judging words.lenient) found.report.rows)
+  pub put : IsOutputWritten None (optional_text words.junit) (summary_text (report_judging words.lenient) found.report.rows)
       (report_text found.report.rows) (shown_junit words found.report.rows)
       middle after
 

@@ -19,6 +19,6 @@ abbrev pub IsUncountedRunStop : RunArgs → Stop → Type 0
 IsUncountedRunStop words why = (why ≡ stop.OutOfMemory) ⊎ IsUnstackedStop words why
 
 -- memory ran out, a write to standard output failed, the file at the path could not be created, or the call stacks cannot be summed up
-abbrev pub IsCountsPutStop : RunArgs → Option (List ℕ) → Stop → Type 0
-IsCountsPutStop words path why =
+abbrev pub IsCountsWriteStop : RunArgs → Option (List ℕ) → Stop → Type 0
+IsCountsWriteStop words path why =
     (why ≡ stop.OutOfMemory) ⊎ ((why ≡ stop.WriteFailed) ⊎ (IsFileStop path why ⊎ IsUnstackedStop words why))

@@ -57,13 +57,13 @@ is_none_unmet [] = true
 is_none_unmet (one ∷ more) = false
 
 -- the verdict on a job, given whether it ran and its unmet expectations: passes, differs from another job, or fails
-abbrev pub standing_by : Bool → List Unmet → CurrentVerdict
-standing_by ran unmet = if ran && is_none_unmet unmet then standing.Passes
+abbrev pub verdict_by : Bool → List Unmet → CurrentVerdict
+verdict_by ran unmet = if ran && is_none_unmet unmet then standing.Passes
     else if list_any is_same unmet then standing.Differs else standing.Fails
 
 -- the verdict on a row, its job, and the texts and the row that they are compared with
 abbrev pub verdict_of_sides : Sides → CurrentVerdict
-verdict_of_sides sides = standing_by (did_run sides.row.ending) (unmet_of sides)
+verdict_of_sides sides = verdict_by (did_run sides.row.ending) (unmet_of sides)
 
 -- a row and its job, with the contents of the golden files and the row of the compared job
 abbrev pub sides_over : List (Option Row) → Job → Row → Option (List ℕ) → Option (List ℕ) → Sides

@@ -24,7 +24,7 @@ use Rattle.rv_text.specs.Printable.{printable_text}
 use Rattle.rvtest_app.specs.CountStops.{IsSumErrorStop, IsTableFaultStop}
 use Rattle.rvtest_app.specs.CountSums.{IsTableAt}
 use Rattle.rvtest_app.specs.RunStops.{IsUnrequestedStop}
-use Rattle.rvtest_app.specs.Runs.{AreRequestedJobs, IsPlanFor, places_of_marks}
+use Rattle.rvtest_app.specs.Runs.{AreRequestedJobs, IsPlanFor, selected_job_indices}
 use Rattle.rvtest_app.specs.Views.{IsTableFor, has_counts_for}
 use Rattle.rvtest_app.specs.declared.view.View.{View}
 use Rattle.rvtest_app.specs.declared.view.View.TheVariants as view
@@ -95,15 +95,15 @@ IsPast64BitsStop table images source why = (path : List ℕ)
     × ((image_past_64_bits table images ≡ Some path) × IsStop 2 (past_64_bits_message source path) why)
 
 -- the view of this table cannot be written: memory ran out, or a profile has too many steps or calls
-abbrev pub IsTextlessStop : View → CountTable → List FileImage → List ℕ → Stop → Type 0
-IsTextlessStop (view.Cover csv) table images source why = why ≡ stop.OutOfMemory
-IsTextlessStop (view.Profile format) table images source why = (why ≡ stop.OutOfMemory) ⊎ IsPast64BitsStop table images source why
+abbrev pub IsTableTextStop : View → CountTable → List FileImage → List ℕ → Stop → Type 0
+IsTableTextStop (view.Cover csv) table images source why = why ≡ stop.OutOfMemory
+IsTableTextStop (view.Profile format) table images source why = (why ≡ stop.OutOfMemory) ⊎ IsPast64BitsStop table images source why
 
 -- there is a table for the jobs at these indices, but its view cannot be written: memory ran out, or a profile has too many steps or calls
-abbrev pub IsTextlessTableStop : Option FileContents → RunArgs → View → Planned → List ℕ → Stop → Type 0
-IsTextlessTableStop known words shown plan places why = (table : CountTable)
+abbrev pub IsViewTextStop : Option FileContents → RunArgs → View → Planned → List ℕ → Stop → Type 0
+IsViewTextStop known words shown plan places why = (table : CountTable)
     × (IsTableFor known shown (optional_text words.counts) plan places table
-    × IsTextlessStop shown table (images_of plan.answers (jobs_at plan places)) (counts_source words) why)
+    × IsTableTextStop shown table (images_of plan.answers (jobs_at plan places)) (counts_source words) why)
 
 -- ---- the command
 
@@ -111,7 +111,7 @@ IsTextlessTableStop known words shown plan places why = (table : CountTable)
 abbrev pub IsUnshownStop : Option FileContents → RunArgs → View → Planned → List ℕ → Stop → Type 0
 IsUnshownStop known words shown plan places why = (why ≡ stop.OutOfMemory)
     ⊎ (IsUntabledStop known words shown (optional_text words.counts) plan places why
-    ⊎ IsTextlessTableStop known words shown plan places why)
+    ⊎ IsViewTextStop known words shown plan places why)
 
 -- the view could not be made for a plan of the jobs at these indices
 pub record IsUnshownOfPlaces (known : Option FileContents) (words : RunArgs) (shown : View) (jobs : List Job) (places : List ℕ)
@@ -134,7 +134,7 @@ pub record IsUnviewedAtStop (known : Option FileContents) (words : RunArgs) (sho
   pub old : Option (List Row)
   pub notes : List ℕ
   pub args : AreRequestedJobs known words jobs (Some marks) shard old notes
-  pub unviewed : IsUnviewedStop known words shown jobs (places_of_marks marks) why
+  pub unviewed : IsUnviewedStop known words shown jobs (selected_job_indices marks) why
 
 -- the requested jobs could not be found, or their view was not written
 abbrev pub IsViewStop : Option FileContents → RunArgs → View → Stop → Type 0

@@ -19,7 +19,7 @@ use Rattle.rv_report.specs.declared.saved.Shard.{Shard}
 use Rattle.rv_stacks.specs.StackTables.{IsTableWithStacks}
 use Rattle.rvtest_app.specs.CountSums.{IsTableAt}
 use Rattle.rvtest_app.specs.RefusedNotes.{refused_note}
-use Rattle.rvtest_app.specs.Runs.{AreRequestedJobs, IsPlanFor, places_of_marks}
+use Rattle.rvtest_app.specs.Runs.{AreRequestedJobs, IsPlanFor, selected_job_indices}
 use Rattle.rvtest_app.specs.CommandOutputs.{IsOnlyStandardOutput, IsOnlyErrorOutput, CommandOutputs}
 use Rattle.rvtest_app.specs.declared.view.View.{View}
 use Rattle.rvtest_app.specs.declared.view.View.TheVariants as view
@@ -76,10 +76,10 @@ pub record IsViewOfPlaces (known : Option FileContents) (words : RunArgs) (shown
   pub put : IsOnlyStandardOutput text middle after
 
 -- the view of the selected jobs was written; without a selection, nothing is written
-abbrev pub IsViewOfMarked : Option FileContents → RunArgs → View → List Job → Option (List Bool) → CommandOutputs → CommandOutputs → Type 0
-IsViewOfMarked known words shown jobs None before after = after ≡ before
-IsViewOfMarked known words shown jobs (Some marks) before after =
-    IsViewOfPlaces known words shown jobs (places_of_marks marks) before after
+abbrev pub IsViewOfSelected : Option FileContents → RunArgs → View → List Job → Option (List Bool) → CommandOutputs → CommandOutputs → Type 0
+IsViewOfSelected known words shown jobs None before after = after ≡ before
+IsViewOfSelected known words shown jobs (Some marks) before after =
+    IsViewOfPlaces known words shown jobs (selected_job_indices marks) before after
 
 -- the notes about the choice went to standard error, and then the view of the requested jobs was written; the status is 0
 pub record IsViewWritten (known : Option FileContents) (words : RunArgs) (shown : View) (status : ℕ) (before after : CommandOutputs) : Type 0 where
@@ -91,5 +91,5 @@ pub record IsViewWritten (known : Option FileContents) (words : RunArgs) (shown 
   pub args : AreRequestedJobs known words jobs marks shard old notes
   pub middle : CommandOutputs
   pub told : IsOnlyErrorOutput notes before middle
-  pub viewed : IsViewOfMarked known words shown jobs marks middle after
+  pub viewed : IsViewOfSelected known words shown jobs marks middle after
   pub done : status ≡ 0

@@ -55,10 +55,10 @@ abbrev pub IsEitherFileStop : Option (List ℕ) → Option (List ℕ) → Stop �
 IsEitherFileStop report junit why = IsFileStop report why ⊎ IsFileStop junit why
 
 -- memory ran out, a write to a standard stream failed, or one of the two files could not be created
-abbrev pub IsPutStop : Option (List ℕ) → Option (List ℕ) → Stop → Type 0
-IsPutStop report junit why = (why ≡ stop.OutOfMemory) ⊎ ((why ≡ stop.WriteFailed) ⊎ IsEitherFileStop report junit why)
+abbrev pub IsOutputWriteStop : Option (List ℕ) → Option (List ℕ) → Stop → Type 0
+IsOutputWriteStop report junit why = (why ≡ stop.OutOfMemory) ⊎ ((why ≡ stop.WriteFailed) ⊎ IsEitherFileStop report junit why)
 
 -- memory ran out, a write to a standard stream failed, or the file of one of the two paths could not be created; a path may be standard
 -- output
 abbrev pub IsOutputStop : Option (List ℕ) → Option (List ℕ) → Stop → Type 0
-IsOutputStop report_path junit_path why = IsPutStop (file_path_at report_path) (file_path_at junit_path) why
+IsOutputStop report_path junit_path why = IsOutputWriteStop (file_path_at report_path) (file_path_at junit_path) why

@@ -16,7 +16,7 @@ ghost use Rattle.rv_command.specs.Texts.{IsTextAt, optional_text};
 ghost use Rattle.rv_lists.specs.JobList.{job_list_of};
 ghost use Rattle.rv_lists.specs.Jobs.{without_expectations};
 ghost use Rattle.rvtest_app.specs.AcceptStops.{IsAcceptChosenStop, IsGoldenUnreadStop, IsAcceptanceWriteStop};
-ghost use Rattle.rvtest_app.specs.Accepts.{AreGoldenFiles, AreJudged, AreRowsPut, IsAcceptedAt, IsAcceptedOfMarks, IsOutcomeWritten, AreOutsideFilesReported, accept_status};
+ghost use Rattle.rvtest_app.specs.Accepts.{AreGoldenFiles, AreJudged, AreRowsMade, IsAcceptedAt, IsAcceptOfSelected, IsOutcomeWritten, AreOutsideFilesReported, accept_status};
 ghost use Rattle.rvtest_app.specs.Accepts.{acceptance_of};
 ghost use Rattle.rvtest_app.specs.CommandStops.{IsAcceptStop, IsListStop};
 ghost use Rattle.rvtest_app.specs.Commands.{failure_rule};
@@ -122,7 +122,7 @@ fn accept_chosen<
     requires counted { length chosen.now ≡ length list.now.jobs }
     requires listed { job_list_of list.now.text.items ≡ Ok list.now.jobs }
     ensures low { IfOk result (λ status. status ≤ 1) }
-    ensures accepted { IfOk result (λ status. IsAcceptedOfMarks (D.contents host.now.inputs.now) args.now
+    ensures accepted { IfOk result (λ status. IsAcceptOfSelected (D.contents host.now.inputs.now) args.now
         list.now.text.items list.now.jobs chosen.now status
         (outputs_of F.placed O.taken E.taken E.failed to.old) (outputs_of F.placed O.taken E.taken E.failed to.new)) }
     ensures unwritten { args.now.check ≡ true → to.new.files ≡ to.old.files }
@@ -132,7 +132,7 @@ fn accept_chosen<
         args.now list.now.jobs (jobs_to_run list.now.jobs chosen.now)) }
 {
     let marked = guarded_jobs(host, args, list, chosen, to)?;
-    let rows = run_marked(host, args, marked, to)?;
+    let rows = run_selected(host, args, marked, to)?;
     let list = ListFile {
         path: args.run.list,
         text: list.text.as_slice(),
@@ -163,7 +163,7 @@ fn guarded_jobs<R, D, F: Outputs + Drop, O: Sink + Drop, E: Sink + Drop>(
         args.now list.now.jobs (jobs_to_run list.now.jobs chosen.now))) }
     ensures stopped { IfErr result IsAcceptOverwriteStop }
 {
-    let marked = marked_jobs(host.alloc, args, list, chosen)?;
+    let marked = selected_jobs(host.alloc, args, list, chosen)?;
     let (jobs, marks) = (list.jobs.as_slice(), marked.marks.as_slice());
     let outside = refuse_accept_overwrites(&to.files, host.alloc, args, jobs, marks)?;
     put_message(&mut to.errors, outside.as_slice());
@@ -234,7 +234,7 @@ fn chosen_list<R, D: Inputs>(
 }
 
 // Returns the jobs of a list without their expectations, with the selection of those that run.
-fn marked_jobs(
+fn selected_jobs(
     alloc: Global,
     args: &AcceptArgs<'_>,
     list: &ChosenList,
@@ -254,7 +254,7 @@ fn marked_jobs(
 }
 
 // Runs the selected jobs, and returns their rows, each at the index of its job.
-fn run_marked<
+fn run_selected<
     R: Threads + Wait + Sync,
     D: Inputs,
     F: Outputs + Drop,
@@ -267,7 +267,7 @@ fn run_marked<
     to: &mut Destinations<F, O, E>,
 ) -> Result<Vec<Option<Row>>, Stop>
     ensures files { to.new.files ≡ to.old.files }
-    ensures rows { IfOk result (λ rows. AreRowsPut (D.contents host.now.inputs.now)
+    ensures rows { IfOk result (λ rows. AreRowsMade (D.contents host.now.inputs.now)
         (optional_text args.now.run.root) marked.jobs marked.marks.items rows.items
         (outputs_of F.placed O.taken E.taken E.failed to.old) (outputs_of F.placed O.taken E.taken E.failed to.new)) }
     ensures stopped { IfErr result (λ why. (why ≡ Stop.OutOfMemory) ⊎ (why ≡ Stop.NoWorker)) }
@@ -278,7 +278,7 @@ fn run_marked<
     let mut store = RecordingStore::new(host.inputs, alloc, root);
     let plan = gather_jobs_at(alloc, jobs, places.as_slice(), &mut store)?;
     let count = places.as_slice().len();
-    let note = missing_images_note(alloc, &plan, store.unread_paths(), count, root)?;
+    let note = missing_images_note(alloc, &plan, store.unreadable_paths(), count, root)?;
     put_message(&mut to.errors, note.as_slice());
     let crew = requested_crew(host.rt, alloc, &args.run);
     let batch = Batch::new(&plan, places.as_slice());

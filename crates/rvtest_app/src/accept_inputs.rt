@@ -5,7 +5,7 @@ ghost use Rattle.std.specs.List.{flat_map, list_any};
 ghost use Rattle.std.specs.Path.{path_buf_bytes};
 ghost use Rattle.rv_command.specs.Texts.{optional_text};
 ghost use Rattle.rvtest_app.specs.Overwrites.{AreAcceptFilesApart, AreFilesOf, IsAcceptOverwriteStop, IsOverwriteStop, IsOverwriteReported};
-ghost use Rattle.rvtest_app.specs.Overwrites.{IsUnread, golden_paths_of_job, golden_paths_of_marked, inputs_of_accept, job_writer_text};
+ghost use Rattle.rvtest_app.specs.Overwrites.{IsUnread, golden_paths_of_job, golden_paths_of_selected, inputs_of_accept, job_writer_text};
 ghost use Rattle.rvtest_app.specs.Overwrites.{is_golden_read, outside_head, outside_message, outside_path, outside_text, quoted_text, read_paths, writer_text};
 
 use crate::overwrites::{
@@ -47,7 +47,7 @@ pub(crate) fn refuse_accept_overwrites<F: Outputs>(
     ensures stopped { IfErr result IsAcceptOverwriteStop }
 {
     let root = args.run.root;
-    let reads = look_up_reads(files, alloc, args, jobs)?;
+    let reads = input_files(files, alloc, args, jobs)?;
     let mut golden = Vec::new(alloc);
     push_golden_of_marked(alloc, &mut golden, root, jobs, marks)?;
     refuse_golden_files(files, alloc, golden.as_slice(), &reads)?;
@@ -56,7 +56,7 @@ pub(crate) fn refuse_accept_overwrites<F: Outputs>(
 }
 
 // Returns the inputs of `accept`, with the identity of each file.
-fn look_up_reads<'a, F: Outputs>(
+fn input_files<'a, F: Outputs>(
     files: &F,
     alloc: Global,
     args: &AcceptArgs<'_>,
@@ -105,7 +105,7 @@ fn golden_of_jobs<'a>(
 }
 
 // Appends the golden files of the selected jobs.
-#[tactic(auto, unfolding(crate::specs::Overwrites::golden_paths_of_marked))]
+#[tactic(auto, unfolding(crate::specs::Overwrites::golden_paths_of_selected))]
 fn push_golden_of_marked<'a>(
     alloc: Global,
     golden: &mut Vec<ReadPath<'a>>,
@@ -114,7 +114,7 @@ fn push_golden_of_marked<'a>(
     marks: &[bool],
 ) -> Result<(), AllocError>
     ensures { OnOk result (read_paths golden.new.items
-        ≡ read_paths golden.old.items ++ golden_paths_of_marked (optional_text root.entry) jobs.now marks.now) }
+        ≡ read_paths golden.old.items ++ golden_paths_of_selected (optional_text root.entry) jobs.now marks.now) }
 {
     match (jobs, marks) {
         ([job, jobs @ ..], [marked, marks @ ..]) => {

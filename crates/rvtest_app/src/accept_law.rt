@@ -1,15 +1,15 @@
 //! Laws about what `accept` writes; there is nothing to run.
 
 ghost use Rattle.std.specs.Prelude.{◌≡◌, ℕ, Bool, IsTrue, List, Ok, Some};
-ghost use Rattle.rv_accept.specs.Passing.{is_pass_or_unasked};
+ghost use Rattle.rv_accept.specs.Passing.{is_pass_or_none};
 ghost use Rattle.rv_base.specs.Files.{FileContents};
 ghost use Rattle.rvtest_cli.specs.declared.accept.AcceptArgs.{AcceptArgs as Words};
 ghost use Rattle.rv_command.specs.Texts.{IsTextAt};
 ghost use Rattle.rv_lists.specs.JobList.{job_list_of};
 ghost use Rattle.rv_lists.specs.declared.job.Job.{Job};
 ghost use Rattle.rv_report.specs.declared.row.Row.{Row};
-ghost use Rattle.rvtest_app.specs.AcceptLaw.{HaveOneTextEach, IsRowIn, IsStoreAfter, IsWhollyAccepted};
-ghost use Rattle.rvtest_app.specs.Accepts.{IsAcceptedOfMarks, written_files};
+ghost use Rattle.rvtest_app.specs.AcceptLaw.{HaveOneTextEach, IsRowIn, IsStoreAfter, IsFullyAccepted};
+ghost use Rattle.rvtest_app.specs.Accepts.{IsAcceptOfSelected, written_files};
 ghost use Rattle.rvtest_app.specs.CommandOutputs.{CommandOutputs};
 
 /// After `accept`, a job that it accepted does not fail in a `run` with the new files: its verdict is pass, or none if it has no
@@ -19,10 +19,10 @@ pub fn accepted_jobs_pass()
     ensures { (words : Words) (before after : FileContents) (bytes : List ℕ) (jobs : List Job) (chosen : List Bool)
         (status : ℕ) (from to : CommandOutputs) (place : ℕ) (job : Job) (row : Row)
         → IsTextAt (Some before) words.run.list.now bytes → job_list_of bytes ≡ Ok jobs
-        → (accepted : IsAcceptedOfMarks (Some before) words bytes jobs chosen status from to)
+        → (accepted : IsAcceptOfSelected (Some before) words bytes jobs chosen status from to)
         → (store : IsStoreAfter (written_files accepted.told) before after)
         → HaveOneTextEach store.leads accepted.told.files.now
-        → IsWhollyAccepted accepted.told place job
+        → IsFullyAccepted accepted.told place job
         → IsRowIn after words.run place row
-        → IsTrue (is_pass_or_unasked row.verdict) }
+        → IsTrue (is_pass_or_none row.verdict) }
 {}

@@ -77,7 +77,7 @@ fn check_files<D: Inputs>(
     let jobs = parse_list(alloc, args.list, text)?;
     let mut store = RecordingStore::new(inputs, alloc, args.root);
     let plan = gather(alloc, jobs, &mut store)?;
-    check_plan(alloc, args, text, &plan, store.unread_paths())
+    check_plan(alloc, args, text, &plan, store.unreadable_paths())
 }
 
 // Returns the report about a list without errors, whose files were read.

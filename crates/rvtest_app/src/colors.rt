@@ -2,7 +2,7 @@
 
 ghost use Rattle.std.specs.Prelude.{◌≡◌};
 ghost use Rattle.rv_command.specs.Texts.{optional_text};
-ghost use Rattle.rvtest_app.specs.Colors.{requested_colors, beside_file, colors_of_word, terminal_colors};
+ghost use Rattle.rvtest_app.specs.Colors.{requested_colors, colors_unless_stdout_used, colors_of_word, terminal_colors};
 
 use crate::into_report::uses_run_stdout;
 use crate::outlets::is_stdout_at;
@@ -14,14 +14,14 @@ pub(crate) fn requested_colors(request: &Request<'_>, is_terminal: bool) -> Colo
     ensures { result ≡ requested_colors request.now is_terminal }
 {
     match request {
-        Request::Run(args) => beside_file(
+        Request::Run(args) => colors_unless_stdout_used(
             uses_run_stdout(args),
             colors_of_word(args.color, is_terminal),
         ),
         Request::Explain(args) => colors_of_word(args.color, is_terminal),
         Request::Diff(args) => colors_of_word(args.color, is_terminal),
         Request::Show(args) => {
-            beside_file(
+            colors_unless_stdout_used(
                 is_stdout_at(args.junit),
                 colors_of_word(args.color, is_terminal),
             )
@@ -40,8 +40,8 @@ pub(crate) fn requested_colors(request: &Request<'_>, is_terminal: bool) -> Colo
 }
 
 // Returns `Colors::Without` if an output file goes to standard output, and the given colours otherwise.
-fn beside_file(uses_stdout: bool, colors: Colors) -> Colors
-    ensures { result ≡ beside_file uses_stdout colors }
+fn colors_unless_stdout_used(uses_stdout: bool, colors: Colors) -> Colors
+    ensures { result ≡ colors_unless_stdout_used uses_stdout colors }
 {
     if uses_stdout { Colors::Without } else { colors }
 }

@@ -104,7 +104,7 @@ fn run_job_at<D: Inputs>(
     let places = vec![in alloc; place; 1]?;
     let mut store = RecordingStore::new(inputs, alloc, args.root);
     let plan = gather_jobs(alloc, jobs, places, &mut store)?;
-    run_planned_job(alloc, &plan, store.unread_paths(), place)
+    run_planned_job(alloc, &plan, store.unreadable_paths(), place)
 }
 
 // Runs the job at index `place` of a plan.

@@ -17,7 +17,7 @@ use rv_command::{
     DONE, RequestedReport, SOME_FAIL, Stop, cut_off_note, parse_requested_report, put_message,
     put_results, read_result_file,
 };
-use rv_diff::{Compare, Compared, Differing, push_diff, rows_beside};
+use rv_diff::{Compare, Compared, Differing, push_diff, rows_in_both};
 use rv_files::{Inputs, Outputs};
 use rv_report::{Extent, PartialReport, SavedReport};
 use rv_rows::{Row, Sink};
@@ -159,11 +159,11 @@ fn compared_rows(
     );
     let (old, new) = (old.rows.into_vec(), new.rows.into_vec());
     if is_new_part {
-        let old = rows_beside(alloc, old, new.as_slice())?;
+        let old = rows_in_both(alloc, old, new.as_slice())?;
         return Ok((old, new));
     }
     if is_old_part {
-        let new = rows_beside(alloc, new, old.as_slice())?;
+        let new = rows_in_both(alloc, new, old.as_slice())?;
         return Ok((old, new));
     }
     Ok((old, new))

@@ -74,7 +74,7 @@ fn explain_job_at<D: Inputs>(
     let jobs = jobs.with_budget(args.budget);
     let mut store = RecordingStore::new(inputs, alloc, args.root);
     let plan = gather_jobs(alloc, jobs, places, &mut store)?;
-    explain_planned_job(alloc, &plan, store.unread_paths(), place, args.last)
+    explain_planned_job(alloc, &plan, store.unreadable_paths(), place, args.last)
 }
 
 // Explains the job at index `place` of a plan, with its `last` instructions.

@@ -166,7 +166,7 @@ fn session_of_job<D: Inputs>(
     let plan = gather_jobs(alloc, jobs, places, &mut store)?;
     match session_over_plan(alloc, &plan, place, args.root)? {
         Some(session) => {
-            let unread = store.into_unread_paths();
+            let unread = store.into_unreadable_paths();
             let job = JobEnd {
                 plan,
                 unread,
@@ -174,7 +174,7 @@ fn session_of_job<D: Inputs>(
             };
             Ok(Opened { session, job })
         }
-        None => Err(refused_job_stop(alloc, &plan, store.unread_paths(), place)),
+        None => Err(refused_job_stop(alloc, &plan, store.unreadable_paths(), place)),
     }
 }
 

@@ -11,7 +11,7 @@ use rv_rows::Sink;
 use rvtest_cli::WordsError;
 
 /// Writes the help or the version to standard output if the arguments request it. Returns any other error of the arguments.
-pub(crate) fn answer_words_error<O: Sink>(out: &mut O, error: WordsError) -> Result<u8, Stop>
+pub(crate) fn respond_to_words_error<O: Sink>(out: &mut O, error: WordsError) -> Result<u8, Stop>
     ensures done { IfOk result (λ status. status ≡ 0) }
     ensures helped { OnOk result (IsHelpWritten error (O.taken out.old) (O.taken out.new)) }
     ensures counted { OnOk result (O.failed out.new ≡ O.failed out.old) }

@@ -5,7 +5,7 @@ ghost use Rattle.std.specs.List.{All};
 ghost use Rattle.rvtest_app.specs.CommandStops.{IsListStop, IsNoChoiceStop};
 ghost use Rattle.rvtest_app.specs.Commands.{failure_rule};
 ghost use Rattle.rvtest_app.specs.Lists.{AreListedOf, AreListedAt, IsListWritten, name_line, name_lines};
-ghost use Rattle.rvtest_app.specs.Runs.{places_of_marks};
+ghost use Rattle.rvtest_app.specs.Runs.{selected_job_indices};
 ghost use Rattle.rvtest_app.specs.CommandOutputs.{outputs_of};
 
 use crate::destinations::Destinations;
@@ -84,7 +84,7 @@ fn chosen_jobs_of_text<D: Inputs>(
 
 fn marked_name_lines(alloc: Global, jobs: &[Job], marks: &[bool]) -> Result<Vec<u8>, AllocError>
     requires { length marks.now ≡ length jobs.now }
-    ensures { IfOk result (λ names. names.items ≡ name_lines jobs.now (places_of_marks marks.now)) }
+    ensures { IfOk result (λ names. names.items ≡ name_lines jobs.now (selected_job_indices marks.now)) }
 {
     let places = selected_indices(alloc, marks)?;
     let mut names = Vec::new(alloc);

@@ -9,11 +9,11 @@ ghost use Rattle.rvtest_app.specs.Commands.{report_judging};
 ghost use Rattle.rv_report.specs.Report.{report_text};
 ghost use Rattle.rvtest_app.specs.MergeRefusals.{ArePartsRefused, IsMergeErrorStop, flaw_message, other_run_message};
 ghost use Rattle.rvtest_app.specs.MergeRefusals.{part_path, two_parts_message};
-ghost use Rattle.rvtest_app.specs.MergeStops.{ArePartsUnread, IsMergeStop, IsMergedPutStop};
+ghost use Rattle.rvtest_app.specs.MergeStops.{ArePartsUnread, IsMergeStop, IsMergeWriteStop};
 ghost use Rattle.rvtest_app.specs.Merges.{AreTextsAt, IsMergedAt, IsUndoneMergeAt, merged_junit, merged_report_path, merged_suite};
 ghost use Rattle.rvtest_app.specs.Outlets.{AreFilesPartlyCommitted, file_at};
 ghost use Rattle.rvtest_app.specs.Overwrites.{AreMergeFilesApart, IsMergeOverwriteStop, IsPlacedApart};
-ghost use Rattle.rvtest_app.specs.Puts.{WentOut};
+ghost use Rattle.rvtest_app.specs.Puts.{IsOutputWritten};
 ghost use Rattle.rvtest_app.specs.RunOutput.{rows_status};
 ghost use Rattle.rvtest_app.specs.CommandOutputs.{outputs_of};
 ghost use Rattle.rv_command.specs.Texts.{optional_text};
@@ -175,14 +175,14 @@ fn put_merged<F: Outputs + Drop, O: Sink + Drop, E: Sink + Drop>(
     merged: Merged,
     to: &mut Destinations<F, O, E>,
 ) -> Result<(), Stop>
-    ensures put { OnOk result (WentOut
+    ensures put { OnOk result (IsOutputWritten
         (merged_report_path (optional_text args.now.report) (optional_text args.now.junit))
         (optional_text args.now.junit) merged.line.items (report_text merged.rows)
         (merged_junit args.now merged.rows)
         (outputs_of F.placed O.taken E.taken E.failed to.old) (outputs_of F.placed O.taken E.taken E.failed to.new)) }
     ensures part { OnErr result (AreFilesPartlyCommitted (F.placed to.old.files) (F.placed to.new.files)
         (Some (file_at (optional_text args.now.junit) (merged_junit args.now merged.rows)))) }
-    ensures stopped { IfErr result (IsMergedPutStop args.now) }
+    ensures stopped { IfErr result (IsMergeWriteStop args.now) }
 {
     let Merged { rows, line, .. } = merged;
     let outlets = open_outlets(&mut to.files, alloc, merged_report_path(args), args.junit)?;

@@ -5,7 +5,7 @@ ghost use Rattle.rv_command.specs.Texts.{optional_text};
 ghost use Rattle.rv_job_text.specs.UnreadFiles.{unread_note};
 ghost use Rattle.rv_report.specs.Report.{line};
 ghost use Rattle.rvtest_app.specs.MissingImages.{are_images_missing, is_image_missing, is_not_found};
-ghost use Rattle.rvtest_app.specs.MissingImages.{is_noted_missing, missing_images_line, missing_images_note, paths_text};
+ghost use Rattle.rvtest_app.specs.MissingImages.{is_reported_missing, missing_images_line, missing_images_note, paths_text};
 
 use rv_files::UnreadPath;
 use rv_jobs::{Job, Plan};
@@ -86,7 +86,7 @@ fn is_image_missing(job: &Job, unread: &[UnreadPath]) -> bool
     ensures { result ≡ is_image_missing unread.now job.now }
 {
     let path = job.image.as_str();
-    !path.as_bytes().starts_with(b"/") && is_noted_missing(unread_note(unread, path))
+    !path.as_bytes().starts_with(b"/") && is_reported_missing(unread_note(unread, path))
 }
 
 // Returns the first entry for this path in the list of paths that could not be read.
@@ -97,8 +97,8 @@ fn unread_note<'a>(unread: &'a [UnreadPath], path: &str) -> Option<&'a UnreadPat
 }
 
 // Whether a path could not be read because there is no file.
-fn is_noted_missing(note: Option<&UnreadPath>) -> bool
-    ensures { result ≡ is_noted_missing (option_map (λ one. one.now) note.entry) }
+fn is_reported_missing(note: Option<&UnreadPath>) -> bool
+    ensures { result ≡ is_reported_missing (option_map (λ one. one.now) note.entry) }
 {
     match note {
         Some(one) => is_not_found(one.reason),

@@ -4,7 +4,7 @@ ghost use Rattle.std.specs.Prelude.{◌≡◌, ◌⊎◌, ◌≤◌, ℕ, List, 
 ghost use Rattle.std.specs.IoError.{error_kind};
 ghost use Rattle.rv_command.specs.Messages.{IsMessageWritten};
 ghost use Rattle.rv_terminal.specs.ColorSinks.{IsOutInPart};
-ghost use Rattle.rvtest_app.specs.Answers.{IsAnswered, IsDone, IsDoneInColors};
+ghost use Rattle.rvtest_app.specs.Answers.{IsAnswered, IsCommandDone, IsDoneInColors};
 ghost use Rattle.rvtest_app.specs.Colors.{requested_colors};
 ghost use Rattle.rvtest_app.specs.CommandStops.{IsCommandStop, IsStopFor};
 ghost use Rattle.rvtest_app.specs.CommandOutputs.{outputs_of};
@@ -21,7 +21,7 @@ use crate::diff::diff_reports;
 use crate::explain::explain_named_job;
 use crate::findings::put_findings;
 use crate::gdb::show_job_to_gdb;
-use crate::help::answer_words_error;
+use crate::help::respond_to_words_error;
 use crate::help_topic::topic_help;
 use crate::host::Host;
 use crate::list::list_chosen_jobs;
@@ -83,7 +83,7 @@ where
         Ok(None) => (to, Ok(REFUSED)),
         Err(error) => {
             let mut to = to;
-            let answer = answer_words_error(&mut to.out, error);
+            let answer = respond_to_words_error(&mut to.out, error);
             (to, answer)
         }
     };
@@ -169,7 +169,7 @@ fn run_subcommand<
 where
     F::File: Send,
     ensures low { IfOk result.1 (λ status. status ≤ 2) }
-    ensures done { IfOk result.1 (λ status. IsDone (D.contents host.now.inputs.now) (I.remaining input.old)
+    ensures done { IfOk result.1 (λ status. IsCommandDone (D.contents host.now.inputs.now) (I.remaining input.old)
         terminals.is_out_terminal request.entry status
         (outputs_of F.placed O.taken E.taken E.failed to) (outputs_of F.placed O.taken E.taken E.failed result.0)) }
     // A command that a failed write could not have stopped wrote nothing.

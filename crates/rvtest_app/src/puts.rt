@@ -5,7 +5,7 @@ ghost use Rattle.std.specs.Io.KnownBytes.{Appends};
 ghost use Rattle.rvtest_app.specs.Outlets.{AreFilesCommitted, AreFilesPartlyCommitted, HasTaken, IsPutInto, file_at, has_no_failure};
 ghost use Rattle.rvtest_app.specs.Outlets.{outlet_path, stdout_at, stdout_part};
 ghost use Rattle.rvtest_app.specs.Puts.{IsShown, junit_of};
-ghost use Rattle.rvtest_app.specs.WriteStops.{IsPutStop};
+ghost use Rattle.rvtest_app.specs.WriteStops.{IsOutputWriteStop};
 ghost use Rattle.rvtest_app.specs.ReportTexts.{report_rest_of, report_rows, report_text_of};
 ghost use Rattle.rv_junit.specs.KnownLines.{AreLinesOf};
 ghost use Rattle.rvtest_app.specs.CommandOutputs.{outputs_of};
@@ -66,7 +66,7 @@ pub(crate) fn put_files<F: Outputs + Drop, O: Sink + Drop, E: Sink + Drop, T: Ro
         → OnErr result (AreFilesPartlyCommitted (F.placed to.old.files) (F.placed to.new.files)
         (Some (file_at junit_path (junit_of T.line texts.entry)))) }
     ensures stopped { IfErr result
-        (IsPutStop (outlet_path outlets.entry.report) (outlet_path outlets.entry.junit)) }
+        (IsOutputWriteStop (outlet_path outlets.entry.report) (outlet_path outlets.entry.junit)) }
 {
     let mut outlets = outlets;
     match put_texts(alloc, &mut to.out, &mut outlets, texts) {
@@ -96,7 +96,7 @@ fn put_texts<P: Drop, W: Sink + LastError + Drop, O: Sink, T: RowReporter>(
     ensures junit_path { outlet_path outlets.new.junit ≡ outlet_path outlets.old.junit }
     ensures report_path { outlet_path outlets.new.report ≡ outlet_path outlets.old.report }
     ensures stopped { IfErr result
-        (IsPutStop (outlet_path outlets.old.report) (outlet_path outlets.old.junit)) }
+        (IsOutputWriteStop (outlet_path outlets.old.report) (outlet_path outlets.old.junit)) }
 {
     let FileTexts {
         suite,

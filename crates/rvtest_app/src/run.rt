@@ -2,12 +2,12 @@
 
 ghost use Rattle.std.specs.Prelude.{◌≡◌, ◌⊎◌, ◌≤◌, ◌<◌, None, Some, IfErr, IfOk, OnErr, true, length};
 ghost use Rattle.std.specs.List.{All};
-ghost use Rattle.rv_jobs.specs.Plans.{AreKept, jobs_needed_for, one_more_times, paths_of, paths_used, unreadable_count};
+ghost use Rattle.rv_jobs.specs.Plans.{AgreeWithContents, jobs_needed_for, one_more_times, paths_of, paths_used, unreadable_count};
 ghost use Rattle.rvtest_app.specs.Commands.{failure_rule, requested_verbosity};
 ghost use Rattle.rvtest_app.specs.Overwrites.{AreRunInputsKept};
-ghost use Rattle.rvtest_app.specs.RunStops.{IsRunPutStop, IsRunStop};
-ghost use Rattle.rvtest_app.specs.Runs.{AreJobsToRun, IsRunAt, IsRunOfMarked, IsUndoneRunAt, IsUndoneRunOfPlaces};
-ghost use Rattle.rvtest_app.specs.Runs.{places_of_marks};
+ghost use Rattle.rvtest_app.specs.RunStops.{IsRunWriteStop, IsRunStop};
+ghost use Rattle.rvtest_app.specs.Runs.{AreJobsToRun, IsRunAt, IsRunOfSelected, IsUndoneRunAt, IsUndoneRunOfPlaces};
+ghost use Rattle.rvtest_app.specs.Runs.{selected_job_indices};
 ghost use Rattle.rvtest_app.specs.CommandOutputs.{outputs_of};
 
 use crate::destinations::Destinations;
@@ -121,13 +121,13 @@ impl<'x, R: Threads + Wait + Sync + Clock, D: Inputs> ListRun<'x, R, D> {
     where
         F::File: Send,
         requires { self.now.rule ≡ failure_rule self.now.args.now.lenient }
-        ensures run { IfOk result.1 (λ status. IsRunOfMarked (D.contents self.now.host.now.inputs.now) self.now.args.now
+        ensures run { IfOk result.1 (λ status. IsRunOfSelected (D.contents self.now.host.now.inputs.now) self.now.args.now
             marked.known marked.jobs (Some marked.marks.items) marked.frame.shard marked.frame.old status
             (outputs_of F.placed O.taken E.taken E.failed to) (outputs_of F.placed O.taken E.taken E.failed result.0)) }
         ensures undone { OnErr result.1 (IsUndoneRunOfPlaces (D.contents self.now.host.now.inputs.now) self.now.args.now
-            marked.known marked.jobs (places_of_marks marked.marks.items) marked.frame.shard marked.frame.old
+            marked.known marked.jobs (selected_job_indices marked.marks.items) marked.frame.shard marked.frame.old
             (F.placed to.files) (F.placed result.0.files)) }
-        ensures stopped { IfErr result.1 (IsRunPutStop self.now.args.now) }
+        ensures stopped { IfErr result.1 (IsRunWriteStop self.now.args.now) }
     {
         let SelectedJobs {
             jobs,
@@ -147,7 +147,7 @@ impl<'x, R: Threads + Wait + Sync + Clock, D: Inputs> ListRun<'x, R, D> {
             Ok(plan) => plan,
             Err(error) => return (to, Err(Stop::from(error))),
         };
-        let unread = store.unread_paths();
+        let unread = store.unreadable_paths();
         let count = places.as_slice().len();
         let note = match missing_images_note(alloc, &plan, unread, count, args.root) {
             Ok(note) => note,
@@ -186,7 +186,7 @@ pub(crate) fn gather_jobs_at<S: Store>(
     ensures jobs { IfOk result (λ plan. plan.jobs ≡ jobs) }
     ensures paths { IfOk result (λ plan. paths_of plan.answers
         ≡ paths_used (jobs_needed_for jobs places.now)) }
-    ensures kept { IfOk result (λ plan. AreKept (S.contents store.old) plan.answers) }
+    ensures kept { IfOk result (λ plan. AgreeWithContents (S.contents store.old) plan.answers) }
     ensures faults { IfOk result (λ plan. S.faulted store.new
         ≡ one_more_times (S.faulted store.old) (unreadable_count plan.answers)) }
 {

@@ -7,7 +7,7 @@ ghost use Rattle.rv_fleet.specs.Choices.{AreJobIndices};
 ghost use Rattle.rvtest_app.specs.Outlets.{HasTaken, outlet_path};
 ghost use Rattle.rvtest_app.specs.Runs.{AreCountsWritten, IsCountsTable, IsCountsText};
 ghost use Rattle.rvtest_app.specs.CommandOutputs.{outputs_of, with_placed_if_reported};
-ghost use Rattle.rvtest_app.specs.StackStops.{IsCountsPutStop, IsUncountedRunStop};
+ghost use Rattle.rvtest_app.specs.StackStops.{IsCountsWriteStop, IsUncountedRunStop};
 
 use crate::counts::sum_error_stop;
 use crate::crew::requested_crew;
@@ -49,7 +49,7 @@ impl<'x, R: Threads + Wait + Sync + Clock, D: Inputs> ListRun<'x, R, D> {
             → HasTaken F.pending_path F.File.taken F.File.failed earlier path [] outlet.entry
             → OnErr result (is_some path ≡ true) }
         ensures same { OnErr result (F.placed to.new.files ≡ F.placed to.old.files) }
-        ensures stopped { IfErr result (IsCountsPutStop self.now.args.now (outlet_path outlet.entry)) }
+        ensures stopped { IfErr result (IsCountsWriteStop self.now.args.now (outlet_path outlet.entry)) }
     {
         if let Outlet::Nowhere = outlet {
             return Ok(());

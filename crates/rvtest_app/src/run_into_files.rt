@@ -13,9 +13,9 @@ ghost use Rattle.rvtest_app.specs.Outlets.{AreFilesCommitted, AreFilesPartlyComm
 ghost use Rattle.rvtest_app.specs.Outlets.{file_path_at, outlet_path, stdout_at};
 ghost use Rattle.rvtest_app.specs.Puts.{IsShown};
 ghost use Rattle.rvtest_app.specs.RunOutlets.{HaveRunOutletsTaken};
-ghost use Rattle.rvtest_app.specs.WriteStops.{IsPutStop};
+ghost use Rattle.rvtest_app.specs.WriteStops.{IsOutputWriteStop};
 ghost use Rattle.rvtest_app.specs.RunOutput.{rows_status, run_output_text};
-ghost use Rattle.rvtest_app.specs.RunStops.{IsRunPutStop};
+ghost use Rattle.rvtest_app.specs.RunStops.{IsRunWriteStop};
 ghost use Rattle.rvtest_app.specs.Runs.{AreRunFilesPlacedInPart, IsCountedRunWritten, run_junit, run_rows, shown_indices};
 ghost use Rattle.rvtest_app.specs.CommandOutputs.{CommandOutputs, outputs_of};
 ghost use Rattle.rvtest_app.specs.declared.run_output.ShowError.TheVariants.{ReportFailed};
@@ -78,7 +78,7 @@ impl<'x, R: Threads + Wait + Sync + Clock, D: Inputs> ListRun<'x, R, D> {
             → OnErr result.1 ((F.placed result.0.files ≡ F.placed to.files)
             ⊎ AreRunFilesPlacedInPart self.now.args.now (reporter_of planned.now.reporter.now) planned.now.places.now frame.shard
             frame.old rows (F.placed to.files) (F.placed result.0.files)) }
-        ensures stopped { IfErr result.1 (IsRunPutStop self.now.args.now) }
+        ensures stopped { IfErr result.1 (IsRunWriteStop self.now.args.now) }
     {
         let (alloc, args) = (self.host.alloc, self.args);
         let mut to = to;
@@ -163,7 +163,7 @@ impl<'x, R: Threads + Wait + Sync + Clock, D: Inputs> ListRun<'x, R, D> {
             ⊎ AreRunFilesPlacedInPart self.now.args.now (reporter_of planned.now.reporter.now) planned.now.places.now frame.shard
             frame.old (run_rows self.now.args.now.stop_after (judging_of planned.now.reporter.now.judge)
             planned.now.reporter.now.plan.now planned.now.places.now) (F.placed to.files) (F.placed result.0.files)) }
-        ensures stopped { IfErr result.1 (IsRunPutStop self.now.args.now) }
+        ensures stopped { IfErr result.1 (IsRunWriteStop self.now.args.now) }
     {
         let ShownRun { texts, ran } = run;
         let mut to = to;
@@ -207,7 +207,7 @@ impl<'x, R: Threads + Wait + Sync + Clock, D: Inputs> ListRun<'x, R, D> {
         ensures part { OnErr result ((F.placed to.new.files ≡ F.placed to.old.files)
             ⊎ AreRunFilesPlacedInPart self.now.args.now (reporter_of planned.now.reporter.now) planned.now.places.now frame.shard
             frame.old rows (F.placed to.old.files) (F.placed to.new.files)) }
-        ensures stopped { IfErr result (IsRunPutStop self.now.args.now) }
+        ensures stopped { IfErr result (IsRunWriteStop self.now.args.now) }
     {
         let RunOutlets {
             report,
@@ -267,7 +267,7 @@ impl<'x, R: Threads + Wait + Sync + Clock, D: Inputs> ListRun<'x, R, D> {
             (Some (file_at junit_path (run_junit self.now.args.now (reporter_of planned.now.reporter.now)
             planned.now.places.now rows)))) }
         ensures stopped { IfErr result
-            (IsPutStop (outlet_path outlets.entry.report) (outlet_path outlets.entry.junit)) }
+            (IsOutputWriteStop (outlet_path outlets.entry.report) (outlet_path outlets.entry.junit)) }
     {
         let (reporter, places) = (planned.reporter, planned.places);
         let status = rows_status(&reporter.judge, rows.as_slice());

@@ -2,7 +2,7 @@
 
 ghost use Rattle.std.specs.Prelude.{◌≡◌, [], IfErr, IfOk};
 ghost use Rattle.rvtest_app.specs.RunOutlets.{HaveRunOutletsTaken};
-ghost use Rattle.rvtest_app.specs.RunStops.{IsRunPutStop};
+ghost use Rattle.rvtest_app.specs.RunStops.{IsRunWriteStop};
 
 use crate::into_report::run_report_path;
 use crate::outlets::{Outlet, Outlets, abandon_outlet, open_outlet, open_outlets};
@@ -27,7 +27,7 @@ pub(crate) fn open_run_outlets<'a, F: Outputs>(
 ) -> Result<RunOutlets<'a, F::Place, F::File>, Stop>
     ensures same { F.placed files.new ≡ F.placed files.old }
     ensures open { IfOk result (HaveRunOutletsTaken F.pending_path F.File.taken F.File.failed (F.placed files.old) args.now []) }
-    ensures stopped { IfErr result (IsRunPutStop args.now) }
+    ensures stopped { IfErr result (IsRunWriteStop args.now) }
 {
     let counts = open_outlet(files, alloc, args.counts)?;
     match open_outlets(files, alloc, run_report_path(args), args.junit) {

@@ -5,7 +5,7 @@ ghost use Rattle.rv_expect.specs.Judgement.{judging_of};
 ghost use Rattle.rv_command.specs.Texts.{optional_text};
 ghost use Rattle.rv_report.specs.Report.{report_text};
 ghost use Rattle.rvtest_app.specs.CommandStops.{IsShowStop};
-ghost use Rattle.rvtest_app.specs.Puts.{WentOut};
+ghost use Rattle.rvtest_app.specs.Puts.{IsOutputWritten};
 ghost use Rattle.rvtest_app.specs.WriteStops.{IsOutputStop};
 ghost use Rattle.rvtest_app.specs.Commands.{report_judging};
 ghost use Rattle.rvtest_app.specs.RunOutput.{rows_status};
@@ -118,7 +118,7 @@ fn put_summarized_report<F: Outputs + Drop, O: Sink + Drop, E: Sink + Drop>(
     summarized: SummarizedReport,
     to: &mut Destinations<F, O, E>,
 ) -> Result<(), Stop>
-    ensures put { OnOk result (WentOut None (optional_text args.entry.junit) summarized.summary.items
+    ensures put { OnOk result (IsOutputWritten None (optional_text args.entry.junit) summarized.summary.items
         (report_text summarized.report.rows)
         (shown_junit args.entry summarized.report.rows)
         (outputs_of F.placed O.taken E.taken E.failed to.old) (outputs_of F.placed O.taken E.taken E.failed to.new)) }

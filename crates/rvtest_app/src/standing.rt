@@ -9,7 +9,7 @@ ghost use Rattle.rv_expect.specs.Comparisons.{sides_of};
 ghost use Rattle.rv_expect.specs.RowReporter.{is_same};
 ghost use Rattle.rv_files.specs.UnreadPaths.{resolved_path};
 ghost use Rattle.rvtest_app.specs.Standings.{AreCandidates, IsCandidateAt, IsGoldenText, IsStanding, IsWholeText, compared_row, is_marked, is_none_unmet, path_to_read};
-ghost use Rattle.rvtest_app.specs.Standings.{sides_over, standing_by, verdict_of_sides};
+ghost use Rattle.rvtest_app.specs.Standings.{sides_over, verdict_by, verdict_of_sides};
 
 use crate::accepted_files::place_of_path;
 use rv_accept::{Acceptance, Candidate, CurrentVerdict, console_path, is_accepted_end};
@@ -106,7 +106,7 @@ impl<'x, D: Inputs> CurrentFiles<'x, D> {
             other: self.compared_row(job),
         };
         let unmet = unmet_expectations(self.alloc, &comparison)?;
-        Ok(standing_by(did_run(row.ending), unmet.as_slice()))
+        Ok(verdict_by(did_run(row.ending), unmet.as_slice()))
     }
 
     // Returns the row of the job that `same_as` names, if it names one and that job was run.
@@ -217,8 +217,8 @@ fn row_if_run(row: Option<&Option<Row>>) -> Option<&Row>
 }
 
 // Returns the verdict on a job, given whether it ran and its unmet expectations.
-fn standing_by(ran: bool, unmet: &[Unmet]) -> CurrentVerdict
-    ensures { result ≡ standing_by ran unmet.now }
+fn verdict_by(ran: bool, unmet: &[Unmet]) -> CurrentVerdict
+    ensures { result ≡ verdict_by ran unmet.now }
 {
     if ran && is_none_unmet(unmet) {
         CurrentVerdict::Passes

@@ -5,9 +5,9 @@ ghost use Rattle.std.specs.List.Sorted.{IsStrictlyIncreasing};
 ghost use Rattle.rv_count_tables.specs.Table.{IsTable};
 ghost use Rattle.rv_cover_view.specs.JobImages.{AreSmall, images_of_files};
 ghost use Rattle.rv_fleet.specs.Choices.{AreJobIndices};
-ghost use Rattle.rvtest_app.specs.Runs.{places_of_marks};
+ghost use Rattle.rvtest_app.specs.Runs.{selected_job_indices};
 ghost use Rattle.rvtest_app.specs.CommandOutputs.{outputs_of};
-ghost use Rattle.rvtest_app.specs.ViewStops.{IsTextlessStop, IsUnshownStop, IsUnviewedStop, IsViewStop, counts_source};
+ghost use Rattle.rvtest_app.specs.ViewStops.{IsTableTextStop, IsUnshownStop, IsUnviewedStop, IsViewStop, counts_source};
 ghost use Rattle.rvtest_app.specs.Views.{IsViewOfPlaces, IsViewOfPlan, IsViewWritten, IsViewText};
 
 use crate::destinations::Destinations;
@@ -72,13 +72,13 @@ impl<'x, R: Threads + Wait + Sync, D: Inputs> JobsView<'x, R, D> {
         put_message(&mut to.errors, requested.notes.as_slice());
         let RequestedJobs { jobs, marks, .. } = requested;
         match marks {
-            Some(marks) => self.put_of_marked(jobs, marks.as_slice(), to),
+            Some(marks) => self.put_of_selected(jobs, marks.as_slice(), to),
             None => Ok(DONE),
         }
     }
 
     // Writes the notes and the view of the selected jobs.
-    fn put_of_marked<F: Outputs + Drop, O: Sink + Drop, E: Sink + Drop>(
+    fn put_of_selected<F: Outputs + Drop, O: Sink + Drop, E: Sink + Drop>(
         &self,
         jobs: JobList,
         marks: &[bool],
@@ -86,17 +86,17 @@ impl<'x, R: Threads + Wait + Sync, D: Inputs> JobsView<'x, R, D> {
     ) -> Result<u8, Stop>
         requires { length marks.now ≡ length jobs }
         ensures put { IfOk result (λ status. (status ≡ 0) × IsViewOfPlaces (D.contents self.now.host.now.inputs.now)
-            self.now.args.now self.now.view jobs (places_of_marks marks.now)
+            self.now.args.now self.now.view jobs (selected_job_indices marks.now)
             (outputs_of F.placed O.taken E.taken E.failed to.old) (outputs_of F.placed O.taken E.taken E.failed to.new)) }
         ensures stopped { IfErr result (IsUnviewedStop (D.contents self.now.host.now.inputs.now) self.now.args.now
-            self.now.view jobs (places_of_marks marks.now)) }
+            self.now.view jobs (selected_job_indices marks.now)) }
     {
         let (alloc, inputs) = (self.host.alloc, self.host.inputs);
         let marked = selected_indices(alloc, marks)?;
         let places = marked.as_slice();
         let mut store = RecordingStore::new(inputs, alloc, self.args.root);
         let plan = gather_jobs_at(alloc, jobs, places, &mut store)?;
-        let note = refused_note(alloc, self.args, &plan, store.unread_paths(), places)?;
+        let note = refused_note(alloc, self.args, &plan, store.unreadable_paths(), places)?;
         put_message(&mut to.errors, note.as_slice());
         let text = self.text_of_places(&plan, places)?;
         put_results(&mut to.out, text.as_slice())?;
@@ -125,7 +125,7 @@ impl<'x, R, D> JobsView<'x, R, D> {
     fn text_of_table(&self, table: &CountTable, images: &[ImageFile<'_>]) -> Result<Vec<u8>, Stop>
         requires { IsTable table.now }
         ensures shown { IfOk result (λ text. IsViewText self.now.view table.now (images_of_files images.now) text.items) }
-        ensures stopped { IfErr result (IsTextlessStop self.now.view table.now (images_of_files images.now)
+        ensures stopped { IfErr result (IsTableTextStop self.now.view table.now (images_of_files images.now)
             (counts_source self.now.args.now)) }
     {
         let alloc = self.host.alloc;

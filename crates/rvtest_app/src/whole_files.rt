@@ -5,7 +5,7 @@ ghost use Rattle.std.specs.Io.KnownBytes.{Appends};
 ghost use Rattle.rv_expect.specs.Judgement.{judging_of};
 ghost use Rattle.rv_report.specs.Report.{report_text};
 ghost use Rattle.rvtest_app.specs.Outlets.{AreFilesCommitted, AreFilesPartlyCommitted, HasTaken, file_at, has_no_failure, outlet_path, stdout_at};
-ghost use Rattle.rvtest_app.specs.WriteStops.{IsPutStop};
+ghost use Rattle.rvtest_app.specs.WriteStops.{IsOutputWriteStop};
 ghost use Rattle.rvtest_app.specs.JunitTexts.{failures_junit};
 
 use crate::destinations::Destinations;
@@ -49,7 +49,7 @@ pub(crate) fn put_whole_files<F: Outputs + Drop, O: Sink + Drop, E: Sink + Drop>
         → OnErr result (AreFilesPartlyCommitted (F.placed to.old.files) (F.placed to.new.files)
         (Some (file_at junit_path (failures_junit suite.entry.name.now (judging_of suite.entry.judge) rows)))) }
     ensures stopped { IfErr result
-        (IsPutStop (outlet_path outlets.entry.report) (outlet_path outlets.entry.junit)) }
+        (IsOutputWriteStop (outlet_path outlets.entry.report) (outlet_path outlets.entry.junit)) }
 {
     let places = match vec![in alloc; 0usize; rows.as_slice().len()] {
         Ok(places) => places,

@@ -4,8 +4,8 @@ ghost use Rattle.std.specs.Prelude.{◌≡◌, ◌≤◌, IfErr, IfOk, IfSome, N
 ghost use Rattle.rv_lists.specs.Limits.{most_jobs};
 ghost use Rattle.rv_report.specs.Saved.{row_names};
 ghost use Rattle.rvtest_app.specs.IntoReports.{IsWholeReport, IsWholeReportAt, job_names};
-ghost use Rattle.rvtest_app.specs.IntoStops.{IsFirstOtherName, IsNoWholeReportStop, IsNotWhole, count_refusal};
-ghost use Rattle.rvtest_app.specs.IntoStops.{jobs_beside_part, name_refusal, not_whole_refusal, part_refusal};
+ghost use Rattle.rvtest_app.specs.IntoStops.{IsFirstOtherName, IsNotWholeReportStop, IsNotWhole, count_refusal};
+ghost use Rattle.rvtest_app.specs.IntoStops.{jobs_of_partial_report, name_refusal, not_whole_refusal, part_refusal};
 
 use rv_command::{Stop, read_report_file};
 use rv_files::Inputs;
@@ -47,7 +47,7 @@ pub(crate) fn read_whole_report<D: Inputs>(
 ) -> Result<Rows, Stop>
     ensures whole { IfOk result (IsWholeReportAt (D.contents inputs.now) path.now jobs.now) }
     ensures counted { IfOk result (λ rows. length rows ≡ length jobs.now) }
-    ensures stopped { IfErr result (IsNoWholeReportStop (D.contents inputs.now) path.now list.now jobs.now) }
+    ensures stopped { IfErr result (IsNotWholeReportStop (D.contents inputs.now) path.now list.now jobs.now) }
 {
     let report = read_report_file(inputs, alloc, path)?;
     match not_whole(&report, jobs) {
@@ -63,7 +63,7 @@ fn not_whole<'a>(report: &'a SavedReport, jobs: &'a [Job]) -> Option<NotWhole<'a
     ensures other { IfSome result (IsNotWhole jobs.now report.now) }
 {
     let rows = report.rows.as_slice();
-    if let Some(count) = jobs_beside_part(&report.extent) {
+    if let Some(count) = jobs_of_partial_report(&report.extent) {
         return Some(NotWhole::Part(rows.len(), count));
     }
     if rows.len() != jobs.len() {
@@ -76,8 +76,8 @@ fn not_whole<'a>(report: &'a SavedReport, jobs: &'a [Job]) -> Option<NotWhole<'a
 }
 
 // Returns the number of jobs in the list of a partial report; `None` for a whole report.
-fn jobs_beside_part(extent: &Extent) -> Option<u32>
-    ensures { result ≡ jobs_beside_part extent.now }
+fn jobs_of_partial_report(extent: &Extent) -> Option<u32>
+    ensures { result ≡ jobs_of_partial_report extent.now }
 {
     match extent {
         Extent::Whole => None,

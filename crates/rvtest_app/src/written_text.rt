@@ -2,7 +2,7 @@
 
 ghost use Rattle.std.specs.Prelude.{◌≡◌, ◌⊎◌, ◌∷◌, [], ℕ, List, None, Option, IfErr, IfSome, OnErr, OnOk, Some, true};
 ghost use Rattle.rv_command.specs.Texts.{optional_text};
-ghost use Rattle.rv_files.specs.Placed.{CommittedFile, placed_file};
+ghost use Rattle.rv_files.specs.Placed.{CommittedFile, committed_file};
 ghost use Rattle.rvtest_app.specs.AcceptStops.{IsFileNotCreatedStop};
 ghost use Rattle.rvtest_app.specs.Outlets.{AreFilesCommitted, HasTaken, is_stdout, outlet_path};
 ghost use Rattle.rvtest_app.specs.WriteStops.{IsFileStop};
@@ -62,7 +62,7 @@ pub(crate) fn write_file<F: Outputs>(
     bytes: &[u8],
 ) -> Result<(), Stop>
     ensures placed { OnOk result (AreFilesCommitted (F.placed files.old) (F.placed files.new)
-        (Some (placed_file path.now bytes.now ∷ []))) }
+        (Some (committed_file path.now bytes.now ∷ []))) }
     ensures same { OnErr result (F.placed files.new ≡ F.placed files.old) }
     ensures stopped { IfErr result (IsFileNotCreatedStop path.now) }
 {
@@ -83,7 +83,7 @@ pub(crate) fn finish_file<F: Outputs>(
     requires named { file.path.now ≡ F.pending_path file.place }
     ensures placed { IfSome (F.placed files.old) (λ _. F.File.taken file.entry.sink ≡ Some [])
         → OnOk result (AreFilesCommitted (F.placed files.old) (F.placed files.new)
-        (Some (placed_file file.entry.path.now bytes.now ∷ []))) }
+        (Some (committed_file file.entry.path.now bytes.now ∷ []))) }
     ensures same { OnErr result (F.placed files.new ≡ F.placed files.old) }
     ensures stopped { IfErr result (IsFileNotCreatedStop file.entry.path.now) }
 {

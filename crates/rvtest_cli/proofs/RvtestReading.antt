@@ -18,10 +18,10 @@ use Rattle.clap.specs.declared.parser.matches.ArgMatches.{ArgMatches}
 use Rattle.clap.specs.declared.parser.matches.ArgMatches.TheViews.{out-SubCommand}
 use Rattle.clap.specs.declared.parser.matches.SubCommand.{SubCommand}
 use Rattle.rvtest_cli.specs.RvtestCommand.{test_app}
-use Rattle.rvtest_cli.specs.RvtestWords.{FailsByMisuse, IsRequestInRange, IsMisuseReported, words_of_request, help_words, is_command_help, is_help}
+use Rattle.rvtest_cli.specs.RvtestWords.{FailsByMisuse, IsRequestInRange, IsMisuseReported, value_of_request, help_command_args, is_command_help, is_help}
 use Rattle.rvtest_cli.specs.RvtestWords.{matched_misuse, matched_words, misuse_kinds, plain_fault_kinds, plain_misuse, words_fault_kinds, words_faults}
-use Rattle.rvtest_cli.specs.RvtestWords.{words_misuse, words_request}
-use Rattle.rvtest_cli.specs.WordsErrors.{FailsByKinds, IsToldOf, IsToldOfKind}
+use Rattle.rvtest_cli.specs.RvtestWords.{words_misuse, request_of_args}
+use Rattle.rvtest_cli.specs.WordsErrors.{FailsByKinds, IsToldOf, IsErrorOfKind}
 use Rattle.rvtest_cli.specs.declared.refusals.Misuse.{Misuse}
 use Rattle.rvtest_cli.specs.declared.requests.Request.{Request}
 use Rattle.rvtest_cli.specs.declared.words_error.WordsError.{WordsError}
@@ -57,7 +57,7 @@ refused app words error is has =
 
 -- an error of one of these kinds is told as one of them
 pub told_of : (kinds : Kinds) (met : ErrorKind) (told : WordsError) → (met ≡ OutOfMemory) ⊎ IsAmong met kinds
-    → IsToldOfKind met told → IsToldOf kinds told
+    → IsErrorOfKind met told → IsToldOf kinds told
 told_of kinds met error.OutOfMemory has is = tt
 told_of kinds met (error.Told fault text) has is =
     ⊎_elim (λ memory. absurd (is.1 memory)) (λ among. subst (λ k. IsAmong k kinds) (sym is.0) among) has
@@ -103,11 +103,11 @@ pub help_within : (r : Result (Option Request) WordsError) → IfOk r (λ reques
 help_within r none = IfOk-weaker r _ _ (λ request nothing. subst (λ a. IfSome a IsRequestInRange) (sym nothing) tt) none
 
 -- arguments that request it, in whose place an option requests the same help
-module _ (words help : List Text) (is : help_words words ≡ Some help) where
+module _ (words help : List Text) (is : help_command_args words ≡ Some help) where
   pub help_value : (r : Result (Option Request) WordsError) → IfOk r (λ request. request ≡ None)
-      → IfOk r (λ request. option_map words_of_request request ≡ words_request words)
+      → IfOk r (λ request. option_map value_of_request request ≡ request_of_args words)
   help_value r none =
-      IfOk-weaker r _ _ (λ request nothing. ap (option_map words_of_request) nothing
+      IfOk-weaker r _ _ (λ request nothing. ap (option_map value_of_request) nothing
       ∙ sym (ap (λ found. matched_words (option_map_or (λ _. None) found (subcommand_of test_app words))) is)) none
 
   pub help_kinds : {T : Type 0} (r : Result T WordsError) → FailsByKinds (fault_of test_app help) r
@@ -125,10 +125,10 @@ module _ (words help : List Text) (is : help_words words ≡ Some help) where
       none_told (words_misuse words) e (subst (λ kinds. IsToldOf kinds e) (sym (ap found is) ∙ none) fails)
 
 -- other arguments, which are parsed as they are
-module _ (words : List Text) (none : help_words words ≡ None) where
+module _ (words : List Text) (none : help_command_args words ≡ None) where
   pub plain_value : (r : Result (Option Request) WordsError)
-      → IfOk r (λ request. option_map words_of_request request ≡ matched_words (subcommand_of test_app words))
-      → IfOk r (λ request. option_map words_of_request request ≡ words_request words)
+      → IfOk r (λ request. option_map value_of_request request ≡ matched_words (subcommand_of test_app words))
+      → IfOk r (λ request. option_map value_of_request request ≡ request_of_args words)
   plain_value r request = rw none request
 
   pub plain_kinds : {T : Type 0} (r : Result T WordsError) → FailsByKinds (plain_fault_kinds words) r
@@ -145,8 +145,8 @@ module _ (words : List Text) (none : help_words words ≡ None) where
 module _ {X : Type 0} (text : X → Text) where
   pub help_of_two : (words : List X) (program word : X) → 2 ≤ length words → length words < 3
       → program ≡ get_or words 0 program → word ≡ get_or words 1 word → is_help (text word) ≡ true
-      → help_words (map text words) ≡ Some (text program ∷ codes "--help" ∷ [])
-  unfolding help_words
+      → help_command_args (map text words) ≡ Some (text program ∷ codes "--help" ∷ [])
+  unfolding help_command_args
   help_of_two [] program word least below first second is = absurd (omega (arith, least))
   help_of_two (x ∷ []) program word least below first second is = absurd (omega (arith, least))
   help_of_two (x ∷ y ∷ []) program word least below first second is =
@@ -158,8 +158,8 @@ module _ {X : Type 0} (text : X → Text) where
   pub help_of_three : (words : List X) (program word topic : X) → 3 ≤ length words → length words < 4
       → program ≡ get_or words 0 program → word ≡ get_or words 1 word → topic ≡ get_or words 2 topic
       → is_command_help (text word) (text topic) ≡ true
-      → help_words (map text words) ≡ Some (text program ∷ text topic ∷ codes "--help" ∷ [])
-  unfolding help_words
+      → help_command_args (map text words) ≡ Some (text program ∷ text topic ∷ codes "--help" ∷ [])
+  unfolding help_command_args
   help_of_three [] program word topic least below first second third is = absurd (omega (arith, least))
   help_of_three (x ∷ []) program word topic least below first second third is = absurd (omega (arith, least))
   help_of_three (x ∷ y ∷ []) program word topic least below first second third is = absurd (omega (arith, least))
@@ -172,15 +172,15 @@ module _ {X : Type 0} (text : X → Text) where
 
   -- others do not
 
-  pub few_words : (words : List X) → length words < 2 → help_words (map text words) ≡ None
-  unfolding help_words
+  pub few_words : (words : List X) → length words < 2 → help_command_args (map text words) ≡ None
+  unfolding help_command_args
   few_words [] few = refl
   few_words (x ∷ []) few = refl
   few_words (x ∷ y ∷ rest) few = absurd (omega (arith, few))
 
   pub other_of_two : (words : List X) (word : X) → 2 ≤ length words → length words < 3 → word ≡ get_or words 1 word
-      → is_help (text word) ≡ false → help_words (map text words) ≡ None
-  unfolding help_words
+      → is_help (text word) ≡ false → help_command_args (map text words) ≡ None
+  unfolding help_command_args
   other_of_two [] word least below second is = refl
   other_of_two (x ∷ []) word least below second is = refl
   other_of_two (x ∷ y ∷ []) word least below second is =
@@ -190,8 +190,8 @@ module _ {X : Type 0} (text : X → Text) where
 
   pub other_of_three : (words : List X) (word topic : X) → 3 ≤ length words → length words < 4
       → word ≡ get_or words 1 word → topic ≡ get_or words 2 topic → is_command_help (text word) (text topic) ≡ false
-      → help_words (map text words) ≡ None
-  unfolding help_words
+      → help_command_args (map text words) ≡ None
+  unfolding help_command_args
   other_of_three [] word topic least below second third is = refl
   other_of_three (x ∷ []) word topic least below second third is = refl
   other_of_three (x ∷ y ∷ []) word topic least below second third is = absurd (omega (arith, least))
@@ -201,8 +201,8 @@ module _ {X : Type 0} (text : X → Text) where
       ap (λ help. cond help (Some (text x ∷ text z ∷ codes "--help" ∷ [])) None) named
   other_of_three (x ∷ y ∷ z ∷ u ∷ rest) word topic least below second third is = absurd (omega (arith, below))
 
-  pub many_words : (words : List X) → 4 ≤ length words → help_words (map text words) ≡ None
-  unfolding help_words
+  pub many_words : (words : List X) → 4 ≤ length words → help_command_args (map text words) ≡ None
+  unfolding help_command_args
   many_words [] many = refl
   many_words (x ∷ []) many = refl
   many_words (x ∷ y ∷ []) many = absurd (omega (arith, many))

@@ -32,7 +32,7 @@ use Rattle.std.specs.Borrow.{Bor}
 -- ---- the requests
 
 -- the arguments of `run`; the requests of `list`, `accept`, `cover` and `profile` use them, too
-pub record RunWords : Type 0 where
+pub record RunOptions : Type 0 where
   -- the path of the job list
   pub list : Text
   -- the names of the jobs to run, from `--only`
@@ -85,7 +85,7 @@ pub record RunWords : Type 0 where
   pub color : Option Text
 
 -- the arguments of `explain`: a job of a list, and how many of its last instructions are shown
-pub record ExplainWords : Type 0 where
+pub record ExplainOptions : Type 0 where
   pub list : Text
   pub name : Text
   pub last : ℕ
@@ -94,7 +94,7 @@ pub record ExplainWords : Type 0 where
   pub color : Option Text
 
 -- the arguments of `merge`: the paths of the parts, and where the merged report and the JUnit XML are written
-pub record MergeWords : Type 0 where
+pub record MergeOptions : Type 0 where
   pub parts : List Text
   pub report : Option Text
   pub junit : Option Text
@@ -102,7 +102,7 @@ pub record MergeWords : Type 0 where
   pub lenient : Bool
 
 -- the arguments of `show`: the path of a report, and where the JUnit XML is written
-pub record ShowWords : Type 0 where
+pub record ShowOptions : Type 0 where
   pub report : Text
   pub partial : Bool
   pub junit : Option Text
@@ -111,7 +111,7 @@ pub record ShowWords : Type 0 where
   pub color : Option Text
 
 -- the arguments of `diff`: the paths of two reports, and how their steps are compared
-pub record DiffWords : Type 0 where
+pub record DiffOptions : Type 0 where
   pub old : Text
   pub new : Text
   -- whether a report may be truncated
@@ -123,8 +123,8 @@ pub record DiffWords : Type 0 where
   pub color : Option Text
 
 -- the arguments of `accept`: the jobs to run, and which changes are written
-pub record AcceptWords : Type 0 where
-  pub run : RunWords
+pub record AcceptOptions : Type 0 where
+  pub run : RunOptions
   -- whether a different exit code or kind of fault is accepted, too
   pub ends : Bool
   -- whether changes are only reported, and nothing is written
@@ -133,19 +133,19 @@ pub record AcceptWords : Type 0 where
   pub outside : Bool
 
 -- the arguments of `counts`: the paths of the tables to add up, and the path of the sum
-pub record CountsWords : Type 0 where
+pub record CountsOptions : Type 0 where
   pub tables : List Text
   pub out : Option Text
 
 -- the arguments of `cover`; if `run` has a counts path, that table is read instead of running the jobs
-pub record CoverWords : Type 0 where
-  pub run : RunWords
+pub record CoverOptions : Type 0 where
+  pub run : RunOptions
   -- whether the output is CSV
   pub csv : Bool
 
 -- the arguments of `profile`; if `run` has a counts path, that table is read instead of running the jobs
-pub record ProfileWords : Type 0 where
-  pub run : RunWords
+pub record ProfileOptions : Type 0 where
+  pub run : RunOptions
   -- how many functions of each image are shown; none for all
   pub top : Option ℕ
   -- whether the output is CSV
@@ -153,23 +153,23 @@ pub record ProfileWords : Type 0 where
 
 -- the request that the command line makes: a command with its arguments
 pub data Words : Type 0 where
-  run : RunWords → Words
+  run : RunOptions → Words
   -- `list` lists the jobs that `run` would run with these arguments
-  names : RunWords → Words
-  explain : ExplainWords → Words
+  names : RunOptions → Words
+  explain : ExplainOptions → Words
   -- `console` of a list, a job's name, and the directory of `--root`
   console : Text → Text → Option Text → Words
   -- `gdb` of a list, a job's name, the directory of `--root`, and the megabytes of `--memory`
   gdb : Text → Text → Option Text → Option ℕ → Words
   -- `check` of a list and the directory of `--root`
   check : Text → Option Text → Words
-  accept : AcceptWords → Words
-  merge : MergeWords → Words
-  diff : DiffWords → Words
-  show : ShowWords → Words
-  counts : CountsWords → Words
-  cover : CoverWords → Words
-  profile : ProfileWords → Words
+  accept : AcceptOptions → Words
+  merge : MergeOptions → Words
+  diff : DiffOptions → Words
+  show : ShowOptions → Words
+  counts : CountsOptions → Words
+  cover : CoverOptions → Words
+  profile : ProfileOptions → Words
   -- `help` for a topic that is not a command
   help : Text → Words
 
@@ -178,7 +178,7 @@ abbrev pub requested_budget : List Row → Option ℕ
 requested_budget rows = number_value (codes "budget") 1 most_budget rows
 
 -- the arguments of a command that runs jobs of `list` in chunks of `group` jobs; an option that the command does not have is unset
-unfoldable pub run_words : Text → ℕ → List Row → RunWords
+unfoldable pub run_words : Text → ℕ → List Row → RunOptions
 run_words list group rows = record {
   list = list;
   only = argument_values (codes "only") rows;
@@ -217,8 +217,8 @@ abbrev pub list_request : List Row → Option Words
 list_request rows = option_map (λ list. names (run_words list 1 rows)) (first_of (codes "list") rows)
 
 -- the request of `explain` for the job `name` of `list`, with its `last` instructions; its other options are from the matches
-abbrev pub explain_words : Text → Text → List Row → ℕ → Words
-explain_words list name rows last = explain (record {
+abbrev pub explain_request_of : Text → Text → List Row → ℕ → Words
+explain_request_of list name rows last = explain (record {
   list = list;
   name = name;
   last = last;
@@ -230,7 +230,7 @@ explain_words list name rows last = explain (record {
 -- the request of `explain` with these matches of `clap`; none without a list, a job's name or a valid `--last`
 abbrev pub explain_request : List Row → Option Words
 explain_request rows = option_and_then (λ list. option_and_then (λ name.
-    option_map (explain_words list name rows) (number_value (codes "last") 0 most_last_instructions rows))
+    option_map (explain_request_of list name rows) (number_value (codes "last") 0 most_last_instructions rows))
     (first_of (codes "name") rows)) (first_of (codes "list") rows)
 
 -- the request of `console` with these matches of `clap`; none without a list or a job's name
@@ -250,8 +250,8 @@ check_request rows = option_map (λ list. check list (first_of (codes "root") ro
     (first_of (codes "list") rows)
 
 -- the request of `accept` for `list`, in chunks of `group` jobs; its options are from the matches
-abbrev pub accept_words : Text → List Row → ℕ → Words
-accept_words list rows group = accept (record {
+abbrev pub accept_request_of : Text → List Row → ℕ → Words
+accept_request_of list rows group = accept (record {
   run = run_words list group rows;
   ends = is_flag_set (codes "ends") rows;
   check = is_flag_set (codes "check") rows;
@@ -260,7 +260,7 @@ accept_words list rows group = accept (record {
 
 -- the request of `accept` with these matches of `clap`; none without a list or a valid chunk size
 abbrev pub accept_request : List Row → Option Words
-accept_request rows = option_and_then (λ list. option_map (accept_words list rows)
+accept_request rows = option_and_then (λ list. option_map (accept_request_of list rows)
     (number_value (codes "group") 1 most_group rows)) (first_of (codes "list") rows)
 
 -- the request of `merge` with these matches of `clap`
@@ -274,8 +274,8 @@ merge_request rows = merge (record {
 })
 
 -- the request of `diff` for the reports `old` and `new`; its options are from the matches
-abbrev pub diff_words : List Row → Text → Text → Words
-diff_words rows old new = diff (record {
+abbrev pub diff_request_of : List Row → Text → Text → Words
+diff_request_of rows old new = diff (record {
   old = old;
   new = new;
   partial = is_flag_set (codes "partial") rows;
@@ -286,12 +286,12 @@ diff_words rows old new = diff (record {
 
 -- the request of `diff` with these matches of `clap`; none without two reports
 abbrev pub diff_request : List Row → Option Words
-diff_request rows = option_and_then (λ old. option_map (diff_words rows old)
+diff_request rows = option_and_then (λ old. option_map (diff_request_of rows old)
     (first_of (codes "new") rows)) (first_of (codes "old") rows)
 
 -- the request of `show` for `report`; its options are from the matches
-abbrev pub show_words : List Row → Text → Words
-show_words rows report = show (record {
+abbrev pub show_request_of : List Row → Text → Words
+show_request_of rows report = show (record {
   report = report;
   partial = is_flag_set (codes "partial") rows;
   junit = first_of (codes "junit") rows;
@@ -302,7 +302,7 @@ show_words rows report = show (record {
 
 -- the request of `show` with these matches of `clap`; none without a report
 abbrev pub show_request : List Row → Option Words
-show_request rows = option_map (show_words rows) (first_of (codes "report") rows)
+show_request rows = option_map (show_request_of rows) (first_of (codes "report") rows)
 
 -- the request of `counts` with these matches of `clap`
 abbrev pub counts_request : List Row → Words
@@ -312,25 +312,25 @@ counts_request rows = counts (record {
 })
 
 -- the request of `cover` for `list`, in chunks of `group` jobs; its options are from the matches
-abbrev pub cover_words : Text → List Row → ℕ → Words
-cover_words list rows group = cover (record { run = run_words list group rows; csv = is_flag_set (codes "csv") rows })
+abbrev pub cover_request_of : Text → List Row → ℕ → Words
+cover_request_of list rows group = cover (record { run = run_words list group rows; csv = is_flag_set (codes "csv") rows })
 
 -- the request of `cover` with these matches of `clap`; none without a list or a valid chunk size
 abbrev pub cover_request : List Row → Option Words
-cover_request rows = option_and_then (λ list. option_map (cover_words list rows)
+cover_request rows = option_and_then (λ list. option_map (cover_request_of list rows)
     (number_value (codes "group") 1 most_group rows)) (first_of (codes "list") rows)
 
 -- the values of the argument NAME, or of `--only` if NAME is not given
-abbrev pub named_or_only : List Row → List Text
-named_or_only rows = if is_option_given (codes "name") rows then argument_values (codes "name") rows else argument_values (codes "only") rows
+abbrev pub chosen_names : List Row → List Text
+chosen_names rows = if is_option_given (codes "name") rows then argument_values (codes "name") rows else argument_values (codes "only") rows
 
 -- like `run_words`, but the chosen names are the argument NAME if it is given
-abbrev pub named_run_words : Text → ℕ → List Row → RunWords
-named_run_words list group rows = record (run_words list group rows) { only = named_or_only rows }
+abbrev pub named_run_words : Text → ℕ → List Row → RunOptions
+named_run_words list group rows = record (run_words list group rows) { only = chosen_names rows }
 
 -- the request of `profile` for `list`, in chunks of `group` jobs; its options are from the matches
-abbrev pub profile_words : Text → List Row → ℕ → Words
-profile_words list rows group = profile (record {
+abbrev pub profile_request_of : Text → List Row → ℕ → Words
+profile_request_of list rows group = profile (record {
   run = named_run_words list group rows;
   top = number_value (codes "top") 1 most_functions rows;
   csv = is_flag_set (codes "csv") rows;
@@ -338,7 +338,7 @@ profile_words list rows group = profile (record {
 
 -- the request of `profile` with these matches of `clap`; none without a list or a valid chunk size
 abbrev pub profile_request : List Row → Option Words
-profile_request rows = option_and_then (λ list. option_map (profile_words list rows)
+profile_request rows = option_and_then (λ list. option_map (profile_request_of list rows)
     (number_value (codes "group") 1 most_group rows)) (first_of (codes "list") rows)
 
 -- the request of `help` with these matches of `clap`; none without a topic
@@ -379,23 +379,23 @@ is_command_help word topic = is_help word && (not (bytes_eq topic (codes "keys")
     && (not (bytes_eq topic (codes "--help")) && not (bytes_eq topic (codes "-h"))))
 
 -- the arguments that replace `rvtest help` and `rvtest help COMMAND`: `--help` and `COMMAND --help`; none for other arguments
-unfoldable pub help_words : List Text → Option (List Text)
-help_words (program ∷ word ∷ []) = if is_help word then Some (program ∷ codes "--help" ∷ []) else None
-help_words (program ∷ word ∷ topic ∷ []) =
+unfoldable pub help_command_args : List Text → Option (List Text)
+help_command_args (program ∷ word ∷ []) = if is_help word then Some (program ∷ codes "--help" ∷ []) else None
+help_command_args (program ∷ word ∷ topic ∷ []) =
     if is_command_help word topic then Some (program ∷ topic ∷ codes "--help" ∷ []) else None
-help_words words = None
+help_command_args words = None
 
 -- the arguments as `clap` gets them: `help COMMAND` is replaced by `COMMAND --help`
-abbrev pub parsed_words : List Text → List Text
-parsed_words words = option_map_or (λ help. help) (help_words words) words
+abbrev pub args_for_clap : List Text → List Text
+args_for_clap words = option_map_or (λ help. help) (help_command_args words) words
 
 -- the subcommand that `clap` matches, with its matches; none for `help` and `help COMMAND`
 abbrev pub requested_subcommand : List Text → Option (Text × List Row)
-requested_subcommand words = option_map_or (λ help. None) (help_words words) (subcommand_of test_app words)
+requested_subcommand words = option_map_or (λ help. None) (help_command_args words) (subcommand_of test_app words)
 
 -- the request that the arguments make, by the matches of `clap`
-abbrev pub words_request : List Text → Option Words
-words_request words = matched_words (requested_subcommand words)
+abbrev pub request_of_args : List Text → Option Words
+request_of_args words = matched_words (requested_subcommand words)
 
 -- ---- misused options
 
@@ -451,8 +451,8 @@ abbrev pub is_report_given : List Row → Bool
 is_report_given rows = is_option_given (codes "report") rows || is_option_given (codes "into") rows
 
 -- whether the rows are saved: by `--report`, `--into`, `--junit` or `--shard`
-abbrev pub are_rows_kept : List Row → Bool
-are_rows_kept rows = is_report_given rows
+abbrev pub are_rows_saved : List Row → Bool
+are_rows_saved rows = is_report_given rows
     || (is_option_given (codes "junit") rows || is_option_given (codes "shard") rows)
 
 -- whether `--into` is combined with `--report` or `--shard`, which would write the rows a second time
@@ -461,12 +461,12 @@ are_rows_written_twice rows = is_option_given (codes "into") rows
     && (is_option_given (codes "report") rows || is_option_given (codes "shard") rows)
 
 -- whether `--into` names standard output, from which no report can be read
-abbrev pub is_merged_into_stdout : List Row → Bool
-is_merged_into_stdout rows = is_into_path (codes "-") rows
+abbrev pub is_into_stdout : List Row → Bool
+is_into_stdout rows = is_into_path (codes "-") rows
 
 -- whether `--report` and `--failed` name one path, so that the rows of the other jobs would be lost
-abbrev pub is_choice_overwritten : List Row → Bool
-is_choice_overwritten rows = option_map_or (λ path. is_report_path path rows) (first_of (codes "failed") rows) false
+abbrev pub is_failed_report_overwritten : List Row → Bool
+is_failed_report_overwritten rows = option_map_or (λ path. is_report_path path rows) (first_of (codes "failed") rows) false
 
 -- whether the value of `--suite` is empty
 abbrev pub is_suite_nameless : List Row → Bool
@@ -497,12 +497,12 @@ run_misuse rows = if is_flag_set (codes "verbose") rows && is_flag_set (codes "q
     else if is_option_given (codes "shard") rows && is_choice_given rows then Some misuse.ShardAndChoice
     else if is_option_given (codes "stamp") rows && not (is_option_given (codes "shard") rows)
     then Some misuse.StampAlone
-    else if is_option_given (codes "budget") rows && are_rows_kept rows then Some misuse.BudgetAndRows
+    else if is_option_given (codes "budget") rows && are_rows_saved rows then Some misuse.BudgetAndRows
     else if is_option_given (codes "stop-after") rows && is_option_given (codes "shard") rows
     then Some misuse.StopAfterAndShard
     else if are_rows_written_twice rows then Some misuse.IntoAndReport
-    else if is_merged_into_stdout rows then Some misuse.IntoStdout
-    else if is_choice_overwritten rows then Some misuse.FailedIsReport
+    else if is_into_stdout rows then Some misuse.IntoStdout
+    else if is_failed_report_overwritten rows then Some misuse.FailedIsReport
     else if is_partial_alone rows then Some misuse.PartialAlone
     else if is_color_unknown rows then Some misuse.UnknownColor
     else if are_stacks_alone rows then Some misuse.StacksAlone
@@ -515,12 +515,12 @@ cover_misuse rows = if is_option_given (codes "shard") rows && is_choice_given r
     else choice_misuse rows
 
 -- whether NAME is given with an option that chooses jobs or with `--shard`
-abbrev pub is_name_beside_choice : List Row → Bool
-is_name_beside_choice rows = is_option_given (codes "name") rows && (is_choice_given rows || is_option_given (codes "shard") rows)
+abbrev pub is_name_combined_with_choice : List Row → Bool
+is_name_combined_with_choice rows = is_option_given (codes "name") rows && (is_choice_given rows || is_option_given (codes "shard") rows)
 
 -- the first error in the options of `profile`: NAME with a choice of jobs, or an error of `cover_misuse`
 abbrev pub profile_misuse : List Row → Option Misuse
-profile_misuse rows = if is_name_beside_choice rows then Some misuse.NameAndChoice else cover_misuse rows
+profile_misuse rows = if is_name_combined_with_choice rows then Some misuse.NameAndChoice else cover_misuse rows
 
 -- the first error in the options of `diff`: `--steps` with `--slower`, or an invalid `--color`
 abbrev pub diff_misuse : List Row → Option Misuse
@@ -605,7 +605,7 @@ words_misuse words = matched_misuse (requested_subcommand words)
 
 -- the kinds of errors that `clap` finds in the arguments
 abbrev pub words_faults : List Text → Kinds
-words_faults words = fault_of test_app (parsed_words words)
+words_faults words = fault_of test_app (args_for_clap words)
 
 -- the kinds of errors in the arguments: those that `clap` finds, or else the kind of a misuse
 abbrev pub words_fault_kinds : List Text → Kinds
@@ -629,8 +629,8 @@ abbrev pub borrowed_text : Option (Bor Text) → Option Text
 borrowed_text text = option_map (λ t. t.now) text
 
 -- the Rust value `RunArgs` as the record that contracts use, field by field
-abbrev pub run_words_of_args : RunArgs → RunWords
-run_words_of_args value = record {
+abbrev pub run_options_of_args : RunArgs → RunOptions
+run_options_of_args value = record {
   list = value.list.now;
   only = map (λ name. name.now) value.only.items;
   pattern = borrowed_text value.pattern;
@@ -659,8 +659,8 @@ run_words_of_args value = record {
 }
 
 -- the Rust value `ExplainArgs` as the record that contracts use, field by field
-abbrev pub explain_words_of_args : ExplainArgs → ExplainWords
-explain_words_of_args value = record {
+abbrev pub explain_options_of_args : ExplainArgs → ExplainOptions
+explain_options_of_args value = record {
   list = value.list.now;
   name = value.name.now;
   last = value.last;
@@ -670,8 +670,8 @@ explain_words_of_args value = record {
 }
 
 -- the Rust value `MergeArgs` as the record that contracts use, field by field
-abbrev pub merge_words_of_args : MergeArgs → MergeWords
-merge_words_of_args value = record {
+abbrev pub merge_options_of_args : MergeArgs → MergeOptions
+merge_options_of_args value = record {
   parts = map (λ path. path.now) value.parts.items;
   report = borrowed_text value.report;
   junit = borrowed_text value.junit;
@@ -680,8 +680,8 @@ merge_words_of_args value = record {
 }
 
 -- the Rust value `ShowArgs` as the record that contracts use, field by field
-abbrev pub show_words_of_args : ShowArgs → ShowWords
-show_words_of_args value = record {
+abbrev pub show_options_of_args : ShowArgs → ShowOptions
+show_options_of_args value = record {
   report = value.report.now;
   partial = value.partial;
   junit = borrowed_text value.junit;
@@ -691,8 +691,8 @@ show_words_of_args value = record {
 }
 
 -- the Rust value `DiffArgs` as the record that contracts use, field by field
-abbrev pub diff_words_of_args : DiffArgs → DiffWords
-diff_words_of_args value = record {
+abbrev pub diff_options_of_args : DiffArgs → DiffOptions
+diff_options_of_args value = record {
   old = value.old.now;
   new = value.new.now;
   partial = value.partial;
@@ -702,45 +702,45 @@ diff_words_of_args value = record {
 }
 
 -- the Rust value `CountsArgs` as the record that contracts use, field by field
-abbrev pub counts_words_of_args : CountsArgs → CountsWords
-counts_words_of_args value = record {
+abbrev pub counts_options_of_args : CountsArgs → CountsOptions
+counts_options_of_args value = record {
   tables = map (λ path. path.now) value.tables.items;
   out = borrowed_text value.out;
 }
 
 -- the Rust value `AcceptArgs` as the record that contracts use, field by field
-abbrev pub accept_words_of_args : AcceptArgs → AcceptWords
-accept_words_of_args value = record {
-  run = run_words_of_args value.run;
+abbrev pub accept_options_of_args : AcceptArgs → AcceptOptions
+accept_options_of_args value = record {
+  run = run_options_of_args value.run;
   ends = value.ends;
   check = value.check;
   outside = value.outside;
 }
 
 -- the Rust value `CoverArgs` as the record that contracts use, field by field
-abbrev pub cover_words_of_args : CoverArgs → CoverWords
-cover_words_of_args value = record { run = run_words_of_args value.run; csv = value.csv }
+abbrev pub cover_options_of_args : CoverArgs → CoverOptions
+cover_options_of_args value = record { run = run_options_of_args value.run; csv = value.csv }
 
 -- the Rust value `ProfileArgs` as the record that contracts use, field by field
-abbrev pub profile_words_of_args : ProfileArgs → ProfileWords
-profile_words_of_args value = record { run = run_words_of_args value.run; top = value.top; csv = value.csv }
+abbrev pub profile_options_of_args : ProfileArgs → ProfileOptions
+profile_options_of_args value = record { run = run_options_of_args value.run; top = value.top; csv = value.csv }
 
 -- the Rust value `Request` as the request that contracts use
-abbrev pub words_of_request : Request → Words
-words_of_request (request.Run value) = run (run_words_of_args value)
-words_of_request (request.List value) = names (run_words_of_args value)
-words_of_request (request.Explain value) = explain (explain_words_of_args value)
-words_of_request (request.Console value) = console value.list.now value.name.now (borrowed_text value.root)
-words_of_request (request.Gdb value) = gdb value.list.now value.name.now (borrowed_text value.root) value.memory
-words_of_request (request.Check value) = check value.list.now (borrowed_text value.root)
-words_of_request (request.Accept value) = accept (accept_words_of_args value)
-words_of_request (request.Merge value) = merge (merge_words_of_args value)
-words_of_request (request.Diff value) = diff (diff_words_of_args value)
-words_of_request (request.Show value) = show (show_words_of_args value)
-words_of_request (request.Counts value) = counts (counts_words_of_args value)
-words_of_request (request.Cover value) = cover (cover_words_of_args value)
-words_of_request (request.Profile value) = profile (profile_words_of_args value)
-words_of_request (request.Help value) = help value.topic.now
+abbrev pub value_of_request : Request → Words
+value_of_request (request.Run value) = run (run_options_of_args value)
+value_of_request (request.List value) = names (run_options_of_args value)
+value_of_request (request.Explain value) = explain (explain_options_of_args value)
+value_of_request (request.Console value) = console value.list.now value.name.now (borrowed_text value.root)
+value_of_request (request.Gdb value) = gdb value.list.now value.name.now (borrowed_text value.root) value.memory
+value_of_request (request.Check value) = check value.list.now (borrowed_text value.root)
+value_of_request (request.Accept value) = accept (accept_options_of_args value)
+value_of_request (request.Merge value) = merge (merge_options_of_args value)
+value_of_request (request.Diff value) = diff (diff_options_of_args value)
+value_of_request (request.Show value) = show (show_options_of_args value)
+value_of_request (request.Counts value) = counts (counts_options_of_args value)
+value_of_request (request.Cover value) = cover (cover_options_of_args value)
+value_of_request (request.Profile value) = profile (profile_options_of_args value)
+value_of_request (request.Help value) = help value.topic.now
 
 -- the budget, if it is given, is from 1 to `most_budget` steps
 abbrev pub IsBudgetInRange : Option ℕ → Type 0
@@ -765,7 +765,7 @@ IsRequestInRange _ = Unit {0}
 
 -- the parsed request has the value `words`, and its numbers are in range
 abbrev pub IsRequestFor : Option Words → Option Request → Type 0
-IsRequestFor words request = (option_map words_of_request request ≡ words) × IfSome request IsRequestInRange
+IsRequestFor words request = (option_map value_of_request request ≡ words) × IfSome request IsRequestInRange
 
 -- a result without error is the request `words`, and there is no misuse; an error reports the misuse, or that memory ran out
 abbrev pub ReadsRequest : Option Words → Option Misuse → Result (Option Request) WordsError → Type 0

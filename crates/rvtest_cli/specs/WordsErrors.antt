@@ -17,9 +17,9 @@ abbrev pub FailsByKinds : {T : Type 0} → Kinds → Result T WordsError → Typ
 FailsByKinds kinds result = MatchResult result (λ _. kinds ≡ []) (IsToldOf kinds)
 
 -- the error is out of memory, or its kind is `met`, and `met` is not the kind out of memory
-abbrev pub IsToldOfKind : ErrorKind → WordsError → Type 0
-IsToldOfKind met error.OutOfMemory = Unit {0}
-IsToldOfKind met (error.Told fault text) = (fault ≡ met) × (met ≡ kind.OutOfMemory → ⊥)
+abbrev pub IsErrorOfKind : ErrorKind → WordsError → Type 0
+IsErrorOfKind met error.OutOfMemory = Unit {0}
+IsErrorOfKind met (error.Told fault text) = (fault ≡ met) × (met ≡ kind.OutOfMemory → ⊥)
 
 -- the text of an error: the message `what`, the usage of a command, and where to find help
 abbrev pub usage_error_text : Text → Text → Text

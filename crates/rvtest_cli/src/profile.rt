@@ -3,8 +3,8 @@
 ghost use Rattle.std.specs.Prelude.{◌≡◌, ◌≤◌, IfOk, None, map};
 ghost use Rattle.clap.specs.Words.{found_of, rows_of};
 ghost use Rattle.rv_base.specs.Limits.{most_group};
-ghost use Rattle.rvtest_cli.specs.RvtestWords.{AreRunArgsInRange, ReadsRequest, is_name_beside_choice, named_or_only, named_run_words};
-ghost use Rattle.rvtest_cli.specs.RvtestWords.{profile_misuse, profile_request, run_words_of_args};
+ghost use Rattle.rvtest_cli.specs.RvtestWords.{AreRunArgsInRange, ReadsRequest, is_name_combined_with_choice, chosen_names, named_run_words};
+ghost use Rattle.rvtest_cli.specs.RvtestWords.{profile_misuse, profile_request, run_options_of_args};
 
 use crate::command::profile_command;
 use crate::cover::cover_misuse;
@@ -73,19 +73,19 @@ fn named_run<'a>(
     group: u32,
 ) -> Result<RunArgs<'a>, AllocError>
     requires { (1 ≤ group) × (group ≤ most_group) }
-    ensures { IfOk result (λ request. (run_words_of_args request ≡ named_run_words list.entry.now group (rows_of (found_of values.now)))
+    ensures { IfOk result (λ request. (run_options_of_args request ≡ named_run_words list.entry.now group (rows_of (found_of values.now)))
         × AreRunArgsInRange request) }
 {
     let mut run = run_args(alloc, values, list, group)?;
-    let only = named_or_only(alloc, values)?;
+    let only = chosen_names(alloc, values)?;
     run.only = only;
     Ok(run)
 }
 
 // Returns the argument NAME, or the values of `--only` if NAME is not given.
-fn named_or_only<'a>(alloc: Global, values: &ArgMatches<'a>) -> Result<Vec<&'a str>, AllocError>
+fn chosen_names<'a>(alloc: Global, values: &ArgMatches<'a>) -> Result<Vec<&'a str>, AllocError>
     ensures { IfOk result (λ names. map (λ name. name.now) names.items
-        ≡ named_or_only (rows_of (found_of values.now))) }
+        ≡ chosen_names (rows_of (found_of values.now))) }
 {
     if is_option_given(values, "name") {
         argument_values(alloc, values, "name")
@@ -98,7 +98,7 @@ fn named_or_only<'a>(alloc: Global, values: &ArgMatches<'a>) -> Result<Vec<&'a s
 fn profile_misuse(values: &ArgMatches<'_>) -> Option<Misuse>
     ensures { result ≡ profile_misuse (rows_of (found_of values.now)) }
 {
-    if is_name_beside_choice(values) {
+    if is_name_combined_with_choice(values) {
         Some(Misuse::NameAndChoice)
     } else {
         cover_misuse(values)
@@ -106,8 +106,8 @@ fn profile_misuse(values: &ArgMatches<'_>) -> Option<Misuse>
 }
 
 // Whether NAME is given with an option that chooses jobs or with `--shard`.
-fn is_name_beside_choice(values: &ArgMatches<'_>) -> bool
-    ensures { result ≡ is_name_beside_choice (rows_of (found_of values.now)) }
+fn is_name_combined_with_choice(values: &ArgMatches<'_>) -> bool
+    ensures { result ≡ is_name_combined_with_choice (rows_of (found_of values.now)) }
 {
     is_option_given(values, "name") && (is_choice_given(values) || is_option_given(values, "shard"))
 }

@@ -4,8 +4,8 @@ ghost use Rattle.std.specs.Prelude.{◌≡◌, [], IfErr, IfOk, IfSome, None, ma
 ghost use Rattle.clap.specs.Words.{fault_of, found_of, rows_of, subcommand_of, subcommand_rows_of};
 ghost use Rattle.rvtest_cli.specs.RvtestCommand.{test_app};
 ghost use Rattle.rvtest_cli.specs.RvtestWords.{IsRequestInRange, IsMisuseReported, ReadsRequest, matched_misuse, subcommand_misuse};
-ghost use Rattle.rvtest_cli.specs.RvtestWords.{words_of_request, is_command_help, is_help, matched_words, plain_fault_kinds, plain_misuse};
-ghost use Rattle.rvtest_cli.specs.RvtestWords.{subcommand_words, words_fault_kinds, words_faults, words_misuse, words_request};
+ghost use Rattle.rvtest_cli.specs.RvtestWords.{value_of_request, is_command_help, is_help, matched_words, plain_fault_kinds, plain_misuse};
+ghost use Rattle.rvtest_cli.specs.RvtestWords.{subcommand_words, words_fault_kinds, words_faults, words_misuse, request_of_args};
 ghost use Rattle.rvtest_cli.specs.WordsErrors.{FailsByKinds};
 
 use crate::accept::{AcceptArgs, accept_request};
@@ -71,7 +71,7 @@ pub fn read_words<'a, T: AsStr>(
 ) -> Result<Option<Request<'a>>, WordsError>
     // The result is the request that the arguments make.
     ensures value { IfOk result
-        (λ request. option_map words_of_request request ≡ words_request (map T.text words.entry.now)) }
+        (λ request. option_map value_of_request request ≡ request_of_args (map T.text words.entry.now)) }
     // Each number is within the range of its argument.
     ensures within { IfOk result (λ request. IfSome request IsRequestInRange) }
     // Arguments fail because of an error that is found in them or because memory runs out; otherwise they have no error.
@@ -122,7 +122,7 @@ fn read_request<'a, T: AsStr>(
     words: &'a [T],
 ) -> Result<Option<Request<'a>>, WordsError>
     ensures value { IfOk result
-        (λ request. option_map words_of_request request ≡ matched_words (subcommand_of test_app (map T.text words.entry.now))) }
+        (λ request. option_map value_of_request request ≡ matched_words (subcommand_of test_app (map T.text words.entry.now))) }
     ensures within { IfOk result (λ request. IfSome request IsRequestInRange) }
     ensures kinds { FailsByKinds (plain_fault_kinds (map T.text words.entry.now)) result }
     ensures misused { fault_of test_app (map T.text words.entry.now) ≡ []

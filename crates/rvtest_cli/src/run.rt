@@ -3,7 +3,7 @@
 ghost use Rattle.std.specs.Prelude.{◌≡◌, ◌≤◌, IfOk, None};
 ghost use Rattle.clap.specs.Words.{found_of, rows_of};
 ghost use Rattle.rv_base.specs.Limits.{most_group};
-ghost use Rattle.rvtest_cli.specs.RvtestWords.{AreRunArgsInRange, ReadsRequest, are_counts_overwriting, are_rows_kept, are_rows_written_twice, are_stacks_alone, is_choice_given, is_choice_overwritten, is_report_given, is_merged_into_stdout, run_words_of_args};
+ghost use Rattle.rvtest_cli.specs.RvtestWords.{AreRunArgsInRange, ReadsRequest, are_counts_overwriting, are_rows_saved, are_rows_written_twice, are_stacks_alone, is_choice_given, is_failed_report_overwritten, is_report_given, is_into_stdout, run_options_of_args};
 ghost use Rattle.rvtest_cli.specs.RvtestWords.{run_misuse, test_run_request, run_words};
 
 use crate::command::run_command;
@@ -112,7 +112,7 @@ pub(crate) fn run_args<'a>(
     group: u32,
 ) -> Result<RunArgs<'a>, AllocError>
     requires { (1 ≤ group) × (group ≤ most_group) }
-    ensures { IfOk result (λ request. (run_words_of_args request ≡ run_words list.entry.now group (rows_of (found_of values.now)))
+    ensures { IfOk result (λ request. (run_options_of_args request ≡ run_words list.entry.now group (rows_of (found_of values.now)))
         × AreRunArgsInRange request) }
 {
     Ok(RunArgs {
@@ -154,15 +154,15 @@ fn run_misuse(values: &ArgMatches<'_>) -> Option<Misuse>
         Some(Misuse::ShardAndChoice)
     } else if is_option_given(values, "stamp") && !is_option_given(values, "shard") {
         Some(Misuse::StampAlone)
-    } else if is_option_given(values, "budget") && are_rows_kept(values) {
+    } else if is_option_given(values, "budget") && are_rows_saved(values) {
         Some(Misuse::BudgetAndRows)
     } else if is_option_given(values, "stop-after") && is_option_given(values, "shard") {
         Some(Misuse::StopAfterAndShard)
     } else if are_rows_written_twice(values) {
         Some(Misuse::IntoAndReport)
-    } else if is_merged_into_stdout(values) {
+    } else if is_into_stdout(values) {
         Some(Misuse::IntoStdout)
-    } else if is_choice_overwritten(values) {
+    } else if is_failed_report_overwritten(values) {
         Some(Misuse::FailedIsReport)
     } else if is_partial_alone(values) {
         Some(Misuse::PartialAlone)
@@ -178,8 +178,8 @@ fn run_misuse(values: &ArgMatches<'_>) -> Option<Misuse>
 }
 
 // Whether the rows are saved: by `--report`, `--into`, `--junit` or `--shard`.
-fn are_rows_kept(values: &ArgMatches<'_>) -> bool
-    ensures { result ≡ are_rows_kept (rows_of (found_of values.now)) }
+fn are_rows_saved(values: &ArgMatches<'_>) -> bool
+    ensures { result ≡ are_rows_saved (rows_of (found_of values.now)) }
 {
     is_report_given(values) || is_option_given(values, "junit") || is_option_given(values, "shard")
 }
@@ -200,15 +200,15 @@ fn are_rows_written_twice(values: &ArgMatches<'_>) -> bool
 }
 
 // Whether `--into` names standard output, from which no report can be read.
-fn is_merged_into_stdout(values: &ArgMatches<'_>) -> bool
-    ensures { result ≡ is_merged_into_stdout (rows_of (found_of values.now)) }
+fn is_into_stdout(values: &ArgMatches<'_>) -> bool
+    ensures { result ≡ is_into_stdout (rows_of (found_of values.now)) }
 {
     is_into_path(values, "-")
 }
 
 // Whether `--report` and `--failed` name one path, so that the rows of the other jobs would be lost.
-fn is_choice_overwritten(values: &ArgMatches<'_>) -> bool
-    ensures { result ≡ is_choice_overwritten (rows_of (found_of values.now)) }
+fn is_failed_report_overwritten(values: &ArgMatches<'_>) -> bool
+    ensures { result ≡ is_failed_report_overwritten (rows_of (found_of values.now)) }
 {
     match text_value(values, "failed") {
         Some(path) => is_report_path(values, path),

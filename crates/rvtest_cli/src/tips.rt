@@ -36,7 +36,7 @@ pub(crate) fn error_text(
 
 // Returns the text without misleading tips. A word in it may contain any characters, so each line is printed like a text from a file.
 fn text_with_tips(alloc: Global, told: &str, first: FirstWord) -> Result<String, AllocError> {
-    let written = refused_option(told);
+    let written = unknown_option(told);
     let mut text = Vec::new(alloc);
     let mut is_behind_empty = false;
     for line in told.lines() {
@@ -130,7 +130,7 @@ fn word_between<'a>(told: &'a str, front: &str, behind: &str) -> &'a str {
 }
 
 // Returns the rejected option without its dashes; empty if there is none.
-fn refused_option(told: &str) -> &str {
+fn unknown_option(told: &str) -> &str {
     match told.split_once("'--") {
         Some((_, behind)) => match behind.split_once("' found") {
             Some((option, _)) => option,

@@ -2,7 +2,7 @@
 
 ghost use Rattle.std.specs.Prelude.{◌≡◌, IfOk, string_bytes};
 ghost use Rattle.clap.specs.Words.{kind_of};
-ghost use Rattle.rvtest_cli.specs.WordsErrors.{IsToldOfKind, IsUsageError, IsUsageText, usage_error_text};
+ghost use Rattle.rvtest_cli.specs.WordsErrors.{IsErrorOfKind, IsUsageError, IsUsageText, usage_error_text};
 
 use crate::tips::{FirstWord, error_text};
 use clap::error::ErrorKind;
@@ -21,7 +21,7 @@ pub enum WordsError {
 impl WordsError {
     /// Converts an error of `clap`: to its own text, with better tips. No contract of `clap` describes its texts.
     pub(crate) fn of_clap(alloc: Global, error: &Error, first: FirstWord) -> WordsError
-        ensures { IsToldOfKind (kind_of error.now) result }
+        ensures { IsErrorOfKind (kind_of error.now) result }
     {
         match error.kind() {
             ErrorKind::OutOfMemory => WordsError::OutOfMemory,

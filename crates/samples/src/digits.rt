@@ -6,7 +6,7 @@ use thiserror::Error;
 
 /// Why a text does not describe bytes or a file.
 #[derive(Clone, Copy, Debug, Error, PartialEq, Eq)]
-pub enum BadSample {
+pub enum SampleError {
     /// There are no digits, or an odd number of them.
     #[error("bad digits")]
     Digits,
@@ -24,17 +24,17 @@ pub enum BadSample {
     OutOfMemory,
 }
 
-impl From<AllocError> for BadSample {
-    fn from(_: AllocError) -> BadSample {
-        BadSample::OutOfMemory
+impl From<AllocError> for SampleError {
+    fn from(_: AllocError) -> SampleError {
+        SampleError::OutOfMemory
     }
 }
 
-impl From<FromHexError> for BadSample {
-    fn from(error: FromHexError) -> BadSample {
+impl From<FromHexError> for SampleError {
+    fn from(error: FromHexError) -> SampleError {
         match error {
-            FromHexError::OutOfMemory => BadSample::OutOfMemory,
-            _ => BadSample::Digits,
+            FromHexError::OutOfMemory => SampleError::OutOfMemory,
+            _ => SampleError::Digits,
         }
     }
 }
@@ -44,7 +44,7 @@ const EXIT: [u8; 8] = [0x93, 0x08, 0xd0, 0x05, 0x73, 0x00, 0x00, 0x00];
 
 /// Returns the bytes of hexadecimal numbers that are separated by spaces, each little-endian, such as words of eight digits and halfwords
 /// of four. `0001*3` is 0001 three times, and `X` is the two instructions of the exit call.
-pub fn numbers(alloc: Global, text: &str) -> Result<Vec<u8>, BadSample> {
+pub fn numbers(alloc: Global, text: &str) -> Result<Vec<u8>, SampleError> {
     let mut bytes = Vec::new(alloc);
     for number in text.split(' ') {
         if number == "X" {
@@ -57,10 +57,10 @@ pub fn numbers(alloc: Global, text: &str) -> Result<Vec<u8>, BadSample> {
 }
 
 // Appends the bytes of a number, little-endian; with a count after `*`, that many times.
-fn push_number(alloc: Global, bytes: &mut Vec<u8>, number: &str) -> Result<(), BadSample> {
+fn push_number(alloc: Global, bytes: &mut Vec<u8>, number: &str) -> Result<(), SampleError> {
     let (number, count) = number.split_once('*').unwrap_or((number, "1"));
     let Ok(count) = count.parse::<u32>() else {
-        return Err(BadSample::Count);
+        return Err(SampleError::Count);
     };
     let mut digits = hex::decode(alloc, number)?;
     digits.reverse();
@@ -71,7 +71,7 @@ fn push_number(alloc: Global, bytes: &mut Vec<u8>, number: &str) -> Result<(), B
 }
 
 /// Returns the bytes of groups of hexadecimal digits, separated by spaces, in the order of the digits.
-pub fn file_bytes(alloc: Global, text: &str) -> Result<Vec<u8>, BadSample> {
+pub fn file_bytes(alloc: Global, text: &str) -> Result<Vec<u8>, SampleError> {
     let mut bytes = Vec::new(alloc);
     for group in text.split(' ') {
         let digits = hex::decode(alloc, group)?;

@@ -1,6 +1,6 @@
 //! Image files described by a line of words: a sample, with the changes that the words describe.
 
-use crate::digits::{BadSample, file_bytes, numbers};
+use crate::digits::{SampleError, file_bytes, numbers};
 use crate::images::{ONE_SEGMENT, SIGNATURE, TWO_SEGMENTS};
 use std::alloc::Global;
 
@@ -16,22 +16,22 @@ const MEMORY_SIZE: usize = 72;
 ///
 /// After `code` come numbers, the bytes of the only segment. After the other words come changes: `24=90000000` writes the number at byte
 /// 24, little-endian, and `51` keeps only the first 51 bytes.
-pub fn file(alloc: Global, text: &str) -> Result<Vec<u8>, BadSample> {
+pub fn file(alloc: Global, text: &str) -> Result<Vec<u8>, SampleError> {
     let (name, rest) = text.split_once(' ').unwrap_or((text, ""));
     match name {
         "one" => changed(alloc, &ONE_SEGMENT, rest),
         "two" => changed(alloc, &TWO_SEGMENTS, rest),
         "sign" => changed(alloc, &file_bytes(alloc, SIGNATURE)?, rest),
         "code" => program(alloc, rest),
-        _ => Err(BadSample::Name),
+        _ => Err(SampleError::Name),
     }
 }
 
 // Returns the file of an image whose only segment has these numbers as its bytes.
-fn program(alloc: Global, text: &str) -> Result<Vec<u8>, BadSample> {
+fn program(alloc: Global, text: &str) -> Result<Vec<u8>, SampleError> {
     let code = numbers(alloc, text)?;
     let Ok(size) = u32::try_from(code.len()) else {
-        return Err(BadSample::Count);
+        return Err(SampleError::Count);
     };
     let mut bytes = ONE_SEGMENT[..CODE].to_vec(alloc)?;
     set(&mut bytes, FILE_SIZE, &size.to_le_bytes())?;
@@ -41,7 +41,7 @@ fn program(alloc: Global, text: &str) -> Result<Vec<u8>, BadSample> {
 }
 
 // Returns a file with changes, in the form that `file` describes.
-fn changed(alloc: Global, file: &[u8], changes: &str) -> Result<Vec<u8>, BadSample> {
+fn changed(alloc: Global, file: &[u8], changes: &str) -> Result<Vec<u8>, SampleError> {
     let mut bytes = file.to_vec(alloc)?;
     for change in changes.split(' ') {
         if let Some((at, number)) = change.split_once('=') {
@@ -55,19 +55,19 @@ fn changed(alloc: Global, file: &[u8], changes: &str) -> Result<Vec<u8>, BadSamp
 }
 
 // Parses an offset or a count, in decimal digits.
-fn count(text: &str) -> Result<usize, BadSample> {
+fn count(text: &str) -> Result<usize, SampleError> {
     match text.parse::<usize>() {
         Ok(count) => Ok(count),
-        Err(_) => Err(BadSample::Count),
+        Err(_) => Err(SampleError::Count),
     }
 }
 
 // Overwrites the bytes from `at` on with a field; an error if it extends past the end.
-fn set(bytes: &mut Vec<u8>, at: usize, field: &[u8]) -> Result<(), BadSample> {
+fn set(bytes: &mut Vec<u8>, at: usize, field: &[u8]) -> Result<(), SampleError> {
     for (place, byte) in field.iter().enumerate() {
         match bytes.get_mut(at.saturating_add(place)) {
             Some(changed) => *changed = *byte,
-            None => return Err(BadSample::Place),
+            None => return Err(SampleError::Place),
         }
     }
     Ok(())

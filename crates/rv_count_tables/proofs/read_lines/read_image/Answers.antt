@@ -5,7 +5,7 @@ use Rattle.std.specs.Cmp.Lexicographic.{bytes_decides}
 use Rattle.std.specs.List.{AllByRecursion}
 use Rattle.std.specs.Str.{bytes_eq}
 use Rattle.rv_count_tables.specs.Lines.{whole_line}
-use Rattle.rv_count_tables.specs.Table.{is_behind}
+use Rattle.rv_count_tables.specs.Table.{is_greater_than_last}
 use Rattle.rv_count_tables.specs.Text.{image_line}
 use Rattle.rv_count_tables.specs.ReadSteps.{last_digest, AreAddressLines, AreSpotLines}
 use Rattle.rv_count_tables.proofs.ReadingLines.{one_image, no_image_line}
@@ -30,12 +30,12 @@ returns-clause-found c =
     let same : line ≡ image_line image = (bytes_decides line (image_line image)).0
     (sym c.in_ok-has_image_line.ensures ∙ c.if-not-branch.false) in
     let d = c.as_slice.ensures in
-    let both = and_parts (length c.as_slice.result.now == 32) (is_behind (last_digest None c.args.earlier.now) c.as_slice.result.now)
+    let both = and_parts (length c.as_slice.result.now == 32) (is_greater_than_last (last_digest None c.args.earlier.now) c.as_slice.result.now)
     (sym c.can_follow.ensures.value ∙ c.if-not-can_follow.false) in
     one_image (last_digest None c.args.earlier.now) text image lines spots
     _ (sym w ∙ same)
     (ap (λ (s : List ℕ). length s) (sym d) ∙ eqb-true (length c.as_slice.result.now) 32 both.0)
-    (ap (is_behind (last_digest None c.args.earlier.now)) (sym d) ∙ both.1)
+    (ap (is_greater_than_last (last_digest None c.args.earlier.now)) (sym d) ∙ both.1)
     (subst (λ (s : List ℕ). AllByRecursion (λ b. b < 256) s) d c.can_follow.ensures.bytes) c.in_ok-image.ensures.text
     (record {
       addresses = subst (λ (t : List ℕ). AreAddressLines t lines)

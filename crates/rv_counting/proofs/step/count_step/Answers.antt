@@ -3,7 +3,7 @@ use Rattle.std.proofs.Common.{◌∙◌, Result, sym, ap, subst, refl}
 use Rattle.rv_machine.specs.declared.ending.Ending.{Ending}
 use Rattle.rv_machine.specs.Machine.{state_of}
 use Rattle.rv_machine.specs.State.{State}
-use Rattle.rv_counting.specs.Coverage.{completes, takes, StaysOr, is_taken_code}
+use Rattle.rv_counting.specs.Coverage.{completes, takes, IsStateAfter, is_taken_code}
 use Rattle.rv_counting.proofs.Ends.{ended_of, completed_of, ended_begins, completed_begins, taken_is}
 use Rattle.rv_counting.proofs.step.count_step.Goals as goal
 
@@ -16,7 +16,7 @@ returns-then-outcome-eq0 c =
       begun = c.begins_at_end.ensures ∙ ended_begins s c.run-outcome.result.ending h.0;
       completed = sym (ap completes h.0);
       taken = sym (ap (λ (r : Result State Ending). takes r s) h.0);
-      state = subst (λ (r : Result State Ending). StaysOr r s t) (sym h.0) h.1;
+      state = subst (λ (r : Result State Ending). IsStateAfter r s t) (sym h.0) h.1;
     }
 
 pub returns : goal.returns
@@ -28,5 +28,5 @@ returns c =
       begun = sym (completed_begins s t h);
       completed = sym (ap completes h);
       taken = c.is_taken_code.ensures ∙ (λ i. is_taken_code (c.requires i) (c.pc-pc.ensures i) (c.pc.ensures i)) ∙ taken_is s t h;
-      state = subst (λ (r : Result State Ending). StaysOr r s t) (sym h) refl;
+      state = subst (λ (r : Result State Ending). IsStateAfter r s t) (sym h) refl;
     }

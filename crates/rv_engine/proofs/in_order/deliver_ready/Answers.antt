@@ -3,7 +3,7 @@ use Rattle.rv_engine.proofs.in_order.deliver_ready.Goals as goal
 
 pub returns-in-GoOn-clause-received : goal.returns-in-GoOn-clause-received
 returns-in-GoOn-clause-received g c =
-    let received = rw c.in-GoOn.is at c.deliver_pieces-received.ensures.received in
-    heard_paused g.J.RunSpec.is_result g.J.RunSpec.jobs g.J.RunSpec.group (g.L.Listener.has_received c.deliver_pieces-received.new.listener)
-    (g.L.Listener.has_received c.pause.new.self) (g.L.Listener.stops c.pause.new.self) c.deliver_pieces-received.result.next c.pause.result
+    let received = rw c.in-GoOn.is at c.deliver_chunks-received.ensures.received in
+    heard_paused g.J.RunSpec.is_result g.J.RunSpec.jobs g.J.RunSpec.group (g.L.Listener.has_received c.deliver_chunks-received.new.listener)
+    (g.L.Listener.has_received c.pause.new.self) (g.L.Listener.stops c.pause.new.self) c.deliver_chunks-received.result.next c.pause.result
     received.0 c.pause.ensures.received c.pause.ensures.goes c.pause.ensures.stops

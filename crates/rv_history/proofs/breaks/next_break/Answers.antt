@@ -19,21 +19,21 @@ store_and_poll-requires-clause-there g c =
 pub store_and_poll-requires-clause-order : goal.store_and_poll-requires-clause-order
 store_and_poll-requires-clause-order g c = c.places.invariant.way.order
 
-pub returns-then-is_halted-clause-stop : goal.returns-then-is_halted-clause-stop
-returns-then-is_halted-clause-stop g c =
+pub returns-then-is_stopped-clause-stop : goal.returns-then-is_stopped-clause-stop
+returns-then-is_stopped-clause-stop g c =
     arrives_halted c.args.stops.now c.args.track.now c.args.leg c.places.leg c.arrived.result c.places.invariant.way
-    c.places.invariant.leg c.arrived.ensures (sym c.is_halted.ensures ∙ c.if-is_halted.true)
+    c.places.invariant.leg c.arrived.ensures (sym c.is_stopped.ensures ∙ c.if-is_stopped.true)
 
 pub returns-then-branch-clause-stop : goal.returns-then-branch-clause-stop
 returns-then-branch-clause-stop g c =
     arrives_broken c.args.stops.now c.args.track.now c.args.leg c.places.leg c.arrived-then-branch.result c.places.invariant.way
-    c.places.invariant.leg c.arrived-then-branch.ensures (sym c.is_halted.ensures ∙ c.if-is_halted.false)
+    c.places.invariant.leg c.arrived-then-branch.ensures (sym c.is_stopped.ensures ∙ c.if-is_stopped.false)
 
 pub returns-in-Some-clause-stop : goal.returns-in-Some-clause-stop
 returns-in-Some-clause-stop g c =
     arrives_ended c.args.stops.now c.args.track.now c.args.leg c.places.leg c.arrived-in-Some.result c.places.invariant.way
     c.places.invariant.leg _ c.in-Some.ending c.arrived-in-Some.ensures refl c.in-Some.ensures.1 c.places-test.true
-    c.in-Some.ensures.0 (sym c.is_halted.ensures ∙ c.if-is_halted.false)
+    c.in-Some.ensures.0 (sym c.is_stopped.ensures ∙ c.if-is_stopped.false)
 
 pub places-preserved : goal.places-preserved
 places-preserved g c =
@@ -55,7 +55,7 @@ places-preserved g c =
     (state_of c.run_between.new.machine) all c.requires.unwatched (next_place start s t place way.there c.in_default.ensures) within
     c.run_between.ensures.ran c.run_between.ensures.no_break
     (quiet_more stops leg.bounds leg.budget leg.from place start s t way.there goes c.in_default.ensures
-    (is_unset stops s t c.requires.unwatched) (sym c.is_halted.ensures ∙ c.if-is_halted.false) way.quiet) in record {
+    (is_unset stops s t c.requires.unwatched) (sym c.is_stopped.ensures ∙ c.if-is_stopped.false) way.quiet) in record {
       way = record {
         there = later.1;
         order = omega (arith, order);

@@ -3,7 +3,7 @@ use Rattle.rv_machine.specs.Machine.{state_of}
 use Rattle.rv_history.specs.declared.found.StopInfo.{StopInfo}
 use Rattle.rv_history.specs.declared.stepping.Stepped.TheVariants as stepped
 use Rattle.rv_history.specs.LastStop.{IsLastOn}
-use Rattle.rv_history.specs.Places.{IsReached, last_place}
+use Rattle.rv_history.specs.Places.{IsReached, last_step}
 use Rattle.rv_history.specs.Stops.{is_break}
 use Rattle.rv_history.proofs.Backward.{last_more}
 use Rattle.rv_history.proofs.Between.{last_run, step_completes}
@@ -24,13 +24,13 @@ places-preserved g c =
     let reached = c.places.invariant.reached in
     let none = c.requires.unwatched in
     let few = c.run_between.ensures.within in
-    let goes : place < last_place end start = omega (arith, c.requires.comes, c.places-test.true) in
+    let goes : place < last_step end start = omega (arith, c.requires.comes, c.places-test.true) in
     let e = step_completes c.step.result end place start s t reached goes c.step.ensures in
     let next = next_place start s t place reached e in
     let Later : ℕ → Type 0 = λ budget. IsLastOn stops budget start begin (place + 1 + n) c.last_stop_after-last.result
     × IsReached start (place + 1 + n) (state_of c.run_between.new.machine) in
     let later : (budget : ℕ) → end ≤ budget → Later budget = λ budget within.
-    let far : end ≤ last_place budget start = comes_within budget end start c.requires.comes within in
+    let far : end ≤ last_step budget start = comes_within budget end start c.requires.comes within in
     let more = last_more stops budget begin place start s t c.places.last c.has_break-is_break.result stepped.Quiet reached
     (omega (arith, far, c.places-test.true)) (c.has_break-is_break.ensures ∙ ap (is_break stops) c.pc.ensures)
     (e, is_unset stops s t none) (omega (arith, within, c.places-test.true)) (c.places.invariant.last budget within) in

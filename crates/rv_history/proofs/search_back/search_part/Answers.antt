@@ -2,7 +2,7 @@ use Rattle.std.proofs.Common.{ℕ, ◌≡◌, ◌∙◌, ◌+◌, ◌<◌, ◌�
 use Rattle.rv_machine.specs.Machine.{state_of}
 use Rattle.rv_history.specs.declared.found.StopInfo.{StopInfo}
 use Rattle.rv_history.specs.LastStop.{IsLastOn}
-use Rattle.rv_history.specs.Places.{last_place}
+use Rattle.rv_history.specs.Places.{last_step}
 use Rattle.rv_history.specs.Stops.{is_break, watched_bytes}
 use Rattle.rv_history.proofs.Backward.{last_more, stepped_place}
 use Rattle.rv_history.proofs.Reaching.{comes_within}
@@ -20,14 +20,14 @@ loop-place-preserved g c =
     let stops = c.args.stops.now in
     let start = c.args.track.now in
     let s = state_of c.loop-place.at.machine in
-    let t = state_of c.step_beside.new.machine in
+    let t = state_of c.step_with_watched_bytes.new.machine in
     let place = c.loop-place.place in
     let reached = c.loop-place.invariant.reached in
-    let goes : place < last_place c.args.end start = omega (arith, c.requires.comes) in record {
+    let goes : place < last_step c.args.end start = omega (arith, c.requires.comes) in record {
       reached = stepped_place stops c.args.end place start s t c.in_ok-stepped.stepped reached goes c.in_ok-stepped.ensures.step;
       watched = c.in_ok-stepped.ensures.known;
       last = λ budget within.
-          let far : c.args.end ≤ last_place budget start = comes_within budget c.args.end start c.requires.comes within in
+          let far : c.args.end ≤ last_step budget start = comes_within budget c.args.end start c.requires.comes within in
           let more = last_more stops budget c.in_ok-at.at.place place start s t c.loop-place.last c.has_break-is_break.result
           c.in_ok-stepped.stepped reached (omega arith) (c.has_break-is_break.ensures ∙ ap (is_break stops) c.pc.ensures)
           c.in_ok-stepped.ensures.step (omega arith) (c.loop-place.invariant.last budget within) in

@@ -6,10 +6,10 @@ use Rattle.rv_history.proofs.Backward.{completes_before, stays_behind_change, st
 use Rattle.rv_history.proofs.Unstopped.{step_unwatched}
 use Rattle.rv_history.proofs.search_back.step_before.Goals as goal
 
-pub returns-then-have_no_watch : goal.returns-then-have_no_watch
-returns-then-have_no_watch c = λ budget within.
+pub returns-then-have_no_watchpoints : goal.returns-then-have_no_watchpoints
+returns-then-have_no_watchpoints c = λ budget within.
     step_unwatched c.args.stops.now budget (c.args.from - 1) c.args.from c.args.track.now
-    (c.have_no_watch.ensures.0 c.if-have_no_watch.true) (omega arith)
+    (c.have_no_watchpoints.ensures.0 c.if-have_no_watchpoints.true) (omega arith)
 
 pub returns-in-Changed : goal.returns-in-Changed
 returns-in-Changed c = λ budget within.

@@ -4,7 +4,7 @@ use Rattle.std.proofs.lemmas.List.{length-map}
 use Rattle.rv_jobs.specs.declared.answers.Answer.{Answer}
 use Rattle.rv_jobs.specs.declared.kept.Kept.{Kept}
 use Rattle.rv_jobs.specs.Placed.{AreNoted, AreFound}
-use Rattle.rv_jobs.specs.Plans.{paths_of, paths_used, jobs_needed_for, jobs_needed_at, with_job, AreKept, unreadable_count, one_more_times}
+use Rattle.rv_jobs.specs.Plans.{paths_of, paths_used, jobs_needed_for, jobs_needed_at, with_job, AgreeWithContents, unreadable_count, one_more_times}
 use Rattle.rv_jobs.proofs.Answering.{start_kept, start_faults, parts_whole}
 use Rattle.rv_jobs.proofs.Needing.{needed_more, needed_whole}
 use Rattle.rv_jobs.proofs.plan.gather_jobs.Goals as goal
@@ -24,7 +24,7 @@ loop-place-init g c = record {
 pub loop-place-preserved : goal.loop-place-preserved
 loop-place-preserved g c =
     let inv = c.loop-place.invariant in
-    let kept : AreKept (g.S.Store.contents c.loop-place.store) c.loop-place.asked = rw inv.same inv.kept in
+    let kept : AgreeWithContents (g.S.Store.contents c.loop-place.store) c.loop-place.asked = rw inv.same inv.kept in
     let jobs = c.as_slice-in-loop-place.ensures.value in
     let place = get_or c.as_slice-place-items.result.now c.loop-place.place-index 0 in
     record {
@@ -72,7 +72,7 @@ returns-clause-kept g c =
     ∙ needed_whole c.args.jobs c.args.places.items c.loop-place.place-index (omega arith) in
     let same = parts_whole c.loop-place.asked (paths_used (jobs_needed_for c.args.jobs c.args.places.items))
     c.into_kept-answers.result.items used c.into_kept-answers.ensures in
-    subst (AreKept (g.S.Store.contents c.args.store.now)) (sym same) c.loop-place.invariant.kept
+    subst (AgreeWithContents (g.S.Store.contents c.args.store.now)) (sym same) c.loop-place.invariant.kept
 
 pub returns-clause-faults : goal.returns-clause-faults
 returns-clause-faults g c =

@@ -3,7 +3,7 @@ use Rattle.std.specs.Prelude.{codes}
 use Rattle.toml.specs.Data.{get_member}
 use Rattle.toml.specs.View.{table_view}
 use Rattle.rv_list_errors.specs.FaultHeads.{borrowed_names}
-use Rattle.rv_list_errors.specs.JobFaults.{TellsName, job_of_name_text, number_of_name}
+use Rattle.rv_list_errors.specs.JobFaults.{ExplainsName, job_of_name_text, number_of_name}
 use Rattle.rv_list_errors.specs.Explanation.{IsKeyAndValue}
 use Rattle.rv_list_errors.proofs.Messages.{adds_then, some_then}
 use Rattle.rv_list_errors.proofs.names.push_name_fault.Goals as goal
@@ -16,7 +16,7 @@ returns c =
     let names = borrowed_names c.args.list.now.names.items in
     let text = job_of_name_text c.job_number_of_name.result in
     some_then c.args.message.now c.push_key_and_value.new.message c.push_job_of_name.new.message
-    (IsKeyAndValue key (get_member key ms)) (TellsName names key wanted ms) (codes ": " ++ (wanted ++ text))
+    (IsKeyAndValue key (get_member key ms)) (ExplainsName names key wanted ms) (codes ": " ++ (wanted ++ text))
     c.push_key_and_value.ensures
     (adds_then c.push_key_and_value.new.message c.push.new.self c.push_job_of_name.new.message (codes ": ") (wanted ++ text)
     c.push.ensures

@@ -1,11 +1,11 @@
 use Rattle.std.proofs.Common.{arith}
-use Rattle.rv_list_errors.specs.JobFaults.{IsApartBehind}
+use Rattle.rv_list_errors.specs.JobFaults.{IsDisjointFromRest}
 use Rattle.rv_list_errors.proofs.NamesFound.{one_more_so}
 use Rattle.rv_list_errors.proofs.overlaps.first_overlap.Goals as goal
 
 pub loop-at-preserved : goal.loop-at-preserved
 loop-at-preserved c =
-    one_more_so (IsApartBehind c.args.regions.now) c.loop-at.at c.loop-at.invariant c.in_default.ensures
+    one_more_so (IsDisjointFromRest c.args.regions.now) c.loop-at.at c.loop-at.invariant c.in_default.ensures
 
 pub returns : goal.returns
 returns c place later above low =

@@ -2,12 +2,12 @@
 use Rattle.std.proofs.Common.{◌≡◌, ◌+◌, ◌≤◌, ℕ}
 use Rattle.rv_counting.specs.Blocks.{address_at}
 use Rattle.rv_stacks.specs.Stacks.{function_at}
-use Rattle.rv_stacks.specs.StackSteps.{AreKnown}
+use Rattle.rv_stacks.specs.StackSteps.{IsFunctionCache}
 use Rattle.rv_stacks.proofs.functions.steps_in_function.Given as goal
 
 abbrev pub invariant-loop-steps : goal.invariant-loop-steps
 invariant-loop-steps l = record {
-  known : AreKnown (function_at l.symbols.image.now l.symbols.bytes.now) l.known.items;
+  known : IsFunctionCache (function_at l.symbols.image.now l.symbols.bytes.now) l.known.items;
   own : (j : ℕ) → j ≤ l.steps → function_at l.symbols.image.now l.symbols.bytes.now (address_at l.counts (l.block.place + j))
       ≡ function_at l.symbols.image.now l.symbols.bytes.now (address_at l.counts l.block.place);
 }

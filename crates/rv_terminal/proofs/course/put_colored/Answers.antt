@@ -21,7 +21,7 @@ loop-at-preserved g c =
     let bytes = c.args.bytes.now in
     record {
       within = omega (arith, length-take {A = ℕ}, length-drop {A = ℕ}, c.in-Ok.ensures.within);
-      here = c.behind_all-here.ensures
+      here = c.after_all-here.ensures
           ∙ next_place c.args.place c.loop-at.here bytes c.loop-at.at c.in-Ok.count invariant.within invariant.here;
       shown = next_piece (g.S.Sink.taken c.args.sink.now) (g.S.Sink.taken c.loop-at.sink)
           (g.S.Sink.taken c.put_piece.new.sink) c.args.place c.loop-at.here bytes c.loop-at.at c.in-Ok.count

@@ -12,8 +12,8 @@ returns-clause-plan g c =
       listed = rw gathered.jobs c.in_ok-jobs.ensures.jobs;
       paths = rw gathered.jobs gathered.paths;
       kept = rw (c.new-store.ensures.inputs, c.new-store.ensures.folder) at gathered.kept;
-      unread = c.unread_paths.result.now;
-      noted = ap length c.unread_paths.ensures ∙ (rw c.new-store.ensures.nothing at gathered.faults);
+      unread = c.unreadable_paths.result.now;
+      noted = ap length c.unreadable_paths.ensures ∙ (rw c.new-store.ensures.nothing at gathered.faults);
       text = text;
       judged = judged;
     }) c.check_plan.ensures.text c.check_plan.ensures.judged

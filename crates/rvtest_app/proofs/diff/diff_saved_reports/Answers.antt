@@ -1,13 +1,13 @@
 use Rattle.std.proofs.Common.{◌≡◌, ◌≤◌, ◌∙◌, ◌+◌, ◌-◌, ℕ, Bool, true, false, List, ap, arith, length, sym}
 use Rattle.std.proofs.lemmas.List.Sums.{count_by-le-length, length-filter}
 use Rattle.std.specs.Prelude.{if◌then◌else◌, not}
-use Rattle.rv_diff.specs.Diff.{is_alone_in, rows_beside}
+use Rattle.rv_diff.specs.Diff.{is_alone_in, rows_in_both}
 use Rattle.rv_report.specs.declared.row.Row.{Row}
 use Rattle.rv_report.specs.declared.saved.SavedReport.{SavedReport}
 use Rattle.rvtest_app.specs.Reports.{compared_rows, leaves_out}
 use Rattle.rvtest_app.proofs.diff.diff_saved_reports.Goals as goal
 
-beside_within : (others rows : List Row) → length (rows_beside others rows) ≤ length rows
+beside_within : (others rows : List Row) → length (rows_in_both others rows) ≤ length rows
 beside_within others rows =
     rw (length-filter (λ row. not (is_alone_in others row)) rows) (count_by-le-length (λ row. not (is_alone_in others row)) rows)
 

@@ -11,8 +11,8 @@ returns-clause-explained g c =
       listed = gathered.jobs ∙ c.with_budget-jobs.ensures.jobs;
       paths = search (rules, rw c.with_budget-jobs.ensures.jobs at gathered.paths);
       kept = rw (c.new-store.ensures.inputs, c.new-store.ensures.folder) at gathered.kept;
-      unread = c.unread_paths.result.now;
-      noted = ap length c.unread_paths.ensures ∙ (rw c.new-store.ensures.nothing at gathered.faults);
+      unread = c.unreadable_paths.result.now;
+      noted = ap length c.unreadable_paths.ensures ∙ (rw c.new-store.ensures.nothing at gathered.faults);
       text = text;
       judged = judged;
     }) c.explain_planned_job.ensures.text c.explain_planned_job.ensures.status

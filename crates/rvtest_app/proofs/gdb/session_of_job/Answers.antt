@@ -21,8 +21,8 @@ returns-in-Some-clause-opened g c =
       listed = gathered.jobs;
       paths = search rules;
       kept = rw (c.new-store.ensures.inputs, c.new-store.ensures.folder) at gathered.kept;
-      unread = c.into_unread_paths-unread.result.items;
-      noted = ap length c.into_unread_paths-unread.ensures ∙ (rw c.new-store.ensures.nothing at gathered.faults);
+      unread = c.into_unreadable_paths-unread.result.items;
+      noted = ap length c.into_unreadable_paths-unread.ensures ∙ (rw c.new-store.ensures.nothing at gathered.faults);
       over = λ d. rw c.in-Some.is at (c.in_ok-session.ensures d);
       outputs_of = refl;
     }
@@ -35,8 +35,8 @@ returns-in-None-clause-stopped g c =
       listed = gathered.jobs;
       paths = search rules;
       kept = rw (c.new-store.ensures.inputs, c.new-store.ensures.folder) at gathered.kept;
-      unread = c.unread_paths.result.now;
-      noted = ap length c.unread_paths.ensures ∙ (rw c.new-store.ensures.nothing at gathered.faults);
+      unread = c.unreadable_paths.result.now;
+      noted = ap length c.unreadable_paths.ensures ∙ (rw c.new-store.ensures.nothing at gathered.faults);
       refused = λ d. rw c.in-None.is at (c.in_ok-session.ensures d);
       told = c.refused_job_stop.ensures;
     })

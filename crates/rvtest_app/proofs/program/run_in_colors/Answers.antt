@@ -1,6 +1,6 @@
 use Rattle.std.proofs.Common.{◌≡◌, ◌⊎◌, ◌∙◌, ℕ, true, false, Result, Ok, Err, IfErr, IfOk, ap, refl, ⊎_elim}
 use Rattle.std.specs.Prelude.{MatchResult, is_err}
-use Rattle.rv_terminal.specs.ColorSinks.{first_course, is_cut_off}
+use Rattle.rv_terminal.specs.ColorSinks.{first_state, is_cut_off}
 use Rattle.rv_terminal.specs.declared.colors.Colors.{Colors}
 use Rattle.rv_terminal.specs.declared.colors.Colors.TheVariants as colors
 use Rattle.rv_command.specs.declared.stop.Stop.{Stop}
@@ -8,7 +8,7 @@ use Rattle.rv_command.specs.declared.stop.Stop.TheVariants as stop
 use Rattle.rvtest_app.proofs.program.run_in_colors.Goals as goal
 
 -- results are not cut off where nothing was put
-begins_whole : (colors : Colors) → is_cut_off (first_course colors) ≡ false
+begins_whole : (colors : Colors) → is_cut_off (first_state colors) ≡ false
 begins_whole colors.Without = refl
 begins_whole colors.With = refl
 

@@ -33,8 +33,8 @@ answered g c =
           (let request = rw w.in-Ok-None.field-0-is at w.in-Ok-None.ensures.value in
           rw w.to-is (inr (inl (sym request, refl), refl, refl, refl)))
       | in-Err w ↦
-          rw w.to-is (words_answered known rest is_terminal is_colored words w.in-Err.error w.answer_words_error-answer.result before _
-          w.in-Err.ensures.kinds w.answer_words_error-answer.ensures.done w.answer_words_error-answer.ensures.helped (refl, refl, refl))
+          rw w.to-is (words_answered known rest is_terminal is_colored words w.in-Err.error w.respond_to_words_error-answer.result before _
+          w.in-Err.ensures.kinds w.respond_to_words_error-answer.ensures.done w.respond_to_words_error-answer.ensures.helped (refl, refl, refl))
     ] in
     rw c.in-Ok.is at all
 
@@ -57,7 +57,7 @@ returns-clause-ended g c =
       | in-Ok-None w ↦ rw w.to-is tt
       | in-Err w ↦
           rw w.to-is (words_stop known is_terminal words _ _ _ _ w.in-Err.ensures.kinds w.in-Err.ensures.misused
-          w.answer_words_error-answer.ensures.stopped)
+          w.respond_to_words_error-answer.ensures.stopped)
     ] in
     let before = outputs_of g.F.Outputs.placed g.O.Sink.taken g.E.Sink.taken g.E.Sink.failed c.match-read_words.to.0 in
     inr (

@@ -2,7 +2,7 @@ use Rattle.std.proofs.Common.{◌≡◌, ◌∙◌, ◌∷◌, [], ap, arith, co
 use Rattle.std.proofs.lemmas.Bool.{ltb-false, ltb-true}
 use Rattle.clap.specs.Words.{Text, fault_of}
 use Rattle.rvtest_cli.specs.RvtestCommand.{test_app}
-use Rattle.rvtest_cli.specs.RvtestWords.{help_words, is_command_help, is_help}
+use Rattle.rvtest_cli.specs.RvtestWords.{help_command_args, is_command_help, is_help}
 use Rattle.rvtest_cli.specs.WordsErrors.{FailsByKinds}
 use Rattle.rvtest_cli.proofs.RvtestReading.{few_words, help_kinds, help_misused, help_of_three, help_of_two, help_value, help_within}
 use Rattle.rvtest_cli.proofs.RvtestReading.{many_words, other_of_three, other_of_two, plain_kinds, plain_misused, plain_value}
@@ -15,13 +15,13 @@ use Rattle.rvtest_cli.proofs.requests.read_words.Goals.{in_default-via-else-word
 -- what is requested with an option in their place
 
 in_two : (g : Over) (c : goal.After-command_help g)
-    → help_words (map g.T.AsStr.text c.args.words.now) ≡ Some (g.T.AsStr.text c.program-item.result ∷ codes "--help" ∷ [])
+    → help_command_args (map g.T.AsStr.text c.args.words.now) ≡ Some (g.T.AsStr.text c.program-item.result ∷ codes "--help" ∷ [])
 in_two g c =
     help_of_two g.T.AsStr.text c.args.words.now c.program-item.result c.word-item.result c.in-len2.len_at_least c.in-len2.len_below
     c.program-item.is c.word-item.is (ap is_help (sym c.as_str.ensures) ∙ sym c.is_help.ensures ∙ c.if-is_help.true)
 
 in_three : (g : Over) (c : goal.After-command_help-in-len3 g)
-    → help_words (map g.T.AsStr.text c.args.words.now)
+    → help_command_args (map g.T.AsStr.text c.args.words.now)
     ≡ Some (g.T.AsStr.text c.program-item-then-words-lt4.result ∷ g.T.AsStr.text c.topic-item.result ∷ codes "--help" ∷ [])
 in_three g c =
     help_of_three g.T.AsStr.text c.args.words.now c.program-item-then-words-lt4.result c.word-item-then-words-lt4.result
@@ -43,7 +43,7 @@ three_kinds g c =
     subst (λ (help : List Text). FailsByKinds (fault_of test_app help) c.command_help-in-len3.result)
     (λ i. c.as_str-in-len3.ensures i ∷ c.as_str-in-len3-2.ensures i ∷ codes "--help" ∷ []) c.command_help-in-len3.ensures.kinds
 
-others : (g : Over) (c : goal.After-read_request g) → help_words (map g.T.AsStr.text c.args.words.now) ≡ None
+others : (g : Over) (c : goal.After-read_request g) → help_command_args (map g.T.AsStr.text c.args.words.now) ≡ None
 others g c =
     let words = c.args.words.now in
     let text = g.T.AsStr.text in

@@ -1,7 +1,7 @@
 use Rattle.std.proofs.Common.{◌≤◌, arith, subst}
 use Rattle.rv_machine.specs.State.{State}
 use Rattle.rv_history.specs.Moves.{IsStopBefore}
-use Rattle.rv_history.specs.Places.{last_place}
+use Rattle.rv_history.specs.Places.{last_step}
 use Rattle.rv_history.specs.Stands.{Stand}
 use Rattle.rv_history.specs.declared.found.Found.TheVariants as found
 use Rattle.rv_history.proofs.Arriving.{arrived}
@@ -18,7 +18,7 @@ arrive-requires-2 g c =
     let start = here.track in
     let stop = c.in_ok-arrival.ensures.stop here.budget c.self.invariant.1 in
     let near : c.in_ok-arrival.arrival.place ≤ here.place = stop.order in
-    let there : here.place ≤ last_place here.budget start =
+    let there : here.place ≤ last_step here.budget start =
     comes_within here.budget here.place start c.self.invariant.0.completed c.self.invariant.1 in
     rw c.reach.ensures.same (omega (arith, near, there))
 

@@ -1,6 +1,6 @@
 use Rattle.std.proofs.Common.{◌≤◌, arith}
 use Rattle.rv_history.specs.Moves.{IsStepBefore}
-use Rattle.rv_history.specs.Places.{last_place}
+use Rattle.rv_history.specs.Places.{last_step}
 use Rattle.rv_history.proofs.Arriving.{arrived}
 use Rattle.rv_history.proofs.Backward.{back_within}
 use Rattle.rv_history.proofs.Reaching.{comes_within}
@@ -12,7 +12,7 @@ arrive-requires c =
     let start = here.track in
     let near = back_within c.args.stops.now here.budget here.place c.in_ok-arrival.arrival.place start c.in_ok-arrival.arrival.found
     (c.in_ok-arrival.ensures here.budget c.self.invariant.1) in
-    let there : here.place ≤ last_place here.budget start =
+    let there : here.place ≤ last_step here.budget start =
     comes_within here.budget here.place start c.self.invariant.0.completed c.self.invariant.1 in
     rw (← c.self.view_is) (omega arith)
 

@@ -15,8 +15,8 @@ returns-clause-message c =
         c.in_ok-push_line_and_column.ensures,
         c.in_ok-push_text.ensures,
         c.new-message.ensures.items,
-        c.place_at-place.ensures.line,
-        c.place_at-place.ensures.column,
+        c.location_at-place.ensures.line,
+        c.location_at-place.ensures.column,
       )
           (head_in_parts self.file.now (place_text fault.place self.cursor.text.now)
           (job_number_and_name (borrowed_names self.list.names.items) c.args.number) fault.explanation.items),

@@ -1,4 +1,4 @@
-use Rattle.rv_session.specs.Incoming.{IsByteFed}
+use Rattle.rv_session.specs.Incoming.{IsByteReceived}
 use Rattle.rv_session.proofs.Appending.{to_nothing}
 use Rattle.rv_session.proofs.Asking.{byte_may}
 use Rattle.rv_session.proofs.Same.{byte_same}
@@ -6,17 +6,17 @@ use Rattle.rv_session.proofs.session.Session.receive.Goals as goal
 
 pub returns-clause-heard : goal.returns-clause-heard
 returns-clause-heard c =
-    to_nothing _ c.receive_byte.new.out.items (λ out. IsByteFed c.args.self.now c.args.byte out c.receive_byte.new.self)
+    to_nothing _ c.receive_byte.new.out.items (λ out. IsByteReceived c.args.self.now c.args.byte out c.receive_byte.new.self)
     c.new-out.ensures.items c.in_ok-receive_byte.ensures
 
 pub returns-clause-run : goal.returns-clause-run
 returns-clause-run c =
     byte_same c.args.self.now c.receive_byte.new.self c.args.byte c.receive_byte.new.out.items
-    (to_nothing _ c.receive_byte.new.out.items (λ out. IsByteFed c.args.self.now c.args.byte out c.receive_byte.new.self)
+    (to_nothing _ c.receive_byte.new.out.items (λ out. IsByteReceived c.args.self.now c.args.byte out c.receive_byte.new.self)
     c.new-out.ensures.items c.in_ok-receive_byte.ensures)
 
 pub returns-clause-not_over : goal.returns-clause-not_over
 returns-clause-not_over c =
     byte_may c.args.self.now c.receive_byte.new.self c.args.byte c.receive_byte.new.out.items c.requires
-    (to_nothing _ c.receive_byte.new.out.items (λ out. IsByteFed c.args.self.now c.args.byte out c.receive_byte.new.self)
+    (to_nothing _ c.receive_byte.new.out.items (λ out. IsByteReceived c.args.self.now c.args.byte out c.receive_byte.new.self)
     c.new-out.ensures.items c.in_ok-receive_byte.ensures)

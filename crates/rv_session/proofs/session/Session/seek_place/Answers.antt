@@ -1,6 +1,6 @@
 use Rattle.std.proofs.Common.{◌∙◌, Bool, ap}
 use Rattle.std.proofs.lemmas.Result.{IfOk-weaker}
-use Rattle.rv_history.specs.Places.{last_place}
+use Rattle.rv_history.specs.Places.{last_step}
 use Rattle.rv_gdb_protocol.specs.declared.request.Refusal.TheVariants as refusal
 use Rattle.rv_session.specs.Replies.{granted_if}
 use Rattle.rv_session.proofs.Sought.{granted_is, sought_where}
@@ -9,7 +9,7 @@ use Rattle.rv_session.proofs.session.Session.seek_place.Goals as goal
 pub returns : goal.returns
 returns c =
     let session = c.args.self.now in
-    let last = last_place session.history.budget session.history.start in
+    let last = last_step session.history.budget session.history.start in
     IfOk-weaker c.granted_if.result _ _
     (λ reply is. (
       is ∙ ap (λ (b : Bool). granted_if b refusal.NotReached)

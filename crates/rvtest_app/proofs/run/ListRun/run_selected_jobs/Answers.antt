@@ -3,7 +3,7 @@ use Rattle.std.specs.Borrow.{Bor}
 use Rattle.std.specs.Prelude.{option_map}
 use Rattle.rv_job_text.specs.RowReporter.{RowReporter}
 use Rattle.rv_expect.specs.declared.known_jobs.KnownJobs.{KnownJobs}
-use Rattle.rvtest_app.specs.Runs.{places_of_marks, run_judging, run_rows, run_reporter}
+use Rattle.rvtest_app.specs.Runs.{selected_job_indices, run_judging, run_rows, run_reporter}
 use Rattle.rvtest_app.specs.CommandOutputs.{outputs_of}
 use Rattle.rvtest_app.proofs.RunTellings.{known_behind, same_part, same_rows, reported_as_requested, told_by}
 use Rattle.rvtest_app.proofs.Results.{IfOk-beside, OnErr-map}
@@ -23,7 +23,7 @@ returns-clause-run g c =
     IfOk-beside c.run_into_files.result.1 _ _ _
     (λ status judged put. record {
       plan = c.in-Ok-gather_jobs_at.plan;
-      unread = c.unread_paths-unread.result.now;
+      unread = c.unreadable_paths-unread.result.now;
       planned = record {
         listed = found.jobs ∙ c.with_budget-jobs.ensures.jobs;
         paths = rw (
@@ -33,7 +33,7 @@ returns-clause-run g c =
           c.with_budget-jobs.ensures.jobs,
         ) at found.paths;
         kept = rw (c.new-store.ensures.inputs, c.new-store.ensures.folder) at found.kept;
-        noted = ap length c.unread_paths-unread.ensures ∙ rw c.new-store.ensures.nothing at found.faults;
+        noted = ap length c.unreadable_paths-unread.ensures ∙ rw c.new-store.ensures.nothing at found.faults;
       };
       rows = _;
       shown = refl;
@@ -58,9 +58,9 @@ pub returns-clause-undone : goal.returns-clause-undone
 returns-clause-undone g c =
     let args = c.args.self.now.args.now in
     let plan = c.in-Ok-gather_jobs_at.plan in
-    let unread = c.unread_paths-unread.result.now in
+    let unread = c.unreadable_paths-unread.result.now in
     let failures = c.args.marked.known in
-    let places = places_of_marks c.args.marked.marks.items in
+    let places = selected_job_indices c.args.marked.marks.items in
     let found = c.in-Ok-gather_jobs_at.ensures in
     let behind = option_map (λ (jobs : Bor KnownJobs). jobs.now) c.as_ref.result in
     let known : behind ≡ failures = known_behind c.as_ref.result ∙ c.as_ref.ensures.value in
@@ -86,7 +86,7 @@ returns-clause-undone g c =
           c.with_budget-jobs.ensures.jobs,
         ) at found.paths;
         kept = rw (c.new-store.ensures.inputs, c.new-store.ensures.folder) at found.kept;
-        noted = ap length c.unread_paths-unread.ensures ∙ rw c.new-store.ensures.nothing at found.faults;
+        noted = ap length c.unreadable_paths-unread.ensures ∙ rw c.new-store.ensures.nothing at found.faults;
       };
       rows = rows;
       shown = refl;

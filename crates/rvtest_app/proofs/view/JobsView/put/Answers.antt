@@ -12,7 +12,7 @@ returns-in_err-requested-clause-stopped g c =
 
 pub returns-in-Some-clause-put : goal.returns-in-Some-clause-put
 returns-in-Some-clause-put g c =
-    IfOk-map c.put_of_marked.result _ _
+    IfOk-map c.put_of_selected.result _ _
     (λ status put. record {
       jobs = c.in_ok-requested.requested.jobs;
       marks = Some c.in-Some.marks.items;
@@ -26,15 +26,15 @@ returns-in-Some-clause-put g c =
       viewed = put.1;
       done = put.0;
     })
-    (rw c.as_slice-in-Some.ensures.value at c.put_of_marked.ensures.put)
+    (rw c.as_slice-in-Some.ensures.value at c.put_of_selected.ensures.put)
 
 pub returns-in-Some-clause-low : goal.returns-in-Some-clause-low
 returns-in-Some-clause-low g c =
-    IfOk-map c.put_of_marked.result _ _ (λ status put. omega (arith, put.0)) c.put_of_marked.ensures.put
+    IfOk-map c.put_of_selected.result _ _ (λ status put. omega (arith, put.0)) c.put_of_selected.ensures.put
 
 pub returns-in-Some-clause-stopped : goal.returns-in-Some-clause-stopped
 returns-in-Some-clause-stopped g c =
-    IfErr-map c.put_of_marked.result _ _
+    IfErr-map c.put_of_selected.result _ _
     (λ why is. inr (inr (record {
       jobs = c.in_ok-requested.requested.jobs;
       marks = c.in-Some.marks.items;
@@ -44,7 +44,7 @@ returns-in-Some-clause-stopped g c =
       args = rw c.in-Some.is at c.in_ok-requested.ensures.requested;
       unviewed = is;
     })))
-    (rw c.as_slice-in-Some.ensures.value at c.put_of_marked.ensures.stopped)
+    (rw c.as_slice-in-Some.ensures.value at c.put_of_selected.ensures.stopped)
 
 pub returns-clause-put : goal.returns-clause-put
 returns-clause-put g c = record {

@@ -2,7 +2,7 @@ use Rattle.std.proofs.Common.{◌∙◌, List, ap, inl, inr, subst}
 use Rattle.std.proofs.lemmas.Result.{err_from_is_err_and}
 use Rattle.rv_command.specs.Texts.{optional_text}
 use Rattle.rv_cover_view.specs.JobImages.{FileImage, images_of_files}
-use Rattle.rvtest_app.specs.ViewStops.{IsTextlessStop, counts_source}
+use Rattle.rvtest_app.specs.ViewStops.{IsTableTextStop, counts_source}
 use Rattle.rvtest_app.specs.Views.{IsViewText}
 use Rattle.rvtest_app.proofs.Results.{IfOk-map}
 use Rattle.rvtest_app.proofs.StopLemmas.{IfErr-map}
@@ -39,7 +39,7 @@ returns-clause-stopped g c =
       c.in_ok-table.table,
       (
         c.in_ok-table.ensures.table,
-        subst (λ (images : List FileImage). IsTextlessStop c.args.self.now.view c.in_ok-table.table images (counts_source c.args.self.now.args.now) why)
+        subst (λ (images : List FileImage). IsTableTextStop c.args.self.now.view c.in_ok-table.table images (counts_source c.args.self.now.args.now) why)
             (ap images_of_files c.as_slice-images.ensures.value ∙ c.in_ok-files.ensures) textless,
       ),
     )))

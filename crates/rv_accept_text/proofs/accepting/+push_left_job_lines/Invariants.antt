@@ -1,5 +1,0 @@
-use Rattle.std.proofs.Common.{length}
-use Rattle.rv_accept_text.proofs.accepting.+push_left_job_lines.Given as goal
-
-abbrev pub decreases-push_left_job_lines : goal.decreases-push_left_job_lines
-decreases-push_left_job_lines l = length l.jobs.now

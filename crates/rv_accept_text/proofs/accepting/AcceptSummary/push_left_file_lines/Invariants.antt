@@ -1,7 +1,0 @@
-use Rattle.std.proofs.Common.{◌≡◌, ◌++◌, take}
-use Rattle.std.specs.List.{flat_map}
-use Rattle.rv_accept_text.specs.FileLines.{left_file_line}
-use Rattle.rv_accept_text.proofs.accepting.AcceptSummary.push_left_file_lines.Given as goal
-
-abbrev pub invariant-loop-file : goal.invariant-loop-file
-invariant-loop-file l = l.out.items ≡ l.fn.out.items ++ flat_map (left_file_line l.fn.self.list l.fn.self.claims.now) (take l.file-index l.fn.self.files.now)

@@ -1,0 +1,34 @@
+use Rattle.std.proofs.Common.{◌∙◌, ◌&&◌, ap, get_or, length, ltb, sym}
+use Rattle.std.proofs.lemmas.Bool.{lt-ltb, le-ltb}
+use Rattle.rv_count_tables.specs.declared.table.AddressCounts.{AddressCounts}
+use Rattle.rv_count_tables.proofs.Lookups.{IsPlaceOf, any_within}
+use Rattle.rv_count_tables.proofs.lookup.was_executed_within.Goals as goal
+
+abbrev no_entry : AddressCounts
+no_entry = record { address = 0; begun = 0; taken = 0 }
+
+pub returns-then-place-counts : goal.returns-then-place-counts
+returns-then-place-counts c =
+    let cs = c.args.counts.now in
+    let n = c.index_of_address-place.result in
+    let place : IsPlaceOf c.args.from cs n = record {
+      within = c.index_of_address-place.ensures.within;
+      lower = c.index_of_address-place.ensures.lower;
+      higher = c.index_of_address-place.ensures.higher;
+    } in
+    ap (λ at. ltb at c.args.behind) c.from.ensures
+    ∙ sym (any_within c.args.from c.args.behind 0 cs n no_entry c.requires place
+    ∙ ap (λ b. b && ltb (get_or cs n no_entry).address c.args.behind) (lt-ltb n (length cs) c.if-place-counts.true))
+
+pub returns-else-place-counts : goal.returns-else-place-counts
+returns-else-place-counts c =
+    let cs = c.args.counts.now in
+    let n = c.index_of_address-place.result in
+    let place : IsPlaceOf c.args.from cs n = record {
+      within = c.index_of_address-place.ensures.within;
+      lower = c.index_of_address-place.ensures.lower;
+      higher = c.index_of_address-place.ensures.higher;
+    } in
+    le-ltb n (length cs) c.if-place-counts.false
+    ∙ sym (any_within c.args.from c.args.behind 0 cs n no_entry c.requires place
+    ∙ ap (λ b. b && ltb (get_or cs n no_entry).address c.args.behind) (le-ltb n (length cs) c.if-place-counts.false))

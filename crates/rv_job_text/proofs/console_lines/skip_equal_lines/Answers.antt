@@ -1,0 +1,65 @@
+use Rattle.std.proofs.Common.{◌≡◌, ◌∙◌, ◌+◌, ◌<◌, refl, sym, ap, true, false, true≢false, drop, length, arith}
+use Rattle.std.specs.Prelude.{not}
+use Rattle.std.proofs.lemmas.Grind.{common_steps}
+use Rattle.std.proofs.lemmas.List.{drop-drop}
+use Rattle.std.proofs.lemmas.Slice.Eq.{bytes_eq-Decides}
+use Rattle.std.specs.List.{common_prefix_len}
+use Rattle.std.specs.Str.{bytes_eq}
+use Rattle.rv_job_text.specs.ConsoleLines.{whole_lines}
+use Rattle.rv_job_text.proofs.DifferingLines.{equal_bytes, joined, none_in_front, parted, split_behind, split_front, whole_lines-nil}
+use Rattle.rv_job_text.proofs.console_lines.skip_equal_lines.Goals as goal
+
+pub returns-then-ne-clause-equal : goal.returns-then-ne-clause-equal
+returns-then-ne-clause-equal c =
+    let met = c.loop-line.parting.met.now in
+    let wanted = c.loop-line.parting.wanted.now in
+    let m = c.split_whole_line in
+    let w = c.split_whole_line-in-loop-line in
+    let unlike : not (bytes_eq m.result.0.now w.result.0.now) ≡ true = sym c.ne.ensures ∙ c.if-ne.true in
+    let front_m = split_front met m.result.0.now m.result.1.now m.ensures.some m.ensures.none in
+    let front_w = split_front wanted w.result.0.now w.result.1.now w.ensures.some w.ensures.none in
+    let none = parted (whole_lines met) (whole_lines wanted)
+    (λ same. true≢false (sym unlike ∙ ap not (equal_bytes _ _ (front_m ∙ same ∙ sym front_w)))) in
+    let kept = c.loop-line.invariant.counted in
+    omega arith
+
+pub loop-line-preserved : goal.loop-line-preserved
+loop-line-preserved c =
+    let met = c.loop-line.parting.met.now in
+    let wanted = c.loop-line.parting.wanted.now in
+    let equal = c.loop-line.parting.equal in
+    let m = c.split_whole_line in
+    let w = c.split_whole_line-in-loop-line in
+    let some : 0 < length met = grind (arith, common_steps) in
+    let unlike : not (bytes_eq m.result.0.now w.result.0.now) ≡ false = sym c.ne.ensures ∙ c.if-ne.false in
+    let alike = (bytes_eq-Decides m.result.0.now w.result.0.now).0 (not_false (bytes_eq m.result.0.now w.result.0.now) unlike) in
+    let front_w = split_front wanted w.result.0.now w.result.1.now w.ensures.some w.ensures.none in
+    let behind_m = split_behind met m.result.0.now m.result.1.now m.ensures.some m.ensures.none in
+    let behind_w = split_behind wanted w.result.0.now w.result.1.now w.ensures.some w.ensures.none in
+    let next : common_prefix_len bytes_eq (whole_lines met) (whole_lines wanted)
+    ≡ 1 + common_prefix_len bytes_eq (whole_lines m.result.1.now) (whole_lines w.result.1.now) =
+    rw (m.ensures.some some, behind_w)
+    (joined m.result.0.now (whole_lines m.result.1.now) (whole_lines wanted) (m.ensures.full some) (alike ∙ front_w)) in
+    let shorter = m.ensures.shorter some in
+    let kept = c.loop-line.invariant in
+    let counted = kept.counted in
+    let small = kept.small in
+    record {
+      counted = omega arith;
+      small = omega arith;
+      met = behind_m ∙ ap (drop 1) kept.met ∙ drop-drop 1 equal (whole_lines c.args.met.now);
+      wanted = behind_w ∙ ap (drop 1) kept.wanted ∙ drop-drop 1 equal (whole_lines c.args.wanted.now);
+    }
+  where
+    not_false : (b : _) → not b ≡ false → b ≡ true
+    not_false true h = refl
+    not_false false h = absurd (true≢false h)
+
+pub returns-clause-equal : goal.returns-clause-equal
+returns-clause-equal c =
+    let met = c.loop-line.parting.met.now in
+    let wanted = whole_lines c.loop-line.parting.wanted.now in
+    let empty : length met ≡ 0 = grind (arith, common_steps) in
+    let none = ap (λ lines. common_prefix_len bytes_eq lines wanted) (whole_lines-nil met empty) ∙ none_in_front wanted in
+    let kept = c.loop-line.invariant.counted in
+    omega arith

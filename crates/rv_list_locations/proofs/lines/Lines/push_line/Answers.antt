@@ -1,0 +1,21 @@
+use Rattle.std.proofs.Common.{◌+◌, ◌≤◌, ◌∙◌, ap, arith, is_ok}
+use Rattle.rv_list_locations.specs.Places.{line_at}
+use Rattle.rv_list_locations.proofs.Counting.{line_later, rising_noted, within_noted}
+use Rattle.rv_list_locations.proofs.lines.Lines.push_line.Goals as goal
+
+pub invariant_of-self : goal.invariant_of-self
+invariant_of-self c =
+    let self = c.args.self.now in
+    let line = self.line + c.line_feed_count.result in
+    let later : self.line ≤ line = omega arith in
+    let behind : self.counted ≤ c.max-place.result = omega (arith, c.max-place.ensures) in
+    record {
+      within = omega (arith, self.within, c.max-place.ensures, c.saturating_sub.ensures);
+      here = ap (λ n. n + c.line_feed_count.result) self.here
+          ∙ ap (λ n. line_at self.counted self.text.now + n) c.line_feed_count.ensures
+          ∙ line_later self.text.now self.counted c.max-place.result behind;
+      below = within_noted (is_ok c.push.result) self.noted.items c.push.new.self.items self.line line
+          c.push.ensures.items (omega (arith, self.here)) later self.below;
+      rising = rising_noted (is_ok c.push.result) self.noted.items c.push.new.self.items self.line line
+          c.push.ensures.items later self.below self.rising;
+    }

@@ -1,0 +1,16 @@
+use Rattle.std.proofs.Common.{◌≡◌, ◌+◌, ◌<◌, ◌≤◌, ◌++◌, ℕ, length, map}
+use denote.Shadow.{shadow}
+use denote.Text.{Utf8}
+use Rattle.rv_list_locations.specs.JobPlaces.{jobs_from, jobs_of_text, line_of_rest}
+use Rattle.rv_list_locations.proofs.scan.push_job_lines.Given as goal
+
+abbrev pub invariant-steps : goal.invariant-steps
+invariant-steps l =
+    shadow (Utf8 l.here) × (l.lines.text.now ≡ l.initial.lines.text.now)
+    × (l.lines.counted + length l.here ≤ length l.initial.lines.text.now)
+    × (m : ℕ) × (length l.here < m)
+    × (l.initial.lines.noted.items ++ map (line_of_rest l.initial.lines.text.now) (jobs_of_text l.text)
+    ≡ l.lines.noted.items ++ map (line_of_rest l.initial.lines.text.now) (jobs_from m l.what l.here))
+
+abbrev pub decreases-steps : goal.decreases-steps
+decreases-steps l = length l.here
