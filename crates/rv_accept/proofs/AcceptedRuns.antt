@@ -8,11 +8,11 @@ use Rattle.rv_jobs.specs.Plans.{Planned}
 use Rattle.rv_jobs.specs.declared_job.Job.{Job}
 use Rattle.rv_rows.specs.Rows.{row_of, rows_at}
 use Rattle.rv_rows.specs.declared_row.Row.{Row}
-use Rattle.rv_accept.specs.Meant.{intended_job, intended_jobs}
+use Rattle.rv_accept.specs.IntendedJobs.{intended_job, intended_jobs}
 use Rattle.rv_accept.specs.Runs.{accepted_row, first_row, is_accepted_run, judged_run, judged_runs, indexed_rows, chosen_skip_reason}
 use Rattle.rv_accept.specs.declared.ends.Acceptance.{Acceptance}
 use Rattle.rv_accept.specs.declared.runs.JobRun.{JobRun}
-use Rattle.rv_accept.specs.declared.standing.Candidate.{Candidate}
+use Rattle.rv_accept.specs.declared.current_verdict.Candidate.{Candidate}
 
 -- ---- the row
 

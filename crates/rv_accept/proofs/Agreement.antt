@@ -4,10 +4,10 @@ use Rattle.std.specs.Prelude.{not}
 use Rattle.std.specs.List.{All, find}
 use Rattle.std.proofs.lemmas.Slice.Eq.{bytes_eq-Decides}
 use Rattle.rv_accept.proofs.Elements.{none_found}
-use Rattle.rv_accept.specs.Fates.{outcome_of_golden_file, outcome_of_first, outcome_of_given_text, outcome_unless_another, outcome_unless_skipped, gives_another_text, is_of_skipped_job, is_text, names_file}
-use Rattle.rv_accept.specs.declared.claims.GoldenText.{GoldenText}
-use Rattle.rv_accept.specs.declared.fates.GoldenFileOutcome.{GoldenFileOutcome}
-use Rattle.rv_accept.specs.declared.fates.GoldenFileOutcome.TheVariants as fate
+use Rattle.rv_accept.specs.GoldenOutcomes.{outcome_of_golden_file, outcome_of_first, outcome_of_given_text, outcome_unless_another, outcome_unless_skipped, gives_another_text, is_of_skipped_job, is_text, names_file}
+use Rattle.rv_accept.specs.declared.golden_texts.GoldenText.{GoldenText}
+use Rattle.rv_accept.specs.declared.golden_outcomes.GoldenFileOutcome.{GoldenFileOutcome}
+use Rattle.rv_accept.specs.declared.golden_outcomes.GoldenFileOutcome.TheVariants as fate
 
 of_not : (b : Bool) → not b ≡ false → b ≡ true
 of_not true is = refl

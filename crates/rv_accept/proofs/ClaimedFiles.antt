@@ -10,13 +10,13 @@ use Rattle.rv_jobs.specs.Jobs.{console_path}
 use Rattle.rv_jobs.specs.declared_job.Job.{Job}
 use Rattle.rv_rows.specs.Verdict.{lines_of_signature}
 use Rattle.rv_accept.proofs.Elements.{all_left, all_right, any_last, any_left, none_passes}
-use Rattle.rv_accept.specs.Claims.{claims_if_named, golden_texts_of_run, golden_texts_of_runs, text_if}
-use Rattle.rv_accept.specs.Fates.{outcome_of_golden_file, names_file}
+use Rattle.rv_accept.specs.GoldenTexts.{claims_if_named, golden_texts_of_run, golden_texts_of_runs, text_if}
+use Rattle.rv_accept.specs.GoldenOutcomes.{outcome_of_golden_file, names_file}
 use Rattle.rv_accept.specs.Runs.{is_accepted_run}
 use Rattle.rv_accept.specs.Targets.{is_of_accepted, is_target, target_of, with_target}
-use Rattle.rv_accept.specs.declared.claims.GoldenText.{GoldenText}
-use Rattle.rv_accept.specs.declared.claims.Part.{Part}
-use Rattle.rv_accept.specs.declared.claims.Part.TheVariants as part
+use Rattle.rv_accept.specs.declared.golden_texts.GoldenText.{GoldenText}
+use Rattle.rv_accept.specs.declared.golden_texts.Part.{Part}
+use Rattle.rv_accept.specs.declared.golden_texts.Part.TheVariants as part
 use Rattle.rv_accept.specs.declared.runs.JobRun.{JobRun}
 use Rattle.rv_accept.specs.declared.targets.Target.{Target}
 

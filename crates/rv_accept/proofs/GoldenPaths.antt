@@ -7,11 +7,11 @@ use Rattle.std.proofs.lemmas.List.Elements.{All-append, All-cons, All-head, All-
 use Rattle.std.proofs.lemmas.Slice.Eq.{bytes_eq-Decides}
 use Rattle.rv_jobs.specs.Jobs.{console_path}
 use Rattle.rv_jobs.specs.declared_job.Job.{Job}
-use Rattle.rv_accept.specs.Claims.{claims_if_named, golden_texts_of_run, golden_texts_of_runs}
+use Rattle.rv_accept.specs.GoldenTexts.{claims_if_named, golden_texts_of_run, golden_texts_of_runs}
 use Rattle.rv_accept.specs.Sharing.{is_path, names_golden_file}
 use Rattle.rv_accept.specs.Targets.{is_of_accepted, is_target, target_of, with_target}
-use Rattle.rv_accept.specs.declared.claims.GoldenText.{GoldenText}
-use Rattle.rv_accept.specs.declared.claims.Part.{Part}
+use Rattle.rv_accept.specs.declared.golden_texts.GoldenText.{GoldenText}
+use Rattle.rv_accept.specs.declared.golden_texts.Part.{Part}
 use Rattle.rv_accept.specs.declared.runs.JobRun.{JobRun}
 use Rattle.rv_accept.specs.declared.targets.Target.{Target}
 

@@ -17,8 +17,8 @@ use Rattle.rv_accept.specs.Accepted.{accepted_job, actual_console}
 use Rattle.rv_accept.specs.Passing.{EndedWell, FindsItsFiles, is_pass_or_none, outcome_of_row}
 use Rattle.rv_accept.specs.Runs.{takes_from_run, chosen_skip_reason}
 use Rattle.rv_accept.specs.declared.ends.Acceptance.{Acceptance}
-use Rattle.rv_accept.specs.declared.standing.CurrentVerdict.{CurrentVerdict}
-use Rattle.rv_accept.specs.declared.standing.CurrentVerdict.TheVariants as standing
+use Rattle.rv_accept.specs.declared.current_verdict.CurrentVerdict.{CurrentVerdict}
+use Rattle.rv_accept.specs.declared.current_verdict.CurrentVerdict.TheVariants as standing
 
 -- the path of a console's file stays
 pub console_path_stays : (console : Option ExpectedConsole) (bytes : List ℕ)

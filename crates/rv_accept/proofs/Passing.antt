@@ -22,8 +22,8 @@ use Rattle.rv_accept.specs.Runs.{takes_from_run, chosen_skip_reason, text_skip_r
 use Rattle.rv_accept.specs.declared.ends.Acceptance.{Acceptance}
 use Rattle.rv_accept.specs.declared.runs.SkipReason.{SkipReason}
 use Rattle.rv_accept.specs.declared.runs.SkipReason.TheVariants as why
-use Rattle.rv_accept.specs.declared.standing.CurrentVerdict.{CurrentVerdict}
-use Rattle.rv_accept.specs.declared.standing.CurrentVerdict.TheVariants as standing
+use Rattle.rv_accept.specs.declared.current_verdict.CurrentVerdict.{CurrentVerdict}
+use Rattle.rv_accept.specs.declared.current_verdict.CurrentVerdict.TheVariants as standing
 
 -- ---- nothing is expected
 

@@ -2,11 +2,11 @@ pub mod Ends
 pub mod Accepted
 pub mod Values
 pub mod Runs
-pub mod Claims
-pub mod Fates
+pub mod GoldenTexts
+pub mod GoldenOutcomes
 pub mod BasicString
 pub mod Sharing
 pub mod Edits
-pub mod Meant
+pub mod IntendedJobs
 pub mod Targets
 pub mod Passing

@@ -11,9 +11,9 @@ use Rattle.rv_accept.specs.declared.ends.Acceptance.TheVariants as acceptance
 use Rattle.rv_accept.specs.declared.runs.JobRun.{JobRun}
 use Rattle.rv_accept.specs.declared.runs.SkipReason.{SkipReason}
 use Rattle.rv_accept.specs.declared.runs.SkipReason.TheVariants as why
-use Rattle.rv_accept.specs.declared.standing.Candidate.{Candidate}
-use Rattle.rv_accept.specs.declared.standing.CurrentVerdict.{CurrentVerdict}
-use Rattle.rv_accept.specs.declared.standing.CurrentVerdict.TheVariants as standing
+use Rattle.rv_accept.specs.declared.current_verdict.Candidate.{Candidate}
+use Rattle.rv_accept.specs.declared.current_verdict.CurrentVerdict.{CurrentVerdict}
+use Rattle.rv_accept.specs.declared.current_verdict.CurrentVerdict.TheVariants as standing
 use Rattle.rv_accept.specs.declared.values.ValueKey.TheVariants as key
 
 -- the reason to skip a job because of its end; none if the end is accepted

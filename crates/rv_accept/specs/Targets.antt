@@ -2,9 +2,9 @@
 use Rattle.std.specs.Prelude.{◌&&◌, Bool, false, not, ℕ, List, [], ◌∷◌, ◌++◌, Option, Some, if◌then◌else◌, slice_get}
 use Rattle.std.specs.List.{list_any}
 use Rattle.std.specs.Str.{bytes_eq}
-use Rattle.rv_accept.specs.Fates.{outcome_of_golden_file}
+use Rattle.rv_accept.specs.GoldenOutcomes.{outcome_of_golden_file}
 use Rattle.rv_accept.specs.Runs.{is_accepted_run}
-use Rattle.rv_accept.specs.declared.claims.GoldenText.{GoldenText}
+use Rattle.rv_accept.specs.declared.golden_texts.GoldenText.{GoldenText}
 use Rattle.rv_accept.specs.declared.runs.JobRun.{JobRun}
 use Rattle.rv_accept.specs.declared.targets.Target.{Target}
 

@@ -10,13 +10,13 @@ ghost use Rattle.rv_rows.specs.declared_row.Row.{Row};
 ghost use Rattle.rv_rows.specs.Rows.{row_of};
 ghost use Rattle.rv_rows.specs.Verdict.{lines_of_signature, meets_all_expectations};
 ghost use Rattle.rv_accept.specs.declared.ends.Acceptance.{Acceptance as AnAcceptance};
-ghost use Rattle.rv_accept.specs.declared.standing.CurrentVerdict.{CurrentVerdict as AStanding};
-ghost use Rattle.rv_accept.specs.declared.standing.CurrentVerdict.TheVariants as standing;
-ghost use Rattle.rv_accept.specs.declared.claims.GoldenText.{GoldenText as AClaim};
-ghost use Rattle.rv_accept.specs.declared.fates.GoldenFileOutcome.TheVariants as fate;
+ghost use Rattle.rv_accept.specs.declared.current_verdict.CurrentVerdict.{CurrentVerdict as AStanding};
+ghost use Rattle.rv_accept.specs.declared.current_verdict.CurrentVerdict.TheVariants as standing;
+ghost use Rattle.rv_accept.specs.declared.golden_texts.GoldenText.{GoldenText as AClaim};
+ghost use Rattle.rv_accept.specs.declared.golden_outcomes.GoldenFileOutcome.TheVariants as fate;
 ghost use Rattle.rv_accept.specs.Accepted.{accepted_job};
 ghost use Rattle.rv_accept.specs.Ends.{is_accepted_end};
-ghost use Rattle.rv_accept.specs.Fates.{outcome_of_golden_file, names_file};
+ghost use Rattle.rv_accept.specs.GoldenOutcomes.{outcome_of_golden_file, names_file};
 ghost use Rattle.rv_accept.specs.Passing.{EndedWell, FindsItsFiles, is_pass_or_none};
 ghost use Rattle.rv_accept.specs.Runs.{chosen_skip_reason};
 

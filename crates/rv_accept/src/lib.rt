@@ -6,30 +6,30 @@
 #![tactic(auto)]
 
 mod basic_string;
-mod claims;
+mod golden_texts;
 mod edits;
 mod ends;
-mod fates;
+mod golden_outcomes;
 mod law;
-mod meant;
+mod intended_jobs;
 mod runs;
 mod sharing;
-mod standing;
+mod current_verdict;
 mod targets;
 mod values;
 
 pub use basic_string::push_basic_string;
-pub use claims::{GoldenText, Part, console_path, golden_texts_of_runs};
+pub use golden_texts::{GoldenText, Part, console_path, golden_texts_of_runs};
 pub use edits::{Edit, edited_text};
 pub use ends::{Acceptance, is_accepted_end};
-pub use fates::{GoldenFileOutcome, first_of_another_text, first_on_file, outcome_of_golden_file};
+pub use golden_outcomes::{GoldenFileOutcome, first_of_another_text, first_on_file, outcome_of_golden_file};
 pub use law::{
     accepted_jobs_meet_their_expectations, accepted_jobs_pass_over_their_files,
     an_agreed_text_is_given_by_each_job,
 };
-pub use meant::are_intended_jobs;
+pub use intended_jobs::are_intended_jobs;
 pub use runs::{JobRun, SkipReason, indexed_rows, judged_runs};
 pub use sharing::jobs_to_run;
-pub use standing::{Candidate, CurrentVerdict};
+pub use current_verdict::{Candidate, CurrentVerdict};
 pub use targets::{Target, targets_of};
 pub use values::{ValueKey, is_value_changed, push_new_value};

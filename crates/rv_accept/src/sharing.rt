@@ -4,7 +4,7 @@ ghost use Rattle.std.specs.Prelude.{◌≡◌, ◌++◌, ◌+◌, ◌^◌, ◌<�
 ghost use Rattle.rv_accept.specs.Sharing.{is_compared_with, is_file_of_selected, is_named_by_selected, is_path, is_place, jobs_to_run};
 ghost use Rattle.rv_accept.specs.Sharing.{marks_with_compared, names_golden_file, shares_with_selected, sharing_marks};
 
-use crate::claims::console_path;
+use crate::golden_texts::console_path;
 use rv_jobs::Job;
 use std::alloc::{AllocError, Global};
 

@@ -15,7 +15,7 @@ use Rattle.rv_rows.specs.declared_row.Row.{Row}
 use Rattle.rv_rows.specs.declared_row.RowEnd.{RowEnd}
 use Rattle.rv_rows.specs.declared_row.RowEnd.TheVariants as ending
 use Rattle.rv_accept.specs.Accepted.{accepted_job, actual_console, actual_end, actual_exit}
-use Rattle.rv_accept.specs.Meant.{intended_job, intended_jobs}
+use Rattle.rv_accept.specs.IntendedJobs.{intended_job, intended_jobs}
 use Rattle.rv_accept.specs.Runs.{accepted_row, row_if_accepted}
 use Rattle.rv_accept.specs.Values.{has_text, is_value_changed}
 use Rattle.rv_accept.specs.declared.runs.JobRun.{JobRun}

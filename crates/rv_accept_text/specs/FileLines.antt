@@ -4,12 +4,12 @@ use Rattle.std.specs.List.{find}
 use Rattle.rv_jobs.specs.declared_job.Job.{Job}
 use Rattle.rv_text.specs.Printable.{printable_text}
 use Rattle.rv_text.specs.Words.{count_text}
-use Rattle.rv_accept.specs.Fates.{gives_another_text, names_file}
-use Rattle.rv_accept.specs.declared.claims.GoldenText.{GoldenText}
-use Rattle.rv_accept.specs.declared.claims.Part.{Part}
-use Rattle.rv_accept.specs.declared.claims.Part.TheVariants as part
-use Rattle.rv_accept.specs.declared.fates.GoldenFileOutcome.{GoldenFileOutcome}
-use Rattle.rv_accept.specs.declared.fates.GoldenFileOutcome.TheVariants as fate
+use Rattle.rv_accept.specs.GoldenOutcomes.{gives_another_text, names_file}
+use Rattle.rv_accept.specs.declared.golden_texts.GoldenText.{GoldenText}
+use Rattle.rv_accept.specs.declared.golden_texts.Part.{Part}
+use Rattle.rv_accept.specs.declared.golden_texts.Part.TheVariants as part
+use Rattle.rv_accept.specs.declared.golden_outcomes.GoldenFileOutcome.{GoldenFileOutcome}
+use Rattle.rv_accept.specs.declared.golden_outcomes.GoldenFileOutcome.TheVariants as fate
 use Rattle.rv_accept.specs.declared.targets.Target.{Target}
 use Rattle.rv_accept_text.specs.ChangedTexts.{byte_difference, text_change, word_change}
 use Rattle.rv_accept_text.specs.GoldenFiles.{is_left, new_text}

@@ -3,4 +3,4 @@ pub mod ChangedTexts
 pub mod FileLines
 pub mod JobLines
 pub mod NewLists
-pub mod Told
+pub mod AcceptLines

@@ -4,8 +4,8 @@ ghost use Rattle.std.specs.Prelude.{◌≡◌, ◌≤◌, ◌<◌, ◌+◌, ◌^
 ghost use Rattle.std.specs.List.{count_by, flat_map};
 ghost use Rattle.rv_accept_text.specs.FileLines.{file_line, skipped_file_line};
 ghost use Rattle.rv_accept_text.specs.GoldenFiles.{is_left};
-ghost use Rattle.rv_accept_text.specs.Told.{changed_count, count_line, is_changed, is_skipped_job, left_count, skipped_job_lines};
-ghost use Rattle.rv_accept_text.specs.Told.{one_if, told_lines, value_line_in, value_line_of, writing_word};
+ghost use Rattle.rv_accept_text.specs.AcceptLines.{changed_count, count_line, is_changed, is_skipped_job, left_count, skipped_job_lines};
+ghost use Rattle.rv_accept_text.specs.AcceptLines.{one_if, told_lines, value_line_in, value_line_of, writing_word};
 
 use crate::file_lines::{push_file_line, push_skipped_file_line};
 use crate::golden_file::{GoldenFile, ListFile};
@@ -170,7 +170,7 @@ fn push_value_line_of(
 }
 
 // Appends the lines about the skipped jobs.
-#[tactic(auto, unfolding(crate::specs::Told::skipped_job_lines))]
+#[tactic(auto, unfolding(crate::specs::AcceptLines::skipped_job_lines))]
 fn push_skipped_job_lines(
     alloc: Global,
     out: &mut Vec<u8>,

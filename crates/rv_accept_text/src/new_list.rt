@@ -4,7 +4,7 @@ ghost use Rattle.std.specs.Prelude.{◌≡◌, ◌++◌, IfOk, IfSome, IsTrue, L
 ghost use Rattle.std.specs.Vec.Iter.{into_iter_items};
 ghost use Rattle.rv_lists.specs.JobList.{job_list_of};
 ghost use Rattle.rv_accept.specs.Edits.{edited_from};
-ghost use Rattle.rv_accept.specs.Meant.{intended_jobs};
+ghost use Rattle.rv_accept.specs.IntendedJobs.{intended_jobs};
 ghost use Rattle.rv_accept.specs.declared.edits.Edit.{Edit as AnEdit};
 ghost use Rattle.rv_accept.specs.declared.runs.SkipReason.{SkipReason as AWhyLeft};
 ghost use Rattle.rv_accept_text.specs.NewLists.{AreLeftFrom, skipped_run, skipped_runs, run_or_none, why_changed, why_changed_if_run, whys_changed};

@@ -4,7 +4,7 @@ use Rattle.std.specs.Prelude.{◌-◌, ◌+◌, ◌==◌, ◌||◌, ◌++◌, �
 use Rattle.std.specs.Prelude.{if◌then◌else◌, length, nat_eq, nat_lt, position, take}
 use Rattle.std.specs.Fmt.{decimal}
 use Rattle.std.specs.List.{starts_with}
-use Rattle.rv_list_errors.specs.Places.{is_feed}
+use Rattle.rv_list_errors.specs.LinesAndColumns.{is_feed}
 use Rattle.rv_lists.specs.ListFaults.{list_faults}
 use Rattle.rv_lists.specs.declared.error.JobError.{JobError}
 use Rattle.rv_lists.specs.declared.error.What.{What}

@@ -1,7 +1,7 @@
 //! A text that should be a report, or a shard's report, and has a line that is invalid there.
 
 ghost use Rattle.std.specs.Prelude.{◌≡◌, ◌<◌, IfOk, IfSome, length, position};
-ghost use Rattle.rv_list_errors.specs.Places.{is_feed};
+ghost use Rattle.rv_list_errors.specs.LinesAndColumns.{is_feed};
 ghost use Rattle.rv_command.specs.RefusedLines.{are_faults_of_list, after_line, after_lines, first_line, is_job_list};
 ghost use Rattle.rv_command.specs.RefusedLines.{line_before, line_message, list_message, numbered_line, refused_line_message};
 ghost use Rattle.rv_command.specs.RefusedLines.{expected_after, kind_noun, kind_text};

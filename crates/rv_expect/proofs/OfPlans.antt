@@ -9,7 +9,7 @@ use Rattle.rv_rows.specs.Rows.{expected_console_bytes, named_job_outcome, outcom
 use Rattle.rv_rows.specs.Verdict.{did_run, verdict_of}
 use Rattle.rv_expect.specs.UnmetInPlan.{row_of_same_as_job, sides_in, unmet_in}
 use Rattle.rv_expect.specs.Reference.{IsWord, signature_words_or_empty}
-use Rattle.rv_expect.specs.RowReporter.{HasItsVerdict, ReportsUnmet, named_outcome, outcome_in_row, passes}
+use Rattle.rv_expect.specs.UnmetExpectations.{HasItsVerdict, ReportsUnmet, named_outcome, outcome_in_row, passes}
 use Rattle.rv_expect.proofs.Tellings.{passes_where_empty, tells}
 
 outcome_of_row : (plan : Planned) (job : Job) → outcome_in_row (row_of plan job) ≡ outcome_in plan.answers job

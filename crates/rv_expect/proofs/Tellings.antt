@@ -30,8 +30,8 @@ use Rattle.rv_expect.specs.Difference.{console_difference, difference_of_runs, d
 use Rattle.rv_expect.specs.Difference.{same_as_difference, signatures_difference}
 use Rattle.rv_expect.specs.Reference.{IsWord, difference_from_reference, read_reference}
 use Rattle.rv_expect.specs.Reference.{signature_difference, word_difference, signature_words_or_empty}
-use Rattle.rv_expect.specs.RowReporter.{HasItsVerdict, ReportsUnmet, is_console, is_end, is_exit, is_nothing}
-use Rattle.rv_expect.specs.RowReporter.{is_same, is_signature, named_outcome, outcome_in_row, passes}
+use Rattle.rv_expect.specs.UnmetExpectations.{HasItsVerdict, ReportsUnmet, is_console, is_end, is_exit, is_nothing}
+use Rattle.rv_expect.specs.UnmetExpectations.{is_same, is_signature, named_outcome, outcome_in_row, passes}
 use Rattle.rv_expect.specs.Unmet.{unmet_of, unmet_of_expecting_job}
 use Rattle.rv_expect.proofs.Differences.{is_some-first_difference}
 use Rattle.rv_expect.proofs.References.{reads, written}

@@ -4,7 +4,7 @@ pub mod Difference
 pub mod Reference
 pub mod Comparisons
 pub mod Unmet
-pub mod RowReporter
+pub mod UnmetExpectations
 pub mod UnmetInPlan
 pub mod Passing
 pub mod Judgement

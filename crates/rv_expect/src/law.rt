@@ -12,7 +12,7 @@ ghost use Rattle.rv_expect.specs.Comparisons.{Sides};
 ghost use Rattle.rv_expect.specs.Difference.{IsDifference, first_difference};
 ghost use Rattle.rv_expect.specs.UnmetInPlan.{unmet_in};
 ghost use Rattle.rv_expect.specs.Reference.{IsReferenceOf, IsWord, read_reference, signature_words_or_empty};
-ghost use Rattle.rv_expect.specs.RowReporter.{HasItsVerdict, ReportsUnmet, named_outcome, outcome_in_row, passes};
+ghost use Rattle.rv_expect.specs.UnmetExpectations.{HasItsVerdict, ReportsUnmet, named_outcome, outcome_in_row, passes};
 ghost use Rattle.rv_expect.specs.Unmet.{unmet_of};
 
 /// Proves that `first_difference` is right: the two lists differ as it says, and are equal before that; if it is `None`, they are equal.

@@ -3,7 +3,7 @@ use Rattle.std.specs.Prelude.{List, find, map, option_map}
 use Rattle.std.specs.Str.{bytes_eq}
 use Rattle.rv_base.specs.Files.{FileContents}
 use Rattle.rv_files.specs.declared.memory_files.MemoryFile.{MemoryFile}
-use Rattle.rv_files.specs.Placed.{CommittedFile, committed_file}
+use Rattle.rv_files.specs.CommittedFiles.{CommittedFile, committed_file}
 
 -- the contents of files in memory: each path has the bytes of the first file with this path
 abbrev pub memory_contents : List MemoryFile → FileContents

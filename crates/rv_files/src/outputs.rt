@@ -1,7 +1,7 @@
 //! The files that a command writes. In the end, each exists completely or not at all.
 
 ghost use Rattle.std.specs.Prelude.{◌≡◌, ◌≢◌, ◌∷◌, [], List, ℕ, Option, Some, IfErr, IfOk, IfSome, IsTrue, OnErr, OnOk};
-ghost use Rattle.rv_files.specs.Placed.{CommittedFile, IsCommittedFileAdded};
+ghost use Rattle.rv_files.specs.CommittedFiles.{CommittedFile, IsCommittedFileAdded};
 
 use crate::file_error::FileError;
 use crate::last_error::LastError;

@@ -1,7 +1,7 @@
 //! The files that one command writes, with the system's files and with files in memory.
 
 ghost use Rattle.std.specs.Prelude.{◌≡◌, ◌++◌, ◌∷◌, [], Some, IfSome, OnOk};
-ghost use Rattle.rv_files.specs.Placed.{committed_file};
+ghost use Rattle.rv_files.specs.CommittedFiles.{committed_file};
 
 use crate::{
     FileError, FileLock, Inputs, MemoryFile, MemoryInputs, MemoryOutputs, Outputs, RecordingStore,

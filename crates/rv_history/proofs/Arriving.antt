@@ -1,7 +1,7 @@
 -- What holds of where a search ended holds of where a move ends.
 use Rattle.std.proofs.Common.{◌≡◌, ℕ, Result, Ok, Err, ap, subst, sym}
 use Rattle.std.specs.Result.{IfOk}
-use Rattle.rv_history.specs.Stands.{Stand}
+use Rattle.rv_history.specs.Positions.{Stand}
 use Rattle.rv_history.specs.declared.found.Found.{Found}
 
 pub arrived : {E : Type 0} (P : ℕ → Found → Type 0) (result : Result Found E) (place : ℕ) (found : Found) (before behind : Stand)

@@ -14,8 +14,8 @@ use Rattle.rv_trace.specs.Trace.{state_after}
 use Rattle.rv_history.specs.declared.bounds.Bounds.{Bounds}
 use Rattle.rv_history.specs.declared.bounds.Bounds.TheVariants as bounds
 use Rattle.rv_history.specs.declared.found.Found.TheVariants as found
-use Rattle.rv_history.specs.declared.leg.Arrived.{Arrived}
-use Rattle.rv_history.specs.declared.leg.ForwardMove.{ForwardMove}
+use Rattle.rv_history.specs.declared.forward_move.Arrived.{Arrived}
+use Rattle.rv_history.specs.declared.forward_move.ForwardMove.{ForwardMove}
 use Rattle.rv_history.specs.declared.machine_at.MachineAt.{MachineAt}
 use Rattle.rv_history.specs.declared.stops.Stops.{Stops}
 use Rattle.rv_history.specs.declared.stops.Watch.{Watch}
@@ -25,7 +25,7 @@ use Rattle.rv_history.specs.declared.stops.WatchHit.TheVariants as set_off
 use Rattle.rv_history.specs.Accesses.{access_at}
 use Rattle.rv_history.specs.Kept.{IsAt}
 use Rattle.rv_history.specs.LastStop.{IsQuietAt}
-use Rattle.rv_history.specs.Legs.{IsArrival, IsUnderWay}
+use Rattle.rv_history.specs.ForwardMoves.{IsArrival, IsUnderWay}
 use Rattle.rv_history.specs.Moves.{HasNoStopAhead, IsEndAt, IsNextStop, IsStepBefore, IsStopBefore}
 use Rattle.rv_history.specs.Places.{IsChangeAt, IsHaltAt, last_step}
 use Rattle.rv_history.specs.Stops.{AreNone, AreUnwatched, TriggersWatch, TriggersNoWatch, first_hit, first_read, is_break, is_halt, reported_or, access_hit, touched_by, watch_bytes, watched_bytes}

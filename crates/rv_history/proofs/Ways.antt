@@ -6,14 +6,14 @@ use Rattle.rv_machine.specs.State.{State}
 use Rattle.rv_machine.specs.declared.ending.Ending.{Ending}
 use Rattle.rv_trace.specs.Trace.{state_after}
 use Rattle.rv_history.specs.Kept.{IsAt}
-use Rattle.rv_history.specs.Legs.{IsArrival, IsUnderWay}
+use Rattle.rv_history.specs.ForwardMoves.{IsArrival, IsUnderWay}
 use Rattle.rv_history.specs.Moves.{IsNextStop, found_at_budget}
 use Rattle.rv_history.specs.Stops.{TriggersWatch, is_halt}
 use Rattle.rv_history.specs.declared.bounds.Bounds.TheVariants as bounds
 use Rattle.rv_history.specs.declared.found.Found.{Found}
 use Rattle.rv_history.specs.declared.found.Found.TheVariants as found
-use Rattle.rv_history.specs.declared.leg.Arrived.{Arrived}
-use Rattle.rv_history.specs.declared.leg.ForwardMove.{ForwardMove}
+use Rattle.rv_history.specs.declared.forward_move.Arrived.{Arrived}
+use Rattle.rv_history.specs.declared.forward_move.ForwardMove.{ForwardMove}
 use Rattle.rv_history.specs.declared.machine_at.MachineAt.{MachineAt}
 use Rattle.rv_history.specs.declared.stops.Stops.{Stops}
 use Rattle.rv_history.proofs.Forward.{stops_at_budget, stops_by_break, stops_by_change, stops_by_end, stops_by_interrupt}

@@ -6,8 +6,8 @@ pub mod LastStop
 pub mod Places
 pub mod Moves
 pub mod Counts
-pub mod Stands
-pub mod StandInside
+pub mod Positions
+pub mod PositionInside
 pub mod Printing
 pub mod Kept
-pub mod Legs
+pub mod ForwardMoves

@@ -5,19 +5,19 @@ ghost use Rattle.rv_machine.specs.Machine.{state_of};
 ghost use Rattle.rv_machine.specs.Run.{run_of};
 ghost use Rattle.rv_machine.specs.declared.ending.Ending.TheVariants.{Budget};
 ghost use Rattle.rv_history.specs.LastStop.{IsPart};
-ghost use Rattle.rv_history.specs.Legs.{IsArrival, IsUnderWay};
+ghost use Rattle.rv_history.specs.ForwardMoves.{IsArrival, IsUnderWay};
 ghost use Rattle.rv_history.specs.Stops.{AreUnwatched, is_break};
 ghost use Rattle.rv_history.specs.declared.bounds.Bounds.TheVariants.{All as AllAddresses};
 ghost use Rattle.rv_history.specs.declared.found.Found.TheVariants.{Interrupted};
 
 use crate::found::Found;
 use crate::interrupt::Interrupt;
-use crate::leg::{Arrived, ForwardMove};
+use crate::forward_move::{Arrived, ForwardMove};
 use crate::search_back::{Part, last_stop_after};
 use crate::slices::{fill_a_slice, is_slice_end, slice_end};
 use crate::stepping::{Stepped, step};
 use crate::stops::Stops;
-use crate::track::Checkpoints;
+use crate::checkpoints::Checkpoints;
 use rv_machine::Machine;
 use std::alloc::{AllocError, Global};
 

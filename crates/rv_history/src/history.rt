@@ -8,14 +8,14 @@ use crate::bounds::Bounds;
 use crate::counts::{Count, first_with};
 use crate::found::{Found, StopInfo};
 use crate::interrupt::Interrupt;
-use crate::leg::ForwardMove;
+use crate::forward_move::ForwardMove;
 use crate::machine_at::MachineAt;
 use crate::search::next_stop;
 use crate::search_back::{step_before, stop_before};
 use crate::start::Start;
 use crate::stepping::{Stepped, step_watched};
 use crate::stops::{Stops, WatchHit};
-use crate::track::Checkpoints;
+use crate::checkpoints::Checkpoints;
 use rv_machine::{Ending, Machine};
 use std::alloc::{AllocError, Global};
 use std::marker::Model;
@@ -34,8 +34,8 @@ impl Model for History {
     ghost use Rattle.std.specs.Prelude.{◌≤◌};
     ghost use Rattle.rv_machine.specs.Machine.{state_of};
     ghost use Rattle.rv_history.specs.Places.{IsReached};
-    ghost use Rattle.rv_history.specs.StandInside.{position_code};
-    ghost use Rattle.rv_history.specs.Stands.{Stand};
+    ghost use Rattle.rv_history.specs.PositionInside.{position_code};
+    ghost use Rattle.rv_history.specs.Positions.{Stand};
 
     ghost Value = { Stand };
 

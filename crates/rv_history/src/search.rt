@@ -2,7 +2,7 @@
 
 ghost use Rattle.std.specs.Prelude.{◌≡◌, ◌≤◌, IfOk, true};
 ghost use Rattle.rv_history.specs.Kept.{IsAt};
-ghost use Rattle.rv_history.specs.Legs.{IsArrival, IsUnderWay};
+ghost use Rattle.rv_history.specs.ForwardMoves.{IsArrival, IsUnderWay};
 ghost use Rattle.rv_history.specs.Stops.{AreNone};
 ghost use Rattle.rv_history.specs.declared.bounds.Bounds.TheVariants.{All as AllAddresses};
 ghost use Rattle.rv_history.specs.declared.found.Found.TheVariants.{Interrupted};
@@ -11,11 +11,11 @@ ghost use Rattle.rv_history.specs.declared.stops.Stops.{Stops};
 use crate::breaks::next_break;
 use crate::found::Found;
 use crate::interrupt::Interrupt;
-use crate::leg::{Arrived, ForwardMove};
+use crate::forward_move::{Arrived, ForwardMove};
 use crate::slices::slice_end;
 use crate::stepping::{Stepped, step_with_watched_bytes};
 use crate::stops::Stops;
-use crate::track::Checkpoints;
+use crate::checkpoints::Checkpoints;
 use rv_machine::Ending;
 use std::alloc::{AllocError, Global};
 

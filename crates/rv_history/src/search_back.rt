@@ -12,7 +12,7 @@ use crate::interrupt::Interrupt;
 use crate::slices::{fill_a_slice, is_slice_end};
 use crate::stepping::{Stepped, step_with_watched_bytes, step_watched};
 use crate::stops::Stops;
-use crate::track::Checkpoints;
+use crate::checkpoints::Checkpoints;
 use std::alloc::{AllocError, Global};
 
 /// The result of searching one part of a run.

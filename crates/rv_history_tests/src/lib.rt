@@ -4,6 +4,6 @@
 #[cfg(test)]
 mod alarm;
 #[cfg(test)]
-mod broken_off;
+mod interrupted_moves;
 #[cfg(test)]
 mod moves;

@@ -11,7 +11,7 @@ use Rattle.rv_list_errors.specs.FaultHeads.{elements_of_job, fault_head, fault_p
 use Rattle.rv_list_errors.specs.FaultsTold.{TellsFaultIn, TellsFaultOfText}
 use Rattle.rv_list_errors.specs.JobFaults.{EndsSo, TellsJobFault, element_at}
 use Rattle.rv_list_errors.specs.Lines.{BeginsWith}
-use Rattle.rv_list_locations.specs.JobPlaces.{job_lines}
+use Rattle.rv_list_locations.specs.JobLocations.{job_lines}
 
 pub read_document : (text : List ℕ) (ms : Members) → IsUtf8 text → parse_document text ≡ Some ms → document_of text ≡ Some ms
 read_document text ms valid parsed =

@@ -3,7 +3,7 @@ use Rattle.std.proofs.Common.{◌≡◌, ◌∙◌, ℕ, List, ◌++◌, Ok, Err
 use Rattle.std.specs.Prelude.{IsOk, OnOk, codes}
 use Rattle.std.specs.Fmt.{decimal}
 use Rattle.rv_list_errors.specs.NearNames.{Adds}
-use Rattle.rv_list_locations.specs.Places.{column_at, line_at}
+use Rattle.rv_list_locations.specs.LinesAndColumns.{column_at, line_at}
 use Rattle.rv_list_errors.specs.Explanation.{AddsSome}
 use Rattle.rv_list_errors.specs.declared.message.Message.{Message}
 

@@ -13,7 +13,7 @@ use Rattle.rv_machine.specs.Faults.{fault_kinds, fault_name}
 use Rattle.rv_machine.specs.declared.ending.FaultKind.TheVariants as fault
 use Rattle.rv_text.specs.Printable.{printable_value}
 use Rattle.rv_list_errors.specs.NearNames.{IsNearName, names_text, present, quoted}
-use Rattle.rv_list_locations.specs.Places.{column_at, line_at}
+use Rattle.rv_list_locations.specs.LinesAndColumns.{column_at, line_at}
 use Rattle.rv_list_errors.specs.declared.explanations.Rest.{Rest}
 use Rattle.rv_list_errors.specs.declared.explanations.Rest.TheVariants as rest
 use Rattle.rv_list_errors.specs.declared.explanations.Explanation.{Explanation}

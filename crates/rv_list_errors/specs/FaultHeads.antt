@@ -9,7 +9,7 @@ use Rattle.rv_lists.specs.JobList.{document_of}
 use Rattle.rv_lists.specs.Keys.{array_at_key, text_at_key}
 use Rattle.rv_lists.specs.declared.error.JobError.{JobError}
 use Rattle.rv_text.specs.Printable.{printable_value}
-use Rattle.rv_list_locations.specs.JobPlaces.{job_lines}
+use Rattle.rv_list_locations.specs.JobLocations.{job_lines}
 use Rattle.rv_list_errors.specs.declared.fault_text.FaultView.{FaultView}
 use Rattle.rv_list_errors.specs.declared.fault_text.FaultView.TheVariants as look
 

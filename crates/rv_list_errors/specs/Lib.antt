@@ -1,5 +1,5 @@
-pub use Rattle.rv_list_locations.specs.Places
-pub use Rattle.rv_list_locations.specs.JobPlaces
+pub use Rattle.rv_list_locations.specs.LinesAndColumns
+pub use Rattle.rv_list_locations.specs.JobLocations
 pub mod FaultHeads
 pub mod Lines
 pub mod PlacedFaults

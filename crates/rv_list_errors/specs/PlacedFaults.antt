@@ -7,7 +7,7 @@ use Rattle.rv_lists.specs.JobList.{document_of}
 use Rattle.rv_lists.specs.declared.error.JobError.{JobError}
 use Rattle.rv_list_errors.specs.FaultHeads.{job_names, job_number_and_name}
 use Rattle.rv_list_errors.specs.Lines.{BeginsWith, printable_line}
-use Rattle.rv_list_locations.specs.Places.{column_at, line_at}
+use Rattle.rv_list_locations.specs.LinesAndColumns.{column_at, line_at}
 
 -- the line and column of the byte at an index of a text, as `:LINE:COLUMN`
 abbrev pub place_text : ℕ → List ℕ → List ℕ

@@ -7,7 +7,7 @@ ghost use Rattle.toml.specs.View.{items_view, table_view, view};
 ghost use Rattle.rv_list_errors.specs.FaultHeads.{borrowed_name, borrowed_names, element_name, element_names};
 ghost use Rattle.rv_list_errors.specs.FaultHeads.{elements_of_job, job_names};
 ghost use Rattle.rv_list_errors.specs.JobFaults.{is_name_of, number_of_name};
-ghost use Rattle.rv_list_locations.specs.JobPlaces.{job_lines};
+ghost use Rattle.rv_list_locations.specs.JobLocations.{job_lines};
 
 use crate::values::{elements_at_key, text_at_key};
 use rv_list_locations::job_line_numbers;

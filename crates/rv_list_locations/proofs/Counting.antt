@@ -7,7 +7,7 @@ use Rattle.std.proofs.lemmas.List.Sorted.{IsNonDecreasingBy-push}
 use Rattle.std.proofs.lemmas.List.Sums.{sum_by-append}
 use Rattle.std.specs.List.{All}
 use Rattle.std.specs.List.Sorted.{IsNonDecreasing}
-use Rattle.rv_list_locations.specs.Places.{is_feed, line_at}
+use Rattle.rv_list_locations.specs.LinesAndColumns.{is_feed, line_at}
 
 line_behind : (text : List ℕ) (place n : ℕ)
     → line_at place text + count_by is_feed (take n (drop place text)) ≡ line_at (place + n) text

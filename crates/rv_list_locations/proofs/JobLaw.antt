@@ -14,9 +14,9 @@ use Rattle.toml.specs.Parse.{expression, header_key, key_equals, skip_bom}
 use Rattle.rv_list_locations.specs.declared.scan.Next.{Next}
 use Rattle.rv_list_locations.specs.declared.scan.Next.TheVariants.{Element, Table, Top}
 use Rattle.rv_list_locations.specs.JobBegins.{BeginsWithElement, BeginsWithJobHeader, IsInJobArray, IsLineOfJob, behind, opened}
-use Rattle.rv_list_locations.specs.JobPlaces.{Step, array_header, after_comma, after_equals, after_line, after_value, element}
-use Rattle.rv_list_locations.specs.JobPlaces.{header, is_job, is_top, job_lines, jobs_from, jobs_of_step, keyed_entry}
-use Rattle.rv_list_locations.specs.JobPlaces.{jobs_of_text, line_of_rest, step, table_header}
+use Rattle.rv_list_locations.specs.JobLocations.{Step, array_header, after_comma, after_equals, after_line, after_value, element}
+use Rattle.rv_list_locations.specs.JobLocations.{header, is_job, is_top, job_lines, jobs_from, jobs_of_step, keyed_entry}
+use Rattle.rv_list_locations.specs.JobLocations.{jobs_of_text, line_of_rest, step, table_header}
 use Rattle.rv_list_locations.proofs.Tails.{IsEnd, LeavesEnd, after_comma-end, after_equals-end, after_line-end, after_value-end}
 use Rattle.rv_list_locations.proofs.Tails.{end_drop, end_of_end, key-end, skip_bom-end, skip_from-end, skip_ws-end}
 use Rattle.rv_list_locations.proofs.Tails.{some_either, some_map, some_then}

@@ -18,8 +18,8 @@ use Rattle.toml_parser.specs.declared.error.ParseError.TheVariants.{OutOfMemory}
 use Rattle.std.proofs.lemmas.List.{map-append}
 use Rattle.rv_list_locations.specs.Steps.{UnlessMemory, now_texts}
 use Rattle.rv_list_locations.specs.declared.scan.Next.{Next}
-use Rattle.rv_list_locations.specs.JobPlaces.{after_brackets, after_letters, after_token, after_word, depth_after}
-use Rattle.rv_list_locations.specs.JobPlaces.{is_in_word, jobs_from, step}
+use Rattle.rv_list_locations.specs.JobLocations.{after_brackets, after_letters, after_token, after_word, depth_after}
+use Rattle.rv_list_locations.specs.JobLocations.{is_in_word, jobs_from, step}
 
 -- ---- words
 

@@ -12,9 +12,9 @@ use Rattle.toml_parser.specs.Strings.{after_piece, at_delims, body, escape, esca
 use Rattle.toml_parser.specs.Strings.{key, key_after, one_line, prepend, quoted, recursion_limit, simple_escape, simple_key}
 use Rattle.toml_parser.specs.Strings.{special, starts_string, trim_newline}
 use Rattle.toml.specs.Parse.{skip_bom}
-use Rattle.rv_list_locations.specs.JobPlaces.{after_brackets, after_comma, after_equals, after_letters, after_line}
-use Rattle.rv_list_locations.specs.JobPlaces.{after_string_or_word, after_token, after_value, after_word, depth_after}
-use Rattle.rv_list_locations.specs.JobPlaces.{is_in_word, is_opening, is_sign}
+use Rattle.rv_list_locations.specs.JobLocations.{after_brackets, after_comma, after_equals, after_letters, after_line}
+use Rattle.rv_list_locations.specs.JobLocations.{after_string_or_word, after_token, after_value, after_word, depth_after}
+use Rattle.rv_list_locations.specs.JobLocations.{is_in_word, is_opening, is_sign}
 
 -- ---- ends of texts
 

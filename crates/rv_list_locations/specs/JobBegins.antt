@@ -3,8 +3,8 @@ use Rattle.std.specs.Prelude.{◌≡◌, ◌≢◌, ◌⊎◌, ℕ, List, [], So
 use Rattle.toml_parser.specs.Lexical.{first, left_bracket, right_bracket, skip_blank}
 use Rattle.toml.specs.Parse.{expression, key_equals}
 use Rattle.toml.specs.Tables.{array_table}
-use Rattle.rv_list_locations.specs.JobPlaces.{after_comma, after_value}
-use Rattle.rv_list_locations.specs.Places.{line_at}
+use Rattle.rv_list_locations.specs.JobLocations.{after_comma, after_value}
+use Rattle.rv_list_locations.specs.LinesAndColumns.{line_at}
 
 -- the text begins with a header `[[job]]`, however the key is spelled
 abbrev pub BeginsWithJobHeader : List ℕ → Type 0

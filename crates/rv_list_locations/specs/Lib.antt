@@ -1,5 +1,5 @@
-pub mod Places
-pub mod JobPlaces
+pub mod LinesAndColumns
+pub mod JobLocations
 pub mod JobBegins
 pub mod JobKeys
 pub mod NamedKeys

@@ -5,7 +5,7 @@ use Rattle.toml_parser.specs.declared.error.ParseError.{ParseError}
 use Rattle.toml_parser.specs.declared.error.ParseError.TheVariants.{OutOfMemory}
 use Rattle.toml_parser.specs.Reading.{Gives}
 use Rattle.rv_list_locations.specs.declared.scan.Step as code
-use Rattle.rv_list_locations.specs.JobPlaces.{Step}
+use Rattle.rv_list_locations.specs.JobLocations.{Step}
 use Rattle.std.specs.Prelude.{Option}
 
 -- the code returned the expected remaining text, or an error if there is none, unless memory ran out

@@ -1,7 +1,7 @@
 //! Lines and columns in a text, counted incrementally.
 
 ghost use Rattle.std.specs.Prelude.{◌≡◌, ◌≤◌, length, min};
-ghost use Rattle.rv_list_locations.specs.Places.{column_at, line_at};
+ghost use Rattle.rv_list_locations.specs.LinesAndColumns.{column_at, line_at};
 
 use crate::lines::Place;
 

@@ -3,7 +3,7 @@
 ghost use Rattle.std.specs.Prelude.{◌≡◌, ◌≤◌, ◌<◌, ◌-◌, [], ◌∷◌, ◌++◌, OnOk, count_by, length, max};
 ghost use Rattle.std.specs.List.{All, after_last};
 ghost use Rattle.std.specs.List.Sorted.{IsNonDecreasing};
-ghost use Rattle.rv_list_locations.specs.Places.{begins_character, column_at, is_feed, line_at, text_line_count};
+ghost use Rattle.rv_list_locations.specs.LinesAndColumns.{begins_character, column_at, is_feed, line_at, text_line_count};
 
 use std::alloc::{AllocError, Global};
 

@@ -7,8 +7,8 @@ ghost use Rattle.toml_parser.specs.Lexical.{left_bracket};
 ghost use Rattle.toml_parser.specs.Reading.{Reads};
 ghost use Rattle.toml_parser.specs.Strings.{key};
 ghost use Rattle.toml.specs.Parse.{skip_bom};
-ghost use Rattle.rv_list_locations.specs.JobPlaces as spec;
-ghost use Rattle.rv_list_locations.specs.Places.{text_line_count};
+ghost use Rattle.rv_list_locations.specs.JobLocations as spec;
+ghost use Rattle.rv_list_locations.specs.LinesAndColumns.{text_line_count};
 ghost use Rattle.rv_list_locations.specs.Steps.{GivesStep, UnlessMemory, now_texts};
 
 use crate::lines::Lines;
@@ -113,7 +113,7 @@ fn push_job_lines(alloc: Global, text: &str, lines: &mut Lines<'_>) -> Result<()
 }
 
 /// Scans a header, an entry or an element.
-#[tactic(auto, unfolding(crate::specs::JobPlaces::step))]
+#[tactic(auto, unfolding(crate::specs::JobLocations::step))]
 pub(crate) fn scan_step(alloc: Global, text: &str, next: Next) -> Result<Step<'_>, ParseError>
     ensures step { GivesStep result (spec.step next text.now) }
     ensures shorter { IfOk result (λ step. length step.rest.now < length text.now) }
@@ -126,7 +126,7 @@ pub(crate) fn scan_step(alloc: Global, text: &str, next: Next) -> Result<Step<'_
 }
 
 // Scans an element, or the bracket after the last element.
-#[tactic(auto, unfolding(crate::specs::JobPlaces::element))]
+#[tactic(auto, unfolding(crate::specs::JobLocations::element))]
 fn scan_element(alloc: Global, text: &str) -> Result<Step<'_>, ParseError>
     ensures step { GivesStep result (spec.element text.now) }
     ensures shorter { IfOk result (λ step. length step.rest.now < length text.now) }
@@ -160,7 +160,7 @@ fn scan_header(alloc: Global, text: &str) -> Result<Step<'_>, ParseError>
 }
 
 // Scans the header of an element of an array of tables, after its opening brackets. A job begins there if the key is `job`.
-#[tactic(auto, unfolding(crate::specs::JobPlaces::array_header))]
+#[tactic(auto, unfolding(crate::specs::JobLocations::array_header))]
 fn scan_array_header(alloc: Global, inside: &str) -> Result<Step<'_>, ParseError>
     ensures step { GivesStep result (spec.array_header inside.now) }
     ensures shorter { IfOk result (λ step. length step.rest.now < length inside.now) }
@@ -178,7 +178,7 @@ fn scan_array_header(alloc: Global, inside: &str) -> Result<Step<'_>, ParseError
 }
 
 // Scans the header of a table, after its opening bracket.
-#[tactic(auto, unfolding(crate::specs::JobPlaces::table_header))]
+#[tactic(auto, unfolding(crate::specs::JobLocations::table_header))]
 fn scan_table_header(alloc: Global, inside: &str) -> Result<Step<'_>, ParseError>
     ensures step { GivesStep result (spec.table_header inside.now) }
     ensures shorter { IfOk result (λ step. length step.rest.now < length inside.now) }
@@ -196,7 +196,7 @@ fn scan_table_header(alloc: Global, inside: &str) -> Result<Step<'_>, ParseError
 }
 
 // Scans an entry. Before the first header, an array `job` is the list, and its elements come next.
-#[tactic(auto, unfolding(crate::specs::JobPlaces::keyed_entry))]
+#[tactic(auto, unfolding(crate::specs::JobLocations::keyed_entry))]
 fn scan_entry(alloc: Global, text: &str, next: Next) -> Result<Step<'_>, ParseError>
     ensures step { GivesStep result (spec.keyed_entry next text.now) }
     ensures shorter { IfOk result (λ step. length step.rest.now < length text.now) }
@@ -219,7 +219,7 @@ fn scan_entry(alloc: Global, text: &str, next: Next) -> Result<Step<'_>, ParseEr
 }
 
 /// Returns the text from the value of an entry on, given the text after its key, or an empty text if no equals sign follows the key.
-#[tactic(auto, unfolding(crate::specs::JobPlaces::after_equals))]
+#[tactic(auto, unfolding(crate::specs::JobLocations::after_equals))]
 pub(crate) fn skip_equals_sign(text: &str) -> &str
     ensures text { result.now ≡ spec.after_equals text.now }
     ensures within { length result.now ≤ length text.now }
@@ -232,7 +232,7 @@ pub(crate) fn skip_equals_sign(text: &str) -> &str
 }
 
 /// Returns the text from the next element on, or from the bracket after the last element on.
-#[tactic(auto, unfolding(crate::specs::JobPlaces::after_comma))]
+#[tactic(auto, unfolding(crate::specs::JobLocations::after_comma))]
 pub(crate) fn skip_comma(text: &str) -> &str
     ensures text { result.now ≡ spec.after_comma text.now }
     ensures within { length result.now ≤ length text.now }
@@ -246,7 +246,7 @@ pub(crate) fn skip_comma(text: &str) -> &str
 }
 
 // Returns the text from the next header or entry on, or an empty text if the rest of the line is not a comment.
-#[tactic(auto, unfolding(crate::specs::JobPlaces::after_line))]
+#[tactic(auto, unfolding(crate::specs::JobLocations::after_line))]
 fn skip_line_end(text: &str) -> &str
     ensures text { result.now ≡ spec.after_line text.now }
     ensures within { length result.now ≤ length text.now }

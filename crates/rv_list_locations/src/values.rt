@@ -1,9 +1,9 @@
 //! Skipping values.
 
 ghost use Rattle.std.specs.Prelude.{◌≡◌, ◌-◌, ◌^◌, ◌<◌, ◌≤◌, IfOk, length, min, slice_index, suc};
-ghost use Rattle.rv_list_locations.specs.JobPlaces.{after_brackets, after_string_or_word, after_token, after_value};
+ghost use Rattle.rv_list_locations.specs.JobLocations.{after_brackets, after_string_or_word, after_token, after_value};
 ghost use Rattle.toml_parser.specs.Lexical.{skip_blank as behind_blank};
-ghost use Rattle.rv_list_locations.specs.JobPlaces.{after_word, depth_after, is_in_word};
+ghost use Rattle.rv_list_locations.specs.JobLocations.{after_word, depth_after, is_in_word};
 ghost use Rattle.rv_list_locations.specs.Steps.{ReturnsText};
 
 use std::alloc::Global;
@@ -12,7 +12,7 @@ use toml_parser::text::{byte_at, first, skip, skip_blank};
 use toml_parser::{ErrorKind, ParseError, quoted, starts_string};
 
 /// Returns the text after a value.
-#[tactic(auto, unfolding(crate::specs::JobPlaces::after_value))]
+#[tactic(auto, unfolding(crate::specs::JobLocations::after_value))]
 pub(crate) fn skip_value(alloc: Global, text: &str) -> Result<&str, ParseError>
     ensures value { ReturnsText result (after_value text.now) }
     ensures shorter { IfOk result (λ rest. length rest.now < length text.now) }
@@ -61,7 +61,7 @@ fn bracket_depth_after(depth: usize, byte: u8) -> usize
 }
 
 /// Returns the text after a punctuation sign, a string or a word.
-#[tactic(auto, unfolding(crate::specs::JobPlaces::after_token))]
+#[tactic(auto, unfolding(crate::specs::JobLocations::after_token))]
 pub(crate) fn skip_token(alloc: Global, text: &str) -> Result<&str, ParseError>
     ensures value { ReturnsText result (after_token text.now) }
     ensures shorter { IfOk result (λ rest. length rest.now < length text.now) }
@@ -74,7 +74,7 @@ pub(crate) fn skip_token(alloc: Global, text: &str) -> Result<&str, ParseError>
 }
 
 // Returns the text after a string or a word.
-#[tactic(auto, unfolding(crate::specs::JobPlaces::after_string_or_word))]
+#[tactic(auto, unfolding(crate::specs::JobLocations::after_string_or_word))]
 fn skip_string_or_word(alloc: Global, text: &str) -> Result<&str, ParseError>
     ensures value { ReturnsText result (after_string_or_word text.now) }
     ensures shorter { IfOk result (λ rest. length rest.now < length text.now) }

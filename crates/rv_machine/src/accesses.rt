@@ -9,7 +9,7 @@ ghost use Rattle.rv_machine.specs.State.{at_pc};
 use crate::alu::add_offset;
 use crate::ending::Ends;
 use crate::hart::{Hart, set_pc};
-use crate::kept::DecodeCache;
+use crate::decode_cache::DecodeCache;
 use rv_isa::{Instr, sign_extend};
 use rv_memory::Width;
 

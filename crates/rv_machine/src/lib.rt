@@ -8,12 +8,12 @@
 
 mod accesses;
 mod alu;
-mod awake;
+mod cached_operands;
 mod ending;
 mod execute;
 mod fetch;
 mod hart;
-mod kept;
+mod decode_cache;
 mod kinds;
 mod last_instruction;
 mod limits;

@@ -3,4 +3,4 @@
 #![tactic(auto)]
 
 #[cfg(test)]
-mod kept;
+mod cached_instructions;

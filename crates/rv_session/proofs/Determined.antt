@@ -34,7 +34,7 @@ use Rattle.rv_session.specs.Incoming.{HasNoInterrupt, IsByteReceived, IsReceived
 use Rattle.rv_session.specs.Moved.{IsMoveResult, IsMoved, end_text_at, printed_on, shown_on, stop_of}
 use Rattle.rv_session.specs.Replies.{granted_if, stopping}
 use Rattle.rv_session.specs.Sessions.{at_place, state_at}
-use Rattle.rv_session.specs.Traps.{IsAdded, IsAddedUnless, IsStoppointAdded, is_on, is_set, stoppoint_refusal, watches_of, with_watches}
+use Rattle.rv_session.specs.Stoppoints.{IsAdded, IsAddedUnless, IsStoppointAdded, is_on, is_set, stoppoint_refusal, watches_of, with_watches}
 use Rattle.rv_session.specs.declared.reply.Reply.{Reply}
 use Rattle.rv_session.specs.declared.session.Session.{Session}
 

@@ -3,7 +3,7 @@ use Rattle.std.proofs.Common.{◌≡◌, ◌∙◌, ◌≤◌, ℕ, Bool, true, 
 use Rattle.std.specs.Prelude.{◌↔◌, IsTrue, if◌then◌else◌}
 use Rattle.std.proofs.lemmas.Bool.{le-leb, leb-true}
 use Rattle.std.proofs.lemmas.Bool.Decides.{same_from_decides}
-use Rattle.rv_history.specs.Stands.{Stand}
+use Rattle.rv_history.specs.Positions.{Stand}
 use Rattle.rv_session.specs.Sessions.{at_place}
 use Rattle.rv_session.specs.declared.session.Session.{Session}
 

@@ -8,7 +8,7 @@ use Rattle.rv_memory.specs.Bus.{Contents}
 use Rattle.rv_gdb_protocol.specs.declared.request.Range.{Range}
 use Rattle.rv_gdb_protocol.specs.declared.request.Refusal.TheVariants as refusal
 use Rattle.rv_gdb_protocol.specs.declared.request.Stoppoint.{Stoppoint}
-use Rattle.rv_session.specs.Traps.{IsAdded, IsStoppointAdded, IsWatchAdded, can_be_set, is_full, is_set}
+use Rattle.rv_session.specs.Stoppoints.{IsAdded, IsStoppointAdded, IsWatchAdded, can_be_set, is_full, is_set}
 
 pub cannot_be : (stops : Stops) (bus : Contents) (place : Stoppoint) → can_be_set bus place ≡ false
     → IsStoppointAdded stops bus place (Err refusal.Malformed)

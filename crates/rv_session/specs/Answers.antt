@@ -27,7 +27,7 @@ use Rattle.rv_gdb_protocol.specs.declared.target.TheConstants.{TARGET}
 use Rattle.rv_session.specs.Memory.{bytes_from, has_bytes_at}
 use Rattle.rv_session.specs.Replies.{granted, granted_if, printing, refused, with_body, silent}
 use Rattle.rv_session.specs.Sessions.{at_place, here}
-use Rattle.rv_session.specs.Traps.{IsStoppointAdded, without_stoppoint}
+use Rattle.rv_session.specs.Stoppoints.{IsStoppointAdded, without_stoppoint}
 use Rattle.rv_session.specs.declared.monitor.TheConstants.{HELP}
 use Rattle.rv_session.specs.declared.reply.Reply.{Reply}
 use Rattle.rv_session.specs.declared.session.Session.{Session}

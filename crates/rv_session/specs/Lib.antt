@@ -1,7 +1,7 @@
 pub mod Replies
 pub mod Memory
 pub mod Sessions
-pub mod Traps
+pub mod Stoppoints
 pub mod Moved
 pub mod Answers
 pub mod Incoming

@@ -5,7 +5,7 @@
 //! interrupted. The text about the run's end comes from an [`EndText`].
 #![tactic(auto)]
 
-mod answer;
+mod replies_to_requests;
 mod end_text;
 mod files;
 mod law;
@@ -17,7 +17,7 @@ mod receiving;
 mod reply;
 mod seeking;
 mod session;
-mod traps;
+mod stoppoints;
 mod writing;
 
 pub use end_text::EndText;

@@ -14,12 +14,12 @@ mod job;
 mod law;
 mod names;
 mod node;
-mod places;
+mod batch;
 mod run;
 mod stack_work;
 mod stacks;
 mod table;
-mod turns;
+mod control_flow;
 mod walk;
 
 pub use children::Children;
@@ -33,7 +33,7 @@ pub use law::{
     tables_with_stacks_of_shards_sum_to_that_of_all,
 };
 pub use node::Node;
-pub use places::count_batch_with_stacks;
+pub use batch::count_batch_with_stacks;
 pub use run::count_with_stacks;
 pub use stacks::Stacks;
 pub use walk::Walk;

@@ -4,7 +4,7 @@ use Rattle.std.specs.Prelude.{if◌then◌else◌, option_map}
 use Rattle.rv_expect.specs.Judgement.{Judging, fails}
 use Rattle.rv_rows.specs.declared_row.Row.{Row}
 use Rattle.rv_stream.specs.Limits.{failures_left_after, rows_until, rows_up_to}
-use Rattle.rv_stream.specs.Told.{AreRowsUpToFailure}
+use Rattle.rv_stream.specs.ReportedRows.{AreRowsUpToFailure}
 
 module _ (fails : Row → Bool) where
   -- of rows in two pieces

@@ -14,7 +14,7 @@ use Rattle.rv_stream.specs.declared.reported_row.ReportedRow.{ReportedRow}
 use Rattle.rv_rows.specs.declared_row.Row.{Row}
 use Rattle.rv_stream.specs.Seen.{text_by_index}
 use Rattle.rv_stream.specs.Texts.{IsSent, IsUnderWay}
-use Rattle.rv_stream.specs.Told.{texts_of_reported}
+use Rattle.rv_stream.specs.ReportedRows.{texts_of_reported}
 
 -- nothing is told yet
 pub nothing_sent : (before : Option (List ℕ)) (failures : ℕ) → IsSent before before failures failures None [] []

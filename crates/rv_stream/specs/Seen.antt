@@ -3,7 +3,7 @@ use Rattle.std.specs.Prelude.{◌≡◌, ◌<◌, ◌≤◌, ◌++◌, ℕ, List
 use Rattle.std.specs.List.{concat}
 use Rattle.rv_rows.specs.declared_row.Row.{Row}
 use Rattle.rv_stream.specs.declared.reported_row.ReportedRow.{ReportedRow}
-use Rattle.rv_stream.specs.Told.{rows_of_reported}
+use Rattle.rv_stream.specs.ReportedRows.{rows_of_reported}
 
 -- the texts that `line` makes of the reported rows and their jobs' indices, one after another
 abbrev pub text_by_index : (ℕ → Row → List ℕ) → List ReportedRow → List ℕ

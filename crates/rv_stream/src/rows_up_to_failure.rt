@@ -2,7 +2,7 @@
 
 ghost use Rattle.std.specs.Prelude.{◌≡◌, ◌-◌, ◌++◌, ◌∷◌, [], false, if◌then◌else◌, option_map};
 ghost use Rattle.rv_expect.specs.Judgement.{judging_of};
-ghost use Rattle.rv_stream.specs.Told.{AreRowsUpToFailure};
+ghost use Rattle.rv_stream.specs.ReportedRows.{AreRowsUpToFailure};
 
 use crate::failure_limit::FailureLimit;
 use crate::reported_row::ReportedRow;
@@ -49,7 +49,7 @@ impl<'k, J: StreamSpec> RowsUpToFailure<'k, J> {
 impl<J: StreamSpec> Listener<ReportedRow> for RowsUpToFailure<'_, J> {
     ghost use Rattle.std.specs.Prelude.{◌≡◌, ◌⊎◌, Some, true};
     ghost use Rattle.rv_expect.specs.Judgement.{judging_of};
-    ghost use Rattle.rv_stream.specs.Told.{rows_of_reported, AreRowsUpToFailure};
+    ghost use Rattle.rv_stream.specs.ReportedRows.{rows_of_reported, AreRowsUpToFailure};
 
     ghost has_received = { λ s told. (judging_of s.judge ≡ J.judging)
         × AreRowsUpToFailure J.most J.judging s.left s.refused s.rows.items (rows_of_reported told) };

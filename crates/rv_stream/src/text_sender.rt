@@ -36,7 +36,7 @@ impl<J: StreamSpec, W: Sink + Drop> Observer<ReportedRow> for TextSender<J, W> {
     ghost use Rattle.std.specs.Prelude.{◌≡◌, true, is_some};
     ghost use Rattle.std.specs.List.{concat};
     ghost use Rattle.rv_stream.specs.Texts.{IsSent};
-    ghost use Rattle.rv_stream.specs.Told.{texts_of_reported};
+    ghost use Rattle.rv_stream.specs.ReportedRows.{texts_of_reported};
 
     ghost has_seen = { λ s told. IsSent J.before (W.taken s.outbox.out) J.failures (W.failed s.outbox.out)
         s.outbox.failed s.outbox.unsent.items (concat (texts_of_reported told)) };

@@ -5,8 +5,8 @@ use Rattle.rv_base.specs.Counts.{one_more}
 use Rattle.rv_terminal.specs.ColorSinks.{IsCounted, IsPutBy, failures_below, first_state}
 use Rattle.rv_terminal.specs.declared.colors.Colors.{Colors}
 use Rattle.rv_terminal.specs.declared.colors.Colors.TheVariants as colors
-use Rattle.rv_terminal.specs.declared.course.OutputState.{OutputState}
-use Rattle.rv_terminal.specs.declared.course.OutputState.TheVariants as course
+use Rattle.rv_terminal.specs.declared.output_state.OutputState.{OutputState}
+use Rattle.rv_terminal.specs.declared.output_state.OutputState.TheVariants as course
 
 pub some_put : (count : ℕ) → 1 ≤ count → (count == 0) ≡ false
 some_put count some = ne_eqb count 0 (λ is. omega arith)

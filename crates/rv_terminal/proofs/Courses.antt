@@ -10,8 +10,8 @@ use Rattle.rv_terminal.specs.ColorSinks.{IsMarkBegun, IsOutputState, IsOut, IsOu
 use Rattle.rv_terminal.specs.ColorSinks.{IsShownUpTo, first_state, is_cut_off, results_of}
 use Rattle.rv_terminal.specs.declared.colors.Colors.{Colors}
 use Rattle.rv_terminal.specs.declared.colors.Colors.TheVariants as colors
-use Rattle.rv_terminal.specs.declared.course.OutputState.{OutputState}
-use Rattle.rv_terminal.specs.declared.course.OutputState.TheVariants as course
+use Rattle.rv_terminal.specs.declared.output_state.OutputState.{OutputState}
+use Rattle.rv_terminal.specs.declared.output_state.OutputState.TheVariants as course
 use Rattle.rv_terminal.specs.declared.place.Mark.TheVariants as mark
 use Rattle.rv_terminal.specs.declared.place.Place.{Place}
 use Rattle.rv_terminal.proofs.Sequences.{colored_append, part_out, text_out}

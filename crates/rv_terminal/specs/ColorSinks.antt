@@ -7,8 +7,8 @@ use Rattle.rv_base.specs.Counts.{one_more}
 use Rattle.rv_terminal.specs.Colors.{InText, beginning, colored, mark_text, place_behind, uncolored}
 use Rattle.rv_terminal.specs.declared.colors.Colors.{Colors}
 use Rattle.rv_terminal.specs.declared.colors.Colors.TheVariants as colors
-use Rattle.rv_terminal.specs.declared.course.OutputState.{OutputState}
-use Rattle.rv_terminal.specs.declared.course.OutputState.TheVariants as course
+use Rattle.rv_terminal.specs.declared.output_state.OutputState.{OutputState}
+use Rattle.rv_terminal.specs.declared.output_state.OutputState.TheVariants as course
 use Rattle.rv_terminal.specs.declared.place.Mark.{Mark}
 use Rattle.rv_terminal.specs.declared.place.Place.{Place}
 

@@ -1,7 +1,7 @@
 -- How many rows of a run are done, and how many of them failed.
 use Rattle.std.specs.Prelude.{◌≡◌, List, count_by, length}
 use Rattle.rv_expect.specs.Judgement.{Judging, fails}
-use Rattle.rv_terminal.specs.declared.counted.Tally.{Tally}
+use Rattle.rv_terminal.specs.declared.tally_value.Tally.{Tally}
 use Rattle.rv_rows.specs.declared_row.Row.{Row}
 
 -- the tally counts these rows: all of them, and those that fail by this judging

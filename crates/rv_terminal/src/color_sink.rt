@@ -4,7 +4,7 @@ ghost use Rattle.std.specs.Prelude.{◌≡◌, ◌≤◌, IfErr, OnOk, is_err};
 ghost use Rattle.rv_terminal.specs.ColorSinks.{IsOut, IsOutInPart, first_state, is_cut_off, results_of};
 
 use crate::colors::Colors;
-use crate::course::{OutputState, put_in_state};
+use crate::output_state::{OutputState, put_in_state};
 use rv_base::{Sink, SinkFailed};
 use std::marker::{Brand, Model, PhantomData};
 

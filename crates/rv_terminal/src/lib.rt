@@ -9,8 +9,8 @@
 
 mod color_sink;
 mod colors;
-mod counted;
-mod course;
+mod tally_value;
+mod output_state;
 mod law;
 mod place;
 mod progress;

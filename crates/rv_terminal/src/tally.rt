@@ -5,7 +5,7 @@ ghost use Rattle.rv_terminal.specs.Tallies.{IsTallyOf};
 ghost use Rattle.rv_expect.specs.Judgement.{Judging, judging_of};
 ghost use Rattle.rv_rows.specs.declared_row.Row.{Row as ARow};
 
-use crate::counted::Tally;
+use crate::tally_value::Tally;
 use rv_expect::Judge;
 use rv_rows::Row;
 

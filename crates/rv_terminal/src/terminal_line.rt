@@ -4,7 +4,7 @@ ghost use Rattle.std.specs.Prelude.{◌≡◌, ◌++◌, ◌||◌, IsTrue, OnOk,
 ghost use Rattle.std.specs.Io.KnownBytes.{Appends};
 ghost use Rattle.rv_terminal.specs.ProgressLine.{counts_text, erasing_text, is_mid_line, last_byte, text_unless_held};
 
-use crate::counted::Tally;
+use crate::tally_value::Tally;
 use rv_rows::WriteError;
 use rv_text::{Span, push_spans};
 use std::alloc::{AllocError, Global};

@@ -5,7 +5,7 @@ ghost use Rattle.std.specs.Io.KnownBytes.{Appends, Keeps};
 ghost use Rattle.rv_terminal.specs.ProgressLine.{counts_text, is_mid_line, last_byte, text_around_put};
 ghost use Rattle.rv_rows.specs.Counts.{one_more};
 
-use crate::counted::Tally;
+use crate::tally_value::Tally;
 use crate::progress::Progress;
 use crate::terminal_line::{Counts, Line};
 use rv_rows::{Sink, SinkFailed, WriteError};

@@ -4,9 +4,9 @@ use Rattle.std.specs.List.{All, Any}
 use Rattle.std.proofs.lemmas.List.{get_or_default}
 use Rattle.std.proofs.lemmas.List.Elements.{All-cons, All-head, All-nil, All-tail}
 use Rattle.rv_accept.proofs.Public.{targets_are_of_jobs}
-use Rattle.rv_accept.specs.Claims.{golden_texts_of_runs}
+use Rattle.rv_accept.specs.GoldenTexts.{golden_texts_of_runs}
 use Rattle.rv_accept.specs.Targets.{with_target}
-use Rattle.rv_accept.specs.declared.claims.GoldenText.{GoldenText}
+use Rattle.rv_accept.specs.declared.golden_texts.GoldenText.{GoldenText}
 use Rattle.rv_accept.specs.declared.runs.JobRun.{JobRun}
 use Rattle.rv_accept.specs.declared.targets.Target.{Target}
 use Rattle.rv_accept_text.specs.declared.golden_file.GoldenFile.{GoldenFile}

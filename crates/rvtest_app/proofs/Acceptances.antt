@@ -2,12 +2,12 @@
 use Rattle.std.proofs.Common.{None, ◌≡◌, ◌∙◌, [], Bool, List, Option, IfSome, Result, Ok, ap, fold, length, map, refl}
 use Rattle.std.proofs.lemmas.List.{length-map}
 use Rattle.rv_accept.proofs.Public.{marks_count}
-use Rattle.rv_accept.specs.Claims.{golden_texts_of_runs}
+use Rattle.rv_accept.specs.GoldenTexts.{golden_texts_of_runs}
 use Rattle.rv_accept.specs.Edits.{edited_from}
-use Rattle.rv_accept.specs.Meant.{intended_jobs}
+use Rattle.rv_accept.specs.IntendedJobs.{intended_jobs}
 use Rattle.rv_accept.specs.Sharing.{jobs_to_run}
 use Rattle.rv_accept.specs.Targets.{with_target}
-use Rattle.rv_accept.specs.declared.claims.GoldenText.{GoldenText}
+use Rattle.rv_accept.specs.declared.golden_texts.GoldenText.{GoldenText}
 use Rattle.rv_accept.specs.declared.edits.Edit.{Edit}
 use Rattle.rv_accept.specs.declared.runs.JobRun.{JobRun}
 use Rattle.rv_accept_text.specs.NewLists.{AreLeftFrom}

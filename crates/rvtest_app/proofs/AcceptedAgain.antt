@@ -10,16 +10,16 @@ use Rattle.std.proofs.lemmas.Option.{get_or_from_slice_get, slice_get-map}
 use Rattle.std.proofs.lemmas.Slice.Eq.{bytes_eq-Decides}
 use Rattle.rv_accept.proofs.Public.{IsAccepted, accepted_at, agreed, console_claim_among, console_is_target, image_that_ran, meant_at, passes_over_files, ran_over, outcome_of_its_row, console_path_stays, row_at_place, signature_claim_among, signature_is_target, targets_have_fates, unclaimed}
 use Rattle.rv_accept.specs.Accepted.{accepted_job}
-use Rattle.rv_accept.specs.Claims.{golden_texts_of_runs}
-use Rattle.rv_accept.specs.Fates.{outcome_of_golden_file, names_file}
-use Rattle.rv_accept.specs.Meant.{intended_job, intended_jobs}
+use Rattle.rv_accept.specs.GoldenTexts.{golden_texts_of_runs}
+use Rattle.rv_accept.specs.GoldenOutcomes.{outcome_of_golden_file, names_file}
+use Rattle.rv_accept.specs.IntendedJobs.{intended_job, intended_jobs}
 use Rattle.rv_accept.specs.Passing.{FindsItsFiles, is_pass_or_none, outcome_of_row}
 use Rattle.rv_accept.specs.Runs.{accepted_row, is_accepted_run}
 use Rattle.rv_accept.specs.Sharing.{is_path, jobs_to_run, names_golden_file}
 use Rattle.rv_accept.specs.Targets.{is_of_accepted, is_target, with_target}
-use Rattle.rv_accept.specs.declared.claims.GoldenText.{GoldenText}
-use Rattle.rv_accept.specs.declared.fates.GoldenFileOutcome.{GoldenFileOutcome}
-use Rattle.rv_accept.specs.declared.fates.GoldenFileOutcome.TheVariants as fate
+use Rattle.rv_accept.specs.declared.golden_texts.GoldenText.{GoldenText}
+use Rattle.rv_accept.specs.declared.golden_outcomes.GoldenFileOutcome.{GoldenFileOutcome}
+use Rattle.rv_accept.specs.declared.golden_outcomes.GoldenFileOutcome.TheVariants as fate
 use Rattle.rv_accept.specs.declared.runs.JobRun.{JobRun}
 use Rattle.rv_accept.specs.declared.targets.Target.{Target}
 use Rattle.rv_accept_text.proofs.Public.{accepted_from_the_first, list_is_no_image}
@@ -42,7 +42,7 @@ use Rattle.rv_report.specs.declared.row.Row.{Row}
 use Rattle.rv_rows.specs.Rows.{outcome_in, row_of}
 use Rattle.rv_rows.specs.Verdict.{did_run, lines_of_signature}
 use Rattle.rv_rows.specs.declared.outcome.Outcome.{Outcome}
-use Rattle.rvtest_app.proofs.Standings.{ended_well, stands_at}
+use Rattle.rvtest_app.proofs.CurrentVerdicts.{ended_well, stands_at}
 use Rattle.rvtest_app.proofs.StoreAfter.{any_elim, golden_files_there, image_stays, list_is_there, list_stays, stood}
 use Rattle.rvtest_app.specs.AcceptLaw.{AreFilesRead, HaveOneTextEach, IsRowIn, IsStoreAfter, IsFullyAccepted, is_read}
 use Rattle.rvtest_app.specs.Accepts.{AreGoldenFiles, IsAcceptOfSelected, IsOutcome, acceptance_of, written_files}

@@ -9,7 +9,7 @@ use Rattle.rv_base.specs.Files.{FileContents}
 use Rattle.rv_command.specs.Stops.{IsListUnreadStop}
 use Rattle.rv_command.specs.declared.stop.Stop.{Stop}
 use Rattle.rv_files.specs.UnreadPaths.{resolved_path}
-use Rattle.rv_files.specs.Placed.{CommittedFile}
+use Rattle.rv_files.specs.CommittedFiles.{CommittedFile}
 use Rattle.rvtest_app.specs.Accepts.{AreGoldenFiles, IsGoldenFile}
 use Rattle.rvtest_app.specs.Outlets.{AreFilesCommitted}
 

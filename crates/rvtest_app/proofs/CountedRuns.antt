@@ -5,7 +5,7 @@ use Rattle.std.specs.Prelude.{is_some, IsSomeAnd}
 use Rattle.rvtest_cli.specs.declared.run.RunArgs.{RunArgs}
 use Rattle.rv_command.specs.Texts.{optional_text}
 use Rattle.rv_command.specs.declared.stop.Stop.{Stop}
-use Rattle.rv_files.specs.Placed.{CommittedFile}
+use Rattle.rv_files.specs.CommittedFiles.{CommittedFile}
 use Rattle.rv_job_text.specs.RowReporter.{RowReporter}
 use Rattle.rv_jobs.specs.Plans.{Planned}
 use Rattle.rv_report.specs.declared.row.Row.{Row}
@@ -13,7 +13,7 @@ use Rattle.rv_report.specs.declared.saved.Shard.{Shard}
 use Rattle.rvtest_app.proofs.WriteStops.{unopened}
 use Rattle.rvtest_app.specs.Outlets.{AreFilesCommitted, AreFilesPartlyCommitted, HasTaken, file_path_at}
 use Rattle.rvtest_app.specs.WriteStops.{IsUnopenedStop}
-use Rattle.rvtest_app.specs.Puts.{IsShown}
+use Rattle.rvtest_app.specs.OutputWrites.{IsShown}
 use Rattle.rvtest_app.specs.RunStops.{IsRunWriteStop}
 use Rattle.rvtest_app.specs.Runs.{AreCountsWritten, AreRunFilesPlacedInPart, IsCountsText, IsRunWritten, junit_file, report_file}
 use Rattle.rvtest_app.specs.CommandOutputs.{CommandOutputs, placed_if_reported, with_placed_if_reported}

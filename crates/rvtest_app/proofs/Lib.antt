@@ -13,7 +13,7 @@ mod CountedRuns
 mod Numbers
 mod Sent
 mod Results
-mod Standings
+mod CurrentVerdicts
 mod StopLemmas
 mod StoreAfter
 mod PutTexts

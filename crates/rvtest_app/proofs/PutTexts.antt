@@ -4,7 +4,7 @@ use Rattle.std.proofs.Common.{append-nil, arith, inr, length, map}
 use Rattle.std.proofs.lemmas.Grind.{common_steps}
 use Rattle.std.specs.Io.KnownBytes.{Appends}
 use Rattle.rv_base.specs.Sinks.{AppendsBeginning}
-use Rattle.rv_files.specs.Placed.{CommittedFile}
+use Rattle.rv_files.specs.CommittedFiles.{CommittedFile}
 use Rattle.rvtest_app.specs.Outlets.{AreFilesCommitted, AreFilesPartlyCommitted, HasTaken, IsPutInto, both_files, file_at, files_of, has_no_failure, is_out, is_stdout_at}
 use Rattle.rvtest_app.specs.Outlets.{file_path_at, outlet_path, stdout_at, stdout_part}
 use Rattle.rv_report.specs.declared.row.Row.{Row}

@@ -13,14 +13,14 @@ use Rattle.rv_stream.specs.declared.error.StreamError.{StreamError}
 use Rattle.rv_stream.specs.declared.error.StreamError.TheVariants.{ObserverStopped}
 use Rattle.rvtest_app.specs.declared.run_output.ShowError.{ShowError}
 use Rattle.rvtest_app.specs.declared.run_output.ShowError.TheVariants.{ReportFailed}
-use Rattle.rv_files.specs.Placed.{CommittedFile}
+use Rattle.rv_files.specs.CommittedFiles.{CommittedFile}
 use Rattle.rvtest_cli.specs.declared.run.RunArgs.{RunArgs}
 use Rattle.rvtest_app.proofs.ChosenTexts.{ahead_of_shown}
 use Rattle.rvtest_app.proofs.PutTexts.{taken_more}
 use Rattle.rvtest_app.specs.CommandOutputs.{CommandOutputs}
 use Rattle.rvtest_app.specs.IntoReports.{report_row_text, run_report_path, streamed_rows}
 use Rattle.rvtest_app.specs.Outlets.{IsPutInto, has_no_failure, outlet_path}
-use Rattle.rvtest_app.specs.Puts.{IsShown}
+use Rattle.rvtest_app.specs.OutputWrites.{IsShown}
 use Rattle.rvtest_app.specs.RowSinks.{AreOutletParts, AreRowsWritten, sink_failures, sink_taken}
 use Rattle.rvtest_app.specs.RunOutlets.{HaveRunOutletsTaken}
 use Rattle.rvtest_app.specs.Runs.{shown_indices}

@@ -5,7 +5,7 @@ use Rattle.std.specs.Prelude.{option_copied, option_map}
 use Rattle.rvtest_cli.specs.declared.run.RunArgs.{RunArgs}
 use Rattle.rv_expect.specs.Judgement.{Judging}
 use Rattle.rv_expect.specs.declared.passing.Rule.{Rule}
-use Rattle.rv_files.specs.Placed.{CommittedFile}
+use Rattle.rv_files.specs.CommittedFiles.{CommittedFile}
 use Rattle.rv_files.specs.declared.recording_store.UnreadPath.{UnreadPath}
 use Rattle.rv_job_text.specs.RowReporter.{RowReporter}
 use Rattle.rv_job_text.specs.declared.verbosity.Verbosity.{Verbosity}

@@ -5,11 +5,11 @@ use Rattle.std.proofs.lemmas.List.Sums.{sum_by-cons}
 use Rattle.std.specs.Prelude.{is_some, option_map}
 use Rattle.std.specs.List.{count_by, flat_map}
 use Rattle.rv_accept_text.specs.GoldenFiles.{new_text}
-use Rattle.rv_accept_text.specs.Told.{changed_count, is_changed, one_if}
+use Rattle.rv_accept_text.specs.AcceptLines.{changed_count, is_changed, one_if}
 use Rattle.rv_accept_text.specs.declared.accepting.AcceptSummary.{AcceptSummary}
 use Rattle.rv_accept_text.specs.declared.golden_file.GoldenFile.{GoldenFile}
 use Rattle.rv_accept_text.specs.declared.golden_file.ListFile.{ListFile}
-use Rattle.rv_files.specs.Placed.{CommittedFile}
+use Rattle.rv_files.specs.CommittedFiles.{CommittedFile}
 use Rattle.rvtest_app.specs.Accepts.{file_if, written_files}
 
 no_file : (text : Option (List ℕ)) (path : List ℕ) (rest : List CommittedFile) (count : ℕ)

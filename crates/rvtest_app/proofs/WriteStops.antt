@@ -7,7 +7,7 @@ use Rattle.rv_command.specs.Stops.{IsFileErrorStop}
 use Rattle.rv_command.specs.declared.stop.Stop.{Stop}
 use Rattle.rv_files.specs.declared.file_error.FileError.{FileError}
 use Rattle.rv_files.specs.declared.file_error.FileError.TheVariants as file
-use Rattle.rv_files.specs.Placed.{CommittedFile}
+use Rattle.rv_files.specs.CommittedFiles.{CommittedFile}
 use Rattle.rv_report.specs.declared.report.WriteError.{WriteError}
 use Rattle.rv_report.specs.declared.report.WriteError.TheVariants as write
 use Rattle.rvtest_app.specs.Outlets.{HasTaken, file_path_at, outlet_path}

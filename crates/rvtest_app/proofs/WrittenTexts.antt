@@ -2,7 +2,7 @@
 use Rattle.std.proofs.Common.{◌≡◌, ◌∙◌, ◌∷◌, ℕ, List, [], Option, Some, None, false, ap, append-nil, codes, refl, subst, sym}
 use Rattle.std.specs.Prelude.{IfSome, OnOk, Result}
 use Rattle.std.specs.Io.KnownBytes.{Appends}
-use Rattle.rv_files.specs.Placed.{CommittedFile, committed_file}
+use Rattle.rv_files.specs.CommittedFiles.{CommittedFile, committed_file}
 use Rattle.rvtest_app.proofs.PutTexts.{appends_nothing}
 use Rattle.rvtest_app.proofs.Results.{OnOk-from, OnOk-map}
 use Rattle.rvtest_app.specs.Outlets.{AreFilesCommitted, file_at, is_stdout}

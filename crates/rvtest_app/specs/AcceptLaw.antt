@@ -9,7 +9,7 @@ use Rattle.rv_accept_text.specs.declared.golden_file.GoldenFile.{GoldenFile}
 use Rattle.rv_base.specs.Files.{FileContents}
 use Rattle.rvtest_cli.specs.declared.run.RunArgs.{RunArgs}
 use Rattle.rv_command.specs.Texts.{IsTextAt, optional_text}
-use Rattle.rv_files.specs.Placed.{CommittedFile}
+use Rattle.rv_files.specs.CommittedFiles.{CommittedFile}
 use Rattle.rv_files.specs.UnreadPaths.{contents_below}
 use Rattle.rv_files.specs.declared.recording_store.UnreadPath.{UnreadPath}
 use Rattle.rv_jobs.specs.Jobs.{console_path}

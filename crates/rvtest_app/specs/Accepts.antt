@@ -2,22 +2,22 @@
 use Rattle.std.specs.Prelude.{◌==◌, ◌≡◌, ◌&&◌, ◌++◌, ℕ, Bool, true, false, List, [], ◌∷◌, Option, Some, None, IfSome, Ok, ⊤, fold, if◌then◌else◌, length, map, option_map}
 use Rattle.std.specs.Io.KnownBytes.{Appends}
 use Rattle.std.specs.List.{flat_map}
-use Rattle.rv_accept.specs.Claims.{golden_texts_of_runs}
+use Rattle.rv_accept.specs.GoldenTexts.{golden_texts_of_runs}
 use Rattle.rv_accept.specs.Edits.{edited_from}
-use Rattle.rv_accept.specs.Meant.{intended_jobs}
+use Rattle.rv_accept.specs.IntendedJobs.{intended_jobs}
 use Rattle.rv_accept.specs.Runs.{judged_runs, indexed_rows}
 use Rattle.rv_accept.specs.Sharing.{jobs_to_run}
 use Rattle.rv_accept.specs.Targets.{with_target}
 use Rattle.rv_accept.specs.declared.edits.Edit.{Edit}
 use Rattle.rv_accept.specs.declared.ends.Acceptance.{Acceptance}
 use Rattle.rv_accept.specs.declared.ends.Acceptance.TheVariants as acceptance
-use Rattle.rv_accept.specs.declared.claims.GoldenText.{GoldenText}
+use Rattle.rv_accept.specs.declared.golden_texts.GoldenText.{GoldenText}
 use Rattle.rv_accept.specs.declared.runs.JobRun.{JobRun}
-use Rattle.rv_accept.specs.declared.standing.Candidate.{Candidate}
+use Rattle.rv_accept.specs.declared.current_verdict.Candidate.{Candidate}
 use Rattle.rv_accept.specs.declared.targets.Target.{Target}
 use Rattle.rv_accept_text.specs.GoldenFiles.{new_text}
 use Rattle.rv_accept_text.specs.NewLists.{AreLeftFrom}
-use Rattle.rv_accept_text.specs.Told.{changed_count, count_line, left_count, told_lines}
+use Rattle.rv_accept_text.specs.AcceptLines.{changed_count, count_line, left_count, told_lines}
 use Rattle.rv_accept_text.specs.declared.accepting.AcceptSummary.{AcceptSummary}
 use Rattle.rv_accept_text.specs.declared.accepting.Writing.TheVariants as writing
 use Rattle.rv_accept_text.specs.declared.golden_file.GoldenFile.{GoldenFile}
@@ -27,7 +27,7 @@ use Rattle.rv_base.specs.Files.{FileContents}
 use Rattle.rv_choice.specs.Chosen.{IsChoice}
 use Rattle.rvtest_cli.specs.declared.accept.AcceptArgs.{AcceptArgs}
 use Rattle.rv_command.specs.Texts.{IsTextAt, optional_text}
-use Rattle.rv_files.specs.Placed.{CommittedFile, committed_file}
+use Rattle.rv_files.specs.CommittedFiles.{CommittedFile, committed_file}
 use Rattle.rv_files.specs.UnreadPaths.{contents_below, resolved_path}
 use Rattle.rv_files.specs.declared.recording_store.UnreadPath.{UnreadPath}
 use Rattle.rv_jobs.specs.Plans.{Planned}
@@ -41,7 +41,7 @@ use Rattle.rvtest_app.specs.MissingImages.{missing_images_note}
 use Rattle.rvtest_app.specs.Outlets.{AreFilesCommitted}
 use Rattle.rvtest_app.specs.Runs.{IsPlanFor, selected_job_indices}
 use Rattle.rvtest_app.specs.CommandOutputs.{IsOnlyStandardOutput, IsOnlyErrorOutput, CommandOutputs}
-use Rattle.rvtest_app.specs.Standings.{AreCandidates}
+use Rattle.rvtest_app.specs.CurrentVerdicts.{AreCandidates}
 
 -- ---- the rows
 

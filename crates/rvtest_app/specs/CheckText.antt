@@ -15,7 +15,7 @@ use Rattle.rv_jobs.specs.Jobs.{console_path}
 use Rattle.rv_jobs.specs.Plans.{Planned, result_for_path}
 use Rattle.rv_jobs.specs.declared.kept.Kept.{Kept}
 use Rattle.rv_jobs.specs.declared.kept.Kept.TheVariants as kept
-use Rattle.rv_list_errors.specs.JobPlaces.{job_lines}
+use Rattle.rv_list_errors.specs.JobLocations.{job_lines}
 use Rattle.rv_lists.specs.declared.job.ExpectedEnd.{ExpectedEnd}
 use Rattle.rv_lists.specs.declared.job.ExpectedEnd.TheVariants as expected
 use Rattle.rv_lists.specs.declared.job.Job.{Job}

@@ -2,7 +2,7 @@
 use Rattle.std.specs.Prelude.{◌≡◌, ℕ, List, None, Option, Some}
 use Rattle.std.specs.Io.KnownBytes.{Appends}
 use Rattle.rv_command.specs.Messages.{IsMessageWritten}
-use Rattle.rv_files.specs.Placed.{CommittedFile}
+use Rattle.rv_files.specs.CommittedFiles.{CommittedFile}
 use Rattle.rvtest_app.specs.declared.destinations.Destinations.{Destinations}
 
 -- the outputs of a command so far; standard output, standard error and the files are none if the destination does not report them

@@ -9,9 +9,9 @@ use Rattle.rv_merge.specs.Parts.{AreParts}
 use Rattle.rv_report.specs.Report.{report_text}
 use Rattle.rv_report.specs.declared.row.Row.{Row}
 use Rattle.rvtest_app.specs.Commands.{report_judging}
-use Rattle.rv_files.specs.Placed.{CommittedFile}
+use Rattle.rv_files.specs.CommittedFiles.{CommittedFile}
 use Rattle.rvtest_app.specs.Outlets.{AreFilesCommitted, file_at, is_stdout}
-use Rattle.rvtest_app.specs.Puts.{IsOutputWritten}
+use Rattle.rvtest_app.specs.OutputWrites.{IsOutputWritten}
 use Rattle.rvtest_app.specs.RunOutput.{rows_status}
 use Rattle.rvtest_app.specs.JunitTexts.{failures_junit, suite_name}
 use Rattle.rvtest_app.specs.CommandOutputs.{CommandOutputs}

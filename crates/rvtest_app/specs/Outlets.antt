@@ -3,11 +3,11 @@ use Rattle.std.specs.Prelude.{◌≡◌, ◌||◌, ◌⊎◌, ℕ, Bool, true, f
 use Rattle.std.specs.Prelude.{codes, if◌then◌else◌}
 use Rattle.std.specs.Str.{bytes_eq}
 use Rattle.std.specs.Io.KnownBytes.{Appends}
-use Rattle.rv_files.specs.Placed.{CommittedFile}
+use Rattle.rv_files.specs.CommittedFiles.{CommittedFile}
 use Rattle.rvtest_app.specs.declared.outlets.Outlet.{Outlet}
 use Rattle.rvtest_app.specs.declared.outlets.Outlet.TheVariants as outlet
 use Rattle.rvtest_app.specs.declared.outlets.Outlets.{Outlets}
-use Rattle.rvtest_app.specs.declared.placing.SyncedFile.{SyncedFile}
+use Rattle.rvtest_app.specs.declared.committing.SyncedFile.{SyncedFile}
 
 -- whether the path is `-`, which is standard output
 abbrev pub is_stdout : List ℕ → Bool

@@ -1,7 +1,7 @@
 -- The destinations of a run's files.
 use Rattle.std.specs.Prelude.{ℕ, List, [], Option}
 use Rattle.rv_command.specs.Texts.{optional_text}
-use Rattle.rv_files.specs.Placed.{CommittedFile}
+use Rattle.rv_files.specs.CommittedFiles.{CommittedFile}
 use Rattle.rvtest_cli.specs.declared.run.RunArgs.{RunArgs}
 use Rattle.rvtest_app.specs.IntoReports.{run_report_path}
 use Rattle.rvtest_app.specs.Outlets.{HasTaken, has_no_failure}

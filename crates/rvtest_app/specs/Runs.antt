@@ -5,7 +5,7 @@ use Rattle.rv_choice.specs.Chosen.{IsChoice}
 use Rattle.rv_choice.specs.Shard.{IsShardOf, stamp_for}
 use Rattle.rvtest_cli.specs.declared.run.RunArgs.{RunArgs}
 use Rattle.rv_command.specs.Texts.{IsTextAt, optional_text}
-use Rattle.rv_files.specs.Placed.{CommittedFile}
+use Rattle.rv_files.specs.CommittedFiles.{CommittedFile}
 use Rattle.rv_files.specs.UnreadPaths.{contents_below}
 use Rattle.rv_files.specs.declared.recording_store.UnreadPath.{UnreadPath}
 use Rattle.rv_job_text.specs.RowReporter.{RowReporter, row_lines_at}
@@ -32,7 +32,7 @@ use Rattle.rvtest_app.specs.Commands.{failure_rule, requested_verbosity}
 use Rattle.rvtest_app.specs.KnownFiles.{IsKnownAt}
 use Rattle.rvtest_app.specs.MissingImages.{missing_images_note}
 use Rattle.rvtest_app.specs.Outlets.{AreFilesCommitted, file_at}
-use Rattle.rvtest_app.specs.Puts.{IsOutputWrittenTo}
+use Rattle.rvtest_app.specs.OutputWrites.{IsOutputWrittenTo}
 use Rattle.rvtest_app.specs.RunOutput.{rows_status, run_output_text}
 use Rattle.rvtest_app.specs.IntoReports.{AreOldRows, run_report_path, run_report_text, uses_run_stdout}
 use Rattle.rvtest_app.specs.JunitTexts.{suite_name}

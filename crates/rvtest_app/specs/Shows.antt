@@ -4,13 +4,13 @@ use Rattle.rv_base.specs.Files.{FileContents}
 use Rattle.rvtest_cli.specs.declared.show.ShowArgs.{ShowArgs}
 use Rattle.rv_command.specs.Messages.{cut_off_note}
 use Rattle.rv_command.specs.Texts.{IsReportReadAt, optional_text}
-use Rattle.rv_files.specs.Placed.{CommittedFile}
+use Rattle.rv_files.specs.CommittedFiles.{CommittedFile}
 use Rattle.rv_report.specs.Report.{report_text}
 use Rattle.rv_report.specs.declared.partial.PartialReport.{PartialReport}
 use Rattle.rv_report.specs.declared.row.Row.{Row}
 use Rattle.rvtest_app.specs.Commands.{report_judging}
 use Rattle.rvtest_app.specs.Outlets.{AreFilesCommitted, file_at}
-use Rattle.rvtest_app.specs.Puts.{IsOutputWritten}
+use Rattle.rvtest_app.specs.OutputWrites.{IsOutputWritten}
 use Rattle.rvtest_app.specs.ReportSummary.{summary_text}
 use Rattle.rvtest_app.specs.RunOutput.{rows_status}
 use Rattle.rvtest_app.specs.JunitTexts.{failures_junit, suite_name}

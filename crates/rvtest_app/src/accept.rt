@@ -3,14 +3,14 @@
 ghost use Rattle.std.specs.Prelude.{◌≡◌, ◌≤◌, ◌⊎◌, [], IfErr, IfOk, IfSome, List, Ok, OnOk, fold, length, map, option_map, true};
 ghost use Rattle.std.specs.Io.KnownBytes.{Appends};
 ghost use Rattle.std.specs.Option.{ForSome};
-ghost use Rattle.rv_accept.specs.Claims.{golden_texts_of_runs};
+ghost use Rattle.rv_accept.specs.GoldenTexts.{golden_texts_of_runs};
 ghost use Rattle.rv_accept.specs.Edits.{edited_from};
-ghost use Rattle.rv_accept.specs.Meant.{intended_jobs};
+ghost use Rattle.rv_accept.specs.IntendedJobs.{intended_jobs};
 ghost use Rattle.rv_accept.specs.declared.edits.Edit.{Edit as AnEdit};
 ghost use Rattle.rv_accept.specs.Sharing.{jobs_to_run};
 ghost use Rattle.rv_accept.specs.Targets.{with_target};
 ghost use Rattle.rv_accept_text.specs.NewLists.{AreLeftFrom};
-ghost use Rattle.rv_accept_text.specs.Told.{changed_count, count_line, left_count, told_lines};
+ghost use Rattle.rv_accept_text.specs.AcceptLines.{changed_count, count_line, left_count, told_lines};
 ghost use Rattle.rv_choice.specs.Chosen.{IsChoice};
 ghost use Rattle.rv_command.specs.Texts.{IsTextAt, optional_text};
 ghost use Rattle.rv_lists.specs.JobList.{job_list_of};
@@ -33,7 +33,7 @@ use crate::host::Host;
 use crate::missing_images::missing_images_note;
 use crate::rules::failure_rule;
 use crate::run::gather_jobs_at;
-use crate::standing::CurrentFiles;
+use crate::current_verdicts::CurrentFiles;
 use rv_accept::{
     Acceptance, GoldenText, JobRun, golden_texts_of_runs, indexed_rows, jobs_to_run, judged_runs,
     targets_of,

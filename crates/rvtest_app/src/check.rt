@@ -11,7 +11,7 @@ ghost use Rattle.rv_command.specs.Texts.{optional_text};
 ghost use Rattle.rvtest_app.specs.CommandStops.{IsCheckStop};
 
 use crate::check_text::{CheckedList, push_job_counts_line};
-use crate::findings::Found;
+use crate::command_output::Found;
 use crate::missing_images::push_missing_images_line;
 use rv_command::{DONE, REFUSED, Stop, all_faults_text, parse_list, read_list_text};
 use rv_files::{Inputs, RecordingStore, UnreadPath};

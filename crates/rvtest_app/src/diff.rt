@@ -12,7 +12,7 @@ ghost use Rattle.rv_command.specs.declared.stop.Stop.TheVariants.{OutOfMemory, W
 ghost use Rattle.rv_diff.specs.Diff.{diff_text, counts_of_differing};
 
 use crate::destinations::Destinations;
-use crate::findings::Found;
+use crate::command_output::Found;
 use rv_command::{
     DONE, RequestedReport, SOME_FAIL, Stop, cut_off_note, parse_requested_report, put_message,
     put_results, read_result_file,

@@ -4,7 +4,7 @@ ghost use Rattle.std.specs.Prelude.{◌≡◌, IfErr, IfOk};
 ghost use Rattle.rv_command.specs.Stops.{IsStop};
 ghost use Rattle.rvtest_app.specs.HelpTopics.{IsNoTopicStop, IsTopicPrinted, no_topic_message};
 
-use crate::findings::Found;
+use crate::command_output::Found;
 use crate::list_keys::LIST_KEYS;
 use rv_command::{DONE, Stop};
 use rv_text::{Span, push_text, text_of_spans};

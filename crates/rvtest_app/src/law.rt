@@ -1,7 +1,7 @@
 //! Laws; there is nothing to run.
 
 ghost use Rattle.std.specs.Prelude.{◌≡◌, [], List};
-ghost use Rattle.rv_accept_text.specs.Told.{changed_count};
+ghost use Rattle.rv_accept_text.specs.AcceptLines.{changed_count};
 ghost use Rattle.rv_accept_text.specs.declared.accepting.AcceptSummary.{AcceptSummary};
 ghost use Rattle.rv_report.specs.declared.row.Row.{Row};
 ghost use Rattle.rvtest_app.specs.Accepts.{written_files};

@@ -13,7 +13,7 @@ ghost use Rattle.rvtest_app.specs.MergeStops.{ArePartsUnread, IsMergeStop, IsMer
 ghost use Rattle.rvtest_app.specs.Merges.{AreTextsAt, IsMergedAt, IsUndoneMergeAt, merged_junit, merged_report_path, merged_suite};
 ghost use Rattle.rvtest_app.specs.Outlets.{AreFilesPartlyCommitted, file_at};
 ghost use Rattle.rvtest_app.specs.Overwrites.{AreMergeFilesApart, IsMergeOverwriteStop, IsPlacedApart};
-ghost use Rattle.rvtest_app.specs.Puts.{IsOutputWritten};
+ghost use Rattle.rvtest_app.specs.OutputWrites.{IsOutputWritten};
 ghost use Rattle.rvtest_app.specs.RunOutput.{rows_status};
 ghost use Rattle.rvtest_app.specs.CommandOutputs.{outputs_of};
 ghost use Rattle.rv_command.specs.Texts.{optional_text};
@@ -22,7 +22,7 @@ use crate::destinations::Destinations;
 use crate::junit_class::suite_name;
 use crate::outlets::{abandon_outlets, open_outlets};
 use crate::overwrites::{look_up_files, read_paths_of_words, refuse_overwrite};
-use crate::puts::put_shown;
+use crate::output_writes::put_shown;
 use crate::rules::{report_judge, rows_status};
 use crate::whole_files::put_whole_files;
 use rv_command::{

@@ -19,7 +19,7 @@ use crate::cover::cover_requested_jobs;
 use crate::destinations::Destinations;
 use crate::diff::diff_reports;
 use crate::explain::explain_named_job;
-use crate::findings::put_findings;
+use crate::command_output::put_findings;
 use crate::gdb::show_job_to_gdb;
 use crate::help::respond_to_words_error;
 use crate::help_topic::topic_help;

@@ -2,7 +2,7 @@
 
 ghost use Rattle.std.specs.Prelude.{◌≡◌, [], ℕ, List, None, Option, IfErr, IfOk, OnErr, OnOk, is_some, string_bytes, true};
 ghost use Rattle.std.specs.List.Sorted.{IsStrictlyIncreasing};
-ghost use Rattle.rv_files.specs.Placed.{CommittedFile};
+ghost use Rattle.rv_files.specs.CommittedFiles.{CommittedFile};
 ghost use Rattle.rv_fleet.specs.Choices.{AreJobIndices};
 ghost use Rattle.rvtest_app.specs.Outlets.{HasTaken, outlet_path};
 ghost use Rattle.rvtest_app.specs.Runs.{AreCountsWritten, IsCountsTable, IsCountsText};

@@ -12,7 +12,7 @@ use crate::destinations::Destinations;
 use crate::failed_lines::FailedLines;
 use crate::file_texts::FileTexts;
 use crate::outlets::{Outlets, abandon_outlets};
-use crate::puts::put_files;
+use crate::output_writes::put_files;
 use crate::report_texts::ReportText;
 use rv_command::Stop;
 use rv_files::Outputs;

@@ -2,7 +2,7 @@
 
 ghost use Rattle.std.specs.Prelude.{◌≡◌, ◌⊎◌, ◌∷◌, [], ℕ, List, None, Option, IfErr, IfSome, OnErr, OnOk, Some, true};
 ghost use Rattle.rv_command.specs.Texts.{optional_text};
-ghost use Rattle.rv_files.specs.Placed.{CommittedFile, committed_file};
+ghost use Rattle.rv_files.specs.CommittedFiles.{CommittedFile, committed_file};
 ghost use Rattle.rvtest_app.specs.AcceptStops.{IsFileNotCreatedStop};
 ghost use Rattle.rvtest_app.specs.Outlets.{AreFilesCommitted, HasTaken, is_stdout, outlet_path};
 ghost use Rattle.rvtest_app.specs.WriteStops.{IsFileStop};

@@ -1,5 +1,5 @@
 use Rattle.std.proofs.Common.{◌≡◌, ◌-◌}
-use Rattle.rv_history.specs.Legs.{IsUnderWay}
+use Rattle.rv_history.specs.ForwardMoves.{IsUnderWay}
 use Rattle.rv_history.proofs.breaks.next_break.Given as goal
 
 abbrev pub invariant-places : goal.invariant-places

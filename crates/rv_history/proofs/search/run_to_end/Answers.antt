@@ -2,7 +2,7 @@ use Rattle.std.proofs.Common.{◌∙◌, ◌≤◌, ap, arith, refl, subst, sym}
 use Rattle.rv_machine.specs.Machine.{state_of}
 use Rattle.rv_machine.specs.State.{State}
 use Rattle.rv_history.specs.Kept.{IsAt}
-use Rattle.rv_history.specs.declared.leg.ForwardMove.{ForwardMove}
+use Rattle.rv_history.specs.declared.forward_move.ForwardMove.{ForwardMove}
 use Rattle.rv_history.proofs.Reaching.{ran_to, within_budget}
 use Rattle.rv_history.proofs.Unstopped.{ends_at, ends_before, never_halted, under_way}
 use Rattle.rv_history.proofs.Ways.{all_addresses, arrives_broken, still_on}

@@ -1,6 +1,6 @@
 use Rattle.std.proofs.Common.{◌≡◌, ◌≤◌, count_by, take}
 use Rattle.std.specs.List.{after_last}
-use Rattle.rv_list_locations.specs.Places.{begins_character, is_feed}
+use Rattle.rv_list_locations.specs.LinesAndColumns.{begins_character, is_feed}
 use Rattle.rv_list_locations.proofs.lines.character_count_of_last_line.Given as goal
 
 abbrev pub invariant-loop-byte : goal.invariant-loop-byte

@@ -1,5 +1,5 @@
 use Rattle.std.proofs.Common.{◌≡◌, count_by, take}
-use Rattle.rv_list_locations.specs.Places.{is_feed}
+use Rattle.rv_list_locations.specs.LinesAndColumns.{is_feed}
 use Rattle.rv_list_locations.proofs.lines.line_feed_count.Given as goal
 
 abbrev pub invariant-loop-byte : goal.invariant-loop-byte

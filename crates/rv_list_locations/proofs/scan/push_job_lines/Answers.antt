@@ -1,8 +1,8 @@
 use Rattle.std.proofs.Common.{◌≡◌, ◌-◌, ◌∙◌, ◌<◌, ◌++◌, Some, ap, append-nil, arith}
 use Rattle.std.proofs.Common.{eqb-true, false, length, map, refl, rules, suc, sym, true}
 use Rattle.rv_list_locations.specs.declared.scan.Next.TheVariants.{Top}
-use Rattle.rv_list_locations.specs.JobPlaces.{jobs_from, jobs_of_text, line_of_rest, step}
-use Rattle.rv_list_locations.specs.Places.{line_at}
+use Rattle.rv_list_locations.specs.JobLocations.{jobs_from, jobs_of_text, line_of_rest, step}
+use Rattle.rv_list_locations.specs.LinesAndColumns.{line_at}
 use Rattle.rv_list_locations.proofs.JobTurns.{jobs_end, jobs_job, jobs_other, jobs_refused, noted_more, unless_err}
 use Rattle.rv_list_locations.proofs.scan.push_job_lines.Goals as goal
 

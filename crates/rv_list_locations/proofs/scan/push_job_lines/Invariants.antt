@@ -1,7 +1,7 @@
 use Rattle.std.proofs.Common.{◌≡◌, ◌+◌, ◌<◌, ◌≤◌, ◌++◌, ℕ, length, map}
 use denote.Shadow.{shadow}
 use denote.Text.{Utf8}
-use Rattle.rv_list_locations.specs.JobPlaces.{jobs_from, jobs_of_text, line_of_rest}
+use Rattle.rv_list_locations.specs.JobLocations.{jobs_from, jobs_of_text, line_of_rest}
 use Rattle.rv_list_locations.proofs.scan.push_job_lines.Given as goal
 
 abbrev pub invariant-steps : goal.invariant-steps

@@ -1,7 +1,7 @@
 use Rattle.std.proofs.Common.{◌≡◌, ◌-◌, ◌∙◌, ◌<◌, ◌++◌, Some, ap, append-nil, arith}
 use Rattle.std.proofs.Common.{eqb-true, false, length, rules, suc, sym, true}
 use Rattle.rv_list_locations.specs.declared.scan.Next.TheVariants.{Top}
-use Rattle.rv_list_locations.specs.JobPlaces.{jobs_from, jobs_of_text, step}
+use Rattle.rv_list_locations.specs.JobLocations.{jobs_from, jobs_of_text, step}
 use Rattle.rv_list_locations.specs.Steps.{now_texts}
 use Rattle.rv_list_locations.proofs.JobTurns.{jobs_end, jobs_job, jobs_other, jobs_refused, texts_more, unless_err}
 use Rattle.rv_list_locations.proofs.scan.push_job_texts.Goals as goal

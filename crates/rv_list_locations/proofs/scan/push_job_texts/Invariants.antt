@@ -1,7 +1,7 @@
 use Rattle.std.proofs.Common.{◌≡◌, ◌<◌, ◌++◌, ℕ, length}
 use denote.Shadow.{shadow}
 use denote.Text.{Utf8}
-use Rattle.rv_list_locations.specs.JobPlaces.{jobs_from, jobs_of_text}
+use Rattle.rv_list_locations.specs.JobLocations.{jobs_from, jobs_of_text}
 use Rattle.rv_list_locations.specs.Steps.{now_texts}
 use Rattle.rv_list_locations.proofs.scan.push_job_texts.Given as goal
 

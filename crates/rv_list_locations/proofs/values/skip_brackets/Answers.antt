@@ -1,7 +1,7 @@
 use Rattle.std.proofs.Common.{◌≡◌, ◌==◌, ◌-◌, ◌∙◌, ◌<◌, ◌^◌, ap, arith, false, length, ne_eqb, rules, sym}
 use Rattle.toml_parser.proofs.StringsLemmas.{gives_err}
 use Rattle.toml_parser.specs.Lexical.{first, skip_blank}
-use Rattle.rv_list_locations.specs.JobPlaces.{after_brackets, depth_after}
+use Rattle.rv_list_locations.specs.JobLocations.{after_brackets, depth_after}
 use Rattle.rv_list_locations.proofs.JobTurns.{brackets_end, brackets_more, brackets_none, depth_after-le}
 use Rattle.rv_list_locations.proofs.values.skip_brackets.Goals as goal
 

@@ -1,7 +1,7 @@
 use Rattle.std.proofs.Common.{◌≡◌, ◌+◌, ◌<◌, ◌≤◌, ℕ, length, suc}
 use denote.Shadow.{shadow}
 use denote.Text.{Utf8}
-use Rattle.rv_list_locations.specs.JobPlaces.{after_brackets}
+use Rattle.rv_list_locations.specs.JobLocations.{after_brackets}
 use Rattle.rv_list_locations.proofs.values.skip_brackets.Given as goal
 
 abbrev pub invariant-tokens : goal.invariant-tokens

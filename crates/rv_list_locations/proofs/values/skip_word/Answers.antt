@@ -1,5 +1,5 @@
 use Rattle.std.proofs.Common.{◌∙◌, ap, sym}
-use Rattle.rv_list_locations.specs.JobPlaces.{after_word}
+use Rattle.rv_list_locations.specs.JobLocations.{after_word}
 use Rattle.rv_list_locations.proofs.JobTurns.{word_ends, word_is_none}
 use Rattle.rv_list_locations.proofs.values.skip_word.Goals as goal
 

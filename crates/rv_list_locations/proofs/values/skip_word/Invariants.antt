@@ -1,7 +1,7 @@
 use Rattle.std.proofs.Common.{◌≡◌, ◌≤◌, length}
 use denote.Shadow.{shadow}
 use denote.Text.{Utf8}
-use Rattle.rv_list_locations.specs.JobPlaces.{after_letters}
+use Rattle.rv_list_locations.specs.JobLocations.{after_letters}
 use Rattle.rv_list_locations.proofs.values.skip_word.Given as goal
 
 abbrev pub invariant-letters : goal.invariant-letters

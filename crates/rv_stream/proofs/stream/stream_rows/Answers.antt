@@ -15,7 +15,7 @@ use Rattle.rv_stream.specs.Limits.{rows_up_to, rows_within}
 use Rattle.rv_stream.specs.Seen.{HasSeenRows, HasSeenSomeRows}
 use Rattle.rv_stream.specs.Streams.{joined_row_texts}
 use Rattle.rv_stream.specs.Texts.{IsSent}
-use Rattle.rv_stream.specs.Told.{rows_of_reported, texts_of_reported, AreRowsUpToFailure}
+use Rattle.rv_stream.specs.ReportedRows.{rows_of_reported, texts_of_reported, AreRowsUpToFailure}
 use Rattle.rv_stream.proofs.Received.{begun_of_all, has_begun, has_ended_well, if_each, on_each, on_error, seen_as, seen_some_as, seen_texts, HasEnded}
 use Rattle.rv_stream.proofs.stream.stream_rows.Goals as goal
 

@@ -1,5 +1,5 @@
 use Rattle.std.proofs.Common.{length}
-use Rattle.rv_stream.specs.Told.{IsReportedRow}
+use Rattle.rv_stream.specs.ReportedRows.{IsReportedRow}
 use Rattle.rv_stream.proofs.stream.stream_rows.Given as goal
 
 abbrev pub ghosts-run_jobs : goal.ghosts-run_jobs

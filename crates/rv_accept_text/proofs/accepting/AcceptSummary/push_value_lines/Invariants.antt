@@ -1,6 +1,6 @@
 use Rattle.std.proofs.Common.{◌≡◌, ◌++◌, take}
 use Rattle.std.specs.List.{flat_map}
-use Rattle.rv_accept_text.specs.Told.{value_line_in}
+use Rattle.rv_accept_text.specs.AcceptLines.{value_line_in}
 use Rattle.rv_accept_text.proofs.accepting.AcceptSummary.push_value_lines.Given as goal
 
 abbrev pub invariant-loop-value : goal.invariant-loop-value

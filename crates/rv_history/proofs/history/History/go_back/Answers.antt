@@ -2,7 +2,7 @@ use Rattle.std.proofs.Common.{◌≤◌, arith, subst}
 use Rattle.rv_machine.specs.State.{State}
 use Rattle.rv_history.specs.Moves.{IsStopBefore}
 use Rattle.rv_history.specs.Places.{last_step}
-use Rattle.rv_history.specs.Stands.{Stand}
+use Rattle.rv_history.specs.Positions.{Stand}
 use Rattle.rv_history.specs.declared.found.Found.TheVariants as found
 use Rattle.rv_history.proofs.Arriving.{arrived}
 use Rattle.rv_history.proofs.Reaching.{comes_within}

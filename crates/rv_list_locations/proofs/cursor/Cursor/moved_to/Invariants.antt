@@ -1,5 +1,5 @@
 use Rattle.std.proofs.Common.{◌≡◌}
-use Rattle.rv_list_locations.specs.Places.{column_at, line_at}
+use Rattle.rv_list_locations.specs.LinesAndColumns.{column_at, line_at}
 use Rattle.rv_list_locations.proofs.cursor.Cursor.moved_to.Given as goal
 
 abbrev pub invariant-loop-at : goal.invariant-loop-at

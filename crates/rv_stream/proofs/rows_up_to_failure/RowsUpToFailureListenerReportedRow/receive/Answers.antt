@@ -6,7 +6,7 @@ use Rattle.std.proofs.lemmas.List.{map-append}
 use Rattle.rv_expect.specs.Judgement.{Judging, fails}
 use Rattle.rv_rows.specs.declared_row.Row.{Row}
 use Rattle.rv_stream.specs.declared.reported_row.ReportedRow.{ReportedRow}
-use Rattle.rv_stream.specs.Told.{rows_of_reported, AreRowsUpToFailure}
+use Rattle.rv_stream.specs.ReportedRows.{rows_of_reported, AreRowsUpToFailure}
 use Rattle.rv_stream.proofs.Limits.{one_row_more}
 use Rattle.rv_stream.proofs.rows_up_to_failure.RowsUpToFailureListenerReportedRow.receive.Goals as goal
 

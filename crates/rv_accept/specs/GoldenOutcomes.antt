@@ -1,0 +1,49 @@
+-- The outcome for a golden file.
+use Rattle.std.specs.Prelude.{Bool, false, not, Some, None, Option, ℕ, List, ◌&&◌, is_some}
+use Rattle.std.specs.List.{find}
+use Rattle.std.specs.Str.{bytes_eq}
+use Rattle.rv_accept.specs.declared.golden_texts.GoldenText.{GoldenText}
+use Rattle.rv_accept.specs.declared.golden_outcomes.GoldenFileOutcome.{GoldenFileOutcome}
+use Rattle.rv_accept.specs.declared.golden_outcomes.GoldenFileOutcome.TheVariants as fate
+
+-- whether the golden text is for the file at the path
+abbrev pub names_file : List ℕ → GoldenText → Bool
+names_file path claim = bytes_eq path claim.path
+
+-- whether the golden text is for the file at the path, and is missing since its job was skipped
+abbrev pub is_of_skipped_job : List ℕ → GoldenText → Bool
+is_of_skipped_job path claim = names_file path claim && not (is_some claim.text)
+
+-- whether there is a text and it equals `text`
+abbrev pub is_text : List ℕ → Option (List ℕ) → Bool
+is_text text None = false
+is_text text (Some given) = bytes_eq text given
+
+-- whether the golden text is for the file at the path, and is not `text`
+abbrev pub gives_another_text : List ℕ → List ℕ → GoldenText → Bool
+gives_another_text path text claim = names_file path claim && not (is_text text claim.text)
+
+-- the outcome for a golden file: `text`, or that the jobs `job` and `other` give it different texts
+abbrev pub outcome_unless_another : ℕ → List ℕ → Option GoldenText → GoldenFileOutcome
+outcome_unless_another job text None = fate.Agreed text
+outcome_unless_another job text (Some other) = fate.Differ job other.job
+
+-- the outcome for the golden file at the path, whose first job `job` gives it this text
+abbrev pub outcome_of_given_text : List ℕ → List GoldenText → ℕ → Option (List ℕ) → GoldenFileOutcome
+outcome_of_given_text path claims job None = fate.LeftBy job
+outcome_of_given_text path claims job (Some text) =
+    outcome_unless_another job text (find (gives_another_text path text) claims)
+
+-- the outcome for the golden file at the path, given its first golden text; `Unclaimed` if there is none
+abbrev pub outcome_of_first : List ℕ → List GoldenText → Option GoldenText → GoldenFileOutcome
+outcome_of_first path claims None = fate.Unclaimed
+outcome_of_first path claims (Some first) = outcome_of_given_text path claims first.job first.text
+
+-- the outcome for the golden file at the path: left as it is if a job that names it was skipped
+abbrev pub outcome_unless_skipped : List ℕ → List GoldenText → Option GoldenText → GoldenFileOutcome
+outcome_unless_skipped path claims (Some claim) = fate.LeftBy claim.job
+outcome_unless_skipped path claims None = outcome_of_first path claims (find (names_file path) claims)
+
+-- the outcome for the golden file at the path: the text that all jobs that name it give it, or why it is skipped
+unfoldable pub outcome_of_golden_file : List ℕ → List GoldenText → GoldenFileOutcome
+outcome_of_golden_file path claims = outcome_unless_skipped path claims (find (is_of_skipped_job path) claims)

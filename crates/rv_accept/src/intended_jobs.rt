@@ -1,0 +1,209 @@
+//! Whether a new list parses as the intended jobs.
+
+ghost use Rattle.std.specs.Prelude.{◌≡◌, IsTrue, option_map};
+ghost use Rattle.rv_accept.specs.Accepted.{actual_console, actual_end, actual_exit};
+ghost use Rattle.rv_accept.specs.IntendedJobs.{intended_job, intended_jobs};
+ghost use Rattle.rv_accept.specs.Runs.{accepted_row, row_if_accepted};
+
+use crate::runs::JobRun;
+use rv_jobs::{Bytes, ExpectedConsole, ExpectedEnd, Job, Symbols, Text};
+use rv_memory::Region;
+use rv_rows::{Row, RowEnd};
+
+/// Whether `others` are the jobs of the list after accepting runs: each accepted job has the values of its row.
+#[tactic(auto, unfolding(crate::specs::IntendedJobs::intended_jobs))]
+pub fn are_intended_jobs(jobs: &[Job], runs: &[Option<JobRun>], others: &[Job]) -> bool
+    ensures { IsTrue result → others.now ≡ intended_jobs jobs.now runs.now }
+{
+    match (jobs, runs, others) {
+        ([], _, []) => true,
+        ([job, jobs @ ..], [run, runs @ ..], [other, others @ ..]) => {
+            is_intended_job(job, accepted_row(run), other) && are_intended_jobs(jobs, runs, others)
+        }
+        _ => false,
+    }
+}
+
+// Returns the row of a run, if there is one and its job is chosen and was not skipped.
+fn accepted_row(run: &Option<JobRun>) -> Option<&Row>
+    ensures { option_map (λ row. row.now) result ≡ accepted_row run.now }
+{
+    match run {
+        Some(run) => row_if_accepted(run),
+        None => None,
+    }
+}
+
+// Returns the row of a run, if its job is chosen and was not skipped.
+fn row_if_accepted(run: &JobRun) -> Option<&Row>
+    ensures { option_map (λ row. row.now) result ≡ row_if_accepted run.now }
+{
+    if run.is_accepted() {
+        Some(&run.row)
+    } else {
+        None
+    }
+}
+
+// Whether `other` is `job` with the values of its row, if it is accepted, and otherwise unchanged.
+fn is_intended_job(job: &Job, accepted: Option<&Row>, other: &Job) -> bool
+    ensures { IsTrue result → other.now ≡ intended_job job.now (option_map (λ row. row.now) accepted.entry) }
+{
+    is_same_run(job, other)
+        && is_same_text_option(&job.expect_signature, &other.expect_signature)
+        && job.same_as == other.same_as
+        && are_intended_values(job, accepted, other)
+}
+
+// Whether `other` expects the end and the console of the row if there is one, and otherwise those that `job` expects.
+fn are_intended_values(job: &Job, accepted: Option<&Row>, other: &Job) -> bool
+    ensures exit { IsTrue result → other.now.expect_exit
+        ≡ (intended_job job.now (option_map (λ row. row.now) accepted.entry)).expect_exit }
+    ensures end { IsTrue result → other.now.expect_end
+        ≡ (intended_job job.now (option_map (λ row. row.now) accepted.entry)).expect_end }
+    ensures console { IsTrue result → other.now.expect_console
+        ≡ (intended_job job.now (option_map (λ row. row.now) accepted.entry)).expect_console }
+{
+    match accepted {
+        None => {
+            job.expect_exit == other.expect_exit
+                && job.expect_end == other.expect_end
+                && is_same_console(&job.expect_console, &other.expect_console)
+        }
+        Some(row) => {
+            actual_exit(job.expect_exit, row.ending) == other.expect_exit
+                && actual_end(job.expect_end, row.ending) == other.expect_end
+                && is_met_console(
+                    &job.expect_console,
+                    row.console.as_slice(),
+                    &other.expect_console,
+                )
+        }
+    }
+}
+
+// Returns the new value of `expect_exit`: the actual exit code, if an exit code is expected and the run exited; otherwise the old value.
+fn actual_exit(expected: Option<u32>, ending: RowEnd) -> Option<u32>
+    ensures { result ≡ actual_exit expected ending }
+{
+    match (expected, ending) {
+        (Some(_), RowEnd::Exit(met)) => Some(met),
+        _ => expected,
+    }
+}
+
+// Returns the new value of `expect_end`: the actual kind of fault, if a fault is expected and the run faulted; otherwise the old value.
+fn actual_end(expected: Option<ExpectedEnd>, ending: RowEnd) -> Option<ExpectedEnd>
+    ensures { result ≡ actual_end expected ending }
+{
+    match (expected, ending) {
+        (Some(ExpectedEnd::Fault(_)), RowEnd::Fault(met, ..)) => Some(ExpectedEnd::Fault(met)),
+        _ => expected,
+    }
+}
+
+// Whether `other` is the new value of `expect_console`: the actual console if the list contains the expected text, otherwise the old value.
+fn is_met_console(
+    expected: &Option<ExpectedConsole>,
+    console: &[u8],
+    other: &Option<ExpectedConsole>,
+) -> bool
+    ensures { IsTrue result → other.now ≡ actual_console expected.now console.now }
+{
+    match (expected, other) {
+        (Some(ExpectedConsole::Text(_)), Some(ExpectedConsole::Text(text))) => {
+            text.as_slice() == console
+        }
+        _ => is_same_console(expected, other),
+    }
+}
+
+fn is_same_console(console: &Option<ExpectedConsole>, other: &Option<ExpectedConsole>) -> bool
+    ensures { IsTrue result → other.now ≡ console.now }
+{
+    match (console, other) {
+        (None, None) => true,
+        (Some(ExpectedConsole::Text(text)), Some(ExpectedConsole::Text(other))) => {
+            is_same_bytes(text, other)
+        }
+        (Some(ExpectedConsole::File(path)), Some(ExpectedConsole::File(other))) => {
+            is_same_text(path, other)
+        }
+        _ => false,
+    }
+}
+
+// Whether two jobs run in the same way: they agree in everything except their expectations.
+fn is_same_run(job: &Job, other: &Job) -> bool
+    ensures name { IsTrue result → other.now.name ≡ job.now.name }
+    ensures image { IsTrue result → other.now.image ≡ job.now.image }
+    ensures budget { IsTrue result → other.now.budget ≡ job.now.budget }
+    ensures script { IsTrue result → other.now.script ≡ job.now.script }
+    ensures load { IsTrue result → other.now.load ≡ job.now.load }
+    ensures regions { IsTrue result → other.now.regions ≡ job.now.regions }
+    ensures signature { IsTrue result → other.now.signature ≡ job.now.signature }
+    ensures isa { IsTrue result → other.now.isa ≡ job.now.isa }
+    ensures misaligned { IsTrue result → other.now.misaligned ≡ job.now.misaligned }
+{
+    is_same_text(&job.name, &other.name)
+        && is_same_text(&job.image, &other.image)
+        && job.budget == other.budget
+        && is_same_bytes(&job.script, &other.script)
+        && job.load == other.load
+        && are_same_regions(job.regions.as_slice(), other.regions.as_slice())
+        && is_same_signature(&job.signature, &other.signature)
+        && job.isa == other.isa
+        && job.misaligned == other.misaligned
+}
+
+fn are_same_regions(regions: &[Region], others: &[Region]) -> bool
+    ensures { IsTrue result → others.now ≡ regions.now }
+{
+    match (regions, others) {
+        ([], []) => true,
+        ([region, regions @ ..], [other, others @ ..]) => {
+            is_same_region(region, other) && are_same_regions(regions, others)
+        }
+        _ => false,
+    }
+}
+
+fn is_same_region(region: &Region, other: &Region) -> bool
+    ensures { IsTrue result → other.now ≡ region.now }
+{
+    region.base == other.base && region.size == other.size && region.writable == other.writable
+}
+
+fn is_same_signature(symbols: &Option<Symbols>, other: &Option<Symbols>) -> bool
+    ensures { IsTrue result → other.now ≡ symbols.now }
+{
+    match (symbols, other) {
+        (None, None) => true,
+        (Some(symbols), Some(other)) => {
+            is_same_text(&symbols.begin, &other.begin) && is_same_text(&symbols.end, &other.end)
+        }
+        _ => false,
+    }
+}
+
+fn is_same_text_option(text: &Option<Text>, other: &Option<Text>) -> bool
+    ensures { IsTrue result → other.now ≡ text.now }
+{
+    match (text, other) {
+        (None, None) => true,
+        (Some(text), Some(other)) => is_same_text(text, other),
+        _ => false,
+    }
+}
+
+fn is_same_text(text: &Text, other: &Text) -> bool
+    ensures { IsTrue result → other.now ≡ text.now }
+{
+    other.as_str() == text.as_str()
+}
+
+fn is_same_bytes(bytes: &Bytes, other: &Bytes) -> bool
+    ensures { IsTrue result → other.now ≡ bytes.now }
+{
+    other.as_slice() == bytes.as_slice()
+}

@@ -1,0 +1,259 @@
+//! A run with some of its states stored.
+
+ghost use Rattle.std.specs.Prelude.{◌≡◌, ◌≤◌, ◌<◌, [], IfOk, IfSome};
+ghost use Rattle.rv_machine.specs.Machine.{state_of};
+ghost use Rattle.rv_machine.specs.Run.{run_of};
+ghost use Rattle.rv_trace.specs.Trace.{state_after};
+
+use crate::checkpoint_list::CheckpointList;
+use crate::machine_at::MachineAt;
+use crate::start::Start;
+use rv_machine::{Ending, Machine};
+use rv_memory::Bus;
+use std::alloc::{AllocError, Global};
+use std::marker::Model;
+
+// The initial interval, in steps, at whose multiples states are stored.
+const INTERVAL: u32 = 1 << 22;
+
+// The maximum distance, in steps, from a stored state to the end of a backward move, of a seek, or of a move that stopped at a watchpoint.
+const NEAR: u32 = 1 << 16;
+
+// The default memory limit of a session, in megabytes.
+const MEGABYTES: u32 = 256;
+
+const MEGABYTE: usize = 1 << 20;
+
+// How many megabytes of the memory limit are reserved for everything except machines.
+const MEGABYTES_BESIDE: usize = 32;
+
+// The number of machines that exist during a move without being stored.
+const MACHINES_BESIDE: usize = 4;
+
+// One in this many of the states is stored before the end of the last backward move, seek or move to a watchpoint.
+const NEAR_SHARE: usize = 8;
+
+// How many bytes of memory a machine takes for each byte of its regions.
+const BYTES_OF_BYTE: usize = 3;
+
+/// The maximum number of bytes that a machine takes in addition to those for its regions.
+const BYTES_BESIDE: usize = 1 << 18;
+
+/// A run from its start, with some of its states stored so that a move need not begin at the start. Which states are stored affects only
+/// where an interrupt ends a move.
+#[derive(Drop)]
+pub(crate) struct Checkpoints {
+    start: Start,
+    interval: u32,
+    // States at multiples of the interval.
+    coarse: CheckpointList,
+    // States before the ends of backward moves, seeks and moves to watchpoints, each half as far from there as the preceding one.
+    near: CheckpointList,
+}
+
+impl Model for Checkpoints {
+    ghost use Rattle.std.specs.Prelude.{◌<◌};
+    ghost use Rattle.rv_machine.specs.State.{State};
+    ghost use Rattle.rv_history.specs.Kept.{AreStates};
+    ghost use Rattle.rv_history.specs.PositionInside.{state_code};
+    ghost use Rattle.rv_history.specs.Starts.{start_of};
+
+    ghost Value = { State };
+
+    ghost coded = { state_code };
+
+    ghost view = { λ track. start_of track.start };
+
+    ghost invariant = { λ track. AreStates (start_of track.start) track.coarse
+        × (AreStates (start_of track.start) track.near × (0 < track.interval)) };
+}
+
+impl Checkpoints {
+    ghost use Rattle.rv_history.specs.Kept.{IsAt};
+    ghost use Rattle.rv_history.specs.Starts.{start_of};
+
+    /// Creates a run without stored states except the start.
+    pub(crate) fn new(alloc: Global, start: Start) -> Checkpoints
+        ensures { result ≡ start_of start }
+    {
+        let (coarse, near) = kept_states(alloc, &start.bus, MEGABYTES);
+        Checkpoints {
+            start,
+            interval: INTERVAL,
+            coarse,
+            near,
+        }
+    }
+
+    /// Limits the memory to `megabytes`. Drops all stored states except the start.
+    pub(crate) fn set_memory(&mut self, alloc: Global, megabytes: u32)
+        ensures { self.new ≡ self.old }
+    {
+        let (coarse, near) = kept_states(alloc, &self.start.bus, megabytes);
+        self.coarse = coarse;
+        self.near = near;
+    }
+
+    /// Returns the start of the run.
+    pub(crate) fn start(&self) -> &Start
+        ensures { start_of result.now ≡ self.now }
+    {
+        &self.start
+    }
+
+    /// Returns a machine with the last stored state at or before the step `place`.
+    pub(crate) fn before(&self, alloc: Global, place: u32) -> Result<MachineAt, AllocError>
+        ensures { IfOk result (λ at. IsAt self.now at × (at.place ≤ place)) }
+    {
+        if let Some(kept) = self.nearest(place) {
+            return kept.copied(alloc);
+        }
+        let machine = self.start.machine(alloc)?;
+        Ok(MachineAt { place: 0, machine })
+    }
+
+    /// Returns the machine `at` or one with a stored state, whichever is later; neither is after the step `place`.
+    pub(crate) fn last_of(
+        &self,
+        alloc: Global,
+        at: MachineAt,
+        place: u32,
+    ) -> Result<MachineAt, AllocError>
+        requires there { IsAt self.now at }
+        requires within { at.place ≤ place }
+        ensures there { IfOk result (IsAt self.now) }
+        ensures order { IfOk result (λ last. (at.place ≤ last.place) × (last.place ≤ place)) }
+    {
+        match self.nearest(place) {
+            Some(kept) if at.place < kept.place => kept.copied(alloc),
+            _ => Ok(at),
+        }
+    }
+
+    // Returns the last stored state at or before the step `place`.
+    fn nearest(&self, place: u32) -> Option<&MachineAt>
+        ensures state { IfSome result (λ at. IsAt self.now at.now) }
+        ensures before { IfSome result (λ at. at.now.place ≤ place) }
+    {
+        let Some(near) = self.near.last_up_to(place) else {
+            return self.coarse.last_up_to(place);
+        };
+        match self.coarse.last_up_to(place) {
+            Some(coarse) if near.place < coarse.place => Some(coarse),
+            _ => Some(near),
+        }
+    }
+
+    /// Returns the machine after this number of steps, or at the end of the run if that comes first.
+    pub(crate) fn machine_after(&self, alloc: Global, steps: u32) -> Result<Machine, AllocError>
+        ensures { IfOk result (λ machine. state_of machine ≡ state_after steps self.now) }
+    {
+        let mut at = self.before(alloc, steps)?;
+        let _ = at.go_to(steps);
+        Ok(at.machine)
+    }
+
+    /// Returns the machine at the step `place`, or at the end of the run if that comes first, and how a run up to there ends. Stores states
+    /// on the way.
+    pub(crate) fn reach(
+        &mut self,
+        alloc: Global,
+        place: u32,
+    ) -> Result<(MachineAt, Ending), AllocError>
+        ensures run { IfOk result (λ reached. run_of place self.old
+            ≡ record { ending = reached.1; steps = reached.0.place; state = state_of reached.0.machine }) }
+        ensures same { self.new ≡ self.old }
+    {
+        let mut at = self.before(alloc, place)?;
+        while let Some(next) = self.next_kept(at.place, place) {
+            let _ = at.go_to(next);
+            if at.place < next {
+                break;
+            }
+            self.keep(alloc, &at)?;
+        }
+        let ending = at.go_to(place);
+        Ok((at, ending))
+    }
+
+    /// Returns the machine at a step that the run reaches. Stores states on the way.
+    pub(crate) fn come_to(&mut self, alloc: Global, place: u32) -> Result<MachineAt, AllocError>
+        requires { (run_of place self.old).steps ≡ place }
+        ensures place { IfOk result (λ at. at.place ≡ place) }
+        ensures there { IfOk result (IsAt self.old) }
+        ensures same { self.new ≡ self.old }
+    {
+        let (at, _) = self.reach(alloc, place)?;
+        Ok(at)
+    }
+
+    /// Stores the state of a machine if it is at a multiple of the interval and not stored yet.
+    pub(crate) fn keep_if_multiple(&mut self, alloc: Global, at: &MachineAt) -> Result<(), AllocError>
+        requires { IsAt self.old at.now }
+        ensures { self.new ≡ self.old }
+    {
+        if at.place == 0 || at.place % self.interval != 0 || self.coarse.has(at.place) {
+            return Ok(());
+        }
+        self.keep(alloc, at)
+    }
+
+    // Returns the next step after `at`, up to `place`, at which a state must be stored.
+    fn next_kept(&self, at: u32, place: u32) -> Option<u32>
+        requires { at ≤ place }
+        ensures { IfSome result (λ next. (at < next) × (next ≤ place)) }
+    {
+        let left = place - at;
+        let stride = self.interval - at % self.interval;
+        if stride <= left {
+            return Some(at + stride);
+        }
+        if NEAR < left {
+            return Some(at + left / 2);
+        }
+        None
+    }
+
+    // Stores the state of a machine. Doubles the interval if there is no room for another state at its multiples.
+    fn keep(&mut self, alloc: Global, at: &MachineAt) -> Result<(), AllocError>
+        requires { IsAt self.old at.now }
+        ensures { self.new ≡ self.old }
+    {
+        let kept = at.copied(alloc)?;
+        if self.coarse.is_full() {
+            self.interval = self.interval.saturating_mul(2);
+            self.coarse.keep_multiples(self.interval);
+        }
+        if at.place % self.interval == 0 {
+            self.coarse.keep(kept)
+        } else {
+            self.near.keep(kept)
+        }
+    }
+}
+
+// Returns the empty lists of states for a machine with this bus, with as much room as the memory limit allows: one for multiples of the
+// interval, one for states before the ends of backward moves, seeks and moves to watchpoints.
+fn kept_states(alloc: Global, bus: &Bus, megabytes: u32) -> (CheckpointList, CheckpointList)
+    ensures { (result.0 ≡ []) × (result.1 ≡ []) }
+{
+    let room = (megabytes as usize)
+        .saturating_sub(MEGABYTES_BESIDE)
+        .saturating_mul(MEGABYTE);
+    let states = (room / machine_size(bus)).saturating_sub(MACHINES_BESIDE);
+    let near = states / NEAR_SHARE;
+    let coarse = CheckpointList::new(alloc, states - near);
+    (coarse, CheckpointList::new(alloc, near))
+}
+
+// Returns an upper bound of the size in bytes of a machine with this bus.
+fn machine_size(bus: &Bus) -> usize
+    ensures { 0 < result }
+{
+    let map = bus.map();
+    let mut size = BYTES_BESIDE;
+    for region in map.as_slice() {
+        size = size.saturating_add((region.size as usize).saturating_mul(BYTES_OF_BYTE));
+    }
+    size.saturating_add(bus.script_remaining())
+}

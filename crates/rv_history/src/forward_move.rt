@@ -1,0 +1,91 @@
+//! Forward moves in progress.
+
+ghost use Rattle.std.specs.Prelude.{◌≡◌, ◌≤◌, ◌&&◌, IfOk, IsTrue, nat_lt, true};
+ghost use Rattle.rv_machine.specs.Machine.{state_of};
+ghost use Rattle.rv_history.specs.Kept.{IsAt};
+ghost use Rattle.rv_history.specs.Moves.{found_at_budget};
+ghost use Rattle.rv_history.specs.Stops.{is_halt};
+
+use crate::bounds::Bounds;
+use crate::found::Found;
+use crate::interrupt::Interrupt;
+use crate::machine_at::MachineAt;
+use crate::slices::{fill_a_slice, is_slice_end};
+use crate::stops::Stops;
+use crate::checkpoints::Checkpoints;
+use rv_machine::Ending;
+use std::alloc::{AllocError, Global};
+
+/// A forward move in progress.
+#[derive(Drop)]
+pub(crate) struct ForwardMove {
+    /// The step where the move began.
+    pub from: u32,
+    pub budget: u32,
+    pub bounds: Bounds,
+    /// The machine at the current step of the move.
+    pub at: MachineAt,
+}
+
+/// The machine at the step where a forward move ended, and the result of the move.
+#[derive(Drop)]
+pub(crate) struct Arrived {
+    pub at: MachineAt,
+    pub found: Found,
+}
+
+impl ForwardMove {
+    /// Ends the move at its current step with this result.
+    pub(crate) fn arrived(self, found: Found) -> Arrived
+        ensures { result ≡ record { at = self.at; found = found } }
+    {
+        Arrived { at: self.at, found }
+    }
+
+    /// Whether the move is after its first step, and at a breakpoint or outside of the bounds.
+    pub(crate) fn is_stopped(&self, stops: &Stops) -> bool
+        ensures { result ≡ (nat_lt self.now.from self.now.at.place
+            && is_halt stops.now self.now.bounds (state_of self.now.at.machine).pc) }
+    {
+        self.from < self.at.place && is_halt(stops, self.bounds, self.at.machine.pc())
+    }
+
+    /// Returns the result of the move if it has used up the budget without a stop.
+    pub(crate) fn found_at_budget(&self, stops: &Stops) -> Found
+        ensures { result ≡ found_at_budget (nat_lt self.now.from self.now.at.place
+            && is_halt stops.now self.now.bounds (state_of self.now.at.machine).pc) }
+    {
+        if self.is_stopped(stops) {
+            Found::Break
+        } else {
+            Found::End(Ending::Budget)
+        }
+    }
+
+    /// Returns whether an interrupt ends the move at its current step. At the end of a slice, its state may be stored, and the interrupt is
+    /// polled if the move has lasted for at least a slice.
+    pub(crate) fn store_and_poll<I: Interrupt>(
+        &self,
+        alloc: Global,
+        track: &mut Checkpoints,
+        interrupt: &mut I,
+    ) -> Result<bool, AllocError>
+        requires there { IsAt track.old self.now.at }
+        requires order { self.now.from ≤ self.now.at.place }
+        ensures raised { IfOk result (λ broken. IsTrue broken → I.was_raised interrupt.new ≡ true) }
+        ensures same { track.new ≡ track.old }
+    {
+        if !is_slice_end(self.at.place) {
+            return Ok(false);
+        }
+        track.keep_if_multiple(alloc, &self.at)?;
+        Ok(fill_a_slice(self.at.place - self.from) && interrupt.is_raised())
+    }
+}
+
+// Whether a forward move stops before an instruction at this address: at a breakpoint, or outside of the bounds.
+fn is_halt(stops: &Stops, bounds: Bounds, pc: u32) -> bool
+    ensures { result ≡ is_halt stops.now bounds pc }
+{
+    stops.has_break(pc) || bounds.is_outside(pc)
+}

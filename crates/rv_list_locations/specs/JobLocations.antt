@@ -1,0 +1,165 @@
+-- Where the jobs of a list begin in its text: at each header `[[job]]`, or, if the list is an array `job = [..]`, at each of its elements.
+-- Keys, strings and blanks follow TOML's grammar; of other values, only their ends are determined.
+use Rattle.std.specs.Prelude.{◌==◌, ◌&&◌, ◌||◌, ◌+◌, ◌-◌, ℕ, zero, suc, Bool, true, false, List, [], ◌∷◌}
+use Rattle.std.specs.Prelude.{Option, Some, None, codes, drop, if◌then◌else◌, length, map, option_and_then, option_map}
+use Rattle.std.specs.Prelude.{slice_index}
+use Rattle.std.specs.Char.{is_ascii_digit}
+use Rattle.std.specs.Str.{bytes_eq}
+use Rattle.toml_parser.specs.Lexical.{carriage_return, comma, equals, first, hash, is_word, left_brace, left_bracket}
+use Rattle.toml_parser.specs.Lexical.{line_feed, right_brace, right_bracket, skip_blank, skip_ws, space}
+use Rattle.toml_parser.specs.Strings.{Key, key, quoted, starts_string}
+use Rattle.toml.specs.Parse.{skip_bom}
+use Rattle.rv_list_locations.specs.declared.scan.Next.{Next}
+use Rattle.rv_list_locations.specs.declared.scan.Next.TheVariants.{Element, Table, Top}
+use Rattle.rv_list_locations.specs.LinesAndColumns.{line_at}
+
+infixl 10 ◌>>=◌
+abbrev ◌>>=◌ : {A B : Type 0} → Option A → (A → Option B) → Option B
+o >>= f = option_and_then f o
+
+-- ---- after a value
+
+-- whether a byte is in a word, given the next byte: a space may separate a date from a time
+abbrev pub is_in_word : ℕ → ℕ → Bool
+is_in_word byte next = is_word byte || (byte == space && is_ascii_digit next)
+
+-- the text after the bytes that are in a word
+abbrev pub after_letters : List ℕ → List ℕ
+after_letters [] = []
+after_letters (byte ∷ rest) = if is_in_word byte (first rest) then after_letters rest else byte ∷ rest
+
+-- the text after a word, which is an unquoted key or a value that is not a string, or `None` if the text begins with no word
+unfoldable pub after_word : List ℕ → Option (List ℕ)
+after_word text = if is_in_word (first text) (slice_index text 1) then Some (after_letters text) else None
+
+-- the text after a string or a word, or `None` if the text begins with neither
+unfoldable pub after_string_or_word : List ℕ → Option (List ℕ)
+after_string_or_word text = if starts_string text then option_map (λ read. read.1) (quoted text) else after_word text
+
+-- whether a byte opens an array or an inline table
+abbrev pub is_opening : ℕ → Bool
+is_opening byte = byte == left_bracket || byte == left_brace
+
+-- whether a byte closes an array or an inline table
+abbrev pub is_closing : ℕ → Bool
+is_closing byte = byte == right_bracket || byte == right_brace
+
+-- whether a byte is a bracket, a brace, a comma or an equals sign
+abbrev pub is_sign : ℕ → Bool
+is_sign byte = is_opening byte || is_closing byte || byte == comma || byte == equals
+
+-- the text after a punctuation sign, a string or a word, or `None` if the text begins with none of them
+unfoldable pub after_token : List ℕ → Option (List ℕ)
+after_token text = if is_sign (first text) then Some (drop 1 text) else after_string_or_word text
+
+-- the number of open brackets and braces after a byte, if `depth` are open before it
+abbrev pub depth_after : ℕ → ℕ → ℕ
+depth_after depth byte = if is_opening byte then depth + 1 else if is_closing byte then depth - 1 else depth
+
+-- the text after the bracket that closes the last open one, if at most `n` tokens are read; `depth` brackets are open before the text
+unfoldable pub after_brackets : ℕ → ℕ → List ℕ → Option (List ℕ)
+after_brackets zero depth text = None
+after_brackets (suc n) depth text = after_token text >>= (λ rest.
+    if depth_after depth (first text) == 0 then Some rest
+    else after_brackets n (depth_after depth (first text)) (skip_blank rest))
+
+-- the text after a value, or `None` if the text begins with no value
+unfoldable pub after_value : List ℕ → Option (List ℕ)
+after_value text =
+    if is_opening (first text) then after_brackets (suc (length text)) 0 text else after_string_or_word text
+
+-- ---- after a line
+
+-- the text from the next header or entry on, after the rest of a line; empty if the rest of the line is not a comment
+unfoldable pub after_line : List ℕ → List ℕ
+after_line text = let rest = skip_ws text in
+    if first rest == hash || first rest == line_feed || first rest == carriage_return then skip_blank rest else []
+
+-- the text from the next element on, or from the bracket after the last element on
+unfoldable pub after_comma : List ℕ → List ℕ
+after_comma text = let rest = skip_blank text in if first rest == comma then skip_blank (drop 1 rest) else rest
+
+-- the text from the value of an entry on, given the text after its key; empty if no equals sign follows the key
+unfoldable pub after_equals : List ℕ → List ℕ
+after_equals text = if first text == equals then skip_ws (drop 1 text) else []
+
+-- ---- a header, an entry or an element
+
+-- whether a key is `job`
+abbrev pub is_job : Key → Bool
+is_job name = length name.0 == 0 && bytes_eq name.1 (codes "job")
+
+-- a scanned header, entry or element: whether it is where a job begins, what comes next, and the text after it
+abbrev pub Step : Type 0
+Step = Bool × Next × List ℕ
+
+-- the header of an array of tables that begins with `[[`, given the text after these brackets
+unfoldable pub array_header : List ℕ → Option Step
+array_header inside = key (skip_ws inside) >>= (λ name.
+    if first name.1 == right_bracket && slice_index name.1 1 == right_bracket
+    then Some (is_job name.0, Table, after_line (drop 2 name.1)) else None)
+
+-- the header of a table that begins with `[`, given the text after this bracket
+unfoldable pub table_header : List ℕ → Option Step
+table_header inside = key (skip_ws inside) >>= (λ name.
+    if first name.1 == right_bracket then Some (false, Table, after_line (drop 1 name.1)) else None)
+
+-- the header that the text begins with, or `None` if it is malformed
+abbrev pub header : List ℕ → Option Step
+header text =
+    if slice_index text 1 == left_bracket then array_header (drop 2 text) else table_header (drop 1 text)
+
+-- whether the scan is before the first header
+abbrev pub is_top : Next → Bool
+is_top Top = true
+is_top Table = false
+is_top Element = false
+
+-- the entry that the text begins with; before the first header, an array `job` is the list, and its elements come next
+unfoldable pub keyed_entry : Next → List ℕ → Option Step
+keyed_entry next text = key text >>= (λ name. let value = after_equals name.1 in
+    if (is_job name.0 && is_top next) && first value == left_bracket
+    then Some (false, Element, skip_blank (drop 1 value))
+    else option_map (λ rest. (false, next, after_line rest)) (after_value value))
+
+-- the element that the text begins with, or the bracket after the last element
+unfoldable pub element : List ℕ → Option Step
+element text =
+    if first text == right_bracket then Some (false, Top, after_line (drop 1 text))
+    else option_map (λ rest. (true, Element, after_comma rest)) (after_value text)
+
+-- the header or the entry that the text begins with
+abbrev pub header_or_entry : Next → List ℕ → Option Step
+header_or_entry next text = if first text == left_bracket then header text else keyed_entry next text
+
+-- the header, the entry or the element that the text begins with, or `None` if it is malformed; `next` is what the scan expects here
+unfoldable pub step : Next → List ℕ → Option Step
+step Element text = element text
+step Top text = header_or_entry Top text
+step Table text = header_or_entry Table text
+
+-- ---- the list
+
+-- the texts from each job on, given what was scanned at the beginning of this text; `jobs` are those of the text after it
+abbrev pub jobs_of_step : (Next → List ℕ → List (List ℕ)) → List ℕ → Option Step → List (List ℕ)
+jobs_of_step jobs text None = []
+jobs_of_step jobs text (Some found) =
+    if found.0 then text ∷ jobs found.1 found.2 else jobs found.1 found.2
+
+-- the texts from each job on, if at most `n` headers, entries and elements are scanned
+unfoldable pub jobs_from : ℕ → Next → List ℕ → List (List ℕ)
+jobs_from zero next text = []
+jobs_from (suc n) next text =
+    if length text == 0 then [] else jobs_of_step (jobs_from n) text (step next text)
+
+-- the texts from each job on, in a list's text without a byte order mark
+unfoldable pub jobs_of_text : List ℕ → List (List ℕ)
+jobs_of_text text = jobs_from (suc (length text)) Top (skip_blank text)
+
+-- the line of a text, counted from 1, on which its suffix `rest` begins
+abbrev pub line_of_rest : List ℕ → List ℕ → ℕ
+line_of_rest text rest = line_at (length text - length rest) text
+
+-- the lines, counted from 1, on which the jobs of a list's text begin
+abbrev pub job_lines : List ℕ → List ℕ
+job_lines text = map (line_of_rest text) (jobs_of_text (skip_bom text))

@@ -1,0 +1,212 @@
+//! Breakpoints and watchpoints as gdb sets and clears them.
+
+ghost use Rattle.std.specs.Prelude.{◌≡◌, ◌≤◌, ◌+◌, ◌^◌, IfOk};
+ghost use Rattle.rv_session.specs.Stoppoints.{IsStoppointAdded, has_byte, is_full, is_on, is_set, watches_of, with_watches, without_stoppoint};
+ghost use Rattle.rv_memory.specs.Bus.{Contents};
+ghost use Rattle.rv_gdb_protocol.specs.declared.request.Stoppoint.TheVariants as trap;
+
+use rv_base::Sequence;
+use rv_gdb_protocol::{Range, Refusal, Stoppoint, Watched};
+use rv_history::{Stops, Watch};
+use rv_memory::Bus;
+use std::alloc::{AllocError, Global};
+
+/// The maximum number of breakpoints and watchpoints together.
+const MOST_TRAPS: usize = 1024;
+
+/// Returns the stops with a stoppoint added, unless it is already set, or why it cannot be set.
+pub(crate) fn with_stoppoint(
+    alloc: Global,
+    stops: &Stops,
+    bus: &Bus,
+    trap: Stoppoint,
+) -> Result<Result<Stops, Refusal>, AllocError>
+    ensures { IfOk result (IsStoppointAdded stops.now bus.now trap) }
+{
+    match trap {
+        Stoppoint::Break(address) => with_break(alloc, stops, address),
+        Stoppoint::Watch(kind, range) => with_watch(alloc, stops, bus, kind, range),
+    }
+}
+
+/// Returns the stops without a stoppoint, which need not be set.
+pub(crate) fn without_stoppoint(
+    alloc: Global,
+    stops: &Stops,
+    trap: Stoppoint,
+) -> Result<Stops, AllocError>
+    ensures { IfOk result (λ next. next ≡ without_stoppoint stops.now trap) }
+{
+    match trap {
+        Stoppoint::Break(address) => without_break(alloc, stops, address),
+        Stoppoint::Watch(kind, range) => without_watch(alloc, stops, kind, range),
+    }
+}
+
+// Whether the maximum number of breakpoints and watchpoints is set.
+fn is_full(stops: &Stops) -> bool
+    ensures { result ≡ is_full stops.now }
+{
+    let breaks = stops.breaks.as_slice().len();
+    let watches = stops.watches.as_slice().len();
+    let reads = stops.reads.as_slice().len();
+    let accesses = stops.accesses.as_slice().len();
+    (breaks + watches) + (reads + accesses) >= MOST_TRAPS
+}
+
+fn with_break(
+    alloc: Global,
+    stops: &Stops,
+    address: u32,
+) -> Result<Result<Stops, Refusal>, AllocError>
+    ensures { (bus : Contents) → IfOk result (IsStoppointAdded stops.now bus (trap.Break address)) }
+{
+    if has_break(stops, address) {
+        let same = copied(alloc, stops)?;
+        return Ok(Ok(same));
+    }
+    if is_full(stops) {
+        return Ok(Err(Refusal::TooManyTraps));
+    }
+    let mut breaks = Vec::from_slice(alloc, stops.breaks.as_slice())?;
+    breaks.push(address)?;
+    let mut next = copied(alloc, stops)?;
+    next.breaks = Sequence::new(breaks);
+    Ok(Ok(next))
+}
+
+fn with_watch(
+    alloc: Global,
+    stops: &Stops,
+    bus: &Bus,
+    kind: Watched,
+    range: Range,
+) -> Result<Result<Stops, Refusal>, AllocError>
+    ensures { IfOk result (IsStoppointAdded stops.now bus.now (trap.Watch kind range)) }
+{
+    let end = u64::from(range.address) + u64::from(range.count);
+    if end > 1 << 32 {
+        return Ok(Err(Refusal::Malformed));
+    }
+    if !has_byte(bus, range) {
+        return Ok(Err(Refusal::Malformed));
+    }
+    if has_watch(stops, kind, range) {
+        let same = copied(alloc, stops)?;
+        return Ok(Ok(same));
+    }
+    if is_full(stops) {
+        return Ok(Err(Refusal::TooManyTraps));
+    }
+    let mut watches = Vec::from_slice(alloc, watches_of(stops, kind))?;
+    watches.push(Watch {
+        address: range.address,
+        count: range.count,
+    })?;
+    let next = copied(alloc, stops)?;
+    Ok(Ok(with_watches(next, kind, watches)))
+}
+
+fn without_break(alloc: Global, stops: &Stops, address: u32) -> Result<Stops, AllocError>
+    ensures { IfOk result (λ next. next ≡ without_stoppoint stops.now (trap.Break address)) }
+{
+    let breaks = stops
+        .breaks
+        .as_slice()
+        .iter()
+        .copied()
+        .filter(|other| *other != address)
+        .collect(alloc)?;
+    let mut next = copied(alloc, stops)?;
+    next.breaks = Sequence::new(breaks);
+    Ok(next)
+}
+
+fn without_watch(
+    alloc: Global,
+    stops: &Stops,
+    kind: Watched,
+    range: Range,
+) -> Result<Stops, AllocError>
+    ensures { IfOk result (λ next. next ≡ without_stoppoint stops.now (trap.Watch kind range)) }
+{
+    let watches = watches_of(stops, kind)
+        .iter()
+        .copied()
+        .filter(|watch| !is_on(watch, range))
+        .collect(alloc)?;
+    let next = copied(alloc, stops)?;
+    Ok(with_watches(next, kind, watches))
+}
+
+// Returns the watchpoints of this kind.
+fn watches_of(stops: &Stops, kind: Watched) -> &[Watch]
+    ensures { result.now ≡ watches_of stops.now kind }
+{
+    match kind {
+        Watched::Writes => stops.watches.as_slice(),
+        Watched::Reads => stops.reads.as_slice(),
+        Watched::Accesses => stops.accesses.as_slice(),
+    }
+}
+
+// Returns the stops with `watches` as the watchpoints of this kind.
+fn with_watches(mut stops: Stops, kind: Watched, watches: Vec<Watch>) -> Stops
+    ensures { result ≡ with_watches stops kind watches.items }
+{
+    match kind {
+        Watched::Writes => stops.watches = Sequence::new(watches),
+        Watched::Reads => stops.reads = Sequence::new(watches),
+        Watched::Accesses => stops.accesses = Sequence::new(watches),
+    }
+    stops
+}
+
+fn has_break(stops: &Stops, address: u32) -> bool
+    ensures { result ≡ is_set stops.now (trap.Break address) }
+{
+    stops.breaks.as_slice().contains(&address)
+}
+
+fn has_watch(stops: &Stops, kind: Watched, range: Range) -> bool
+    ensures { result ≡ is_set stops.now (trap.Watch kind range) }
+{
+    watches_of(stops, kind)
+        .iter()
+        .any(|watch| is_on(watch, range))
+}
+
+fn copied(alloc: Global, stops: &Stops) -> Result<Stops, AllocError>
+    ensures { IfOk result (λ next. next ≡ stops.now) }
+{
+    let breaks = Vec::from_slice(alloc, stops.breaks.as_slice())?;
+    let watches = Vec::from_slice(alloc, stops.watches.as_slice())?;
+    let reads = Vec::from_slice(alloc, stops.reads.as_slice())?;
+    let accesses = Vec::from_slice(alloc, stops.accesses.as_slice())?;
+    Ok(Stops {
+        breaks: Sequence::new(breaks),
+        watches: Sequence::new(watches),
+        reads: Sequence::new(reads),
+        accesses: Sequence::new(accesses),
+    })
+}
+
+// Whether the watchpoint is for exactly this range.
+fn is_on(watch: &Watch, range: Range) -> bool
+    ensures { result ≡ is_on range watch.now }
+{
+    watch.address == range.address && watch.count == range.count
+}
+
+// Whether a byte of the range is in a region.
+fn has_byte(bus: &Bus, range: Range) -> bool
+    requires { range.address + range.count ≤ 2 ^ 32 }
+    ensures { result ≡ has_byte bus.now range }
+{
+    for offset in 0..range.count {
+        if bus.byte(range.address + offset).is_some() {
+            return true;
+        }
+    }
+    false
+}

@@ -1,0 +1,14 @@
+use Rattle.std.proofs.Common.{option_map}
+use Rattle.rvtest_app.proofs.Results.{IfOk-map}
+use Rattle.rvtest_app.proofs.current_verdicts.CurrentFiles.standing.Goals as goal
+
+pub returns : goal.returns
+returns g c = IfOk-map c.verdict_over.result _ _
+    (λ stands is. record {
+      console = option_map (λ bytes. bytes.items) c.in_ok-console.console;
+      signature = option_map (λ bytes. bytes.items) c.in_ok-signature.signature;
+      console_read = rw (c.path_to_read.ensures, c.console_path.ensures) at c.in_ok-console.ensures;
+      signature_read = rw (c.path_to_read-2.ensures, c.signature_path.ensures) at c.in_ok-signature.ensures;
+      is = rw (c.text_of.ensures, c.text_of-2.ensures) at is;
+    })
+    c.verdict_over.ensures

@@ -1,7 +1,0 @@
-use Rattle.rv_command.specs.Texts.{optional_text}
-use Rattle.rvtest_app.proofs.Standings.{StandSoFar}
-use Rattle.rvtest_app.proofs.standing.CurrentFiles.candidates.Given as goal
-
-abbrev pub invariant-loop-job : goal.invariant-loop-job
-invariant-loop-job g l = StandSoFar (g.D.Inputs.contents l.fn.self.inputs.now) (optional_text l.fn.self.folder)
-    l.fn.self.rows.now l.jobs l.chosen l.job-index l.candidates.items

@@ -1,4 +1,0 @@
-use Rattle.rvtest_app.proofs.standing.CurrentFiles.golden_text.Goals as goal
-
-pub returns-in-Some : goal.returns-in-Some
-returns-in-Some g c = rw c.in-Some.is c.text_of_path.ensures

@@ -1,0 +1,258 @@
+//! The verdicts on the jobs that `accept` runs: whether `run` passes them, and whether they differ from the jobs that they are compared
+//! with.
+
+ghost use Rattle.std.specs.Prelude.{◌≡◌, ◌++◌, ◌∷◌, [], IfOk, OnOk, option_map, slice_get};
+ghost use Rattle.std.specs.List.{list_any};
+ghost use Rattle.rv_accept.specs.Runs.{row_or_none};
+ghost use Rattle.rv_command.specs.Texts.{optional_text};
+ghost use Rattle.rv_expect.specs.Comparisons.{sides_of};
+ghost use Rattle.rv_expect.specs.UnmetExpectations.{is_same};
+ghost use Rattle.rv_files.specs.UnreadPaths.{resolved_path};
+ghost use Rattle.rvtest_app.specs.CurrentVerdicts.{AreCandidates, IsCandidateAt, IsGoldenText, IsStanding, IsWholeText, compared_row, is_marked, is_none_unmet, path_to_read};
+ghost use Rattle.rvtest_app.specs.CurrentVerdicts.{sides_over, verdict_by, verdict_of_sides};
+
+use crate::accepted_files::place_of_path;
+use rv_accept::{Acceptance, Candidate, CurrentVerdict, console_path, is_accepted_end};
+use rv_expect::{Comparison, Unmet, unmet_expectations};
+use rv_files::{InputError, Inputs, read_whole_up_to};
+use rv_jobs::Job;
+use rv_jobs::limits::MOST_BYTES;
+use rv_rows::{Row, did_run};
+use std::alloc::{AllocError, Global};
+
+/// What the runs without expectations are compared with: the golden files as they are now, and the rows of other jobs.
+#[derive(Drop)]
+pub(crate) struct CurrentFiles<'x, D> {
+    /// The golden files as they are now.
+    pub inputs: &'x D,
+    pub alloc: Global,
+    /// The directory against which the paths of golden files are resolved.
+    pub folder: Option<&'x str>,
+    /// The row of each job of the list; `None` for a job that was not run.
+    pub rows: &'x [Option<Row>],
+}
+
+impl<'x, D: Inputs> CurrentFiles<'x, D> {
+    /// Returns for each job of the list whether it is chosen, and the verdict on it.
+    pub(crate) fn candidates(
+        &self,
+        jobs: &[Job],
+        chosen: &[bool],
+    ) -> Result<Vec<Candidate>, AllocError>
+        ensures { IfOk result (λ candidates. AreCandidates (D.contents self.now.inputs.now)
+            (optional_text self.now.folder) self.now.rows.now jobs.now chosen.now candidates.items) }
+    {
+        let mut candidates = Vec::new(self.alloc);
+        for job in jobs {
+            let place = candidates.len();
+            let candidate = self.candidate_at(place, job, chosen)?;
+            add_candidate(&mut candidates, candidate)?;
+        }
+        Ok(candidates)
+    }
+
+    // Returns whether the job at index `place` is chosen, and the verdict on it; a job that was not run fails.
+    fn candidate_at(
+        &self,
+        place: usize,
+        job: &Job,
+        chosen: &[bool],
+    ) -> Result<Candidate, AllocError>
+        ensures { IfOk result (IsCandidateAt (D.contents self.now.inputs.now) (optional_text self.now.folder)
+            self.now.rows.now chosen.now place job.now) }
+    {
+        let is_chosen = is_marked(chosen, place);
+        match self.row_at(place) {
+            Some(row) => {
+                let standing = self.standing(job, row)?;
+                Ok(Candidate {
+                    is_chosen,
+                    standing,
+                })
+            }
+            None => Ok(Candidate {
+                is_chosen,
+                standing: CurrentVerdict::Fails,
+            }),
+        }
+    }
+
+    // Returns the verdict on a job with this row, given its golden files as they are now.
+    fn standing(&self, job: &Job, row: &Row) -> Result<CurrentVerdict, AllocError>
+        ensures { IfOk result (IsStanding (D.contents self.now.inputs.now) (optional_text self.now.folder)
+            self.now.rows.now job.now row.now) }
+    {
+        let console = self.golden_text(path_to_read(job, row, console_path(job)))?;
+        let signature = self.golden_text(path_to_read(job, row, signature_path(job)))?;
+        self.verdict_over(job, row, text_of(&console), text_of(&signature))
+    }
+
+    // Returns the verdict on a job, given the contents of its golden files.
+    fn verdict_over<'r>(
+        &self,
+        job: &'r Job,
+        row: &'r Row,
+        console: Option<&'r [u8]>,
+        signature: Option<&'r [u8]>,
+    ) -> Result<CurrentVerdict, AllocError>
+        ensures { IfOk result (λ standing. standing ≡ verdict_of_sides (sides_over self.now.rows.now job.now row.now
+            (option_map (λ bytes. bytes.now) console.entry) (option_map (λ bytes. bytes.now) signature.entry))) }
+    {
+        let comparison = Comparison {
+            job,
+            row,
+            console,
+            reference: signature,
+            other: self.compared_row(job),
+        };
+        let unmet = unmet_expectations(self.alloc, &comparison)?;
+        Ok(verdict_by(did_run(row.ending), unmet.as_slice()))
+    }
+
+    // Returns the row of the job that `same_as` names, if it names one and that job was run.
+    fn compared_row(&self, job: &Job) -> Option<&Row>
+        ensures { option_map (λ row. row.now) result ≡ compared_row self.now.rows.now job.now.same_as }
+    {
+        match job.same_as {
+            Some(place) => self.row_at(place),
+            None => None,
+        }
+    }
+
+    // Returns the row of the job at index `place`, if it was run.
+    fn row_at(&self, place: usize) -> Option<&Row>
+        ensures { option_map (λ row. row.now) result ≡ row_or_none (slice_get self.now.rows.now place) }
+    {
+        row_if_run(self.rows.get(place))
+    }
+
+    // Returns the contents of a golden file; `None` if none is named, or it cannot be read.
+    fn golden_text(&self, path: Option<&str>) -> Result<Option<Vec<u8>>, AllocError>
+        ensures { IfOk result (λ text. IsGoldenText (D.contents self.now.inputs.now) (optional_text self.now.folder)
+            (option_map (λ path. path.now) path.entry) (option_map (λ bytes. bytes.items) text)) }
+    {
+        match path {
+            Some(path) => self.text_of_path(path),
+            None => Ok(None),
+        }
+    }
+
+    fn text_of_path(&self, path: &str) -> Result<Option<Vec<u8>>, AllocError>
+        ensures { IfOk result (λ text. IsWholeText (D.contents self.now.inputs.now)
+            (resolved_path (optional_text self.now.folder) path.now) (option_map (λ bytes. bytes.items) text)) }
+    {
+        let place = place_of_path(self.alloc, self.folder, path)?;
+        self.text_at(place.as_str())
+    }
+
+    // Reads the file at a path. Returns `None` if it cannot be read or is too long.
+    fn text_at(&self, place: &str) -> Result<Option<Vec<u8>>, AllocError>
+        ensures { IfOk result (λ text. IsWholeText (D.contents self.now.inputs.now) place.now
+            (option_map (λ bytes. bytes.items) text)) }
+    {
+        match read_whole_up_to(self.inputs, self.alloc, place, MOST_BYTES) {
+            Ok(Some(text)) => Ok(Some(text)),
+            Ok(None) => Ok(None),
+            Err(InputError::Failed(_)) => Ok(None),
+            Err(InputError::OutOfMemory) => Err(AllocError),
+        }
+    }
+}
+
+fn add_candidate(candidates: &mut Vec<Candidate>, candidate: Candidate) -> Result<(), AllocError>
+    ensures { OnOk result (candidates.new.items ≡ candidates.old.items ++ candidate ∷ []) }
+{
+    candidates.push(candidate)?;
+    Ok(())
+}
+
+// Whether the job at index `place` is selected.
+fn is_marked(marks: &[bool], place: usize) -> bool
+    ensures { result ≡ is_marked marks.now place }
+{
+    match marks.get(place) {
+        Some(marked) => *marked,
+        None => false,
+    }
+}
+
+// Returns the path of a golden file if its contents decide about the verdict; `None` if the job ended as expected, since it is accepted
+// then.
+fn path_to_read<'a>(job: &Job, row: &Row, path: Option<&'a str>) -> Option<&'a str>
+    ensures { option_map (λ path. path.now) result
+        ≡ path_to_read job.now row.now (option_map (λ path. path.now) path.entry) }
+{
+    if is_accepted_end(Acceptance::Expected, job, row.ending) {
+        None
+    } else {
+        path
+    }
+}
+
+fn signature_path(job: &Job) -> Option<&str>
+    ensures { option_map (λ path. path.now) result ≡ job.now.expect_signature }
+{
+    match &job.expect_signature {
+        Some(path) => Some(path.as_str()),
+        None => None,
+    }
+}
+
+fn text_of(bytes: &Option<Vec<u8>>) -> Option<&[u8]>
+    ensures { option_map (λ bytes. bytes.now) result ≡ option_map (λ bytes. bytes.items) bytes.now }
+{
+    match bytes {
+        Some(bytes) => Some(bytes.as_slice()),
+        None => None,
+    }
+}
+
+fn row_if_run(row: Option<&Option<Row>>) -> Option<&Row>
+    ensures { option_map (λ row. row.now) result ≡ row_or_none (option_map (λ row. row.now) row.entry) }
+{
+    match row {
+        Some(Some(row)) => Some(row),
+        Some(None) | None => None,
+    }
+}
+
+// Returns the verdict on a job, given whether it ran and its unmet expectations.
+fn verdict_by(ran: bool, unmet: &[Unmet]) -> CurrentVerdict
+    ensures { result ≡ verdict_by ran unmet.now }
+{
+    if ran && is_none_unmet(unmet) {
+        CurrentVerdict::Passes
+    } else if is_any_difference(unmet) {
+        CurrentVerdict::Differs
+    } else {
+        CurrentVerdict::Fails
+    }
+}
+
+// Whether there are no unmet expectations.
+fn is_none_unmet(unmet: &[Unmet]) -> bool
+    ensures { result ≡ is_none_unmet unmet.now }
+{
+    match unmet {
+        [] => true,
+        [_one, _more @ ..] => false,
+    }
+}
+
+// Whether `same_as` is among the unmet expectations.
+fn is_any_difference(unmet: &[Unmet]) -> bool
+    ensures { result ≡ list_any is_same unmet.now }
+{
+    unmet.iter().any(|one| is_difference(*one))
+}
+
+// Whether the unmet expectation is `same_as`.
+fn is_difference(unmet: Unmet) -> bool
+    ensures { result ≡ is_same unmet }
+{
+    match unmet {
+        Unmet::Same(_) => true,
+        Unmet::Exit | Unmet::End | Unmet::Console(_) | Unmet::Signature(_) | Unmet::Nothing =>
+            false,
+    }
+}
