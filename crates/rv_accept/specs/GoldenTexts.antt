@@ -27,7 +27,7 @@ golden_texts_of_job place accepted job row =
 -- the texts that a job gives its golden files; nothing if it was not run, and no texts if it was skipped
 abbrev pub golden_texts_of_run : ℕ → Job → Option JobRun → List GoldenText
 golden_texts_of_run place job None = []
-golden_texts_of_run place job (Some run) = golden_texts_of_job place (not (is_some run.left)) job run.row
+golden_texts_of_run place job (Some run) = golden_texts_of_job place (not (is_some run.skipped)) job run.row
 
 -- the texts that the jobs give their golden files, in list order; `place` is the index of the first of these jobs
 unfoldable pub golden_texts_of_runs : ℕ → List Job → List (Option JobRun) → List GoldenText

@@ -54,7 +54,7 @@ abbrev pub judged_run : Acceptance → Job → Candidate → Row → JobRun
 judged_run asked job candidate row = record {
   row = row;
   is_chosen = candidate.is_chosen;
-  left = if candidate.is_chosen then chosen_skip_reason asked candidate.standing job row
+  skipped = if candidate.is_chosen then chosen_skip_reason asked candidate.standing job row
       else sharing_skip_reason candidate.standing job row.ending;
 }
 
@@ -89,7 +89,7 @@ judged_runs asked (job ∷ jobs) (candidate ∷ candidates) rows =
 
 -- whether the job of a run is chosen and was not skipped
 abbrev pub is_accepted_run : JobRun → Bool
-is_accepted_run run = run.is_chosen && not (is_some run.left)
+is_accepted_run run = run.is_chosen && not (is_some run.skipped)
 
 -- the row of a run, if its job is chosen and was not skipped
 abbrev pub row_if_accepted : JobRun → Option Row

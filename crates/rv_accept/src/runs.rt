@@ -37,7 +37,7 @@ pub struct JobRun {
     /// `same_as`.
     pub is_chosen: bool,
     /// Why the job was skipped; `None` if it was not.
-    pub left: Option<SkipReason>,
+    pub skipped: Option<SkipReason>,
 }
 
 impl JobRun {
@@ -45,7 +45,7 @@ impl JobRun {
     pub fn is_accepted(&self) -> bool
         ensures { result ≡ is_accepted_run self.now }
     {
-        self.is_chosen && self.left.is_none()
+        self.is_chosen && self.skipped.is_none()
     }
 }
 
@@ -164,7 +164,7 @@ fn judged_run(acceptance: Acceptance, job: &Job, candidate: Candidate, row: Row)
         is_chosen,
         standing,
     } = candidate;
-    let left = if is_chosen {
+    let skipped = if is_chosen {
         chosen_skip_reason(acceptance, standing, job, &row)
     } else {
         sharing_skip_reason(standing, job, row.ending)
@@ -172,7 +172,7 @@ fn judged_run(acceptance: Acceptance, job: &Job, candidate: Candidate, row: Row)
     JobRun {
         row,
         is_chosen,
-        left,
+        skipped,
     }
 }
 

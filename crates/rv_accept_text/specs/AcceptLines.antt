@@ -34,8 +34,8 @@ skipped_job_lines list (job ∷ jobs) [] = []
 skipped_job_lines list (job ∷ jobs) (run ∷ runs) = skipped_job_line list job run ++ skipped_job_lines list jobs runs
 
 -- the lines that `accept` prints: changed golden files, changed values of the list, skipped jobs, and skipped golden files
-abbrev pub told_lines : AcceptSummary → List ℕ
-told_lines told = flat_map (file_line told.list) told.files.now
+abbrev pub accept_lines : AcceptSummary → List ℕ
+accept_lines told = flat_map (file_line told.list) told.files.now
     ++ flat_map (value_line_in told) told.new.now.values.items
     ++ skipped_job_lines told.list.jobs.now told.list.jobs.now told.runs.now
     ++ flat_map (skipped_file_line told.list told.claims.now) told.files.now
@@ -58,11 +58,11 @@ changed_count told = count_by (is_changed told.list) told.files.now + one_if (is
 -- whether there is a run, and its job is chosen and was skipped
 abbrev pub is_skipped_job : Option JobRun → Bool
 is_skipped_job None = false
-is_skipped_job (Some run) = run.is_chosen && is_some run.left
+is_skipped_job (Some run) = run.is_chosen && is_some run.skipped
 
 -- the number of chosen jobs and of golden files that were skipped
-abbrev pub left_count : AcceptSummary → ℕ
-left_count told = count_by is_skipped_job told.runs.now + count_by (is_left told.list) told.files.now
+abbrev pub skipped_count : AcceptSummary → ℕ
+skipped_count told = count_by is_skipped_job told.runs.now + count_by (is_left told.list) told.files.now
 
 -- whether files were written or would be, in words
 abbrev pub writing_word : Writing → List ℕ

@@ -23,7 +23,7 @@ is_kept_text list (Some old) = bytes_eq old list || starts_with nat_eq old elf_m
 
 -- whether the golden file is the list or an image, by its path or by its contents, and so is never overwritten
 abbrev pub is_kept : ListFile → GoldenFile → Bool
-is_kept list file = bytes_eq file.place list.path.now
+is_kept list file = bytes_eq file.resolved_path list.path.now
     || (is_image_path file.target.path list.jobs.now || is_kept_text list.text.now file.old)
 
 -- the text that all jobs that name the file give it; none if they disagree or the file is never overwritten

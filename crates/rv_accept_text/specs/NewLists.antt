@@ -11,7 +11,7 @@ use Rattle.rv_accept.specs.declared.values.ValueKey.TheVariants as key
 
 -- the run, skipped for the reason `why` if it was accepted and a reason is given
 abbrev pub skipped_run : Option SkipReason → JobRun → JobRun
-skipped_run why run = if is_accepted_run run then record run { left = why } else run
+skipped_run why run = if is_accepted_run run then record run { skipped = why } else run
 
 -- the run, if there is one
 abbrev pub run_or_none : Option (Option JobRun) → Option JobRun

@@ -4,8 +4,8 @@ ghost use Rattle.std.specs.Prelude.{◌≡◌, ◌≤◌, ◌<◌, ◌+◌, ◌^
 ghost use Rattle.std.specs.List.{count_by, flat_map};
 ghost use Rattle.rv_accept_text.specs.FileLines.{file_line, skipped_file_line};
 ghost use Rattle.rv_accept_text.specs.GoldenFiles.{is_left};
-ghost use Rattle.rv_accept_text.specs.AcceptLines.{changed_count, count_line, is_changed, is_skipped_job, left_count, skipped_job_lines};
-ghost use Rattle.rv_accept_text.specs.AcceptLines.{one_if, told_lines, value_line_in, value_line_of, writing_word};
+ghost use Rattle.rv_accept_text.specs.AcceptLines.{changed_count, count_line, is_changed, is_skipped_job, skipped_count, skipped_job_lines};
+ghost use Rattle.rv_accept_text.specs.AcceptLines.{one_if, accept_lines, value_line_in, value_line_of, writing_word};
 
 use crate::file_lines::{push_file_line, push_skipped_file_line};
 use crate::golden_file::{GoldenFile, ListFile};
@@ -40,7 +40,7 @@ pub enum Writing {
 impl<'a> AcceptSummary<'a> {
     /// Appends the lines about changed golden files, changed values of the list, skipped jobs, and skipped golden files.
     pub fn push_lines(&self, alloc: Global, out: &mut Vec<u8>) -> Result<(), AllocError>
-        ensures { OnOk result (out.new.items ≡ out.old.items ++ told_lines self.now) }
+        ensures { OnOk result (out.new.items ≡ out.old.items ++ accept_lines self.now) }
     {
         self.push_file_lines(out)?;
         self.push_value_lines(out)?;
@@ -105,8 +105,8 @@ impl<'a> AcceptSummary<'a> {
     }
 
     /// Returns the number of chosen jobs and of golden files that were skipped.
-    pub fn left_count(&self) -> usize
-        ensures { result ≡ left_count self.now }
+    pub fn skipped_count(&self) -> usize
+        ensures { result ≡ skipped_count self.now }
     {
         skipped_job_count(self.runs) + self.skipped_file_count()
     }
@@ -127,7 +127,7 @@ impl<'a> AcceptSummary<'a> {
     /// Appends the last line: how many files were written or would be, and how many jobs and files were skipped.
     pub fn push_count_line(&self, out: &mut Vec<u8>, writing: Writing) -> Result<(), AllocError>
         ensures { OnOk result (out.new.items
-            ≡ out.old.items ++ count_line writing (changed_count self.now) (left_count self.now)) }
+            ≡ out.old.items ++ count_line writing (changed_count self.now) (skipped_count self.now)) }
     {
         let count = self.changed_count();
         push_spans(
@@ -135,7 +135,7 @@ impl<'a> AcceptSummary<'a> {
             &[
                 Span::Count(count as u64, "file"),
                 Span::Text(writing_word(writing)),
-                Span::Number(self.left_count() as u64),
+                Span::Number(self.skipped_count() as u64),
                 Span::Text(" skipped\n"),
             ],
         )
@@ -208,7 +208,7 @@ fn is_skipped_job(run: &Option<JobRun>) -> bool
     ensures { result ≡ is_skipped_job run.now }
 {
     match run {
-        Some(run) => run.is_chosen && run.left.is_some(),
+        Some(run) => run.is_chosen && run.skipped.is_some(),
         None => false,
     }
 }

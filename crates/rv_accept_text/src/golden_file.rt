@@ -19,7 +19,7 @@ pub struct ListFile<'a> {
 pub struct GoldenFile {
     pub target: Target,
     /// The path of the file, resolved against the `--root` directory.
-    pub place: Text,
+    pub resolved_path: Text,
     /// The current contents; `None` if the file does not exist.
     pub old: Option<Bytes>,
 }
@@ -63,7 +63,7 @@ impl GoldenFile {
     pub fn is_kept(&self, list: &ListFile<'_>) -> bool
         ensures { result ≡ is_kept list.now self.now }
     {
-        self.place.as_str() == list.path
+        self.resolved_path.as_str() == list.path
             || is_image_path(self.target.path.as_str(), list.jobs)
             || is_kept_text(list.text, &self.old)
     }

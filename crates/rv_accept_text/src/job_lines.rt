@@ -189,9 +189,9 @@ fn push_skipped_line(
     job: &Job,
     run: &JobRun,
 ) -> Result<(), AllocError>
-    ensures { OnOk result (out.new.items ≡ out.old.items ++ skipped_line_of list.now job.now run.now.row run.now.left) }
+    ensures { OnOk result (out.new.items ≡ out.old.items ++ skipped_line_of list.now job.now run.now.row run.now.skipped) }
 {
-    let Some(why) = run.left else {
+    let Some(why) = run.skipped else {
         return Ok(());
     };
     push_skipped_head(out, job.name.as_str())?;

@@ -27,7 +27,7 @@ abbrev pub transfer_by : Option Code → State → State → Transfer
 transfer_by code s t = record {
   action = instr_action (option_and_then instr_of code);
   from = s.pc;
-  behind = after_code s.pc code;
+  return_address = after_code s.pc code;
   to = t.pc;
   sp = register s 2;
 }

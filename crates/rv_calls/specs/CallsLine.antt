@@ -24,8 +24,8 @@ abbrev pub call_text : Image → List ℕ → Frame → List ℕ
 call_text image file frame = codes " <- " ++ place_text image file frame.call
 
 -- the maximum number of calls shown; with the pc there are 32 addresses
-abbrev pub most_told : ℕ
-most_told = 31
+abbrev pub most_shown : ℕ
+most_shown = 31
 
 -- the number of further calls; empty if there are none
 unfoldable pub more_text : ℕ → List ℕ
@@ -33,12 +33,12 @@ more_text count = if count == 0 then [] else codes " <- " ++ decimal count ++ co
 
 -- the number of frames that are not shown; empty if all are shown
 abbrev pub rest_text : List Frame → List ℕ
-rest_text frames = more_text (length frames - most_told)
+rest_text frames = more_text (length frames - most_shown)
 
 -- the pc at the end, then the address of each call, innermost first, up to the maximum, then the number of further calls
 unfoldable pub places_text : Image → List ℕ → ℕ → List Frame → List ℕ
 places_text image file pc frames = place_text image file pc
-    ++ flat_map (call_text image file) (take most_told (reverse frames)) ++ rest_text frames
+    ++ flat_map (call_text image file) (take most_shown (reverse frames)) ++ rest_text frames
 
 -- the line of the calls that have not returned, with the pc at the end of the run
 unfoldable pub calls_line : Image → List ℕ → ℕ → List Frame → List ℕ

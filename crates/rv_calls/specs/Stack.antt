@@ -85,7 +85,7 @@ is_pushed left t = pushes_frame t.action && nat_lt (length left) most_frames
 
 -- the frame that a call pushes
 abbrev pub frame_of : Transfer → Frame
-frame_of t = record { return_address = t.behind; sp = t.sp; call = t.from }
+frame_of t = record { return_address = t.return_address; sp = t.sp; call = t.from }
 
 -- the frames left by the pop of a transfer, with its frame if it pushes one
 abbrev pub pushed : List Frame → Transfer → List Frame

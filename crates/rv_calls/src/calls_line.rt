@@ -3,7 +3,7 @@
 ghost use Rattle.std.specs.Prelude.{◌≡◌, ◌==◌, ◌++◌, ◌-◌, ◌≤◌, OnOk, length, reverse, take, option_map};
 ghost use Rattle.std.specs.List.{flat_map};
 ghost use Rattle.rv_elf.specs.SymbolSearch.{symbol_at};
-ghost use Rattle.rv_calls.specs.CallsLine.{call_text, calls_line, calls_text, more_text, most_told, place_text};
+ghost use Rattle.rv_calls.specs.CallsLine.{call_text, calls_line, calls_text, more_text, most_shown, place_text};
 ghost use Rattle.rv_calls.specs.CallsLine.{places_text, rest_text, symbol_or_address};
 
 use crate::frames::{Frame, Frames};
@@ -14,7 +14,7 @@ use rv_trace::ElfFile;
 use std::alloc::{AllocError, Global};
 
 /// The maximum number of calls shown; with the final pc there are 32 addresses.
-const MOST_TOLD: usize = 31;
+const MOST_SHOWN: usize = 31;
 
 /// Appends the line of the calls that have not returned when a run ended, or nothing if all have: the final pc and the address of each
 /// call, innermost first, at most 32 addresses, then the number of further calls. Addresses are shown by the symbols of the job's file, or
@@ -76,9 +76,9 @@ fn push_calls(
     frames: &[Frame],
 ) -> Result<(), AllocError>
     ensures { OnOk result (bytes.new.items ≡ bytes.old.items
-        ++ flat_map (call_text elf.now.image.now elf.now.bytes.now) (take most_told (reverse frames.now))) }
+        ++ flat_map (call_text elf.now.image.now elf.now.bytes.now) (take most_shown (reverse frames.now))) }
 {
-    for n in 0..frames.len().min(MOST_TOLD) {
+    for n in 0..frames.len().min(MOST_SHOWN) {
         push_call(alloc, bytes, elf, frames[frames.len() - 1 - n])?;
     }
     Ok(())
@@ -139,7 +139,7 @@ fn push_symbol_or_address(
 fn push_rest(bytes: &mut Vec<u8>, frames: &[Frame]) -> Result<(), AllocError>
     ensures { OnOk result (bytes.new.items ≡ bytes.old.items ++ rest_text frames.now) }
 {
-    push_more(bytes, frames.len().saturating_sub(MOST_TOLD))
+    push_more(bytes, frames.len().saturating_sub(MOST_SHOWN))
 }
 
 // Appends the number of further calls; nothing if there are none.

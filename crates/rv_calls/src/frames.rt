@@ -43,7 +43,7 @@ fn frame_of(transfer: Transfer) -> Frame
     ensures { result ≡ frame_of transfer }
 {
     Frame {
-        return_address: transfer.behind,
+        return_address: transfer.return_address,
         sp: transfer.sp,
         call: transfer.from,
     }

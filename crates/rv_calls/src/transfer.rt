@@ -20,7 +20,7 @@ pub struct Transfer {
     /// The instruction's address.
     pub from: u32,
     /// The address after it, to which a call returns.
-    pub behind: u32,
+    pub return_address: u32,
     /// The address at which control continued.
     pub to: u32,
     /// The stack pointer x2 before the instruction.
@@ -47,7 +47,7 @@ pub fn next_transfer(machine: &mut Machine) -> Option<Transfer>
     Some(Transfer {
         action: action_of_code(code),
         from,
-        behind: after_code(from, code),
+        return_address: after_code(from, code),
         to: machine.pc(),
         sp,
     })
@@ -55,12 +55,12 @@ pub fn next_transfer(machine: &mut Machine) -> Option<Transfer>
 
 /// Returns how a completed instruction of `length` bytes passed control from a pc to another, given the stack pointer before it.
 pub fn transfer_by(instr: Instr, length: u32, from: u32, stack: u32, to: u32) -> Transfer
-    ensures { result ≡ record { action = instr_action (Some instr); from = from; behind = (from + length) % 0x1_0000_0000; to = to; sp = stack } }
+    ensures { result ≡ record { action = instr_action (Some instr); from = from; return_address = (from + length) % 0x1_0000_0000; to = to; sp = stack } }
 {
     Transfer {
         action: action_of(instr),
         from,
-        behind: from.wrapping_add(length),
+        return_address: from.wrapping_add(length),
         to,
         sp: stack,
     }

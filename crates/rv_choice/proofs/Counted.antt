@@ -55,5 +55,5 @@ pub choice_count : (known : Option FileContents) (words : RunArgs) (rule : Rule)
     (notes : List ℕ) → IsChoice known words rule jobs (Some marks) notes → length marks ≡ length jobs
 choice_count known words rule jobs marks notes is =
     let Counts : Option (List Bool) → Type 0 = λ wanted. AreRequested known words rule jobs wanted notes in
-    left_some _ jobs is.wanted marks
+    left_some _ jobs is.requested marks
     (λ m same. wanted_count known words rule jobs m notes (subst Counts same is.are)) is.left

@@ -5,7 +5,7 @@ use Rattle.std.specs.Borrow.{Bor}
 use Rattle.std.specs.List.{flat_map, list_any}
 use Rattle.rv_lists.specs.declared.job.Job.{Job}
 use Rattle.regex.specs.Patterns.{Re, find_str}
-use Rattle.rv_choice.specs.Choice.{borrowed_names, chosen_marks, is_found_in_names, is_left, remaining_marks}
+use Rattle.rv_choice.specs.Choice.{borrowed_names, chosen_marks, is_found_in_names, stays_selected, remaining_marks}
 
 -- what holds for one of them holds for its text
 pub any_text : (p : List ℕ → Bool) (names : List (Bor (List ℕ)))
@@ -29,20 +29,20 @@ found_marks pattern (job ∷ jobs) =
 
 left_append : (pattern : Re) (jobs : List Job) (marks : List Bool) (job : Job) (mark : Bool) → length marks ≡ length jobs
     → remaining_marks pattern (jobs ++ job ∷ []) (marks ++ mark ∷ [])
-    ≡ remaining_marks pattern jobs marks ++ is_left mark (is_some (find_str pattern job.name 0)) ∷ []
+    ≡ remaining_marks pattern jobs marks ++ stays_selected mark (is_some (find_str pattern job.name 0)) ∷ []
 unfolding remaining_marks
 left_append pattern [] [] job mark same = refl
 left_append pattern [] (other ∷ marks) job mark same = absurd (omega (arith, same))
 left_append pattern (first ∷ jobs) [] job mark same = absurd (omega (arith, same))
 left_append pattern (first ∷ jobs) (other ∷ marks) job mark same =
-    ap (λ left. is_left other (is_some (find_str pattern first.name 0)) ∷ left)
+    ap (λ left. stays_selected other (is_some (find_str pattern first.name 0)) ∷ left)
     (left_append pattern jobs marks job mark (omega (arith, same)))
 
 -- what a pattern leaves of the marks before a place, and of the one there
 pub left_more : (pattern : Re) (jobs : List Job) (marks : List Bool) (place : ℕ) (job : Job) (mark : Bool)
     → length marks ≡ length jobs → place < length jobs → get_or jobs place job ≡ job → get_or marks place mark ≡ mark
     → remaining_marks pattern (take (place + 1) jobs) (take (place + 1) marks)
-    ≡ remaining_marks pattern (take place jobs) (take place marks) ++ is_left mark (is_some (find_str pattern job.name 0)) ∷ []
+    ≡ remaining_marks pattern (take place jobs) (take place marks) ++ stays_selected mark (is_some (find_str pattern job.name 0)) ∷ []
 left_more pattern jobs marks place job mark same within is_job is_mark =
     let counts : length (take place marks) ≡ length (take place jobs) =
     omega (arith, same, length-take-le place jobs (omega arith), length-take-le place marks (omega (arith, same))) in

@@ -60,7 +60,7 @@ emptied_by : (known : Option FileContents) (words : RunArgs) (rule : Rule) (jobs
 emptied_by known words rule jobs notes stop marks regex are source read is =
     exclusion (regex_source regex) (sym source) (inr (
       record {
-        wanted = marks.items;
+        requested = marks.items;
         notes = notes;
         are = are;
         pattern = regex;

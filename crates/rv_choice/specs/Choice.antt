@@ -82,23 +82,23 @@ abbrev pub is_found_in_names : Re → List Job → Bool
 is_found_in_names pattern jobs = list_any (λ job. is_some (find_str pattern job.name 0)) jobs
 
 -- whether a selected job stays selected: the pattern of `--exclude` is not found in its name
-abbrev pub is_left : Bool → Bool → Bool
-is_left mark is_found = mark && not is_found
+abbrev pub stays_selected : Bool → Bool → Bool
+stays_selected mark is_found = mark && not is_found
 
 -- the selection without the jobs whose names the pattern of `--exclude` matches
 unfoldable pub remaining_marks : Re → List Job → List Bool → List Bool
 remaining_marks pattern [] marks = []
 remaining_marks pattern (job ∷ jobs) [] = []
 remaining_marks pattern (job ∷ jobs) (mark ∷ marks) =
-    is_left mark (is_some (find_str pattern job.name 0)) ∷ remaining_marks pattern jobs marks
+    stays_selected mark (is_some (find_str pattern job.name 0)) ∷ remaining_marks pattern jobs marks
 
 -- whether some job is selected
-abbrev pub has_mark : List Bool → Bool
-has_mark marks = list_any (λ mark. mark) marks
+abbrev pub is_any_selected : List Bool → Bool
+is_any_selected marks = list_any (λ mark. mark) marks
 
 -- whether the selection `marks` is not empty, but the selection `left` is
 abbrev pub are_emptied : List Bool → List Bool → Bool
-are_emptied marks left = has_mark marks && not (has_mark left)
+are_emptied marks left = is_any_selected marks && not (is_any_selected left)
 
 -- whether a job has this name
 abbrev pub has_job_named : List Job → List ℕ → Bool

@@ -48,13 +48,13 @@ IsPatternStop list text jobs stop = (stop ≡ why.OutOfMemory)
 pub record LeavesNone (known : Option FileContents) (words : RunArgs) (rule : Rule) (jobs : List Job) (text : List ℕ)
     : Type 0 where
   -- the selection before any jobs are excluded
-  pub wanted : List Bool
+  pub requested : List Bool
   pub notes : List ℕ
-  pub are : AreRequested known words rule jobs (Some wanted) notes
+  pub are : AreRequested known words rule jobs (Some requested) notes
   pub pattern : Regex
   pub source : regex_source pattern ≡ text
   pub read : IsReadByDefault pattern
-  pub emptied : are_emptied wanted (remaining_marks (regex_pattern pattern) jobs wanted) ≡ true
+  pub emptied : are_emptied requested (remaining_marks (regex_pattern pattern) jobs requested) ≡ true
 
 -- the message that the pattern of `--exclude` leaves no jobs of the list
 abbrev pub emptied_choice : List ℕ → List ℕ → List ℕ

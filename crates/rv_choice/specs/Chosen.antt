@@ -72,9 +72,9 @@ AreLeft _ jobs wanted left = left ≡ wanted
 pub record IsChoice (known : Option FileContents) (words : RunArgs) (rule : Rule) (jobs : List Job)
     (marks : Option (List Bool)) (notes : List ℕ) : Type 0 where
   -- the selection before any jobs are excluded
-  pub wanted : Option (List Bool)
-  pub are : AreRequested known words rule jobs wanted notes
+  pub requested : Option (List Bool)
+  pub are : AreRequested known words rule jobs requested notes
   pub excluded : Option Regex
   pub source : option_map regex_source excluded ≡ borrowed_text words.exclude
   pub read : IfSome excluded IsReadByDefault
-  pub left : AreLeft (option_map regex_pattern excluded) jobs wanted marks
+  pub left : AreLeft (option_map regex_pattern excluded) jobs requested marks

@@ -4,7 +4,7 @@ ghost use Rattle.std.specs.Prelude.{◌≡◌, ◌⊎◌, ◌++◌, IfErr, IfOk,
 ghost use Rattle.std.specs.Prelude.{false, is_some, length, option_map};
 ghost use Rattle.regex.specs.Strings.{regex_pattern, regex_source};
 ghost use Rattle.rv_choice.specs.BadValues.{IsBadPatternText, IsBadPatternStop};
-ghost use Rattle.rv_choice.specs.Choice.{IsReadByDefault, are_emptied, borrowed_names, chosen_marks, failed_job_names, has_mark};
+ghost use Rattle.rv_choice.specs.Choice.{IsReadByDefault, are_emptied, borrowed_names, chosen_marks, failed_job_names, is_any_selected};
 ghost use Rattle.rv_choice.specs.Choice.{is_found_in_names, jobs_without_row, remaining_marks, optional_names, pattern_of, requested_names};
 ghost use Rattle.rv_choice.specs.ChoiceStops.{IsChoiceStop, IsEmptiedStop, IsPatternStop, IsRefusedPattern, emptied_choice};
 ghost use Rattle.rv_choice.specs.ChoiceStops.{unmatched_pattern};
@@ -17,7 +17,7 @@ ghost use Rattle.rv_command.specs.Stops.{IsRequestedUnreadStop, IsStop};
 
 use crate::bad_value::{bad_value_stop, bad_value_text};
 use crate::failed_jobs::{failed_job_names, failed_job_notes, jobs_without_row};
-use crate::marks::{Wanted, chosen_marks, first_unknown_name, remaining_marks};
+use crate::marks::{Criteria, chosen_marks, first_unknown_name, remaining_marks};
 use crate::unknown_name::unknown_name_stop;
 use regex::Regex;
 use rv_command::{RequestedReport, Stop, cut_off_note, read_requested_report};
@@ -171,7 +171,7 @@ impl<'x, D: Inputs> Chooser<'x, D> {
             ⊎ IsEmptiedStop self.now.args.now.list.now jobs.now marks.now excluded.now stop) }
     {
         let left = remaining_marks(self.alloc, jobs, marks, excluded)?;
-        if has_mark(marks) && !has_mark(left.as_slice()) {
+        if is_any_selected(marks) && !is_any_selected(left.as_slice()) {
             return Err(emptied_choice_stop(self.alloc, self.args.list, excluded.as_str()));
         }
         Ok(left)
@@ -272,7 +272,7 @@ impl<'x, D: Inputs> Chooser<'x, D> {
             ≡ chosen_marks (requested_names self.now.args.now.only.items) (pattern_of pattern.entry)
             (optional_names failed.entry) jobs.now) }
     {
-        let wanted = Wanted {
+        let wanted = Criteria {
             only: requested_names(self.args),
             pattern,
             failed,
@@ -325,18 +325,18 @@ fn is_found_in_job_names(alloc: Global, pattern: &Regex, jobs: &[Job]) -> Result
     ensures { IfOk result
         (λ found. found ≡ is_found_in_names (regex_pattern pattern.now) jobs.now) }
 {
-    let wanted = Wanted {
+    let wanted = Criteria {
         only: None,
         pattern: Some(pattern),
         failed: None,
     };
     let marks = chosen_marks(alloc, jobs, wanted)?;
-    Ok(has_mark(marks.as_slice()))
+    Ok(is_any_selected(marks.as_slice()))
 }
 
 // Whether some job is selected.
-fn has_mark(marks: &[bool]) -> bool
-    ensures { result ≡ has_mark marks.now }
+fn is_any_selected(marks: &[bool]) -> bool
+    ensures { result ≡ is_any_selected marks.now }
 {
     marks.iter().any(|mark| *mark)
 }

@@ -3,7 +3,7 @@
 ghost use Rattle.std.specs.Prelude.{◌≡◌, IfOk, length, option_map};
 ghost use Rattle.regex.specs.Strings.{matcher_pattern, regex_pattern};
 ghost use Rattle.rv_choice.specs.Choice.{choice_by_names, choice_by_pattern, has_job_named, is_among_names, is_chosen, is_chosen_name};
-ghost use Rattle.rv_choice.specs.Choice.{chosen_marks, borrowed_names, is_left, remaining_marks, pattern_of, optional_names};
+ghost use Rattle.rv_choice.specs.Choice.{chosen_marks, borrowed_names, stays_selected, remaining_marks, pattern_of, optional_names};
 ghost use Rattle.rv_choice.specs.UnknownName.{unknown_name};
 
 use regex::{Matcher, Regex};
@@ -12,7 +12,7 @@ use std::alloc::{AllocError, Global};
 
 /// The criteria that choose jobs: a job is chosen if one of them chooses it. Without criteria every job is chosen.
 #[derive(Clone, Copy)]
-pub(crate) struct Wanted<'a> {
+pub(crate) struct Criteria<'a> {
     /// The names of the chosen jobs.
     pub(crate) only: Option<&'a [&'a str]>,
     /// A pattern that matches anywhere in the names of the chosen jobs.
@@ -25,7 +25,7 @@ pub(crate) struct Wanted<'a> {
 pub(crate) fn chosen_marks(
     alloc: Global,
     jobs: &[Job],
-    wanted: Wanted<'_>,
+    wanted: Criteria<'_>,
 ) -> Result<Vec<bool>, AllocError>
     ensures { IfOk result (λ marks. marks.items ≡ chosen_marks (optional_names wanted.entry.only)
         (pattern_of wanted.entry.pattern) (optional_names wanted.entry.failed) jobs.now) }
@@ -52,14 +52,14 @@ pub(crate) fn remaining_marks(
     let mut left = Vec::new(alloc);
     for place in 0..jobs.len() {
         let is_found = matcher.is_match(jobs[place].name.as_str());
-        left.push(is_left(marks[place], is_found))?;
+        left.push(stays_selected(marks[place], is_found))?;
     }
     Ok(left)
 }
 
 // Whether a selected job stays selected, given whether the pattern matches its name.
-fn is_left(mark: bool, is_found: bool) -> bool
-    ensures { result ≡ is_left mark is_found }
+fn stays_selected(mark: bool, is_found: bool) -> bool
+    ensures { result ≡ stays_selected mark is_found }
 {
     mark && !is_found
 }
@@ -75,7 +75,7 @@ fn matcher_of(alloc: Global, pattern: Option<&Regex>) -> Result<Option<Matcher<'
 }
 
 // Whether a job of this name is chosen: by the names of `--only`, by the pattern, or by the names of failed jobs.
-fn is_chosen_name(wanted: Wanted<'_>, matcher: &mut Option<Matcher<'_>>, name: &str) -> bool
+fn is_chosen_name(wanted: Criteria<'_>, matcher: &mut Option<Matcher<'_>>, name: &str) -> bool
     requires { option_map matcher_pattern matcher.old ≡ pattern_of wanted.pattern }
     ensures chosen { result ≡ is_chosen_name (optional_names wanted.entry.only)
         (pattern_of wanted.entry.pattern) (optional_names wanted.entry.failed) name.now }

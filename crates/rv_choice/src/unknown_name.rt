@@ -80,13 +80,13 @@ fn push_near_name<'a>(message: &mut Vec<u8>, near: &'a str) -> Result<(), AllocE
 }
 
 // The maximum number of names that are shown.
-const MOST_TOLD: usize = 20;
+const MOST_SHOWN: usize = 20;
 
 // Appends the names of the first 20 jobs, and how many more there are.
 fn push_names(message: &mut Vec<u8>, jobs: &[Job]) -> Result<(), AllocError>
     ensures { OnOk result (message.new.items ≡ message.old.items ++ shown_names jobs.now) }
 {
-    let told = jobs.len().min(MOST_TOLD);
+    let told = jobs.len().min(MOST_SHOWN);
     push_first_names(message, &jobs[..told], jobs.len())?;
     push_text(message, "\"")?;
     push_names_left(message, jobs.len())
@@ -133,10 +133,10 @@ fn text_before_name(place: usize, count: usize) -> &'static str
 fn push_names_left(message: &mut Vec<u8>, count: usize) -> Result<(), AllocError>
     ensures { OnOk result (message.new.items ≡ message.old.items ++ names_left count) }
 {
-    if count <= MOST_TOLD {
+    if count <= MOST_SHOWN {
         return Ok(());
     }
-    let left = (count - MOST_TOLD) as u64;
+    let left = (count - MOST_SHOWN) as u64;
     push_spans(
         message,
         &[Span::Text(" and "), Span::Number(left), Span::Text(" more")],

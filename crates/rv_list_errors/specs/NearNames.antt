@@ -61,8 +61,8 @@ present (None ∷ names) = present names
 present (Some name ∷ names) = name ∷ present names
 
 -- the maximum number of names that are listed
-abbrev pub most_told : ℕ
-most_told = 20
+abbrev pub most_listed_names : ℕ
+most_listed_names = 20
 
 -- a name in quotes, as it is shown
 abbrev pub quoted : List ℕ → List ℕ
@@ -79,8 +79,8 @@ names_from count place (name ∷ names) = separator count place ++ (quoted name 
 
 -- how many more names there are than are listed, or nothing if all are listed
 abbrev pub left_text : ℕ → List ℕ
-left_text count = if nat_lt most_told count then codes " and " ++ (decimal (count - most_told) ++ codes " more") else []
+left_text count = if nat_lt most_listed_names count then codes " and " ++ (decimal (count - most_listed_names) ++ codes " more") else []
 
 -- the first names in quotes, as a sentence lists them, and how many more there are
 abbrev pub names_text : List (List ℕ) → List ℕ
-names_text names = names_from (length names) 0 (take most_told names) ++ left_text (length names)
+names_text names = names_from (length names) 0 (take most_listed_names names) ++ left_text (length names)

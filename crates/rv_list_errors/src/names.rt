@@ -3,7 +3,7 @@
 ghost use Rattle.std.specs.Prelude.{◌≡◌, ◌++◌, ◌∷◌, ◌+◌, ◌-◌, ◌<◌, ◌≤◌, [], IsOk, MatchOption, OnOk, is_some, length, min, take};
 ghost use Rattle.std.specs.List.{count_by};
 ghost use Rattle.rv_list_errors.specs.FaultHeads.{borrowed_name, borrowed_names};
-ghost use Rattle.rv_list_errors.specs.NearNames.{Adds, IsNearName, most_told, name_distance, names_from, names_text, present};
+ghost use Rattle.rv_list_errors.specs.NearNames.{Adds, IsNearName, most_listed_names, name_distance, names_from, names_text, present};
 ghost use Rattle.rv_list_errors.specs.NearestJob.{IsNear};
 ghost use Rattle.toml.specs.View.{table_view};
 ghost use Rattle.rv_list_errors.specs.JobFaults.{ExplainsName, ExplainsSameAs, job_of_name_text};
@@ -179,8 +179,8 @@ fn present_count(names: &[Option<&str>]) -> usize
 
 // Appends the first names that exist, up to the maximum, and returns how many were appended. `count` is the number of all names that exist.
 fn push_first_names(message: &mut Message, names: &[Option<&str>], count: usize) -> usize
-    ensures told { result ≡ min (length (present (borrowed_names names.now))) most_told }
-    ensures text { Adds message.old message.new (names_from count 0 (take most_told (present (borrowed_names names.now)))) }
+    ensures told { result ≡ min (length (present (borrowed_names names.now))) most_listed_names }
+    ensures text { Adds message.old message.new (names_from count 0 (take most_listed_names (present (borrowed_names names.now)))) }
 {
     let mut told = 0;
     for name in names {
@@ -191,10 +191,10 @@ fn push_first_names(message: &mut Message, names: &[Option<&str>], count: usize)
 
 // Appends a name, if it exists and the maximum has not been reached, and returns how many have been appended.
 fn push_next_name(message: &mut Message, name: Option<&str>, told: usize, count: usize) -> usize
-    requires { told ≤ most_told }
-    ensures told { result ≡ min (told + length (present (borrowed_name name.entry ∷ []))) most_told }
+    requires { told ≤ most_listed_names }
+    ensures told { result ≡ min (told + length (present (borrowed_name name.entry ∷ []))) most_listed_names }
     ensures text { Adds message.old message.new
-        (names_from count told (take (most_told - told) (present (borrowed_name name.entry ∷ [])))) }
+        (names_from count told (take (most_listed_names - told) (present (borrowed_name name.entry ∷ [])))) }
 {
     match name {
         Some(name) => push_name_if_few(message, name, told, count),
@@ -204,9 +204,9 @@ fn push_next_name(message: &mut Message, name: Option<&str>, told: usize, count:
 
 // Appends a name unless the maximum has been reached, and returns how many have been appended.
 fn push_name_if_few(message: &mut Message, name: &str, told: usize, count: usize) -> usize
-    requires { told ≤ most_told }
-    ensures told { result ≡ min (told + 1) most_told }
-    ensures text { Adds message.old message.new (names_from count told (take (most_told - told) (name.now ∷ []))) }
+    requires { told ≤ most_listed_names }
+    ensures told { result ≡ min (told + 1) most_listed_names }
+    ensures text { Adds message.old message.new (names_from count told (take (most_listed_names - told) (name.now ∷ []))) }
 {
     if told == MOST_TOLD {
         return told;
@@ -217,7 +217,7 @@ fn push_name_if_few(message: &mut Message, name: &str, told: usize, count: usize
 
 // Appends the separator before the name at an index, and the name in quotes.
 fn push_name_of_many(message: &mut Message, name: &str, place: usize, count: usize)
-    requires { place < most_told }
+    requires { place < most_listed_names }
     ensures { Adds message.old message.new (separator count place ++ quoted name.now) }
 {
     message.push(match place {

@@ -28,7 +28,7 @@ abbrev pub IsGoldenPlace : Option (List ℕ) → List Job → List ℕ → Type 
 IsGoldenPlace root jobs place = (path : List ℕ) × (IsGoldenPath jobs path × (place ≡ resolved_path root path))
 
 abbrev HasGoldenPlace : Option (List ℕ) → List Job → GoldenFile → Type 0
-HasGoldenPlace root jobs file = IsGoldenPlace root jobs file.place
+HasGoldenPlace root jobs file = IsGoldenPlace root jobs file.resolved_path
 
 abbrev HasGoldenPath : List Job → Target → Type 0
 HasGoldenPath jobs target = IsGoldenPath jobs target.path
@@ -37,7 +37,7 @@ HasGoldenPath jobs target = IsGoldenPath jobs target.path
 pub places_of_targets : (known : Option FileContents) (root : Option (List ℕ)) (jobs : List Job) (targets : List Target)
     (files : List GoldenFile) → AreGoldenFiles known root targets files
     → All (λ (target : Target). IsGoldenPath jobs target.path) targets
-    → All (λ (file : GoldenFile). IsGoldenPlace root jobs file.place) files
+    → All (λ (file : GoldenFile). IsGoldenPlace root jobs file.resolved_path) files
 places_of_targets known root jobs [] [] are each = All-nil (HasGoldenPlace root jobs)
 places_of_targets known root jobs (target ∷ targets) (file ∷ files) are each =
     All-cons (HasGoldenPlace root jobs) file files
@@ -65,15 +65,15 @@ stop_of_unread known words jobs why =
 -- the list, or a golden file, was not written
 stop_of_files : (known : Option FileContents) (words : AcceptArgs) (jobs : List Job) (list : List ℕ)
     (files : List GoldenFile) (why : Stop) → list ≡ words.run.list.now
-    → All (λ (file : GoldenFile). IsGoldenPlace (optional_text words.run.root) jobs file.place) files
+    → All (λ (file : GoldenFile). IsGoldenPlace (optional_text words.run.root) jobs file.resolved_path) files
     → IsStopOfFiles (IsFileNotWrittenStop known) list files why
     → (path : List ℕ) × (IsFileOfList words jobs path × IsFileNotWrittenStop known path why)
 stop_of_files known words jobs list files why same each = ⊎_elim (λ own. (list, (inl same, own)))
-    (λ some. (some.1.place, (inr (rw some.3 at (each some.0 some.1 some.2)), some.4)))
+    (λ some. (some.1.resolved_path, (inr (rw some.3 at (each some.0 some.1 some.2)), some.4)))
 
 pub stop_of_put : (known : Option FileContents) (words : AcceptArgs) (jobs : List Job) (list : List ℕ)
     (files : List GoldenFile) (why : Stop) → list ≡ words.run.list.now
-    → All (λ (file : GoldenFile). IsGoldenPlace (optional_text words.run.root) jobs file.place) files
+    → All (λ (file : GoldenFile). IsGoldenPlace (optional_text words.run.root) jobs file.resolved_path) files
     → IsAcceptanceWriteStop known words.check list files why → IsAcceptingStop known words jobs why
 stop_of_put known words jobs list files why same each = ⊎_elim inl (⊎_elim (λ failed. inr (inr (inl failed)))
     (λ is. let of = stop_of_files known words jobs list files why same each is.1 in
@@ -108,4 +108,4 @@ files_unput known words jobs list runs claims files why same are golden =
 pub files_stop : (P Q : List ℕ → Stop → Type 0) (list : List ℕ) (files : List GoldenFile) (why : Stop)
     → ((path : List ℕ) → P path why → Q path why) → IsStopOfFiles P list files why → IsStopOfFiles Q list files why
 files_stop P Q list files why f = ⊎_elim (λ own. inl (f list own))
-    (λ some. inr (some.0, some.1, some.2, some.3, f some.1.place some.4))
+    (λ some. inr (some.0, some.1, some.2, some.3, f some.1.resolved_path some.4))

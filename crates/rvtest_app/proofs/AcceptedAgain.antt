@@ -105,7 +105,7 @@ content_of store root answers path bytes are read holds =
 
 -- a file of those that are told is that of its target
 abbrev IsOf : Option (List ℕ) → List GoldenText → GoldenFile → Type 0
-IsOf root claims file = (file.place ≡ resolved_path root file.target.path)
+IsOf root claims file = (file.resolved_path ≡ resolved_path root file.target.path)
     × (file.target.fate ≡ outcome_of_golden_file file.target.path claims)
 
 are_of : (before : FileContents) (root : Option (List ℕ)) (claims : List GoldenText) (targets : List Target)
@@ -200,7 +200,7 @@ module _ (words : AcceptArgs) (before after : FileContents) (bytes : List ℕ) (
   files_are : AreGoldenFiles (Some before) root targets told.files.now
   files_are = rw outcome.claims at outcome.files
 
-  files_stood : All (λ (file : GoldenFile). before file.place ≡ file.old) told.files.now
+  files_stood : All (λ (file : GoldenFile). before file.resolved_path ≡ file.old) told.files.now
   files_stood = stood before root targets told.files.now files_are
 
   list_stood : before told.list.path.now ≡ Some told.list.text.now

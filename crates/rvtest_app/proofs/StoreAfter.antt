@@ -42,26 +42,26 @@ to_file P path (Some text) each = All-cons P (committed_file path text) [] (each
 
 -- what holds of the text that a golden file is given
 abbrev OfNew : (CommittedFile → Type 0) → ListFile → GoldenFile → Type 0
-OfNew P list file = (text : List ℕ) → new_text list file ≡ Some text → P (committed_file file.place text)
+OfNew P list file = (text : List ℕ) → new_text list file ≡ Some text → P (committed_file file.resolved_path text)
 
 of_golden : (P : CommittedFile → Type 0) (list : ListFile) (files : List GoldenFile)
-    → All P (flat_map (λ (file : GoldenFile). file_if file.place (new_text list file)) files)
+    → All P (flat_map (λ (file : GoldenFile). file_if file.resolved_path (new_text list file)) files)
     → All (OfNew P list) files
 of_golden P list [] each = All-nil (OfNew P list)
 of_golden P list (file ∷ files) each = All-cons (OfNew P list) file files
-    (of_file P file.place (new_text list file) (all_left P (file_if file.place (new_text list file)) _ each))
-    (of_golden P list files (all_right P (file_if file.place (new_text list file)) _ each))
+    (of_file P file.resolved_path (new_text list file) (all_left P (file_if file.resolved_path (new_text list file)) _ each))
+    (of_golden P list files (all_right P (file_if file.resolved_path (new_text list file)) _ each))
 
 to_golden : (P : CommittedFile → Type 0) (list : ListFile) (files : List GoldenFile) → All (OfNew P list) files
-    → All P (flat_map (λ (file : GoldenFile). file_if file.place (new_text list file)) files)
+    → All P (flat_map (λ (file : GoldenFile). file_if file.resolved_path (new_text list file)) files)
 to_golden P list [] each = All-nil P
-to_golden P list (file ∷ files) each = All-append P (file_if file.place (new_text list file)) _
-    (to_file P file.place (new_text list file) (All-head (OfNew P list) file files each))
+to_golden P list (file ∷ files) each = All-append P (file_if file.resolved_path (new_text list file)) _
+    (to_file P file.resolved_path (new_text list file) (All-head (OfNew P list) file files each))
     (to_golden P list files (All-tail (OfNew P list) file files each))
 
 -- the golden files that are written
 abbrev golden_written : AcceptSummary → List CommittedFile
-golden_written told = flat_map (λ (file : GoldenFile). file_if file.place (new_text told.list file)) told.files.now
+golden_written told = flat_map (λ (file : GoldenFile). file_if file.resolved_path (new_text told.list file)) told.files.now
 
 -- what holds of each golden file's new text, and of the list's, holds of each file that is written
 to_written : (P : CommittedFile → Type 0) (told : AcceptSummary) → All (OfNew P told.list) told.files.now
@@ -75,10 +75,10 @@ to_written P told golden list = All-append P (golden_written told)
 
 -- each golden file holds what stands at its place, which its path leads to
 abbrev Stood : FileContents → GoldenFile → Type 0
-Stood before file = before file.place ≡ file.old
+Stood before file = before file.resolved_path ≡ file.old
 
 pub stood : (before : FileContents) (root : Option (List ℕ)) (targets : List Target) (files : List GoldenFile)
-    → AreGoldenFiles (Some before) root targets files → All (λ (file : GoldenFile). before file.place ≡ file.old) files
+    → AreGoldenFiles (Some before) root targets files → All (λ (file : GoldenFile). before file.resolved_path ≡ file.old) files
 stood before root [] [] are = All-nil (Stood before)
 stood before root [] (file ∷ files) are = absurd are
 stood before root (target ∷ targets) [] are = absurd are
@@ -91,7 +91,7 @@ stood before root (target ∷ targets) (file ∷ files) are =
 kept_is_not_written : {A : Type 0} (list : ListFile) (file : GoldenFile) (old text : List ℕ) → file.old ≡ Some old
     → (bytes_eq old list.text.now || starts_with nat_eq old elf_magic) ≡ true → new_text list file ≡ Some text → A
 kept_is_not_written {A} list file old text is keeps written =
-    go (bytes_eq file.place list.path.now) (is_image_path file.target.path list.jobs.now)
+    go (bytes_eq file.resolved_path list.path.now) (is_image_path file.target.path list.jobs.now)
     (rw (is, keeps) at written)
   where
     no_text : (what : GoldenFileOutcome) (old : Option (List ℕ)) → new_text_of true what old ≡ Some text → A
@@ -111,7 +111,7 @@ kept_is_not_written {A} list file old text is keeps written =
 -- what holds the list, or an ELF file which is not the list where a new list is written, is as it was
 holds_still : (told : AcceptSummary) (before after : FileContents) (path bytes : List ℕ)
     → (store : IsStoreAfter (written_files told) before after)
-    → All (λ (file : GoldenFile). before file.place ≡ file.old) told.files.now
+    → All (λ (file : GoldenFile). before file.resolved_path ≡ file.old) told.files.now
     → before path ≡ Some bytes
     → (bytes_eq bytes told.list.text.now || starts_with nat_eq bytes elf_magic) ≡ true
     → ((text : List ℕ) → new_list_text told ≡ Some text → store.leads told.list.path.now ≡ store.leads path
@@ -124,7 +124,7 @@ holds_still told before after path bytes store stood holds keeps list = go (stor
     golden = λ k other below text written leads.
         let file : GoldenFile = get_or told.files.now k other in
         kept_is_not_written told.list file bytes text
-        (sym (stood k other below) ∙ store.one_before file.place path leads ∙ holds) keeps written
+        (sym (stood k other below) ∙ store.one_before file.resolved_path path leads ∙ holds) keeps written
 
     go : (after path ≡ before path) ⊎ Any (λ (file : CommittedFile). store.leads file.path ≡ store.leads path) (written_files told)
         → after path ≡ Some bytes
@@ -143,7 +143,7 @@ or_right false b holds = holds
 -- an image that begins as an ELF file does is as it was
 pub image_stays : (told : AcceptSummary) (before after : FileContents) (path bytes : List ℕ)
     → IsStoreAfter (written_files told) before after
-    → All (λ (file : GoldenFile). before file.place ≡ file.old) told.files.now
+    → All (λ (file : GoldenFile). before file.resolved_path ≡ file.old) told.files.now
     → before told.list.path.now ≡ Some told.list.text.now → starts_with nat_eq told.list.text.now elf_magic ≡ false
     → before path ≡ Some bytes → starts_with nat_eq bytes elf_magic ≡ true → after path ≡ Some bytes
 image_stays told before after path bytes store stood list no_image holds magic =
@@ -161,7 +161,7 @@ image_stays told before after path bytes store stood list no_image holds magic =
 
 -- the list is as it was where no new one is written
 pub list_stays : (told : AcceptSummary) (before after : FileContents) → IsStoreAfter (written_files told) before after
-    → All (λ (file : GoldenFile). before file.place ≡ file.old) told.files.now
+    → All (λ (file : GoldenFile). before file.resolved_path ≡ file.old) told.files.now
     → before told.list.path.now ≡ Some told.list.text.now → new_list_text told ≡ None
     → after told.list.path.now ≡ Some told.list.text.now
 list_stays told before after store stood list none =
@@ -207,7 +207,7 @@ old_text text (Some old) is = go (bytes_eq text old) refl is
 is_not_kept : {A : Type 0} (list : ListFile) (file : GoldenFile) (old : List ℕ) → file.old ≡ Some old
     → bytes_eq old list.text.now ≡ true → is_kept list file ≡ false → A
 is_not_kept {A} list file old is same kept =
-    go (bytes_eq file.place list.path.now) (is_image_path file.target.path list.jobs.now) (rw (is, same) at kept)
+    go (bytes_eq file.resolved_path list.path.now) (is_image_path file.target.path list.jobs.now) (rw (is, same) at kept)
   where
     go : (is_list is_image : Bool) → (is_list || (is_image || true)) ≡ false → A
     go true is_image none = cc
@@ -222,12 +222,12 @@ kept_of kept what text is left = rw is at left
 -- a golden file that is not left, of a text on which all jobs agree, holds that text
 module _ (told : AcceptSummary) (before after : FileContents) (store : IsStoreAfter (written_files told) before after)
     (list : before told.list.path.now ≡ Some told.list.text.now)
-    (stood : All (λ (file : GoldenFile). before file.place ≡ file.old) told.files.now)
+    (stood : All (λ (file : GoldenFile). before file.resolved_path ≡ file.old) told.files.now)
     (alike : HaveOneTextEach store.leads told.files.now) where
   golden_there : (k : ℕ) (d : GoldenFile) → k < length told.files.now → (text : List ℕ)
       → (get_or told.files.now k d).target.fate ≡ fate.Agreed text → is_kept told.list (get_or told.files.now k d) ≡ false
       → (new : Option (List ℕ)) → new_text_of (is_kept told.list (get_or told.files.now k d)) (get_or told.files.now k d).target.fate
-      (get_or told.files.now k d).old ≡ new → after (get_or told.files.now k d).place ≡ Some text
+      (get_or told.files.now k d).old ≡ new → after (get_or told.files.now k d).resolved_path ≡ Some text
   golden_there k d below text agreed kept (Some written) new =
       let there = of_golden (λ (file : CommittedFile). after file.path ≡ Some file.bytes) told.list told.files.now
       (all_left (λ (file : CommittedFile). after file.path ≡ Some file.bytes) (golden_written told) (file_if told.list.path.now (new_list_text told))
@@ -235,15 +235,15 @@ module _ (told : AcceptSummary) (before after : FileContents) (store : IsStoreAf
       let same = agreed_text (is_kept told.list (get_or told.files.now k d)) text written (get_or told.files.now k d).old
       (rw agreed at new) in
       there ∙ ap Some (sym same)
-  golden_there k d below text agreed kept None new = go (store.others (get_or told.files.now k d).place)
+  golden_there k d below text agreed kept None new = go (store.others (get_or told.files.now k d).resolved_path)
     where
       file : GoldenFile
       file = get_or told.files.now k d
 
-      holds : before file.place ≡ Some text
+      holds : before file.resolved_path ≡ Some text
       holds = stood k d below ∙ old_text text file.old (rw (agreed, kept) at new)
 
-      golden : All (OfNew (λ (other : CommittedFile). store.leads other.path ≡ store.leads file.place → after file.place ≡ Some text)
+      golden : All (OfNew (λ (other : CommittedFile). store.leads other.path ≡ store.leads file.resolved_path → after file.resolved_path ≡ Some text)
           told.list) told.files.now
       golden = λ j e within written is leads.
           let other : GoldenFile = get_or told.files.now j e in
@@ -252,23 +252,23 @@ module _ (told : AcceptSummary) (before after : FileContents) (store : IsStoreAf
           (file_if told.list.path.now (new_list_text told)) store.there) j e within written is in
           let fate_is : other.target.fate ≡ fate.Agreed text = sym (alike k d below j e within (sym leads)) ∙ agreed in
           let same = agreed_text (is_kept told.list other) text written other.old (rw fate_is at is) in
-          store.one_after file.place other.place (sym leads) ∙ there ∙ ap Some (sym same)
+          store.one_after file.resolved_path other.resolved_path (sym leads) ∙ there ∙ ap Some (sym same)
 
       no_list : (written : List ℕ) → new_list_text told ≡ Some written
-          → store.leads told.list.path.now ≡ store.leads file.place → after file.place ≡ Some text
+          → store.leads told.list.path.now ≡ store.leads file.resolved_path → after file.resolved_path ≡ Some text
       no_list written is leads = is_not_kept told.list file told.list.text.now
-          (sym (stood k d below) ∙ store.one_before file.place told.list.path.now (sym leads) ∙ list)
+          (sym (stood k d below) ∙ store.one_before file.resolved_path told.list.path.now (sym leads) ∙ list)
           (same_bytes told.list.text.now) kept
 
-      go : (after file.place ≡ before file.place)
-          ⊎ Any (λ (other : CommittedFile). store.leads other.path ≡ store.leads file.place) (written_files told)
-          → after file.place ≡ Some text
+      go : (after file.resolved_path ≡ before file.resolved_path)
+          ⊎ Any (λ (other : CommittedFile). store.leads other.path ≡ store.leads file.resolved_path) (written_files told)
+          → after file.resolved_path ≡ Some text
       go (inl same) = same ∙ holds
-      go (inr some) = any_elim (λ (other : CommittedFile). store.leads other.path ≡ store.leads file.place) (written_files told)
-          (to_written (λ (other : CommittedFile). store.leads other.path ≡ store.leads file.place → after file.place ≡ Some text)
+      go (inr some) = any_elim (λ (other : CommittedFile). store.leads other.path ≡ store.leads file.resolved_path) (written_files told)
+          (to_written (λ (other : CommittedFile). store.leads other.path ≡ store.leads file.resolved_path → after file.resolved_path ≡ Some text)
           told golden no_list) some
 
   pub golden_files_there : All (λ (file : GoldenFile). (text : List ℕ) → file.target.fate ≡ fate.Agreed text
-      → is_left told.list file ≡ false → after file.place ≡ Some text) told.files.now
+      → is_left told.list file ≡ false → after file.resolved_path ≡ Some text) told.files.now
   golden_files_there k d below text agreed left = golden_there k d below text agreed
       (kept_of (is_kept told.list (get_or told.files.now k d)) (get_or told.files.now k d).target.fate text agreed left) _ refl

@@ -18,11 +18,11 @@ no_file None path rest count none behind = behind (omega (arith, none))
 no_file (Some text) path rest count none behind = absurd (omega (arith, none))
 
 no_golden_file : (list : ListFile) (files : List GoldenFile) → count_by (is_changed list) files ≡ 0
-    → flat_map (λ file. file_if file.place (new_text list file)) files ≡ []
+    → flat_map (λ file. file_if file.resolved_path (new_text list file)) files ≡ []
 no_golden_file list [] none = refl
 no_golden_file list (file ∷ files) none =
-    flat_map-cons (λ (file : GoldenFile). file_if file.place (new_text list file)) file files
-    ∙ no_file (new_text list file) file.place _ (count_by (is_changed list) files)
+    flat_map-cons (λ (file : GoldenFile). file_if file.resolved_path (new_text list file)) file files
+    ∙ no_file (new_text list file) file.resolved_path _ (count_by (is_changed list) files)
     (sym (sum_by-cons (λ (file : GoldenFile). cond (is_changed list file) 1 0) file files) ∙ none)
     (no_golden_file list files)
 

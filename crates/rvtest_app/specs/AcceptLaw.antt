@@ -41,7 +41,7 @@ pub record IsStoreAfter (written : List CommittedFile) (before after : FileConte
 -- golden files whose paths lead to one file, by `leads`, get the same text
 abbrev pub HaveOneTextEach : (List ℕ → List ℕ) → List GoldenFile → Type 0
 HaveOneTextEach leads files = All (λ (file : GoldenFile). All (λ (other : GoldenFile).
-    leads file.place ≡ leads other.place → file.target.fate ≡ other.target.fate) files) files
+    leads file.resolved_path ≡ leads other.resolved_path → file.target.fate ≡ other.target.fate) files) files
 
 -- ---- the job
 

@@ -43,7 +43,7 @@ IsFileNotWrittenStop known path why = IsFileNotCreatedStop path why ⊎ IsUnchec
 
 -- `happened` holds for the path of the list, or for the path of one of the golden files
 abbrev pub IsStopOfFiles : (List ℕ → Stop → Type 0) → List ℕ → List GoldenFile → Stop → Type 0
-IsStopOfFiles happened list files why = happened list why ⊎ Any (λ file. happened file.place why) files
+IsStopOfFiles happened list files why = happened list why ⊎ Any (λ file. happened file.resolved_path why) files
 
 -- memory ran out, or the golden file of one of the targets could not be read; its path is resolved against `root`
 abbrev pub AreTargetsUnread : Option FileContents → Option (List ℕ) → List Target → Stop → Type 0

@@ -17,7 +17,7 @@ use Rattle.rv_accept.specs.declared.current_verdict.Candidate.{Candidate}
 use Rattle.rv_accept.specs.declared.targets.Target.{Target}
 use Rattle.rv_accept_text.specs.GoldenFiles.{new_text}
 use Rattle.rv_accept_text.specs.NewLists.{AreLeftFrom}
-use Rattle.rv_accept_text.specs.AcceptLines.{changed_count, count_line, left_count, told_lines}
+use Rattle.rv_accept_text.specs.AcceptLines.{changed_count, count_line, skipped_count, accept_lines}
 use Rattle.rv_accept_text.specs.declared.accepting.AcceptSummary.{AcceptSummary}
 use Rattle.rv_accept_text.specs.declared.accepting.Writing.TheVariants as writing
 use Rattle.rv_accept_text.specs.declared.golden_file.GoldenFile.{GoldenFile}
@@ -77,9 +77,9 @@ IsOldAt known path old = IfSome known (λ files. files path ≡ old)
 pub record IsGoldenFile (known : Option FileContents) (root : Option (List ℕ)) (target : Target) (file : GoldenFile)
     : Type 0 where
   pub of : file.target ≡ target
-  pub leads : file.place ≡ resolved_path root target.path
+  pub leads : file.resolved_path ≡ resolved_path root target.path
   -- the old contents are those of the file there
-  pub stands : IsOldAt known file.place file.old
+  pub stands : IsOldAt known file.resolved_path file.old
 
 -- the files are the golden files of the targets, in order: with the targets' paths, resolved against `root`, and the contents of the files
 -- there
@@ -100,7 +100,7 @@ new_list_text told = option_map (λ text. text.items) told.new.now.text
 
 -- the files that `accept` writes: the golden files that get a new text, in order, and then the list if it changes
 abbrev pub written_files : AcceptSummary → List CommittedFile
-written_files told = flat_map (λ file. file_if file.place (new_text told.list file)) told.files.now
+written_files told = flat_map (λ file. file_if file.resolved_path (new_text told.list file)) told.files.now
     ++ file_if told.list.path.now (new_list_text told)
 
 -- ---- the command
@@ -133,11 +133,11 @@ pub record IsOutcome (known : Option FileContents) (words : AcceptArgs) (bytes :
 -- paths; `status` is the exit status
 abbrev pub IsAcceptanceWritten : Bool → AcceptSummary → ℕ → CommandOutputs → CommandOutputs → Type 0
 IsAcceptanceWritten true told status before after =
-    (status ≡ accept_status (left_count told) (changed_count told))
-    × IsOnlyStandardOutput (told_lines told ++ count_line writing.Asked (changed_count told) (left_count told)) before after
+    (status ≡ accept_status (skipped_count told) (changed_count told))
+    × IsOnlyStandardOutput (accept_lines told ++ count_line writing.Asked (changed_count told) (skipped_count told)) before after
 IsAcceptanceWritten false told status before after =
-    (status ≡ accept_status (left_count told) 0)
-    × Appends before.out after.out (told_lines told ++ count_line writing.Done (changed_count told) (left_count told))
+    (status ≡ accept_status (skipped_count told) 0)
+    × Appends before.out after.out (accept_lines told ++ count_line writing.Done (changed_count told) (skipped_count told))
     × (after.errors ≡ before.errors) × (after.failures ≡ before.failures)
     × AreFilesCommitted before.placed after.placed (Some (written_files told))
 

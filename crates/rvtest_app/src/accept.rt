@@ -10,7 +10,7 @@ ghost use Rattle.rv_accept.specs.declared.edits.Edit.{Edit as AnEdit};
 ghost use Rattle.rv_accept.specs.Sharing.{jobs_to_run};
 ghost use Rattle.rv_accept.specs.Targets.{with_target};
 ghost use Rattle.rv_accept_text.specs.NewLists.{AreLeftFrom};
-ghost use Rattle.rv_accept_text.specs.AcceptLines.{changed_count, count_line, left_count, told_lines};
+ghost use Rattle.rv_accept_text.specs.AcceptLines.{changed_count, count_line, skipped_count, accept_lines};
 ghost use Rattle.rv_choice.specs.Chosen.{IsChoice};
 ghost use Rattle.rv_command.specs.Texts.{IsTextAt, optional_text};
 ghost use Rattle.rv_lists.specs.JobList.{job_list_of};
@@ -354,18 +354,18 @@ fn put_accepted<'x, R, D: Inputs, F: Outputs + Drop, O: Sink + Drop, E: Sink + D
     put_lines(host.alloc, &accepting, &mut to.out)?;
     if args.check {
         put_count(host.alloc, &accepting, Writing::Asked, &mut to.out)?;
-        return Ok(accept_status(accepting.left_count(), accepting.changed_count()));
+        return Ok(accept_status(accepting.skipped_count(), accepting.changed_count()));
     }
     check_unchanged_files(host.inputs, host.alloc, &accepting)?;
     write_accepted_files(&mut to.files, host.alloc, &accepting)?;
     check_written_files(host.inputs, host.alloc, &accepting)?;
     put_count(host.alloc, &accepting, Writing::Done, &mut to.out)?;
-    Ok(accept_status(accepting.left_count(), 0))
+    Ok(accept_status(accepting.skipped_count(), 0))
 }
 
 // Writes the lines about jobs and golden files to standard output.
 fn put_lines<O: Sink>(alloc: Global, accepting: &AcceptSummary<'_>, out: &mut O) -> Result<(), Stop>
-    ensures put { OnOk result (Appends (O.taken out.old) (O.taken out.new) (told_lines accepting.now)) }
+    ensures put { OnOk result (Appends (O.taken out.old) (O.taken out.new) (accept_lines accepting.now)) }
     ensures stopped { IfErr result (λ why. (why ≡ Stop.OutOfMemory) ⊎ (why ≡ Stop.WriteFailed)) }
 {
     let mut lines = Vec::new(alloc);
@@ -381,7 +381,7 @@ fn put_count<O: Sink>(
     out: &mut O,
 ) -> Result<(), Stop>
     ensures put { OnOk result (Appends (O.taken out.old) (O.taken out.new)
-        (count_line writing (changed_count accepting.now) (left_count accepting.now))) }
+        (count_line writing (changed_count accepting.now) (skipped_count accepting.now))) }
     ensures stopped { IfErr result (λ why. (why ≡ Stop.OutOfMemory) ⊎ (why ≡ Stop.WriteFailed)) }
 {
     let mut line = Vec::new(alloc);

@@ -33,7 +33,7 @@ pub(crate) fn read_golden_files<D: Inputs>(
     for target in targets {
         let place = place_of_path(alloc, folder, target.path.as_str())?;
         let old = read_golden_file(inputs, alloc, place.as_str())?;
-        add_file(&mut files, GoldenFile { target, place, old })?;
+        add_file(&mut files, GoldenFile { target, resolved_path: place, old })?;
     }
     Ok(files)
 }
@@ -90,7 +90,7 @@ pub(crate) fn check_unchanged_files<D: Inputs>(
 {
     for file in accepting.files {
         if file.new_text(&accepting.list).is_some() {
-            check_unchanged(inputs, alloc, file.place.as_str(), old_text(file))?;
+            check_unchanged(inputs, alloc, file.resolved_path.as_str(), old_text(file))?;
         }
     }
     if accepting.new.text.is_none() {
@@ -154,7 +154,7 @@ pub(crate) fn write_accepted_files<F: Outputs>(
 {
     for file in accepting.files {
         if let Some(text) = file.new_text(&accepting.list) {
-            write_file(files, alloc, file.place.as_str(), text)?;
+            write_file(files, alloc, file.resolved_path.as_str(), text)?;
         }
     }
     match &accepting.new.text {
@@ -175,7 +175,7 @@ pub(crate) fn check_written_files<D: Inputs>(
 {
     for file in accepting.files {
         if let Some(text) = file.agreed_text(&accepting.list) {
-            check_written(inputs, alloc, file.place.as_str(), text)?;
+            check_written(inputs, alloc, file.resolved_path.as_str(), text)?;
         }
     }
     match &accepting.new.text {

@@ -2,7 +2,7 @@ use Rattle.std.proofs.Common.{◌∙◌, ◌∷◌, ◌++◌, Bool, [], List, ap
 use Rattle.std.proofs.lemmas.List.{get_or_default, take_all}
 use Rattle.regex.specs.Patterns.{Re, find_str}
 use Rattle.regex.specs.Strings.{regex_pattern}
-use Rattle.rv_choice.specs.Choice.{is_left, remaining_marks}
+use Rattle.rv_choice.specs.Choice.{stays_selected, remaining_marks}
 use Rattle.rv_choice.proofs.Names.{left_more}
 use Rattle.rv_lists.specs.declared.job.Job.{Job}
 use Rattle.rv_choice.proofs.marks.remaining_marks.Goals as goal
@@ -24,9 +24,9 @@ loop-place-preserved c =
     ∙ ap (λ (j : Job). is_some (find_str pattern j.name 0)) (sym c.index-jobs-place.is))) in
     record {
       left = c.in_ok-push.ensures.items
-          ∙ (ap (λ (left : List Bool). left ++ c.is_left.result ∷ []) c.loop-place.invariant.left
+          ∙ (ap (λ (left : List Bool). left ++ c.stays_selected.result ∷ []) c.loop-place.invariant.left
           ∙ (ap (λ (m : Bool). remaining_marks pattern (take place jobs) (take place marks) ++ m ∷ [])
-          (c.is_left.ensures ∙ ap (is_left _) found)
+          (c.stays_selected.ensures ∙ ap (stays_selected _) found)
           ∙ sym (left_more pattern jobs marks place job _ c.requires (omega arith) (sym c.index-jobs-place.is)
           (get_or_default marks place _ _ (omega (arith, c.requires))))));
       matcher = c.is_match-is_found.ensures.same ∙ c.loop-place.invariant.matcher;

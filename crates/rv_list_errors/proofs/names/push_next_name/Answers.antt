@@ -1,5 +1,5 @@
 use Rattle.std.proofs.Common.{◌-◌, List, ℕ, arith}
-use Rattle.rv_list_errors.specs.NearNames.{most_told, names_from, present}
+use Rattle.rv_list_errors.specs.NearNames.{most_listed_names, names_from, present}
 use Rattle.rv_list_errors.proofs.NamesTold.{adds_nothing, take_none}
 use Rattle.rv_list_errors.proofs.names.push_next_name.Goals as goal
 
@@ -18,4 +18,4 @@ returns-in-None-clause-told c = rw c.in-None.is (omega arith)
 pub returns-in-None-clause-text : goal.returns-in-None-clause-text
 unfolding present names_from
 returns-in-None-clause-text c =
-    rw (c.in-None.is, take_none {X = List ℕ} (most_told - c.args.told)) (adds_nothing c.args.message.now)
+    rw (c.in-None.is, take_none {X = List ℕ} (most_listed_names - c.args.told)) (adds_nothing c.args.message.now)

@@ -16,7 +16,7 @@ returns-then-args-clause-put g c = rw c.if-args.true (record {
   };
   of = (refl, c.as_slice.ensures.value, c.as_slice-2.ensures.value, c.as_slice-3.ensures.value, refl);
   put = (
-    rw (c.left_count.ensures, c.changed_count.ensures) at c.accept_status.ensures.value,
+    rw (c.skipped_count.ensures, c.changed_count.ensures) at c.accept_status.ensures.value,
     (Appends-trans _ _ _ _ _ c.in_ok-put_lines.ensures.put c.in_ok-put_count.ensures.put, refl, refl, refl),
   );
 })
@@ -32,7 +32,7 @@ returns-clause-put g c = rw c.if-args.false (record {
   };
   of = (refl, c.as_slice.ensures.value, c.as_slice-2.ensures.value, c.as_slice-3.ensures.value, refl);
   put = (
-    rw c.left_count-2.ensures at c.accept_status-2.ensures.value,
+    rw c.skipped_count-2.ensures at c.accept_status-2.ensures.value,
     Appends-trans _ _ _ _ _ c.in_ok-put_lines.ensures.put c.in_ok-put_count-2.ensures.put,
     refl,
     refl,
