@@ -8,34 +8,34 @@ use Rattle.rv_session.specs.declared.session.Session.{Session}
 -- the session received this byte and became `next`, and its reply was written: the output `old` became `new`
 pub record IsByteReplyWritten (session : Session) (byte : ℕ) (old new : Option (List ℕ)) (next : Session) : Type 0 where
   -- the reply
-  pub told : List ℕ
-  pub heard : IsByteReceived session byte told next
-  pub put : Appends old new told
+  pub reply : List ℕ
+  pub received : IsByteReceived session byte reply next
+  pub put : Appends old new reply
 
 -- the session made the requested move and became `next`, and its reply was written: the output `old` became `new`
 pub record IsMoveReplyWritten (end_text : List ℕ) (may_break : Bool) (session : Session) (old new : Option (List ℕ)) (next : Session) : Type 0 where
   -- the reply
-  pub told : List ℕ
-  pub made : IsRequestedMoveMade end_text may_break session told next
-  pub put : Appends old new told
+  pub reply : List ℕ
+  pub made : IsRequestedMoveMade end_text may_break session reply next
+  pub put : Appends old new reply
 
 -- the byte at this index of a chunk requested a move, which was made before the next byte of the chunk was received
 pub record IsMoveMade (end_text : List ℕ) (session : Session) (chunk : List ℕ) (index : ℕ) (old new : Option (List ℕ)) (next : Session)
     : Type 0 where
   -- the session after the byte, before the move is made
-  pub standing : Session
+  pub between : Session
   -- the output before the reply to the move
   pub middle : Option (List ℕ)
   pub within : index + 1 < length chunk
-  pub heard : IsByteReplyWritten session (slice_index_or chunk index 0) old middle standing
-  pub moved : IsMoveReplyWritten end_text (slice_index_or chunk (index + 1) 0 == 3) standing middle new next
+  pub replied : IsByteReplyWritten session (slice_index_or chunk index 0) old middle between
+  pub moved : IsMoveReplyWritten end_text (slice_index_or chunk (index + 1) 0 == 3) between middle new next
 
 -- the byte at this index of a chunk was handled; the Bool says that it was the last one and requested a move, which is pending
 abbrev pub IsByteAnswered : List ℕ → Session → List ℕ → ℕ → Bool → Option (List ℕ) → Option (List ℕ) → Session → Type 0
 IsByteAnswered end_text session chunk index true old new next =
-    (index + 1 ≡ length chunk) × (IsByteReplyWritten session (slice_index_or chunk index 0) old new next × (is_some next.asked ≡ true))
+    (index + 1 ≡ length chunk) × (IsByteReplyWritten session (slice_index_or chunk index 0) old new next × (is_some next.requested ≡ true))
 IsByteAnswered end_text session chunk index false old new next =
-    (IsByteReplyWritten session (slice_index_or chunk index 0) old new next × (next.asked ≡ None))
+    (IsByteReplyWritten session (slice_index_or chunk index 0) old new next × (next.requested ≡ None))
     ⊎ IsMoveMade end_text session chunk index old new next
 
 -- whether the next chunk interrupts a move that is requested at the end of a chunk; false if there is no next chunk
@@ -46,10 +46,10 @@ is_interrupted_by_next (Some bytes) = is_interrupted bytes true
 -- the session was not over after a chunk, when the next bytes were read
 pub record IsOpenAfter (end_text : List ℕ) (session : Session) (chunk bytes : List ℕ) : Type 0 where
   -- the replies to the chunk
-  pub told : List ℕ
+  pub replies : List ℕ
   -- the session after the chunk
   pub standing : Session
-  pub fed : IsReceived end_text (is_interrupted bytes true) session chunk told standing
+  pub fed : IsReceived end_text (is_interrupted bytes true) session chunk replies standing
   pub is_open : standing.is_over ≡ false
 
 -- the next chunk was read while the session was open, or nothing was read since it is over
@@ -62,8 +62,8 @@ IsNextRead end_text session chunk before after (Some bytes) next =
 pub record IsChunkAnswered (end_text : List ℕ) (session : Session) (chunk : List ℕ) (before after old new coming : Option (List ℕ))
     (next : Session) : Type 0 where
   -- the replies to the chunk
-  pub told : List ℕ
-  pub fed : IsReceived end_text (is_interrupted_by_next coming) session chunk told next
-  pub made : next.asked ≡ None
-  pub put : Appends old new told
+  pub replies : List ℕ
+  pub fed : IsReceived end_text (is_interrupted_by_next coming) session chunk replies next
+  pub made : next.requested ≡ None
+  pub put : Appends old new replies
   pub read : IsNextRead end_text session chunk before after coming next

@@ -15,37 +15,37 @@ pub record IsChunkRead (before after : Option (List ℕ)) (chunk : List ℕ) : T
   pub ended : chunk ≡ [] → IsAtEnd after
 
 -- the last of these bytes were returned by a read that began while the session was open
-pub record IsLastReadOpen (end_text : List ℕ) (session : Session) (heard : List ℕ) : Type 0 where
+pub record IsLastReadOpen (end_text : List ℕ) (session : Session) (received : List ℕ) : Type 0 where
   pub front : List ℕ
   pub last : List ℕ
-  pub heard_is : heard ≡ front ++ last
+  pub heard_is : received ≡ front ++ last
   pub short : length last ≤ most_read
   -- the replies to the earlier bytes
-  pub told : List ℕ
+  pub replies : List ℕ
   pub standing : Session
-  pub fed : IsReceived end_text (is_interrupted last true) session front told standing
+  pub fed : IsReceived end_text (is_interrupted last true) session front replies standing
   pub is_open : standing.is_over ≡ false
 
 -- no read began after the session was over
 abbrev pub IsReadWhileOpen : List ℕ → Session → List ℕ → Type 0
-IsReadWhileOpen end_text session heard = (heard ≡ []) ⊎ IsLastReadOpen end_text session heard
+IsReadWhileOpen end_text session received = (received ≡ []) ⊎ IsLastReadOpen end_text session received
 
 -- bytes were read, and the session's replies to them were written
 pub record IsConversed (end_text : List ℕ) (session : Session) (before after old new : Option (List ℕ)) (next : Session)
     : Type 0 where
   -- the bytes that were read
-  pub heard : List ℕ
+  pub received : List ℕ
   -- the session's replies
-  pub told : List ℕ
-  pub read : Consumes before after heard
+  pub replies : List ℕ
+  pub read : Consumes before after received
   -- no read began after the session was over
-  pub while_open : IsReadWhileOpen end_text session heard
+  pub while_open : IsReadWhileOpen end_text session received
   -- whether the end of the input may have interrupted a move; otherwise only the byte 0x03 did
   pub may_end : Bool
   pub ended : may_end ≡ true → IsAtEnd after
-  pub fed : IsReceived end_text may_end session heard told next
-  pub made : next.asked ≡ None
-  pub put : Appends old new told
+  pub fed : IsReceived end_text may_end session received replies next
+  pub made : next.requested ≡ None
+  pub put : Appends old new replies
 
 -- the session is over, or gdb sends nothing more
 abbrev pub IsEnded : Session → Option (List ℕ) → Type 0

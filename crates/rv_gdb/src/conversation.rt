@@ -60,7 +60,7 @@ pub fn serve<R: Threads, E: EndText, I: Read + Send, O: Sink>(
     input: &mut I,
     out: &mut O,
 ) -> Result<(), SessionError>
-    requires asked { session.old.asked ≡ None }
+    requires requested { session.old.requested ≡ None }
     requires of_run { E.start context.now.end.now ≡ session.old.history.start }
     ensures heard { OnOk result (IsConversed (E.end_text context.now.end.now) session.old (I.remaining input.old)
         (I.remaining input.new) (O.taken out.old) (O.taken out.new) session.new) }
@@ -94,7 +94,7 @@ fn answer_chunk<R: Threads, E: EndText, I: Read + Send, O: Sink>(
     input: &mut I,
     out: &mut O,
 ) -> Result<Option<Vec<u8>>, SessionError>
-    requires asked { session.old.asked ≡ None }
+    requires requested { session.old.requested ≡ None }
     requires of_run { E.start context.now.end.now ≡ session.old.history.start }
     ensures answered { IfOk result (λ next. IsChunkAnswered (E.end_text context.now.end.now) session.old chunk.now
         (I.remaining input.old) (I.remaining input.new) (O.taken out.old) (O.taken out.new)
@@ -125,7 +125,7 @@ fn answer_byte<R, E: EndText, O: Sink>(
     out: &mut O,
 ) -> Result<bool, SessionError>
     requires within { index < length chunk.now }
-    requires asked { session.old.asked ≡ None }
+    requires requested { session.old.requested ≡ None }
     requires of_run { E.start context.now.end.now ≡ session.old.history.start }
     ensures answered { IfOk result (λ waits. IsByteAnswered (E.end_text context.now.end.now) session.old chunk.now index waits
         (O.taken out.old) (O.taken out.new) session.new) }
@@ -136,7 +136,7 @@ fn answer_byte<R, E: EndText, O: Sink>(
     ensures counted { OnOk result (O.failed out.new ≡ O.failed out.old) }
 {
     write_byte_reply(context.alloc, session, chunk[index], out)?;
-    if !session.is_asked() {
+    if !session.is_move_requested() {
         return Ok(false);
     }
     if index + 1 == chunk.len() {
@@ -153,7 +153,7 @@ fn write_move_reply_before<R, E: EndText, O: Sink>(
     behind: u8,
     out: &mut O,
 ) -> Result<(), SessionError>
-    requires asked { is_some session.old.asked ≡ true }
+    requires requested { is_some session.old.requested ≡ true }
     requires of_run { E.start context.now.end.now ≡ session.old.history.start }
     ensures moved { OnOk result (IsMoveReplyWritten (E.end_text context.now.end.now) (behind == 3) session.old (O.taken out.old)
         (O.taken out.new) session.new) }
@@ -176,7 +176,7 @@ fn write_byte_reply<O: Sink>(
     byte: u8,
     out: &mut O,
 ) -> Result<(), SessionError>
-    requires { session.old.asked ≡ None }
+    requires { session.old.requested ≡ None }
     ensures answered { OnOk result (IsByteReplyWritten session.old byte (O.taken out.old) (O.taken out.new) session.new) }
     ensures not_over { OnOk result (IsOpenIfRequested session.new) }
     ensures run { OnOk result (IsSameRun session.old session.new) }
@@ -195,7 +195,7 @@ fn write_move_reply<R, E: EndText, J: Interrupt, O: Sink>(
     interrupt: &mut J,
     out: &mut O,
 ) -> Result<(), SessionError>
-    requires asked { is_some session.old.asked ≡ true }
+    requires requested { is_some session.old.requested ≡ true }
     requires of_run { E.start context.now.end.now ≡ session.old.history.start }
     ensures moved { OnOk result (IsMoveReplyWritten (E.end_text context.now.end.now) (J.was_raised interrupt.new) session.old
         (O.taken out.old) (O.taken out.new) session.new) }
@@ -233,7 +233,7 @@ fn move_while_reading<R: Threads, E: EndText, I: Read + Send, O: Sink>(
     input: &mut I,
     out: &mut O,
 ) -> Result<Vec<u8>, SessionError>
-    requires asked { is_some session.old.asked ≡ true }
+    requires requested { is_some session.old.requested ≡ true }
     requires of_run { E.start context.now.end.now ≡ session.old.history.start }
     ensures read { IfOk result (λ chunk. IsChunkRead (I.remaining input.old) (I.remaining input.new) chunk.items) }
     ensures moved { IfOk result (λ chunk. IsMoveReplyWritten (E.end_text context.now.end.now) (is_interrupted chunk.items true)
@@ -256,7 +256,7 @@ fn move_while_reading_into<R: Threads, E: EndText, I: Read + Send, O: Sink>(
     out: &mut O,
     raised: &AtomicBool,
 ) -> Result<Vec<u8>, SessionError>
-    requires asked { is_some session.old.asked ≡ true }
+    requires requested { is_some session.old.requested ≡ true }
     requires of_run { E.start context.now.end.now ≡ session.old.history.start }
     ensures read { IfOk result (λ chunk. IsChunkRead (I.remaining input.old) (I.remaining input.new) chunk.items) }
     ensures moved { IfOk result (λ chunk. IsMoveReplyWritten (E.end_text context.now.end.now) (is_interrupted chunk.items true)

@@ -2,7 +2,7 @@
 use Rattle.std.proofs.Common.{◌≡◌, ◌==◌, ℕ, List, ap, cond, get_or, refl, sym, ◌∙◌}
 use Rattle.rv_machine.specs.declared.ending.FaultKind.{FaultKind}
 use Rattle.rv_machine.specs.declared.ending.FaultKind.TheVariants as fault
-use Rattle.rv_gdb_protocol.specs.Stops.{Told, Aborted, BadCall, BusError, Exited, FileTooLarge, IllegalInstruction, NoEnding, SegmentFault, UsedUp, fault_text, stop_text, told_by, end_kind_of_fault}
+use Rattle.rv_gdb_protocol.specs.Stops.{Told, Aborted, BadCall, BusError, Exited, FileTooLarge, IllegalInstruction, NoEnding, SegmentFault, UsedUp, fault_text, stop_text, end_kind_of_stop, end_kind_of_fault}
 use Rattle.rv_gdb_protocol.specs.declared.request.Watched.TheVariants as watch
 use Rattle.rv_gdb_protocol.specs.declared.stop.Stop.{Stop}
 use Rattle.rv_gdb_protocol.specs.declared.stop.Stop.TheVariants as stop
@@ -40,7 +40,7 @@ fault_told fault.Breakpoint = refl
 fault_told fault.UnknownCall = refl
 fault_told fault.ConsoleFull = refl
 
-stop_told : (one : Stop) → of_reply (stop_text one) ≡ told_by one
+stop_told : (one : Stop) → of_reply (stop_text one) ≡ end_kind_of_stop one
 unfolding stop_text
 stop_told stop.Here = refl
 stop_told (stop.Watch watch.Writes address) = refl
@@ -52,5 +52,5 @@ stop_told stop.Exit = refl
 stop_told stop.Budget = refl
 stop_told (stop.Fault kind) = fault_told kind
 
-pub one_reply_one_ending : (one other : Stop) → stop_text one ≡ stop_text other → told_by one ≡ told_by other
+pub one_reply_one_ending : (one other : Stop) → stop_text one ≡ stop_text other → end_kind_of_stop one ≡ end_kind_of_stop other
 one_reply_one_ending one other same = sym (stop_told one) ∙ ap of_reply same ∙ stop_told other

@@ -5,7 +5,7 @@ use Rattle.std.proofs.lemmas.Bool.{and_from, and_parts, cases_eq, cond-false, co
 use Rattle.std.proofs.lemmas.List.Folds.{list_all-append}
 use Rattle.std.specs.List.{list_all, prefix_len}
 use Rattle.hex.specs.Hex.{hex_digit_value}
-use Rattle.rv_gdb_protocol.specs.Grammar.{AreTwoNumbers, parted}
+use Rattle.rv_gdb_protocol.specs.Grammar.{AreTwoNumbers, joined_by}
 use Rattle.rv_gdb_protocol.specs.Numbers.{digit_on, number_of, numbers_at, place_of, until, with_digit}
 use Rattle.rv_gdb_protocol.specs.Requests.{comma}
 
@@ -16,27 +16,27 @@ is_other mark byte = not (byte == mark)
 -- ---- the place of a mark
 
 prefix_up_to : (mark : ℕ) (first second : List ℕ) → list_all (is_other mark) first ≡ true
-    → prefix_len (is_other mark) (parted mark first second) ≡ length first
+    → prefix_len (is_other mark) (joined_by mark first second) ≡ length first
 prefix_up_to mark [] second others = rw (eq-eqb mark mark refl) refl
 prefix_up_to mark (byte ∷ first) second others =
     let parts = and_parts (is_other mark byte) (list_all (is_other mark) first) others in
     let rest = prefix_up_to mark first second parts.1 in
-    cond-true (is_other mark byte) (1 + prefix_len (is_other mark) (parted mark first second)) 0 parts.0 ∙ omega (arith, rest)
+    cond-true (is_other mark byte) (1 + prefix_len (is_other mark) (joined_by mark first second)) 0 parts.0 ∙ omega (arith, rest)
 
 pub place_between : (mark : ℕ) (first second : List ℕ) → list_all (is_other mark) first ≡ true
-    → place_of mark (parted mark first second) ≡ Some (length first)
+    → place_of mark (joined_by mark first second) ≡ Some (length first)
 place_between mark first second others =
-    let text : List ℕ = parted mark first second in
+    let text : List ℕ = joined_by mark first second in
     let at : prefix_len (is_other mark) text ≡ length first = prefix_up_to mark first second others in
     let long : length text ≡ length first + suc (length second) = length-append first (mark ∷ second) in
     cond-true (ltb (prefix_len (is_other mark) text) (length text)) (Some (prefix_len (is_other mark) text)) None
     (lt-ltb (prefix_len (is_other mark) text) (length text) (omega arith))
     ∙ ap (λ (k : ℕ). Some k) at
 
-pub before_mark : (mark : ℕ) (first second : List ℕ) → take (length first) (parted mark first second) ≡ first
+pub before_mark : (mark : ℕ) (first second : List ℕ) → take (length first) (joined_by mark first second) ≡ first
 before_mark mark first second = take-append_seam first (mark ∷ second)
 
-pub behind_mark : (mark : ℕ) (first second : List ℕ) → drop (length first + 1) (parted mark first second) ≡ second
+pub behind_mark : (mark : ℕ) (first second : List ℕ) → drop (length first + 1) (joined_by mark first second) ≡ second
 behind_mark mark first second = drop-append-add first (mark ∷ second) 1
 
 -- ---- digits
@@ -76,12 +76,12 @@ number_lacks mark none text number told = digits_lack mark none (Some 0) text nu
 pub two_numbers : (text : List ℕ) (first second : ℕ) → AreTwoNumbers text first second → numbers_at comma text ≡ Some (first, second)
 unfolding numbers_at
 two_numbers text first second tells =
-    let place = place_between comma tells.front tells.behind (number_lacks comma refl tells.front first tells.front_tells) in
+    let place = place_between comma tells.front tells.second_digits (number_lacks comma refl tells.front first tells.front_tells) in
     rw (
       tells.text_is,
       place,
-      before_mark comma tells.front tells.behind,
-      behind_mark comma tells.front tells.behind,
+      before_mark comma tells.front tells.second_digits,
+      behind_mark comma tells.front tells.second_digits,
       tells.front_tells,
       tells.behind_tells,
     ) refl
@@ -91,10 +91,10 @@ pub two_lack : (mark : ℕ) → hex_digit_value mark ≡ None → is_other mark 
     → AreTwoNumbers text first second → list_all (is_other mark) text ≡ true
 two_lack mark none other text first second tells =
     let front = number_lacks mark none tells.front first tells.front_tells in
-    let behind = number_lacks mark none tells.behind second tells.behind_tells in
-    rw (tells.text_is, list_all-append (is_other mark) tells.front (comma ∷ tells.behind))
-    (and_from (list_all (is_other mark) tells.front) (list_all (is_other mark) (comma ∷ tells.behind)) front
-    (and_from (is_other mark comma) (list_all (is_other mark) tells.behind) other behind))
+    let behind = number_lacks mark none tells.second_digits second tells.behind_tells in
+    rw (tells.text_is, list_all-append (is_other mark) tells.front (comma ∷ tells.second_digits))
+    (and_from (list_all (is_other mark) tells.front) (list_all (is_other mark) (comma ∷ tells.second_digits)) front
+    (and_from (is_other mark comma) (list_all (is_other mark) tells.second_digits) other behind))
 
 -- ---- where there is no mark
 
@@ -127,7 +127,7 @@ prefix_on mark (byte ∷ front) rest others =
     cond-true (is_other mark byte) (1 + prefix_len (is_other mark) (front ++ rest)) 0 parts.0 ∙ omega (arith, later)
 
 -- the text before a mark, where nothing stands before it but the text
-pub until_mark : (mark : ℕ) (text rest : List ℕ) → list_all (is_other mark) text ≡ true → until mark (parted mark text rest) ≡ text
+pub until_mark : (mark : ℕ) (text rest : List ℕ) → list_all (is_other mark) text ≡ true → until mark (joined_by mark text rest) ≡ text
 unfolding until
 until_mark mark text rest others = rw (place_between mark text rest others) (before_mark mark text rest)
 
@@ -163,13 +163,13 @@ until_on_cases mark front rest false is others =
 -- what stands before the first of one mark and then of another, where neither stands in the text
 pub until_other : (mark other : ℕ) (text rest : List ℕ) → list_all (is_other mark) text ≡ true
     → list_all (is_other other) text ≡ true → is_other mark other ≡ true
-    → until other (until mark (parted other text rest)) ≡ text
+    → until other (until mark (joined_by other text rest)) ≡ text
 until_other mark other text rest lacks lacks_other differ =
     let both : list_all (is_other mark) (text ++ other ∷ []) ≡ true =
     list_all-append (is_other mark) text (other ∷ [])
     ∙ and_from (list_all (is_other mark) text) (list_all (is_other mark) (other ∷ [])) lacks
     (and_from (is_other mark other) true differ refl) in
-    let split : until mark (parted other text rest) ≡ parted other text (until mark rest) =
+    let split : until mark (joined_by other text rest) ≡ joined_by other text (until mark rest) =
     ap (until mark) (sym (append_assoc text (other ∷ []) rest))
     ∙ until_on_cases mark (text ++ other ∷ []) rest (ltb (prefix_len (is_other mark) rest) (length rest)) refl both
     ∙ append_assoc text (other ∷ []) (until mark rest) in

@@ -12,7 +12,7 @@ use Rattle.rv_gdb_protocol.specs.Readback.{CanBeSent, IsReceivedAlone, IsReadBac
 use Rattle.rv_gdb_protocol.specs.Sums.{framed, checksum_verdict, sum_digits, sum_of, sum_of_digits}
 use Rattle.rv_gdb_protocol.specs.declared.frame.Incoming.TheVariants.{Packet}
 use Rattle.rv_gdb_protocol.specs.declared.frame.Place.TheVariants as place
-use Rattle.rv_gdb_protocol.specs.declared.frame.Sum.TheVariants as verdict
+use Rattle.rv_gdb_protocol.specs.declared.frame.Checksum.TheVariants as verdict
 
 abbrev in_body : List ℕ → Frame
 in_body body = record { place = place.Body; body = body }
@@ -67,8 +67,8 @@ pieces_heard frame (piece ∷ rest) =
 pub sent_alone : (text : List ℕ) (high low : ℕ) → CanBeSent text
     → IsReceivedAlone (sent text high low) text (verdict_of text high low)
 sent_alone text high low can = record {
-  heard = λ pieces are. pieces_heard between pieces ∙ ap (incoming_in between) are ∙ sent_heard text high low can;
-  behind = sent_behind text high low can;
+  received = λ pieces are. pieces_heard between pieces ∙ ap (incoming_in between) are ∙ sent_heard text high low can;
+  state_after = sent_behind text high low can;
 }
 
 -- ---- escapes

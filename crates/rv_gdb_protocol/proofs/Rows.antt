@@ -3,7 +3,7 @@ use Rattle.std.proofs.Common.{◌≡◌, ◌∷◌, ◌+◌, ◌≤◌, ℕ, Lis
 use Rattle.std.specs.List.{list_all}
 use Rattle.std.proofs.lemmas.Bool.{eq-eqb, le-leb, ne_eqb}
 use Rattle.rv_gdb_protocol.specs.Grammar.{IsAction, IsRequest, IsTrap, accesses, action_of_thread, actions, attached, choose_thread, clear_stoppoint, close_file, command, description, detach, detach_process, features, file_size, file_system, first_action, first_threads, goes_back, goes_on, goes_on_signalled, hardware, image_path, is_alive, kill, kill_process, last_stop, more_threads, moves, no_acknowledgements, on_with_signal, one_action, open_file, plain_move, read_file, read_memory, reads, register, registers, restart, set_stoppoint, software, stay_extended, step_with_signal, steps, steps_back, steps_signalled, steps_within, this_thread, write_data, write_digits, write_register, write_registers, writes}
-use Rattle.rv_gdb_protocol.specs.Numbers.{behind}
+use Rattle.rv_gdb_protocol.specs.Numbers.{text_after}
 use Rattle.rv_gdb_protocol.specs.Packets as packet
 use Rattle.rv_gdb_protocol.specs.Requests as args
 use Rattle.rv_gdb_protocol.specs.Requests.{colon, comma, equals, register_of, semicolon, stoppoint_at, stoppoint_change, watch_at, watched, whole_data, written}
@@ -25,7 +25,7 @@ watch_fits kind address count some few within =
     rw (le-leb 1 count some, le-leb count 65536 few, le-leb (address + count) 4294967296 within) refl
 
 trap_read : (text : List ℕ) (place : Stoppoint) → IsTrap text place → stoppoint_at text ≡ Some (Some place)
-unfolding behind watch_at
+unfolding text_after watch_at
 trap_read text place (software fields address kind tells) = rw (two_numbers fields address kind tells) refl
 trap_read text place (hardware fields address kind tells) = rw (two_numbers fields address kind tells) refl
 trap_read text place (writes fields address count tells some few within) =
@@ -47,7 +47,7 @@ write_of_count range bytes same = rw (eq-eqb (length bytes) range.count same) re
 -- ---- actions
 
 action_read : (text : List ℕ) (step : Move) → IsAction text step → packet.action_of text ≡ Some step
-unfolding packet.action_of packet.bare_action behind
+unfolding packet.action_of packet.bare_action text_after
 action_read text step (moves same other goes_on) = refl
 action_read text step (moves same other steps) = refl
 action_read text step (goes_on_signalled signal number told) = rw told refl
@@ -75,7 +75,7 @@ some_byte byte text = ne_eqb (length (byte ∷ text)) 0 (λ is. omega arith)
 -- ---- each packet
 
 pub is_read : (body : List ℕ) (request : Request) → IsRequest body request → packet.request_of body ≡ request
-unfolding packet.request_of packet.request_without_bytes packet.bare_query packet.bare_command packet.query packet.reading packet.stoppoint_request packet.moving packet.first_action packet.granted packet.detach packet.is_file_call packet.request_with_bytes packet.command args.description args.register_of args.write_register args.write_registers args.write_digits args.write_data args.stoppoint_change args.plain_move args.signal_move args.read_file args.image_path args.opened_file behind
+unfolding packet.request_of packet.request_without_bytes packet.bare_query packet.bare_command packet.query packet.register_or_memory_request packet.stoppoint_request packet.move_request packet.first_action packet.accepted_request packet.detach packet.is_file_call packet.request_with_bytes packet.command args.description args.register_of args.write_register args.write_registers args.write_digits args.write_data args.stoppoint_change args.plain_move args.signal_move args.read_file args.image_path args.opened_file text_after
 is_read body request (features args) = refl
 is_read body request no_acknowledgements = refl
 is_read body request last_stop = refl

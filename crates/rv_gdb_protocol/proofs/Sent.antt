@@ -4,12 +4,12 @@ use Rattle.std.specs.List.{list_all}
 use Rattle.std.proofs.lemmas.Bool.{and_from, cond_both, eqb-true, ltb-true, not_from_false, or_from}
 use Rattle.std.proofs.lemmas.List.Folds.{list_all-append}
 use Rattle.rv_gdb_protocol.specs.Escapes.{begin_mark, end_mark}
-use Rattle.rv_gdb_protocol.specs.Frames.{Frame, frame_after_in, between, frame_after, incoming_at, received_in_state, longer_body, most_body, opened, passed_over, signal}
+use Rattle.rv_gdb_protocol.specs.Frames.{Frame, frame_after_in, between, frame_after, incoming_at, received_in_state, longer_body, most_body, opened, too_long, signal}
 use Rattle.rv_gdb_protocol.specs.Readback.{CanBeSent, EndsWithSent, is_plain, sent, verdict_of}
 use Rattle.rv_gdb_protocol.specs.declared.frame.Incoming.TheVariants as heard
 use Rattle.rv_gdb_protocol.specs.declared.frame.Place.{Place}
 use Rattle.rv_gdb_protocol.specs.declared.frame.Place.TheVariants as place
-use Rattle.rv_gdb_protocol.specs.declared.frame.Sum.{Sum}
+use Rattle.rv_gdb_protocol.specs.declared.frame.Checksum.{Checksum}
 
 -- bytes end with `$`, a text and what has come behind the text
 pub record EndsOpen (bytes text behind : List ℕ) : Type 0 where
@@ -68,7 +68,7 @@ opens bytes byte is = record {
 goes_longer : (bytes text : List ℕ) (byte : ℕ) → EndsOpen bytes text [] → (byte == begin_mark) ≡ false → (byte == end_mark) ≡ false
     → FrameTells (bytes ++ byte ∷ []) (longer_body text byte)
 goes_longer bytes text byte open_ no_begin no_end =
-    cond_both (ltb (length text) most_body) (record { place = place.Body; body = text ++ byte ∷ [] }) passed_over
+    cond_both (ltb (length text) most_body) (record { place = place.Body; body = text ++ byte ∷ [] }) too_long
     (FrameTells (bytes ++ byte ∷ []))
     (λ room. longer bytes text byte open_ (not_from_false _ (or_from (byte == begin_mark) (byte == end_mark) no_begin no_end))
     (ltb-true (length text) most_body room))
@@ -105,10 +105,10 @@ frames_tell front (byte ∷ rest) frame told =
     rw (← append_assoc front (byte ∷ []) rest)
     (frames_tell (front ++ byte ∷ []) rest (frame_after frame byte) (one_byte frame.place frame.body front byte told))
 
-no_signal : (byte : ℕ) (text : List ℕ) (sum : Sum) → signal byte ≡ Some (heard.Packet text sum) → ⊥
+no_signal : (byte : ℕ) (text : List ℕ) (sum : Checksum) → signal byte ≡ Some (heard.Packet text sum) → ⊥
 no_signal byte text sum is = grind arith
 
-was_sent : (stands : Place) (body bytes text : List ℕ) (byte : ℕ) (sum : Sum) → Tells stands body bytes
+was_sent : (stands : Place) (body bytes text : List ℕ) (byte : ℕ) (sum : Checksum) → Tells stands body bytes
     → received_in_state stands body byte ≡ Some (heard.Packet text sum) → EndsWithSent (bytes ++ byte ∷ []) text sum
 was_sent place.Between body bytes text byte sum told is = absurd (no_signal byte text sum is)
 was_sent place.Body body bytes text byte sum told is = absurd (cc is)
@@ -127,7 +127,7 @@ was_sent place.LongBody body bytes text byte sum told is = absurd (cc is)
 was_sent place.LongFirstDigit body bytes text byte sum told is = absurd (cc is)
 was_sent place.LongSecondDigit body bytes text byte sum told is = absurd (cc is)
 
-pub heard_was_sent : (bytes text : List ℕ) (byte : ℕ) (sum : Sum)
+pub heard_was_sent : (bytes text : List ℕ) (byte : ℕ) (sum : Checksum)
     → incoming_at (fold frame_after between bytes) byte ≡ Some (heard.Packet text sum)
     → EndsWithSent (bytes ++ byte ∷ []) text sum
 heard_was_sent bytes text byte sum is =

@@ -36,13 +36,13 @@ abbrev pub opened : Frame
 opened = record { place = place.Body; body = [] }
 
 -- the parser in a body that is too long to be kept
-abbrev pub passed_over : Frame
-passed_over = record { place = place.LongBody; body = [] }
+abbrev pub too_long : Frame
+too_long = record { place = place.LongBody; body = [] }
 
 -- the parser after one more byte of a body, which becomes too long if the byte does not fit
 abbrev pub longer_body : List ℕ → ℕ → Frame
 longer_body body byte =
-    if nat_lt (length body) most_body then record { place = place.Body; body = body ++ byte ∷ [] } else passed_over
+    if nat_lt (length body) most_body then record { place = place.Body; body = body ++ byte ∷ [] } else too_long
 
 -- the parser after a byte, which it receives in the state `Place`; other bytes than `$` between packets are ignored
 abbrev pub frame_after_in : Place → Frame → ℕ → Frame

@@ -14,21 +14,21 @@ use Rattle.rv_gdb_protocol.specs.declared.request.Stoppoint.TheVariants as trap
 use Rattle.rv_gdb_protocol.specs.declared.request.Watched.TheVariants as watch
 
 -- two texts separated by a delimiter
-abbrev pub parted : ℕ → List ℕ → List ℕ → List ℕ
-parted mark first second = first ++ mark ∷ second
+abbrev pub joined_by : ℕ → List ℕ → List ℕ → List ℕ
+joined_by mark first second = first ++ mark ∷ second
 
 -- the text does not contain the delimiter
-abbrev pub Lacks : ℕ → List ℕ → Type 0
-Lacks mark text = list_all (λ byte. not (byte == mark)) text ≡ true
+abbrev pub HasNo : ℕ → List ℕ → Type 0
+HasNo mark text = list_all (λ byte. not (byte == mark)) text ≡ true
 
 -- the text is the digits of two numbers, separated by a comma
 pub record AreTwoNumbers (text : List ℕ) (first second : ℕ) : Type 0 where
   pub front : List ℕ
   -- the digits of the second number
-  pub behind : List ℕ
-  pub text_is : text ≡ parted comma front behind
+  pub second_digits : List ℕ
+  pub text_is : text ≡ joined_by comma front second_digits
   pub front_tells : number_of front ≡ Some first
-  pub behind_tells : number_of behind ≡ Some second
+  pub behind_tells : number_of second_digits ≡ Some second
 
 -- the arguments of `Z` and `z` for this stoppoint: 0 and 1 are breakpoints, 2 to 4 watchpoints for writes, reads and both
 pub data IsTrap : List ℕ → Stoppoint → Type 0 where
@@ -70,16 +70,16 @@ pub data IsRequest : List ℕ → Request → Type 0 where
       → register_of number ≡ Some which → IsRequest (codes "p" ++ digits) (ask.Register which)
   write_register : (digits values : List ℕ) (number value : ℕ) (which : Register) → number_of digits ≡ Some number
       → register_of number ≡ Some which → value_of values ≡ Some value
-      → IsRequest (codes "P" ++ parted equals digits values) (ask.WriteRegister which value)
+      → IsRequest (codes "P" ++ joined_by equals digits values) (ask.WriteRegister which value)
   write_registers : (digits bytes : List ℕ) → bytes_of digits ≡ Some bytes → length bytes ≡ 132
       → IsRequest (codes "G" ++ digits) (ask.WriteRegisters bytes)
   read_memory : (range : List ℕ) (address count : ℕ) → AreTwoNumbers range address count
       → IsRequest (codes "m" ++ range) (ask.ReadMemory (record { address = address; count = count }))
   write_digits : (range digits bytes : List ℕ) (address count : ℕ) → AreTwoNumbers range address count → bytes_of digits ≡ Some bytes
-      → length bytes ≡ count → IsRequest (codes "M" ++ parted colon range digits) (ask.WriteMemory address bytes)
+      → length bytes ≡ count → IsRequest (codes "M" ++ joined_by colon range digits) (ask.WriteMemory address bytes)
   write_data : (range data_text bytes : List ℕ) (address count : ℕ) → AreTwoNumbers range address count
       → whole_data data_text ≡ Some bytes → length bytes ≡ count
-      → IsRequest (codes "X" ++ parted colon range data_text) (ask.WriteMemory address bytes)
+      → IsRequest (codes "X" ++ joined_by colon range data_text) (ask.WriteMemory address bytes)
   set_stoppoint : (text : List ℕ) (place : Stoppoint) → IsTrap text place → IsRequest (codes "Z" ++ text) (ask.Set place)
   clear_stoppoint : (text : List ℕ) (place : Stoppoint) → IsTrap text place → IsRequest (codes "z" ++ text) (ask.Clear place)
   actions : IsRequest (codes "vCont?") ask.Actions
@@ -90,9 +90,9 @@ pub data IsRequest : List ℕ → Request → Type 0 where
       → IsRequest (codes "S" ++ signal) (ask.Move move.Step)
   one_action : (text : List ℕ) (step : Move) → IsAction text step → IsRequest (codes "vCont;" ++ text) (ask.Move step)
   first_action : (text rest : List ℕ) (step : Move) → IsAction text step
-      → IsRequest (codes "vCont;" ++ parted semicolon text rest) (ask.Move step)
+      → IsRequest (codes "vCont;" ++ joined_by semicolon text rest) (ask.Move step)
   action_of_thread : (text rest : List ℕ) (step : Move) → IsAction text step
-      → IsRequest (codes "vCont;" ++ parted colon text rest) (ask.Move step)
+      → IsRequest (codes "vCont;" ++ joined_by colon text rest) (ask.Move step)
   goes_back : IsRequest (codes "bc") (ask.Move move.ContinueBack)
   steps_back : IsRequest (codes "bs") (ask.Move move.StepBack)
   command : (digits text : List ℕ) → bytes_of digits ≡ Some text → IsRequest (codes "qRcmd," ++ digits) (ask.Command text)
@@ -108,12 +108,12 @@ pub data IsRequest : List ℕ → Request → Type 0 where
   this_thread : IsRequest (codes "qC") ask.Thread
   first_threads : IsRequest (codes "qfThreadInfo") ask.FirstThreads
   more_threads : IsRequest (codes "qsThreadInfo") ask.MoreThreads
-  image_path : (process part : List ℕ) (offset count : ℕ) → Lacks colon process → AreTwoNumbers part offset count
-      → IsRequest (codes "qXfer:exec-file:read:" ++ parted colon process part)
+  image_path : (process part : List ℕ) (offset count : ℕ) → HasNo colon process → AreTwoNumbers part offset count
+      → IsRequest (codes "qXfer:exec-file:read:" ++ joined_by colon process part)
       (ask.ImagePath (record { offset = offset; count = count }))
   file_system : IsRequest (codes "vFile:setfs:0") ask.FileSystem
-  open_file : (digits path modes : List ℕ) (mode : ℕ) → Lacks comma digits → bytes_of digits ≡ Some path → AreTwoNumbers modes 0 mode
-      → IsRequest (codes "vFile:open:" ++ parted comma digits modes) (ask.OpenFile path)
+  open_file : (digits path modes : List ℕ) (mode : ℕ) → HasNo comma digits → bytes_of digits ≡ Some path → AreTwoNumbers modes 0 mode
+      → IsRequest (codes "vFile:open:" ++ joined_by comma digits modes) (ask.OpenFile path)
   file_size : IsRequest (codes "vFile:fstat:5") ask.FileSize
   read_file : (part : List ℕ) (count offset : ℕ) → AreTwoNumbers part count offset
       → IsRequest (codes "vFile:pread:5," ++ part) (ask.ReadFile (record { offset = offset; count = count }))

@@ -64,5 +64,5 @@ unfoldable pub until : ℕ → List ℕ → List ℕ
 until mark text = text_to (place_of mark text) text
 
 -- the text after `name`, if it begins with `name`
-unfoldable pub behind : List ℕ → List ℕ → Option (List ℕ)
-behind name text = if starts_with nat_eq text name then Some (drop (length name) text) else None
+unfoldable pub text_after : List ℕ → List ℕ → Option (List ℕ)
+text_after name text = if starts_with nat_eq text name then Some (drop (length name) text) else None

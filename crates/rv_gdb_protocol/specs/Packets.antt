@@ -3,7 +3,7 @@ use Rattle.std.specs.Prelude.{ℕ, List, ◌==◌, ◌||◌, Bool, Option, Some,
 use Rattle.std.specs.List.{starts_with}
 use Rattle.std.specs.Option.{option_or}
 use Rattle.std.specs.Str.{bytes_eq}
-use Rattle.rv_gdb_protocol.specs.Numbers.{behind, bytes_of, until, ◌>>=◌}
+use Rattle.rv_gdb_protocol.specs.Numbers.{text_after, bytes_of, until, ◌>>=◌}
 use Rattle.rv_gdb_protocol.specs.Requests.{colon, description, image_path, move_within, open_file, or_refused, plain_move, read_file, read_memory, read_register, semicolon, signal_move, move_with_signal, stoppoint_change, write_data, write_digits, write_register, write_registers}
 use Rattle.rv_gdb_protocol.specs.declared.request.Move.{Move}
 use Rattle.rv_gdb_protocol.specs.declared.request.Move.TheVariants as move
@@ -18,7 +18,7 @@ one <|> other = option_or one other
 
 -- the request of a packet that begins with `name`: `asked` of its arguments; none for any other body
 abbrev pub named : List ℕ → (List ℕ → Request) → List ℕ → Option Request
-named name asked body = option_map asked (behind name body)
+named name asked body = option_map asked (text_after name body)
 
 -- ---- packets without arguments
 
@@ -63,8 +63,8 @@ abbrev pub image_path_request : List ℕ → Option Request
 image_path_request body = named (codes "qXfer:exec-file:read:") image_path body
 
 -- the request of a packet that reads or writes a register, or reads memory
-unfoldable pub reading : List ℕ → Option Request
-reading body =
+unfoldable pub register_or_memory_request : List ℕ → Option Request
+register_or_memory_request body =
     named (codes "p") read_register body
     <|> named (codes "P") write_register body
     <|> named (codes "m") read_memory body
@@ -81,11 +81,11 @@ bare_action text =
 
 -- the action `name` of `vCont;`, followed by a signal, which is ignored
 abbrev pub signal_action : List ℕ → Move → List ℕ → Option Move
-signal_action name step text = behind name text >>= move_with_signal step
+signal_action name step text = text_after name text >>= move_with_signal step
 
 -- the action `r` of `vCont;`, which steps while the pc is in a range of addresses
 abbrev pub range_action : List ℕ → Option Move
-range_action text = behind (codes "r") text >>= move_within
+range_action text = text_after (codes "r") text >>= move_within
 
 -- the move that an action of `vCont;` requests, after its thread was removed; none for an unknown action
 unfoldable pub action_of : List ℕ → Option Move
@@ -97,8 +97,8 @@ unfoldable pub first_action : List ℕ → Request
 first_action args = or_refused refusal.Malformed (option_map ask.Move (action_of (until colon (until semicolon args))))
 
 -- the request of a packet that moves forwards in the run
-unfoldable pub moving : List ℕ → Option Request
-moving body =
+unfoldable pub move_request : List ℕ → Option Request
+move_request body =
     named (codes "vCont;") first_action body
     <|> named (codes "c") (plain_move move.Continue) body
     <|> named (codes "s") (plain_move move.Step) body
@@ -110,8 +110,8 @@ unfoldable pub detach : List ℕ → Request
 detach args = if length args == 0 || starts_with nat_eq args (codes ";") then ask.Detach else ask.Refused refusal.Unknown
 
 -- the request of a packet that is accepted whatever follows its name
-unfoldable pub granted : List ℕ → Option Request
-granted body =
+unfoldable pub accepted_request : List ℕ → Option Request
+accepted_request body =
     if starts_with nat_eq body (codes "H") then Some ask.Accepted
     else if starts_with nat_eq body (codes "T") then Some ask.Accepted
     else if starts_with nat_eq body (codes "vKill") then Some ask.Accepted
@@ -151,8 +151,8 @@ request_with_bytes body =
 -- the request of a packet whose arguments contain no data bytes
 unfoldable pub request_without_bytes : List ℕ → Option Request
 request_without_bytes body =
-    bare_query body <|> bare_command body <|> query body <|> description_request body <|> image_path_request body <|> reading body <|> stoppoint_request body
-    <|> moving body <|> granted body <|> detach_request body <|> file_reading body <|> other_file body
+    bare_query body <|> bare_command body <|> query body <|> description_request body <|> image_path_request body <|> register_or_memory_request body <|> stoppoint_request body
+    <|> move_request body <|> accepted_request body <|> detach_request body <|> file_reading body <|> other_file body
 
 -- the request that the body of a packet makes; other packets are refused as unknown
 unfoldable pub request_of : List ℕ → Request

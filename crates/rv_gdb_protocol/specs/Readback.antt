@@ -7,8 +7,8 @@ use Rattle.rv_gdb_protocol.specs.Frames.{Frame, between, frame_after, incoming_i
 use Rattle.rv_gdb_protocol.specs.Sums.{framed, checksum_verdict, sum_of, sum_of_digits}
 use Rattle.rv_gdb_protocol.specs.declared.frame.Incoming.{Incoming}
 use Rattle.rv_gdb_protocol.specs.declared.frame.Incoming.TheVariants.{Packet}
-use Rattle.rv_gdb_protocol.specs.declared.frame.Sum.{Sum}
-use Rattle.rv_gdb_protocol.specs.declared.frame.Sum.TheVariants as verdict
+use Rattle.rv_gdb_protocol.specs.declared.frame.Checksum.{Checksum}
+use Rattle.rv_gdb_protocol.specs.declared.frame.Checksum.TheVariants as verdict
 
 -- whether a byte is neither `$` nor `#`
 abbrev pub is_plain : ℕ → Bool
@@ -24,7 +24,7 @@ abbrev pub sent : List ℕ → ℕ → ℕ → List ℕ
 sent text high low = begin_mark ∷ (text ++ end_mark ∷ high ∷ low ∷ [])
 
 -- whether the digits `high` and `low` are the checksum of the text
-abbrev pub verdict_of : List ℕ → ℕ → ℕ → Sum
+abbrev pub verdict_of : List ℕ → ℕ → ℕ → Checksum
 verdict_of text high low = checksum_verdict (sum_of text) (sum_of_digits (hex_digit_value high) (hex_digit_value low))
 
 -- the items that the parser receives in bytes that arrive in several pieces
@@ -38,11 +38,11 @@ abbrev pub joined : List (List ℕ) → List ℕ
 joined pieces = flat_map (λ piece. piece) pieces
 
 -- however the bytes are split, the parser receives exactly one packet, with this text and checksum, and is then between packets
-pub record IsReceivedAlone (bytes text : List ℕ) (sum : Sum) : Type 0 where
+pub record IsReceivedAlone (bytes text : List ℕ) (sum : Checksum) : Type 0 where
   -- in whatever pieces the bytes arrive, this packet is the only item received
-  pub heard : (pieces : List (List ℕ)) → joined pieces ≡ bytes → incoming_in_pieces between pieces ≡ Packet text sum ∷ []
+  pub received : (pieces : List (List ℕ)) → joined pieces ≡ bytes → incoming_in_pieces between pieces ≡ Packet text sum ∷ []
   -- afterwards the parser is between packets
-  pub behind : fold frame_after between bytes ≡ between
+  pub state_after : fold frame_after between bytes ≡ between
 
 -- a framed body is received as one packet with a correct checksum, and its data is the body
 pub record IsReadBack (body : List ℕ) : Type 0 where
@@ -51,7 +51,7 @@ pub record IsReadBack (body : List ℕ) : Type 0 where
   pub whole : is_whole (escaped body) ≡ true
 
 -- the bytes end with a packet that contains this text; `sum` says whether its checksum is correct
-pub record EndsWithSent (bytes text : List ℕ) (sum : Sum) : Type 0 where
+pub record EndsWithSent (bytes text : List ℕ) (sum : Checksum) : Type 0 where
   pub front : List ℕ
   pub high : ℕ
   pub low : ℕ

@@ -2,7 +2,7 @@
 use Rattle.std.specs.Prelude.{ℕ, List, ◌+◌, ◌==◌, ◌&&◌, Bool, false, Option, Some, None, codes, if◌then◌else◌, length, nat_le, take, drop, option_map, unwrap_or, is_some}
 use Rattle.std.specs.Option.{option_or}
 use Rattle.rv_gdb_protocol.specs.Escapes.{data_of, is_whole}
-use Rattle.rv_gdb_protocol.specs.Numbers.{behind, bytes_of, number_of, numbers_at, place_of, value_of, ◌>>=◌}
+use Rattle.rv_gdb_protocol.specs.Numbers.{text_after, bytes_of, number_of, numbers_at, place_of, value_of, ◌>>=◌}
 use Rattle.rv_gdb_protocol.specs.declared.request.Move.{Move}
 use Rattle.rv_gdb_protocol.specs.declared.request.Move.TheVariants as move
 use Rattle.rv_gdb_protocol.specs.declared.request.Part.{Part}
@@ -51,7 +51,7 @@ part_at text = option_map part_of (numbers_at comma text)
 -- the request of the arguments `target.xml:OFFSET,COUNT`; a refusal for other arguments
 unfoldable pub description : List ℕ → Request
 description args = unwrap_or
-    (option_map (λ part. or_refused refusal.Failed (option_map ask.Description (part_at part))) (behind (codes "target.xml:") args))
+    (option_map (λ part. or_refused refusal.Failed (option_map ask.Description (part_at part))) (text_after (codes "target.xml:") args))
     (ask.Refused refusal.OtherAnnex)
 
 -- the request of the arguments `PROCESS:OFFSET,COUNT`, of which the process is ignored; a refusal for other arguments
@@ -166,7 +166,7 @@ write_data args = or_refused refusal.Malformed (write_memory whole_data args)
 -- the range in the arguments `,ADDRESS,COUNT`
 abbrev pub stoppoint_range : List ℕ → Option Range
 stoppoint_range text = do
-  fields ← behind (codes ",") text
+  fields ← text_after (codes ",") text
   range_at fields
 
 -- the watchpoint for a range of 1 to 65,536 bytes within the address space; none for any other range
@@ -186,14 +186,14 @@ watch_at kind text = do
 
 -- the watchpoint in the arguments, if their kind is 2 (writes), 3 (reads) or 4 (both); the inner option is none if they are malformed
 abbrev pub kind_at : List ℕ → Option (Option Stoppoint)
-kind_at args = option_or (option_map (watch_at watch.Writes) (behind (codes "2") args))
-    (option_or (option_map (watch_at watch.Reads) (behind (codes "3") args))
-    (option_map (watch_at watch.Accesses) (behind (codes "4") args)))
+kind_at args = option_or (option_map (watch_at watch.Writes) (text_after (codes "2") args))
+    (option_or (option_map (watch_at watch.Reads) (text_after (codes "3") args))
+    (option_map (watch_at watch.Accesses) (text_after (codes "4") args)))
 
 -- the stoppoint in the arguments, if their kind is 0 to 4, where 0 and 1 are breakpoints; the inner option is none if they are malformed
 abbrev pub stoppoint_at : List ℕ → Option (Option Stoppoint)
-stoppoint_at args = option_or (option_map break_at (behind (codes "0") args))
-    (option_or (option_map break_at (behind (codes "1") args)) (kind_at args))
+stoppoint_at args = option_or (option_map break_at (text_after (codes "0") args))
+    (option_or (option_map break_at (text_after (codes "1") args)) (kind_at args))
 
 -- the refusal of arguments with another kind: malformed if they are empty, and otherwise unknown
 abbrev pub other_kind : List ℕ → Request
@@ -207,17 +207,17 @@ stoppoint_change change args = unwrap_or (option_map (λ found. or_refused refus
 -- ---- moves
 
 -- the refusal of a move with arguments: with an address it would start elsewhere, and otherwise it is malformed
-abbrev pub elsewhere : Bool → Refusal
-elsewhere is_address = if is_address then refusal.WouldChange else refusal.Malformed
+abbrev pub refusal_of_address : Bool → Refusal
+refusal_of_address is_address = if is_address then refusal.WouldChange else refusal.Malformed
 
 -- the request of `c` or `s` with these arguments; refused unless they are empty
 unfoldable pub plain_move : Move → List ℕ → Request
-plain_move move args = if length args == 0 then ask.Move move else ask.Refused (elsewhere (is_some (number_of args)))
+plain_move move args = if length args == 0 then ask.Move move else ask.Refused (refusal_of_address (is_some (number_of args)))
 
 -- the request of `C` or `S` with a signal, which is ignored; refused if an address follows
 unfoldable pub signal_move : Move → List ℕ → Request
 signal_move move args = if is_some (number_of args) then ask.Move move
-    else ask.Refused (elsewhere (is_some (numbers_at semicolon args)))
+    else ask.Refused (refusal_of_address (is_some (numbers_at semicolon args)))
 
 -- the move in the arguments `LOW,HIGH`, which steps while the pc is in this range of addresses
 abbrev pub move_within : List ℕ → Option Move

@@ -66,11 +66,11 @@ end_kind_of_fault fault.UnknownCall = BadCall
 end_kind_of_fault fault.ConsoleFull = FileTooLarge
 
 -- the kind of end that the stop reply for a stop reports
-abbrev pub told_by : Stop → Told
-told_by stop.Exit = Exited
-told_by stop.Budget = UsedUp
-told_by (stop.Fault kind) = end_kind_of_fault kind
-told_by stop.Here = NoEnding
-told_by (stop.Watch kind address) = NoEnding
-told_by stop.Interrupt = NoEnding
-told_by stop.Beginning = NoEnding
+abbrev pub end_kind_of_stop : Stop → Told
+end_kind_of_stop stop.Exit = Exited
+end_kind_of_stop stop.Budget = UsedUp
+end_kind_of_stop (stop.Fault kind) = end_kind_of_fault kind
+end_kind_of_stop stop.Here = NoEnding
+end_kind_of_stop (stop.Watch kind address) = NoEnding
+end_kind_of_stop stop.Interrupt = NoEnding
+end_kind_of_stop stop.Beginning = NoEnding

@@ -2,8 +2,8 @@
 use Rattle.std.specs.Prelude.{ℕ, List, [], ◌∷◌, ◌++◌, ◌==◌, ◌+◌, ◌*◌, ◌%◌, Option, Some, None, if◌then◌else◌, sum}
 use Rattle.hex.specs.Hex.{encode_lower}
 use Rattle.rv_gdb_protocol.specs.Escapes.{begin_mark, end_mark, escaped}
-use Rattle.rv_gdb_protocol.specs.declared.frame.Sum.{Sum}
-use Rattle.rv_gdb_protocol.specs.declared.frame.Sum.TheVariants as verdict
+use Rattle.rv_gdb_protocol.specs.declared.frame.Checksum.{Checksum}
+use Rattle.rv_gdb_protocol.specs.declared.frame.Checksum.TheVariants as verdict
 
 -- the checksum of a text: the sum of its bytes modulo 256
 unfoldable pub sum_of : List ℕ → ℕ
@@ -28,6 +28,6 @@ sum_of_digits (Some high) None = None
 sum_of_digits None low = None
 
 -- whether the received checksum is the correct one
-abbrev pub checksum_verdict : ℕ → Option ℕ → Sum
+abbrev pub checksum_verdict : ℕ → Option ℕ → Checksum
 checksum_verdict right (Some told) = if told == right then verdict.Right else verdict.Wrong
 checksum_verdict right None = verdict.Wrong

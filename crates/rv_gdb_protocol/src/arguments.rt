@@ -1,9 +1,9 @@
 //! Parsers for the arguments of packets.
 
 ghost use Rattle.std.specs.Prelude.{◌≡◌};
-ghost use Rattle.rv_gdb_protocol.specs.Requests.{all_registers, break_at, description, elsewhere, image_path, kind_at, move_within, other_kind, part_at, plain_move, range_at, read_file, read_memory, read_register, register_at, register_of, register_write, signal_move, move_with_signal, stoppoint_at, stoppoint_range, watch_at, watched, write_register, written};
+ghost use Rattle.rv_gdb_protocol.specs.Requests.{all_registers, break_at, description, refusal_of_address, image_path, kind_at, move_within, other_kind, part_at, plain_move, range_at, read_file, read_memory, read_register, register_at, register_of, register_write, signal_move, move_with_signal, stoppoint_at, stoppoint_range, watch_at, watched, write_register, written};
 
-use crate::number::{behind, number_of, numbers_at, place_of, value_of};
+use crate::number::{text_after, number_of, numbers_at, place_of, value_of};
 use crate::request::{Move, Part, Range, Refusal, Register, Request, Stoppoint, Watched};
 use rv_base::Bytes;
 
@@ -12,7 +12,7 @@ use rv_base::Bytes;
 pub(crate) fn description(args: &[u8]) -> Request
     ensures { result ≡ description args.now }
 {
-    match behind(b"target.xml:", args) {
+    match text_after(b"target.xml:", args) {
         Some(part) => match part_at(part) {
             Some(part) => Request::Description(part),
             None => Request::Refused(Refusal::Failed),
@@ -148,10 +148,10 @@ pub(crate) fn written(range: Range, bytes: Vec<u8>) -> Option<Request>
 pub(crate) fn stoppoint_at(args: &[u8]) -> Option<Option<Stoppoint>>
     ensures { result ≡ stoppoint_at args.now }
 {
-    if let Some(fields) = behind(b"0", args) {
+    if let Some(fields) = text_after(b"0", args) {
         return Some(break_at(fields));
     }
-    if let Some(fields) = behind(b"1", args) {
+    if let Some(fields) = text_after(b"1", args) {
         return Some(break_at(fields));
     }
     kind_at(args)
@@ -161,13 +161,13 @@ pub(crate) fn stoppoint_at(args: &[u8]) -> Option<Option<Stoppoint>>
 fn kind_at(args: &[u8]) -> Option<Option<Stoppoint>>
     ensures { result ≡ kind_at args.now }
 {
-    if let Some(fields) = behind(b"2", args) {
+    if let Some(fields) = text_after(b"2", args) {
         return Some(watch_at(Watched::Writes, fields));
     }
-    if let Some(fields) = behind(b"3", args) {
+    if let Some(fields) = text_after(b"3", args) {
         return Some(watch_at(Watched::Reads, fields));
     }
-    let fields = behind(b"4", args)?;
+    let fields = text_after(b"4", args)?;
     Some(watch_at(Watched::Accesses, fields))
 }
 
@@ -191,7 +191,7 @@ fn watch_at(kind: Watched, text: &[u8]) -> Option<Stoppoint>
 fn stoppoint_range(text: &[u8]) -> Option<Range>
     ensures { result ≡ stoppoint_range text.now }
 {
-    range_at(behind(b",", text)?)
+    range_at(text_after(b",", text)?)
 }
 
 // Returns the watchpoint for a range of 1 to 65,536 bytes within the address space; `None` for any other range.
@@ -225,7 +225,7 @@ pub(crate) fn plain_move(step: Move, args: &[u8]) -> Request
     if args.is_empty() {
         return Request::Move(step);
     }
-    Request::Refused(elsewhere(number_of(args).is_some()))
+    Request::Refused(refusal_of_address(number_of(args).is_some()))
 }
 
 /// Parses the arguments of `C` or `S`: a signal, which is ignored. Returns a refusal if an address follows.
@@ -236,12 +236,12 @@ pub(crate) fn signal_move(step: Move, args: &[u8]) -> Request
     if number_of(args).is_some() {
         return Request::Move(step);
     }
-    Request::Refused(elsewhere(numbers_at(b';', args).is_some()))
+    Request::Refused(refusal_of_address(numbers_at(b';', args).is_some()))
 }
 
 // Returns the refusal of a move with arguments: with an address it would start elsewhere, and otherwise it is malformed.
-fn elsewhere(is_address: bool) -> Refusal
-    ensures { result ≡ elsewhere is_address }
+fn refusal_of_address(is_address: bool) -> Refusal
+    ensures { result ≡ refusal_of_address is_address }
 {
     if is_address {
         Refusal::WouldChange

@@ -11,7 +11,7 @@ use std::alloc::{AllocError, Global};
 
 /// Whether the checksum of a packet is correct.
 #[derive(Clone, Copy, Debug, PartialEq, Eq)]
-pub enum Sum {
+pub enum Checksum {
     Right,
     Wrong,
 }
@@ -26,7 +26,7 @@ pub enum Incoming {
     /// `-`: gdb requests the last packet again.
     Again,
     /// The body of a packet, still with its escapes, and whether its checksum is correct.
-    Packet(Bytes, Sum),
+    Packet(Bytes, Checksum),
     /// A body of more than 16,384 bytes, which is not kept. Its checksum is not checked.
     TooLong,
 }

@@ -7,8 +7,8 @@ ghost use Rattle.rv_gdb_protocol.specs.Readback.{CanBeSent, EndsWithSent, IsRece
 ghost use Rattle.rv_gdb_protocol.specs.Grammar.{IsRequest};
 ghost use Rattle.rv_gdb_protocol.specs.Packets.{request_of};
 ghost use Rattle.rv_gdb_protocol.specs.Replies.{part_text};
-ghost use Rattle.rv_gdb_protocol.specs.Stops.{stop_text, told_by};
-ghost use Rattle.rv_gdb_protocol.specs.declared.frame.Sum.{Sum};
+ghost use Rattle.rv_gdb_protocol.specs.Stops.{stop_text, end_kind_of_stop};
+ghost use Rattle.rv_gdb_protocol.specs.declared.frame.Checksum.{Checksum};
 ghost use Rattle.rv_gdb_protocol.specs.declared.request.Part.{Part};
 ghost use Rattle.rv_gdb_protocol.specs.declared.request.Request.{Request};
 ghost use Rattle.rv_gdb_protocol.specs.declared.stop.Stop.{Stop};
@@ -33,7 +33,7 @@ pub fn sent_texts_are_received()
 
 /// If the parser receives a packet, the bytes so far end with that packet.
 pub fn received_texts_were_sent()
-    ensures { (bytes text : List ℕ) (byte : ℕ) (sum : Sum)
+    ensures { (bytes text : List ℕ) (byte : ℕ) (sum : Checksum)
         → incoming_at (fold frame_after between bytes) byte ≡ Some (Packet text sum)
         → EndsWithSent (bytes ++ byte ∷ []) text sum }
 {}
@@ -41,7 +41,7 @@ pub fn received_texts_were_sent()
 /// The stop reply tells how the run ended: stops with equal replies report equal ends, and a stop before the end never has the reply of one
 /// at the end.
 pub fn stop_replies_show_the_ending()
-    ensures { (one other : Stop) → stop_text one ≡ stop_text other → told_by one ≡ told_by other }
+    ensures { (one other : Stop) → stop_text one ≡ stop_text other → end_kind_of_stop one ≡ end_kind_of_stop other }
 {}
 
 /// The reply with a part of a text fits in a packet, however many of its bytes must be escaped.

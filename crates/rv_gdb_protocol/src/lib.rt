@@ -20,7 +20,7 @@ mod sum;
 mod target;
 
 pub use escapes::{push_data, push_escaped};
-pub use frame::{Incoming, Sum, push_frame};
+pub use frame::{Incoming, Checksum, push_frame};
 pub use law::{
     bytes_can_be_split, framed_bodies_are_read_back, received_texts_were_sent, packets_are_read,
     parts_fit, sent_texts_are_received, stop_replies_show_the_ending,

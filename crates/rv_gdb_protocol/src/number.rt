@@ -2,7 +2,7 @@
 
 ghost use Rattle.std.specs.Prelude.{◌≡◌, ◌<◌, ◌^◌, IfOk, IfSome, length, option_copied, option_map};
 ghost use Rattle.hex.specs.Hex.{hex_digit_value};
-ghost use Rattle.rv_gdb_protocol.specs.Numbers.{behind, bytes_of, digit_on, number_of, numbers_at, place_of, until, value_of};
+ghost use Rattle.rv_gdb_protocol.specs.Numbers.{text_after, bytes_of, digit_on, number_of, numbers_at, place_of, until, value_of};
 
 use crate::sum::digit_value;
 use hex::FromHexError;
@@ -68,9 +68,9 @@ pub(crate) fn until(mark: u8, text: &[u8]) -> &[u8]
 }
 
 /// Returns the text after `name`, if it begins with `name`.
-#[tactic(auto, unfolding(crate::specs::Numbers::behind))]
-pub(crate) fn behind<'a>(name: &[u8], text: &'a [u8]) -> Option<&'a [u8]>
-    ensures { option_copied result ≡ behind name.now text.now }
+#[tactic(auto, unfolding(crate::specs::Numbers::text_after))]
+pub(crate) fn text_after<'a>(name: &[u8], text: &'a [u8]) -> Option<&'a [u8]>
+    ensures { option_copied result ≡ text_after name.now text.now }
 {
     if text.starts_with(name) {
         Some(&text[name.len()..])

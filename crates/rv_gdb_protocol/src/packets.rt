@@ -4,13 +4,13 @@ ghost use Rattle.std.specs.Prelude.{◌≡◌};
 ghost use Rattle.std.specs.Str.{bytes_eq};
 ghost use Rattle.rv_gdb_protocol.specs.Requests.{stoppoint_change};
 ghost use Rattle.rv_gdb_protocol.specs.declared.request.Request.TheVariants as ask;
-ghost use Rattle.rv_gdb_protocol.specs.Packets.{action_of, bare_action, bare_command, bare_query, description_request, detach, detach_request, file_reading, first_action, granted, image_path_request, is_file_call, request_without_bytes, moving, other_file, query, range_action, reading, signal_action, stoppoint_request};
+ghost use Rattle.rv_gdb_protocol.specs.Packets.{action_of, bare_action, bare_command, bare_query, description_request, detach, detach_request, file_reading, first_action, accepted_request, image_path_request, is_file_call, request_without_bytes, move_request, other_file, query, range_action, register_or_memory_request, signal_action, stoppoint_request};
 
 use crate::arguments::{
     description, image_path, move_with_signal, move_within, other_kind, plain_move, read_file,
     read_memory, read_register, signal_move, stoppoint_at, write_register,
 };
-use crate::number::{behind, until};
+use crate::number::{text_after, until};
 use crate::request::{Move, Refusal, Request};
 
 /// Parses a packet whose arguments contain no data bytes. Returns `None` for any other packet.
@@ -23,10 +23,10 @@ pub(crate) fn request_without_bytes(body: &[u8]) -> Option<Request>
         .or(query(body))
         .or(description_request(body))
         .or(image_path_request(body))
-        .or(reading(body))
+        .or(register_or_memory_request(body))
         .or(stoppoint_request(body))
-        .or(moving(body))
-        .or(granted(body))
+        .or(move_request(body))
+        .or(accepted_request(body))
         .or(detach_request(body))
         .or(file_reading(body))
         .or(other_file(body))
@@ -105,7 +105,7 @@ fn query(body: &[u8]) -> Option<Request>
 fn description_request(body: &[u8]) -> Option<Request>
     ensures { result ≡ description_request body.now }
 {
-    let args = behind(b"qXfer:features:read:", body)?;
+    let args = text_after(b"qXfer:features:read:", body)?;
     Some(description(args))
 }
 
@@ -113,22 +113,22 @@ fn description_request(body: &[u8]) -> Option<Request>
 fn image_path_request(body: &[u8]) -> Option<Request>
     ensures { result ≡ image_path_request body.now }
 {
-    let args = behind(b"qXfer:exec-file:read:", body)?;
+    let args = text_after(b"qXfer:exec-file:read:", body)?;
     Some(image_path(args))
 }
 
 // Parses a packet that reads or writes a register, or reads memory.
-#[tactic(auto, unfolding(crate::specs::Packets::reading))]
-fn reading(body: &[u8]) -> Option<Request>
-    ensures { result ≡ reading body.now }
+#[tactic(auto, unfolding(crate::specs::Packets::register_or_memory_request))]
+fn register_or_memory_request(body: &[u8]) -> Option<Request>
+    ensures { result ≡ register_or_memory_request body.now }
 {
-    if let Some(args) = behind(b"p", body) {
+    if let Some(args) = text_after(b"p", body) {
         return Some(read_register(args));
     }
-    if let Some(args) = behind(b"P", body) {
+    if let Some(args) = text_after(b"P", body) {
         return Some(write_register(args));
     }
-    let args = behind(b"m", body)?;
+    let args = text_after(b"m", body)?;
     Some(read_memory(args))
 }
 
@@ -137,10 +137,10 @@ fn reading(body: &[u8]) -> Option<Request>
 fn stoppoint_request(body: &[u8]) -> Option<Request>
     ensures { result ≡ stoppoint_request body.now }
 {
-    if let Some(args) = behind(b"Z", body) {
+    if let Some(args) = text_after(b"Z", body) {
         return Some(set_stoppoint(args));
     }
-    let args = behind(b"z", body)?;
+    let args = text_after(b"z", body)?;
     Some(clear_stoppoint(args))
 }
 
@@ -169,23 +169,23 @@ fn clear_stoppoint(args: &[u8]) -> Request
 }
 
 // Parses a packet that moves forwards in the run.
-#[tactic(auto, unfolding(crate::specs::Packets::moving))]
-fn moving(body: &[u8]) -> Option<Request>
-    ensures { result ≡ moving body.now }
+#[tactic(auto, unfolding(crate::specs::Packets::move_request))]
+fn move_request(body: &[u8]) -> Option<Request>
+    ensures { result ≡ move_request body.now }
 {
-    if let Some(args) = behind(b"vCont;", body) {
+    if let Some(args) = text_after(b"vCont;", body) {
         return Some(first_action(args));
     }
-    if let Some(args) = behind(b"c", body) {
+    if let Some(args) = text_after(b"c", body) {
         return Some(plain_move(Move::Continue, args));
     }
-    if let Some(args) = behind(b"s", body) {
+    if let Some(args) = text_after(b"s", body) {
         return Some(plain_move(Move::Step, args));
     }
-    if let Some(args) = behind(b"C", body) {
+    if let Some(args) = text_after(b"C", body) {
         return Some(signal_move(Move::Continue, args));
     }
-    let args = behind(b"S", body)?;
+    let args = text_after(b"S", body)?;
     Some(signal_move(Move::Step, args))
 }
 
@@ -229,20 +229,20 @@ fn bare_action(text: &[u8]) -> Option<Move>
 fn signal_action(name: &[u8], step: Move, text: &[u8]) -> Option<Move>
     ensures { result ≡ signal_action name.now step text.now }
 {
-    move_with_signal(step, behind(name, text)?)
+    move_with_signal(step, text_after(name, text)?)
 }
 
 // Parses the action `r` of `vCont;`, which steps while the pc is in a range of addresses.
 fn range_action(text: &[u8]) -> Option<Move>
     ensures { result ≡ range_action text.now }
 {
-    move_within(behind(b"r", text)?)
+    move_within(text_after(b"r", text)?)
 }
 
 // Parses a packet that is accepted whatever follows its name.
-#[tactic(auto, unfolding(crate::specs::Packets::granted))]
-fn granted(body: &[u8]) -> Option<Request>
-    ensures { result ≡ granted body.now }
+#[tactic(auto, unfolding(crate::specs::Packets::accepted_request))]
+fn accepted_request(body: &[u8]) -> Option<Request>
+    ensures { result ≡ accepted_request body.now }
 {
     if body.starts_with(b"H") || body.starts_with(b"T") || body.starts_with(b"vKill") {
         Some(Request::Accepted)
@@ -257,7 +257,7 @@ fn granted(body: &[u8]) -> Option<Request>
 fn detach_request(body: &[u8]) -> Option<Request>
     ensures { result ≡ detach_request body.now }
 {
-    let args = behind(b"D", body)?;
+    let args = text_after(b"D", body)?;
     Some(detach(args))
 }
 
@@ -277,7 +277,7 @@ fn detach(args: &[u8]) -> Request
 fn file_reading(body: &[u8]) -> Option<Request>
     ensures { result ≡ file_reading body.now }
 {
-    let args = behind(b"vFile:pread:5,", body)?;
+    let args = text_after(b"vFile:pread:5,", body)?;
     Some(read_file(args))
 }
 

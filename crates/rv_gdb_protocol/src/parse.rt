@@ -7,7 +7,7 @@ ghost use Rattle.rv_gdb_protocol.specs.Requests.{open_file, opened_file, whole_d
 
 use crate::arguments::{all_registers, range_at, written};
 use crate::escapes::push_data;
-use crate::number::{behind, bytes_of, numbers_at, place_of};
+use crate::number::{text_after, bytes_of, numbers_at, place_of};
 use crate::packets::request_without_bytes;
 use crate::request::{Range, Refusal, Request};
 use rv_base::Bytes;
@@ -32,19 +32,19 @@ pub fn parse_request(alloc: Global, body: &[u8]) -> Result<Request, AllocError>
 fn request_with_bytes(alloc: Global, body: &[u8]) -> Result<Option<Request>, AllocError>
     ensures { IfOk result (λ request. request ≡ request_with_bytes body.now) }
 {
-    if let Some(args) = behind(b"G", body) {
+    if let Some(args) = text_after(b"G", body) {
         return Ok(Some(write_registers(alloc, args)?));
     }
-    if let Some(args) = behind(b"M", body) {
+    if let Some(args) = text_after(b"M", body) {
         return Ok(Some(write_digits(alloc, args)?));
     }
-    if let Some(args) = behind(b"X", body) {
+    if let Some(args) = text_after(b"X", body) {
         return Ok(Some(write_data(alloc, args)?));
     }
-    if let Some(args) = behind(b"vFile:open:", body) {
+    if let Some(args) = text_after(b"vFile:open:", body) {
         return Ok(Some(open_file(alloc, args)?));
     }
-    if let Some(args) = behind(b"qRcmd,", body) {
+    if let Some(args) = text_after(b"qRcmd,", body) {
         return Ok(Some(command(alloc, args)?));
     }
     Ok(None)

@@ -4,7 +4,7 @@ ghost use Rattle.std.specs.Prelude.{◌≡◌, ◌<◌, IfSome};
 ghost use Rattle.hex.specs.Hex.{hex_digit_value};
 ghost use Rattle.rv_gdb_protocol.specs.Sums.{checksum_verdict, sum_of, sum_of_digits};
 
-use crate::frame::Sum;
+use crate::frame::Checksum;
 
 /// Returns the checksum of a text: the sum of its bytes modulo 256.
 #[tactic(auto, unfolding(crate::specs::Sums::sum_of))]
@@ -19,12 +19,12 @@ pub(crate) fn sum_of(text: &[u8]) -> u8
 }
 
 /// Returns whether two digits are the checksum of a text.
-pub(crate) fn checksum_verdict(text: &[u8], high: u8, low: u8) -> Sum
+pub(crate) fn checksum_verdict(text: &[u8], high: u8, low: u8) -> Checksum
     ensures { result ≡ checksum_verdict (sum_of text.now) (sum_of_digits (hex_digit_value high) (hex_digit_value low)) }
 {
     match received_sum(high, low) {
-        Some(told) if told == sum_of(text) => Sum::Right,
-        _ => Sum::Wrong,
+        Some(told) if told == sum_of(text) => Checksum::Right,
+        _ => Checksum::Wrong,
     }
 }
 

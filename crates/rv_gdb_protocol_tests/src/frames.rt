@@ -1,5 +1,5 @@
 //! Frames: what is received in bytes, at once and byte by byte, and bodies in their frames.
-use rv_gdb_protocol::{Incoming, Reader, Sum, push_frame};
+use rv_gdb_protocol::{Incoming, Reader, Checksum, push_frame};
 use samples::{agree, cell_of, has_lines};
 use std::alloc::{AllocError, Global};
 use std::test::Fail;
@@ -40,7 +40,7 @@ fn push_told(text: &mut String, heard: &Incoming) -> Result<(), Fail> {
         Incoming::Again => text.push_str("-")?,
         Incoming::TooLong => text.push_str("too long")?,
         Incoming::Packet(body, sum) => {
-            if *sum == Sum::Wrong {
+            if *sum == Checksum::Wrong {
                 text.push_str("wrong ")?;
             }
             text.push_str("<")?;

@@ -1,13 +1,13 @@
 -- What holds of where a search ended holds of where a move ends.
 use Rattle.std.proofs.Common.{◌≡◌, ℕ, Result, Ok, Err, ap, subst, sym}
 use Rattle.std.specs.Result.{IfOk}
-use Rattle.rv_history.specs.Positions.{Stand}
+use Rattle.rv_history.specs.Positions.{Position}
 use Rattle.rv_history.specs.declared.found.Found.{Found}
 
-pub arrived : {E : Type 0} (P : ℕ → Found → Type 0) (result : Result Found E) (place : ℕ) (found : Found) (before behind : Stand)
+pub arrived : {E : Type 0} (P : ℕ → Found → Type 0) (result : Result Found E) (place : ℕ) (found : Found) (before behind : Position)
     → IfOk result (λ told. told ≡ found) → IfOk result (λ told. behind ≡ record before { place = place }) → P place found
     → IfOk result (P behind.place)
 arrived P (Ok told) place found before behind same moved holds =
-    let there : place ≡ behind.place = sym (ap (λ (stand : Stand). stand.place) moved) in
+    let there : place ≡ behind.place = sym (ap (λ (stand : Position). stand.place) moved) in
     subst (λ (k : ℕ). P k told) there (subst (P place) (sym same) holds)
 arrived P (Err error) place found before behind same moved holds = tt

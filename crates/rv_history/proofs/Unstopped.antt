@@ -25,7 +25,7 @@ use Rattle.rv_history.specs.declared.stops.WatchHit.TheVariants as set_off
 use Rattle.rv_history.specs.Accesses.{access_at}
 use Rattle.rv_history.specs.Kept.{IsAt}
 use Rattle.rv_history.specs.LastStop.{IsQuietAt}
-use Rattle.rv_history.specs.ForwardMoves.{IsArrival, IsUnderWay}
+use Rattle.rv_history.specs.ForwardMoves.{IsArrival, IsMoveInProgress}
 use Rattle.rv_history.specs.Moves.{HasNoStopAhead, IsEndAt, IsNextStop, IsStepBefore, IsStopBefore}
 use Rattle.rv_history.specs.Places.{IsChangeAt, IsHaltAt, last_step}
 use Rattle.rv_history.specs.Stops.{AreNone, AreUnwatched, TriggersWatch, TriggersNoWatch, first_hit, first_read, is_break, is_halt, reported_or, access_hit, touched_by, watch_bytes, watched_bytes}
@@ -140,7 +140,7 @@ ends_within budget end place start t ending ran short within =
 
 -- a move is under way wherever it stands
 pub under_way : (stops : Stops) (start : State) (leg : ForwardMove) → AreNone stops → leg.bounds ≡ bounds.All → IsAt start leg.at
-    → leg.from ≤ leg.at.place → leg.at.place ≤ leg.budget → IsUnderWay stops start leg
+    → leg.from ≤ leg.at.place → leg.at.place ≤ leg.budget → IsMoveInProgress stops start leg
 under_way stops start leg none all there order within = record {
   there = there;
   order = order;

@@ -6,7 +6,7 @@ use Rattle.rv_machine.specs.State.{State}
 use Rattle.rv_machine.specs.declared.ending.Ending.{Ending}
 use Rattle.rv_trace.specs.Trace.{state_after}
 use Rattle.rv_history.specs.Kept.{IsAt}
-use Rattle.rv_history.specs.ForwardMoves.{IsArrival, IsUnderWay}
+use Rattle.rv_history.specs.ForwardMoves.{IsArrival, IsMoveInProgress}
 use Rattle.rv_history.specs.Moves.{IsNextStop, found_at_budget}
 use Rattle.rv_history.specs.Stops.{TriggersWatch, is_halt}
 use Rattle.rv_history.specs.declared.bounds.Bounds.TheVariants as bounds
@@ -45,7 +45,7 @@ arrives stops start leg now at told arrived same is there place stop =
     subst (λ (a : Arrived). IsArrival stops start leg a) (sym is)
     (subst (λ (l : ForwardMove). IsArrival stops start l (record { at = at; found = told })) same here)
 
-module _ (stops : Stops) (start : State) (leg now : ForwardMove) (arrived : Arrived) (way : IsUnderWay stops start now)
+module _ (stops : Stops) (start : State) (leg now : ForwardMove) (arrived : Arrived) (way : IsMoveInProgress stops start now)
     (same : now ≡ record leg { at = now.at }) where
   pub arrives_halted : arrived ≡ record { at = now.at; found = found.Break }
       → (ltb now.from now.at.place && is_halt stops now.bounds (state_of now.at.machine).pc) ≡ true → IsArrival stops start leg arrived

@@ -8,7 +8,7 @@ use Rattle.rv_history.specs.declared.forward_move.ForwardMove.{ForwardMove}
 use Rattle.rv_history.specs.declared.stops.Stops.{Stops}
 
 -- a forward move is at a step of the run from `start`, within its budget, and has found no stop so far
-pub record IsUnderWay (stops : Stops) (start : State) (leg : ForwardMove) : Type 0 where
+pub record IsMoveInProgress (stops : Stops) (start : State) (leg : ForwardMove) : Type 0 where
   pub there : IsAt start leg.at
   pub order : leg.from ≤ leg.at.place
   pub within : leg.at.place ≤ leg.budget

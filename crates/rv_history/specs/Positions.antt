@@ -3,7 +3,7 @@ use Rattle.std.specs.Prelude.{ℕ}
 use Rattle.rv_machine.specs.State.{State}
 
 -- what callers see of a history: the start and the budget of its run, and the step `place` that it is at
-pub record Stand : Type 0 where
+pub record Position : Type 0 where
   pub start : State
   pub budget : ℕ
   pub place : ℕ

@@ -5,7 +5,7 @@ ghost use Rattle.rv_machine.specs.Machine.{state_of};
 ghost use Rattle.rv_machine.specs.Run.{run_of};
 ghost use Rattle.rv_machine.specs.declared.ending.Ending.TheVariants.{Budget};
 ghost use Rattle.rv_history.specs.LastStop.{IsPart};
-ghost use Rattle.rv_history.specs.ForwardMoves.{IsArrival, IsUnderWay};
+ghost use Rattle.rv_history.specs.ForwardMoves.{IsArrival, IsMoveInProgress};
 ghost use Rattle.rv_history.specs.Stops.{AreUnwatched, is_break};
 ghost use Rattle.rv_history.specs.declared.bounds.Bounds.TheVariants.{All as AllAddresses};
 ghost use Rattle.rv_history.specs.declared.found.Found.TheVariants.{Interrupted};
@@ -29,7 +29,7 @@ pub(crate) fn next_break<I: Interrupt>(
     stops: &Stops,
     interrupt: &mut I,
 ) -> Result<Arrived, AllocError>
-    requires way { IsUnderWay stops.now track.old leg }
+    requires way { IsMoveInProgress stops.now track.old leg }
     requires unbounded { leg.bounds ≡ AllAddresses }
     requires unwatched { AreUnwatched stops.now }
     ensures stop { IfOk result (IsArrival stops.now track.old leg) }

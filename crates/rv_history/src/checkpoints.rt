@@ -177,7 +177,7 @@ impl Checkpoints {
     }
 
     /// Returns the machine at a step that the run reaches. Stores states on the way.
-    pub(crate) fn come_to(&mut self, alloc: Global, place: u32) -> Result<MachineAt, AllocError>
+    pub(crate) fn machine_at_step(&mut self, alloc: Global, place: u32) -> Result<MachineAt, AllocError>
         requires { (run_of place self.old).steps ≡ place }
         ensures place { IfOk result (λ at. at.place ≡ place) }
         ensures there { IfOk result (IsAt self.old) }

@@ -35,9 +35,9 @@ impl Model for History {
     ghost use Rattle.rv_machine.specs.Machine.{state_of};
     ghost use Rattle.rv_history.specs.Places.{IsReached};
     ghost use Rattle.rv_history.specs.PositionInside.{position_code};
-    ghost use Rattle.rv_history.specs.Positions.{Stand};
+    ghost use Rattle.rv_history.specs.Positions.{Position};
 
-    ghost Value = { Stand };
+    ghost Value = { Position };
 
     ghost coded = { position_code };
 
@@ -255,7 +255,7 @@ impl History {
         ensures moved { IfOk result (λ found. self.new ≡ record self.old { place = arrival.place }) }
         ensures same { OnErr result (self.new ≡ self.old) }
     {
-        let at = self.track.come_to(alloc, arrival.place)?;
+        let at = self.track.machine_at_step(alloc, arrival.place)?;
         self.machine = at.machine;
         self.place = arrival.place;
         Ok(arrival.found)

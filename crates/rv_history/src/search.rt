@@ -2,7 +2,7 @@
 
 ghost use Rattle.std.specs.Prelude.{◌≡◌, ◌≤◌, IfOk, true};
 ghost use Rattle.rv_history.specs.Kept.{IsAt};
-ghost use Rattle.rv_history.specs.ForwardMoves.{IsArrival, IsUnderWay};
+ghost use Rattle.rv_history.specs.ForwardMoves.{IsArrival, IsMoveInProgress};
 ghost use Rattle.rv_history.specs.Stops.{AreNone};
 ghost use Rattle.rv_history.specs.declared.bounds.Bounds.TheVariants.{All as AllAddresses};
 ghost use Rattle.rv_history.specs.declared.found.Found.TheVariants.{Interrupted};
@@ -27,7 +27,7 @@ pub(crate) fn next_stop<I: Interrupt>(
     stops: &Stops,
     interrupt: &mut I,
 ) -> Result<Arrived, AllocError>
-    requires { IsUnderWay stops.now track.old leg }
+    requires { IsMoveInProgress stops.now track.old leg }
     ensures stop { IfOk result (IsArrival stops.now track.old leg) }
     ensures broken_off { IfOk result (λ arrived. arrived.found ≡ Interrupted → I.was_raised interrupt.new ≡ true) }
     ensures same { track.new ≡ track.old }
@@ -53,7 +53,7 @@ fn next_watched<I: Interrupt>(
     stops: &Stops,
     interrupt: &mut I,
 ) -> Result<Arrived, AllocError>
-    requires { IsUnderWay stops.now track.old leg }
+    requires { IsMoveInProgress stops.now track.old leg }
     ensures stop { IfOk result (IsArrival stops.now track.old leg) }
     ensures broken_off { IfOk result (λ arrived. arrived.found ≡ Interrupted → I.was_raised interrupt.new ≡ true) }
     ensures same { track.new ≡ track.old }
@@ -70,7 +70,7 @@ fn next_watched<I: Interrupt>(
             Stepped::Ended(ending) => return Ok(leg.arrived(Found::End(ending))),
             Stepped::Changed => {
                 // The machine is after the step, and the move before it.
-                let at = track.come_to(alloc, leg.at.place)?;
+                let at = track.machine_at_step(alloc, leg.at.place)?;
                 let found = Found::Change;
                 return Ok(Arrived { at, found });
             }

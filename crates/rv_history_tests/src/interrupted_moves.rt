@@ -27,31 +27,31 @@ back past a watch | 132000 | w80000100,4 | 1 | 132000 interrupted | 0 begin
 
 // The direction of a move.
 #[derive(Clone, Copy)]
-enum Way {
+enum Direction {
     Ahead,
     Back,
 }
 
 // Returns a history at the step where a move in this direction begins: the start of the run, or its budget.
-fn history_before_move(alloc: Global, way: Way, budget: u32) -> Result<History, Fail> {
+fn history_before_move(alloc: Global, direction: Direction, budget: u32) -> Result<History, Fail> {
     let mut history = history_of(alloc, CODE, budget)?;
-    if let Way::Back = way {
+    if let Direction::Back = direction {
         let _ = history.seek(alloc, budget)?;
     }
     Ok(history)
 }
 
 // Moves a history in a direction, and returns as text the step at which the move ended, and why.
-fn moved_to(
+fn make_move(
     alloc: Global,
     history: &mut History,
-    way: Way,
+    direction: Direction,
     stops: &Stops,
     alarm: &mut Alarm,
 ) -> Result<String, Fail> {
-    let found = match way {
-        Way::Ahead => history.go_on(alloc, stops, Bounds::All, alarm)?,
-        Way::Back => history.go_back(alloc, stops, alarm)?,
+    let found = match direction {
+        Direction::Ahead => history.go_on(alloc, stops, Bounds::All, alarm)?,
+        Direction::Back => history.go_back(alloc, stops, alarm)?,
     };
     let told = found_text(alloc, found)?;
     Ok(format!(in alloc; "{} {told}", history.place())?)
@@ -61,23 +61,23 @@ fn moved_to(
 fn check_moves_from(
     alloc: Global,
     history: &mut History,
-    way: Way,
+    direction: Direction,
     stops: &Stops,
     line: &str,
 ) -> Result<(), Fail> {
     let mut alarm = Alarm::at(cell_of(line, 3).parse()?);
-    let met = moved_to(alloc, history, way, stops, &mut alarm)?;
+    let met = make_move(alloc, history, direction, stops, &mut alarm)?;
     agree(line, met.as_str(), cell_of(line, 4))?;
-    let met = moved_to(alloc, history, way, stops, &mut Alarm::never())?;
+    let met = make_move(alloc, history, direction, stops, &mut Alarm::never())?;
     agree(line, met.as_str(), cell_of(line, 5))
 }
 
 // Checks the interrupted move of a line in this direction.
-fn check_interrupted(alloc: Global, way: Way, line: &str) -> Result<(), Fail> {
+fn check_interrupted(alloc: Global, direction: Direction, line: &str) -> Result<(), Fail> {
     let stops = stops_of(alloc, cell_of(line, 2))?;
     let budget = cell_of(line, 1).parse()?;
-    let mut history = history_before_move(alloc, way, budget)?;
-    check_moves_from(alloc, &mut history, way, &stops, line)
+    let mut history = history_before_move(alloc, direction, budget)?;
+    check_moves_from(alloc, &mut history, direction, &stops, line)
 }
 
 // An interrupt stops a move forward, which can be continued.
@@ -85,7 +85,7 @@ fn check_interrupted(alloc: Global, way: Way, line: &str) -> Result<(), Fail> {
 fn moves_ahead_are_broken_off(rt: HostRuntime) -> Result<(), Fail> {
     has_lines(AHEAD, 5)?;
     for line in AHEAD.lines() {
-        check_interrupted(rt.alloc(), Way::Ahead, line)?;
+        check_interrupted(rt.alloc(), Direction::Ahead, line)?;
     }
     Ok(())
 }
@@ -95,16 +95,16 @@ fn moves_ahead_are_broken_off(rt: HostRuntime) -> Result<(), Fail> {
 fn moves_back_are_broken_off(rt: HostRuntime) -> Result<(), Fail> {
     has_lines(BACK, 2)?;
     for line in BACK.lines() {
-        check_interrupted(rt.alloc(), Way::Back, line)?;
+        check_interrupted(rt.alloc(), Direction::Back, line)?;
     }
     Ok(())
 }
 
 // Checks that a move of less than 2^16 steps does not poll the interrupt.
 fn check_short_moves(alloc: Global, history: &mut History, stops: &Stops) -> Result<(), Fail> {
-    let met = moved_to(alloc, history, Way::Ahead, stops, &mut Alarm::at(1))?;
+    let met = make_move(alloc, history, Direction::Ahead, stops, &mut Alarm::at(1))?;
     agree("ahead", met.as_str(), "65000 budget")?;
-    let met = moved_to(alloc, history, Way::Back, stops, &mut Alarm::at(1))?;
+    let met = make_move(alloc, history, Direction::Back, stops, &mut Alarm::at(1))?;
     agree("back", met.as_str(), "0 begin")
 }
 

@@ -14,7 +14,7 @@ pub record IsLook (request : Request) : Type 0 where
   pub no_write : (register : Register) (value : ℕ) → request ≡ ask.WriteRegister register value → ⊥
   pub no_set : (place : Stoppoint) → request ≡ ask.Set place → ⊥
   pub no_clear : (place : Stoppoint) → request ≡ ask.Clear place → ⊥
-  pub no_move : (asked : Move) → request ≡ ask.Move asked → ⊥
+  pub no_move : (requested : Move) → request ≡ ask.Move requested → ⊥
   pub no_command : (text : List ℕ) → request ≡ ask.Command text → ⊥
   pub no_restart : request ≡ ask.Restart → ⊥
   pub no_mode : request ≡ ask.NoAcknowledgements → ⊥
@@ -26,7 +26,7 @@ pub looked : (session : Session) (request : Request) (reply : Reply) → IsLook 
 looked session (ask.WriteRegister register value) reply look is = absurd (look.no_write register value refl)
 looked session (ask.Set place) reply look is = absurd (look.no_set place refl)
 looked session (ask.Clear place) reply look is = absurd (look.no_clear place refl)
-looked session (ask.Move asked) reply look is = absurd (look.no_move asked refl)
+looked session (ask.Move requested) reply look is = absurd (look.no_move requested refl)
 looked session (ask.Command text) reply look is = absurd (look.no_command text refl)
 looked session ask.Restart reply look is = absurd (look.no_restart refl)
 looked session ask.NoAcknowledgements reply look is = absurd (look.no_mode refl)

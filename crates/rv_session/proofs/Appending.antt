@@ -6,7 +6,7 @@ use Rattle.rv_gdb_protocol.specs.Frames.{Frame, frame_after, incoming_at}
 use Rattle.rv_gdb_protocol.specs.Packets.{request_of}
 use Rattle.rv_gdb_protocol.specs.declared.frame.Incoming.{Incoming}
 use Rattle.rv_session.specs.Answers.{IsAnswered}
-use Rattle.rv_session.specs.Incoming.{IsAppended, IsByteReceived, IsRespondedTo, IsResponse, IsResponseUnless, IsTaken, acknowledgement, packets_of, with_sent}
+use Rattle.rv_session.specs.Incoming.{IsAppended, IsByteReceived, IsRespondedTo, IsResponse, IsResponseUnless, IsPacketAnswered, acknowledgement, packets_of, with_sent}
 use Rattle.rv_session.specs.declared.reply.Reply.{Reply}
 use Rattle.rv_session.specs.declared.session.Session.{Session}
 
@@ -42,31 +42,31 @@ both_if P R Q (Err error) first second together = tt
 
 -- ---- answers
 
-pub not_over : (session next : Session) (heard : Incoming) (out : List ℕ) → session.is_over ≡ false → IsResponse session heard out next
-    → IsRespondedTo session (Some heard) out next
-not_over session next heard out is response =
-    subst (λ (over : Bool). IsResponseUnless over session heard out next) (sym is) response
+pub not_over : (session next : Session) (received : Incoming) (out : List ℕ) → session.is_over ≡ false → IsResponse session received out next
+    → IsRespondedTo session (Some received) out next
+not_over session next received out is response =
+    subst (λ (over : Bool). IsResponseUnless over session received out next) (sym is) response
 
-pub over : (session : Session) (heard : Incoming) → session.is_over ≡ true → IsRespondedTo session (Some heard) [] session
-over session heard is = subst (λ (over : Bool). IsResponseUnless over session heard [] session) (sym is) (refl, refl)
+pub over : (session : Session) (received : Incoming) → session.is_over ≡ true → IsRespondedTo session (Some received) [] session
+over session received is = subst (λ (over : Bool). IsResponseUnless over session received [] session) (sym is) (refl, refl)
 
 pub taken : (session behind next : Session) (body old middle last : List ℕ) (reply : Reply)
     → middle ≡ old ++ acknowledgement session → IsAnswered session (request_of body) reply behind
     → last ≡ middle ++ packets_of reply → next ≡ with_sent behind reply
-    → IsAppended old last (λ out. IsTaken session body out next)
+    → IsAppended old last (λ out. IsPacketAnswered session body out next)
 taken session behind next body old middle last reply acknowledged answered sent kept = record {
   out = acknowledgement session ++ packets_of reply;
   new_is = sent ∙ ap (λ (front : List ℕ). front ++ packets_of reply) acknowledged
       ∙ append_assoc old (acknowledgement session) (packets_of reply);
-  such = record { reply = reply; behind = behind; answered = answered; out_is = refl; next_is = kept };
+  such = record { reply = reply; after_reply = behind; answered = answered; out_is = refl; next_is = kept };
 }
 
 -- ---- bytes
 
 -- a byte is heard by the reader first
-pub byte_heard : (session next : Session) (reader : Frame) (heard : Option Incoming) (byte : ℕ) (out : List ℕ)
-    → reader ≡ frame_after session.reader byte → heard ≡ incoming_at session.reader byte
-    → IsRespondedTo (record session { reader = reader }) heard out next → IsByteReceived session byte out next
-byte_heard session next reader heard byte out is same response =
+pub byte_heard : (session next : Session) (reader : Frame) (received : Option Incoming) (byte : ℕ) (out : List ℕ)
+    → reader ≡ frame_after session.reader byte → received ≡ incoming_at session.reader byte
+    → IsRespondedTo (record session { reader = reader }) received out next → IsByteReceived session byte out next
+byte_heard session next reader received byte out is same response =
     subst (λ (f : Frame). IsRespondedTo (record session { reader = f }) (incoming_at session.reader byte) out next) is
     (subst (λ (h : Option Incoming). IsRespondedTo (record session { reader = reader }) h out next) same response)

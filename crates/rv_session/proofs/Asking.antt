@@ -6,7 +6,7 @@ use Rattle.rv_history.specs.declared.stops.Stops.{Stops}
 use Rattle.rv_gdb_protocol.specs.Frames.{frame_after, incoming_at}
 use Rattle.rv_gdb_protocol.specs.Packets.{request_of}
 use Rattle.rv_gdb_protocol.specs.declared.frame.Incoming.{Incoming}
-use Rattle.rv_gdb_protocol.specs.declared.frame.Incoming.TheVariants as heard
+use Rattle.rv_gdb_protocol.specs.declared.frame.Incoming.TheVariants as received
 use Rattle.rv_gdb_protocol.specs.declared.request.Refusal.{Refusal}
 use Rattle.rv_gdb_protocol.specs.declared.request.Refusal.TheVariants as refusal
 use Rattle.rv_gdb_protocol.specs.declared.request.Register.{Register}
@@ -14,28 +14,28 @@ use Rattle.rv_gdb_protocol.specs.declared.request.Register.TheVariants as reg
 use Rattle.rv_gdb_protocol.specs.declared.request.Request.{Request}
 use Rattle.rv_gdb_protocol.specs.declared.request.Request.TheVariants as ask
 use Rattle.rv_session.specs.Answers.{IsAnswered, IsSet, IsWritten, is_reset}
-use Rattle.rv_session.specs.Incoming.{IsByteReceived, IsJudged, IsRespondedTo, IsResponse, IsResponseUnless, IsTaken, is_wrong_checksum, with_sent}
+use Rattle.rv_session.specs.Incoming.{IsByteReceived, IsJudged, IsRespondedTo, IsResponse, IsResponseUnless, IsPacketAnswered, is_wrong_checksum, with_sent}
 use Rattle.rv_session.specs.Replies.{refused}
 use Rattle.rv_session.specs.Sessions.{IsOpenIfRequested, at_place}
 use Rattle.rv_session.specs.declared.reply.Reply.{Reply}
 use Rattle.rv_session.specs.declared.session.Session.{Session}
 
 -- no move is asked for in what is a session but for other things
-unasked : (next other : Session) → next ≡ other → other.asked ≡ None → next.asked ≡ None
-unasked next other is none = ap (λ (s : Session). s.asked) is ∙ none
+unasked : (next other : Session) → next ≡ other → other.requested ≡ None → next.requested ≡ None
+unasked next other is none = ap (λ (s : Session). s.requested) is ∙ none
 
-placed_unasked : (session next : Session) (place : ℕ) (moves : Bool) → session.asked ≡ None
-    → next ≡ (if moves then at_place session place else session) → next.asked ≡ None
+placed_unasked : (session next : Session) (place : ℕ) (moves : Bool) → session.requested ≡ None
+    → next ≡ (if moves then at_place session place else session) → next.requested ≡ None
 placed_unasked session next place true none is = unasked next (at_place session place) is none
 placed_unasked session next place false none is = unasked next session is none
 
-set_unasked : (session next : Session) (outcome : Result Stops Refusal) (reply : Reply) → session.asked ≡ None
-    → IsSet session outcome reply next → next.asked ≡ None
+set_unasked : (session next : Session) (outcome : Result Stops Refusal) (reply : Reply) → session.requested ≡ None
+    → IsSet session outcome reply next → next.requested ≡ None
 set_unasked session next (Ok stops) reply none set = unasked next (record session { stops = stops }) set.1 none
 set_unasked session next (Err refusal) reply none set = unasked next session set.1 none
 
-written_unasked : (session next : Session) (register : Register) (value : ℕ) (reply : Reply) → session.asked ≡ None
-    → IsWritten session register value reply next → next.asked ≡ None
+written_unasked : (session next : Session) (register : Register) (value : ℕ) (reply : Reply) → session.requested ≡ None
+    → IsWritten session register value reply next → next.requested ≡ None
 written_unasked session next (reg.Hart number) value reply none written = unasked next session written.1 none
 written_unasked session next reg.Steps value reply none written =
     placed_unasked session next value (nat_le value (last_step session.history.budget session.history.start)) none written.1
@@ -44,9 +44,9 @@ written_unasked session next reg.Printed value reply none written =
 written_unasked session next reg.Taken value reply none written =
     unasked next (at_place session next.history.place) written.run none
 
-answered_may : (session next : Session) (request : Request) (reply : Reply) → session.is_over ≡ false → session.asked ≡ None
+answered_may : (session next : Session) (request : Request) (reply : Reply) → session.is_over ≡ false → session.requested ≡ None
     → IsAnswered session request reply next → IsOpenIfRequested next
-answered_may session next (ask.Move asked) reply going none answered = inr (ap (λ (s : Session). s.is_over) answered.1 ∙ going)
+answered_may session next (ask.Move requested) reply going none answered = inr (ap (λ (s : Session). s.is_over) answered.1 ∙ going)
 answered_may session next (ask.WriteRegister register value) reply going none answered =
     inl (written_unasked session next register value reply none answered)
 answered_may session next (ask.Set place) reply going none answered =
@@ -55,41 +55,41 @@ answered_may session next (ask.Command text) reply going none answered =
     inl (placed_unasked session next 0 (is_reset text) none answered.1)
 answered_may session next request reply going none answered = inl (unasked next _ answered.1 none)
 
-taken_may : (session next : Session) (body out : List ℕ) → session.is_over ≡ false → session.asked ≡ None
-    → IsTaken session body out next → IsOpenIfRequested next
+taken_may : (session next : Session) (body out : List ℕ) → session.is_over ≡ false → session.requested ≡ None
+    → IsPacketAnswered session body out next → IsOpenIfRequested next
 taken_may session next body out going none took =
-    elim (answered_may session took.behind (request_of body) took.reply going none took.answered) [
-      | inl unasks ↦ inl (unasked next (with_sent took.behind took.reply) took.next_is unasks)
+    elim (answered_may session took.after_reply (request_of body) took.reply going none took.answered) [
+      | inl unasks ↦ inl (unasked next (with_sent took.after_reply took.reply) took.next_is unasks)
       | inr opens ↦ inr (ap (λ (s : Session). s.is_over) took.next_is ∙ opens)
     ]
 
-judged_may : (session next : Session) (again : Bool) (body out : List ℕ) → session.is_over ≡ false → session.asked ≡ None
+judged_may : (session next : Session) (again : Bool) (body out : List ℕ) → session.is_over ≡ false → session.requested ≡ None
     → IsJudged session again body out next → IsOpenIfRequested next
 judged_may session next true body out going none judged = inl (unasked next session judged.1 none)
 judged_may session next false body out going none judged = taken_may session next body out going none judged
 
-response_may : (session next : Session) (heard : Incoming) (out : List ℕ) → session.is_over ≡ false → session.asked ≡ None
-    → IsResponse session heard out next → IsOpenIfRequested next
-response_may session next heard.Interrupt out going none response = inl (unasked next session response.1 none)
-response_may session next heard.Arrived out going none response = inl (unasked next session response.1 none)
-response_may session next heard.Again out going none response = inl (unasked next session response.1 none)
-response_may session next heard.TooLong out going none response =
+response_may : (session next : Session) (received : Incoming) (out : List ℕ) → session.is_over ≡ false → session.requested ≡ None
+    → IsResponse session received out next → IsOpenIfRequested next
+response_may session next received.Interrupt out going none response = inl (unasked next session response.1 none)
+response_may session next received.Arrived out going none response = inl (unasked next session response.1 none)
+response_may session next received.Again out going none response = inl (unasked next session response.1 none)
+response_may session next received.TooLong out going none response =
     inl (unasked next (with_sent session (refused refusal.TooLong)) response.1 none)
-response_may session next (heard.Packet body sum) out going none response =
+response_may session next (received.Packet body sum) out going none response =
     judged_may session next (session.acknowledges && is_wrong_checksum sum) body out going none response
 
-unless_may : (session next : Session) (over : Bool) (heard : Incoming) (out : List ℕ) → session.is_over ≡ over → session.asked ≡ None
-    → IsResponseUnless over session heard out next → IsOpenIfRequested next
-unless_may session next true heard out is none response = inl (unasked next session response.1 none)
-unless_may session next false heard out is none response = response_may session next heard out is none response
+unless_may : (session next : Session) (over : Bool) (received : Incoming) (out : List ℕ) → session.is_over ≡ over → session.requested ≡ None
+    → IsResponseUnless over session received out next → IsOpenIfRequested next
+unless_may session next true received out is none response = inl (unasked next session response.1 none)
+unless_may session next false received out is none response = response_may session next received out is none response
 
-responded_may : (session next : Session) (heard : Option Incoming) (out : List ℕ) → session.asked ≡ None
-    → IsRespondedTo session heard out next → IsOpenIfRequested next
+responded_may : (session next : Session) (received : Option Incoming) (out : List ℕ) → session.requested ≡ None
+    → IsRespondedTo session received out next → IsOpenIfRequested next
 responded_may session next None out none response = inl (unasked next session response.1 none)
-responded_may session next (Some heard) out none response =
-    unless_may session next session.is_over heard out refl none response
+responded_may session next (Some received) out none response =
+    unless_may session next session.is_over received out refl none response
 
-pub byte_may : (session next : Session) (byte : ℕ) (out : List ℕ) → session.asked ≡ None → IsByteReceived session byte out next
+pub byte_may : (session next : Session) (byte : ℕ) (out : List ℕ) → session.requested ≡ None → IsByteReceived session byte out next
     → IsOpenIfRequested next
 byte_may session next byte out none fed =
     responded_may (record session { reader = frame_after session.reader byte }) next (incoming_at session.reader byte) out none fed

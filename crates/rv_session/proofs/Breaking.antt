@@ -6,9 +6,9 @@ use Rattle.rv_session.specs.Moved.{IsMoved}
 use Rattle.rv_session.specs.declared.reply.Reply.{Reply}
 use Rattle.rv_session.specs.declared.session.Session.{Session}
 
-moved_more : (end_text : List ℕ) (one other : Bool) (session next : Session) (asked : Move) (reply : Reply)
-    → (one ≡ true → other ≡ true) → IsMoved end_text one session asked reply next → IsMoved end_text other session asked reply next
-moved_more end_text one other session next asked reply more moved = record {
+moved_more : (end_text : List ℕ) (one other : Bool) (session next : Session) (requested : Move) (reply : Reply)
+    → (one ≡ true → other ≡ true) → IsMoved end_text one session requested reply next → IsMoved end_text other session requested reply next
+moved_more end_text one other session next requested reply more moved = record {
   place = moved.place;
   found = moved.found;
   gone = moved.gone;
@@ -21,17 +21,17 @@ moved_more end_text one other session next asked reply more moved = record {
 pub worked_more : (end_text : List ℕ) (one other : Bool) (session next : Session) (out : List ℕ) → (one ≡ true → other ≡ true)
     → IsRequestedMoveMade end_text one session out next → IsRequestedMoveMade end_text other session out next
 worked_more end_text one other session next out more made = record {
-  asked = made.asked;
+  requested = made.requested;
   asked_is = made.asked_is;
   reply = made.reply;
-  behind = made.behind;
-  moved = moved_more end_text one other (record session { asked = None }) made.behind made.asked made.reply more made.moved;
+  after_reply = made.after_reply;
+  moved = moved_more end_text one other (record session { requested = None }) made.after_reply made.requested made.reply more made.moved;
   out_is = made.out_is;
   next_is = made.next_is;
 }
 
 -- no move is asked for once it is made
 pub worked_unasked : (end_text : List ℕ) (may_break : Bool) (session next : Session) (out : List ℕ)
-    → IsRequestedMoveMade end_text may_break session out next → next.asked ≡ None
+    → IsRequestedMoveMade end_text may_break session out next → next.requested ≡ None
 worked_unasked end_text may_break session next out made =
-    ap (λ (s : Session). s.asked) made.next_is ∙ ap (λ (s : Session). s.asked) made.moved.next_is
+    ap (λ (s : Session). s.requested) made.next_is ∙ ap (λ (s : Session). s.requested) made.moved.next_is

@@ -24,14 +24,14 @@ fed_both end_text behind rest session between next front out more (move_first sa
     (subst (λ (may : Bool). IsRequestedMoveMade end_text may session told middle) (next_of_both front rest behind) made)
     (fed_both end_text behind rest middle between next front sent more first second))
 
-one_byte : (end_text : List ℕ) (behind : Bool) (session next : Session) (byte : ℕ) (out : List ℕ) → session.asked ≡ None
+one_byte : (end_text : List ℕ) (behind : Bool) (session next : Session) (byte : ℕ) (out : List ℕ) → session.requested ≡ None
     → IsByteReceived session byte out next → IsReceived end_text behind session (byte ∷ []) out next
 one_byte end_text behind session next byte out going one =
     subst (λ (all : List ℕ). IsReceived end_text behind session (byte ∷ []) all next) (append-nil out)
     (byte_first session next next byte [] out [] going one (no_bytes next))
 
 pub fed_byte : (end_text : List ℕ) (behind : Bool) (session between next : Session) (front out more : List ℕ) (byte : ℕ)
-    → IsReceived end_text (byte == 3) session front out between → between.asked ≡ None → IsByteReceived between byte more next
+    → IsReceived end_text (byte == 3) session front out between → between.requested ≡ None → IsByteReceived between byte more next
     → IsReceived end_text behind session (front ++ byte ∷ []) (out ++ more) next
 fed_byte end_text behind session between next front out more byte first going one =
     fed_both end_text behind (byte ∷ []) session between next front out more first

@@ -17,7 +17,7 @@ use Rattle.rv_gdb_protocol.specs.Frames.{frame_after, incoming_at}
 use Rattle.rv_gdb_protocol.specs.Packets.{request_of}
 use Rattle.rv_gdb_protocol.specs.Stops.{stop_text}
 use Rattle.rv_gdb_protocol.specs.declared.frame.Incoming.{Incoming}
-use Rattle.rv_gdb_protocol.specs.declared.frame.Incoming.TheVariants as heard
+use Rattle.rv_gdb_protocol.specs.declared.frame.Incoming.TheVariants as received
 use Rattle.rv_gdb_protocol.specs.declared.request.Move.{Move}
 use Rattle.rv_gdb_protocol.specs.declared.request.Move.TheVariants as move
 use Rattle.rv_gdb_protocol.specs.declared.request.Range.{Range}
@@ -30,7 +30,7 @@ use Rattle.rv_gdb_protocol.specs.declared.request.Request.TheVariants as ask
 use Rattle.rv_gdb_protocol.specs.declared.request.Stoppoint.{Stoppoint}
 use Rattle.rv_gdb_protocol.specs.declared.request.Stoppoint.TheVariants as trap
 use Rattle.rv_session.specs.Answers.{IsAnswered, IsSet, IsSought, IsSoughtAs, IsStoppointSet, IsWritten}
-use Rattle.rv_session.specs.Incoming.{HasNoInterrupt, IsByteReceived, IsReceived, IsJudged, IsRespondedTo, IsResponse, IsResponseUnless, IsTaken, IsRequestedMoveMade, acknowledgement, byte_first, is_interrupted, is_wrong_checksum, move_first, no_bytes, packets_of, with_sent}
+use Rattle.rv_session.specs.Incoming.{HasNoInterrupt, IsByteReceived, IsReceived, IsJudged, IsRespondedTo, IsResponse, IsResponseUnless, IsPacketAnswered, IsRequestedMoveMade, acknowledgement, byte_first, is_interrupted, is_wrong_checksum, move_first, no_bytes, packets_of, with_sent}
 use Rattle.rv_session.specs.Moved.{IsMoveResult, IsMoved, end_text_at, printed_on, shown_on, stop_of}
 use Rattle.rv_session.specs.Replies.{granted_if, stopping}
 use Rattle.rv_session.specs.Sessions.{at_place, state_at}
@@ -40,8 +40,8 @@ use Rattle.rv_session.specs.declared.session.Session.{Session}
 
 -- ---- moves
 
-gone_one : (asked : Move) (stops : Stops) (budget from p q : ℕ) (start : State) (one other : Found)
-    → IsMoveResult asked stops budget start from p one → IsMoveResult asked stops budget start from q other → IsUninterrupted one → IsUninterrupted other
+gone_one : (requested : Move) (stops : Stops) (budget from p q : ℕ) (start : State) (one other : Found)
+    → IsMoveResult requested stops budget start from p one → IsMoveResult requested stops budget start from q other → IsUninterrupted one → IsUninterrupted other
     → (p ≡ q) × (one ≡ other)
 gone_one move.Continue stops budget from p q start one other first second whole again =
     one_next_stop stops bounds.All budget from p q start one other first second whole again
@@ -57,19 +57,19 @@ gone_one move.StepBack stops budget from p q start one other first second whole 
 unbroken : (may_break : Bool) (found : Found) → may_break ≡ false → (IsInterrupted found → may_break ≡ true) → IsUninterrupted found
 unbroken may_break found never broken is = both_ways may_break never (broken is)
 
-moved_one : (end_text : List ℕ) (may_break : Bool) (session one other : Session) (asked : Move) (reply again : Reply) → may_break ≡ false
-    → IsMoved end_text may_break session asked reply one → IsMoved end_text may_break session asked again other → (reply ≡ again) × (one ≡ other)
-moved_one end_text may_break session one other asked reply again never first second =
-    let same = gone_one asked session.stops session.history.budget session.history.place first.place second.place
+moved_one : (end_text : List ℕ) (may_break : Bool) (session one other : Session) (requested : Move) (reply again : Reply) → may_break ≡ false
+    → IsMoved end_text may_break session requested reply one → IsMoved end_text may_break session requested again other → (reply ≡ again) × (one ≡ other)
+moved_one end_text may_break session one other requested reply again never first second =
+    let same = gone_one requested session.stops session.history.budget session.history.place first.place second.place
     session.history.start first.found second.found first.gone second.gone
     (unbroken may_break first.found never first.broken_off) (unbroken may_break second.found never second.broken_off) in
     let said : ℕ → Found → Reply = λ place found.
-    stopping (printed_on session asked (state_at session place)) (end_text_at end_text found)
-    (stop_text (stop_of session asked place found)) in
+    stopping (printed_on session requested (state_at session place)) (end_text_at end_text found)
+    (stop_text (stop_of session requested place found)) in
     let stands : ℕ → Found → Session = λ place found. record session {
       history = record session.history { place = place };
-      shown = shown_on session asked (state_at session place);
-      last = stop_of session asked place found;
+      shown = shown_on session requested (state_at session place);
+      last = stop_of session requested place found;
     } in (
       first.reply_is ∙ ap (λ (k : ℕ). said k first.found) same.0 ∙ ap (said second.place) same.1 ∙ sym second.reply_is,
       first.next_is ∙ ap (λ (k : ℕ). stands k first.found) same.0 ∙ ap (stands second.place) same.1 ∙ sym second.next_is,
@@ -185,13 +185,13 @@ answered_one session one other (ask.Set place) reply again first second =
     trap_one session one other place reply again first second
 answered_one session one other request reply again first second = (first.0 ∙ sym second.0, first.1 ∙ sym second.1)
 
-taken_one : (session one other : Session) (body out more : List ℕ) → IsTaken session body out one
-    → IsTaken session body more other → (out ≡ more) × (one ≡ other)
+taken_one : (session one other : Session) (body out more : List ℕ) → IsPacketAnswered session body out one
+    → IsPacketAnswered session body more other → (out ≡ more) × (one ≡ other)
 taken_one session one other body out more first second =
-    let same = answered_one session first.behind second.behind (request_of body) first.reply second.reply
+    let same = answered_one session first.after_reply second.after_reply (request_of body) first.reply second.reply
     first.answered second.answered in (
       first.out_is ∙ ap (λ (reply : Reply). acknowledgement session ++ packets_of reply) same.0 ∙ sym second.out_is,
-      first.next_is ∙ ap (with_sent first.behind) same.0 ∙ ap (λ (s : Session). with_sent s second.reply) same.1
+      first.next_is ∙ ap (with_sent first.after_reply) same.0 ∙ ap (λ (s : Session). with_sent s second.reply) same.1
           ∙ sym second.next_is,
     )
 
@@ -200,25 +200,25 @@ judged_one : (session one other : Session) (again : Bool) (body out more : List 
 judged_one session one other true body out more first second = (first.0 ∙ sym second.0, first.1 ∙ sym second.1)
 judged_one session one other false body out more first second = taken_one session one other body out more first second
 
-response_one : (session one other : Session) (heard : Incoming) (out more : List ℕ) → IsResponse session heard out one
-    → IsResponse session heard more other → (out ≡ more) × (one ≡ other)
-response_one session one other (heard.Packet body sum) out more first second =
+response_one : (session one other : Session) (received : Incoming) (out more : List ℕ) → IsResponse session received out one
+    → IsResponse session received more other → (out ≡ more) × (one ≡ other)
+response_one session one other (received.Packet body sum) out more first second =
     judged_one session one other (session.acknowledges && is_wrong_checksum sum) body out more first second
-response_one session one other heard.Interrupt out more first second = (first.0 ∙ sym second.0, first.1 ∙ sym second.1)
-response_one session one other heard.Arrived out more first second = (first.0 ∙ sym second.0, first.1 ∙ sym second.1)
-response_one session one other heard.Again out more first second = (first.0 ∙ sym second.0, first.1 ∙ sym second.1)
-response_one session one other heard.TooLong out more first second = (first.0 ∙ sym second.0, first.1 ∙ sym second.1)
+response_one session one other received.Interrupt out more first second = (first.0 ∙ sym second.0, first.1 ∙ sym second.1)
+response_one session one other received.Arrived out more first second = (first.0 ∙ sym second.0, first.1 ∙ sym second.1)
+response_one session one other received.Again out more first second = (first.0 ∙ sym second.0, first.1 ∙ sym second.1)
+response_one session one other received.TooLong out more first second = (first.0 ∙ sym second.0, first.1 ∙ sym second.1)
 
-unless_one : (session one other : Session) (over : Bool) (heard : Incoming) (out more : List ℕ)
-    → IsResponseUnless over session heard out one → IsResponseUnless over session heard more other → (out ≡ more) × (one ≡ other)
-unless_one session one other true heard out more first second = (first.0 ∙ sym second.0, first.1 ∙ sym second.1)
-unless_one session one other false heard out more first second = response_one session one other heard out more first second
+unless_one : (session one other : Session) (over : Bool) (received : Incoming) (out more : List ℕ)
+    → IsResponseUnless over session received out one → IsResponseUnless over session received more other → (out ≡ more) × (one ≡ other)
+unless_one session one other true received out more first second = (first.0 ∙ sym second.0, first.1 ∙ sym second.1)
+unless_one session one other false received out more first second = response_one session one other received out more first second
 
-responded_one : (session one other : Session) (heard : Option Incoming) (out more : List ℕ) → IsRespondedTo session heard out one
-    → IsRespondedTo session heard more other → (out ≡ more) × (one ≡ other)
+responded_one : (session one other : Session) (received : Option Incoming) (out more : List ℕ) → IsRespondedTo session received out one
+    → IsRespondedTo session received more other → (out ≡ more) × (one ≡ other)
 responded_one session one other None out more first second = (first.0 ∙ sym second.0, first.1 ∙ sym second.1)
-responded_one session one other (Some heard) out more first second =
-    unless_one session one other session.is_over heard out more first second
+responded_one session one other (Some received) out more first second =
+    unless_one session one other session.is_over received out more first second
 
 byte_one : (session one other : Session) (byte : ℕ) (out more : List ℕ) → IsByteReceived session byte out one
     → IsByteReceived session byte more other → (out ≡ more) × (one ≡ other)
@@ -231,20 +231,20 @@ byte_one session one other byte out more first second =
 worked_one : (end_text : List ℕ) (may_break : Bool) (session one other : Session) (out more : List ℕ) → may_break ≡ false
     → IsRequestedMoveMade end_text may_break session out one → IsRequestedMoveMade end_text may_break session more other → (out ≡ more) × (one ≡ other)
 worked_one end_text may_break session one other out more never first second =
-    let asked : first.asked ≡ second.asked = some_one first.asked second.asked (sym first.asked_is ∙ second.asked_is) in
-    let same = moved_one end_text may_break (record session { asked = None }) first.behind second.behind second.asked first.reply
+    let requested : first.requested ≡ second.requested = some_one first.requested second.requested (sym first.asked_is ∙ second.asked_is) in
+    let same = moved_one end_text may_break (record session { requested = None }) first.after_reply second.after_reply second.requested first.reply
     second.reply never
-    (subst (λ (a : Move). IsMoved end_text may_break (record session { asked = None }) a first.reply first.behind) asked first.moved)
+    (subst (λ (a : Move). IsMoved end_text may_break (record session { requested = None }) a first.reply first.after_reply) requested first.moved)
     second.moved in (
       first.out_is ∙ ap packets_of same.0 ∙ sym second.out_is,
-      first.next_is ∙ ap (with_sent first.behind) same.0 ∙ ap (λ (s : Session). with_sent s second.reply) same.1
+      first.next_is ∙ ap (with_sent first.after_reply) same.0 ∙ ap (λ (s : Session). with_sent s second.reply) same.1
           ∙ sym second.next_is,
     )
   where
     some_one : (a b : Move) → Some a ≡ Some b → a ≡ b
     some_one a b is = cc is
 
-not_asked : (end_text : List ℕ) (may_break : Bool) (session next : Session) (out : List ℕ) → session.asked ≡ None
+not_asked : (end_text : List ℕ) (may_break : Bool) (session next : Session) (out : List ℕ) → session.requested ≡ None
     → IsRequestedMoveMade end_text may_break session out next → ⊥
 not_asked end_text may_break session next out going made = absurd (cc (going, made.asked_is))
 
@@ -253,8 +253,8 @@ none_next [] none = refl
 none_next (byte ∷ rest) none = ne_eqb byte 3 none.0
 
 pub fed_one : (end_text : List ℕ) (session one other : Session) (bytes out more : List ℕ) → HasNoInterrupt bytes
-    → IsReceived end_text false session bytes out one → one.asked ≡ None → IsReceived end_text false session bytes more other
-    → other.asked ≡ None → (out ≡ more) × (one ≡ other)
+    → IsReceived end_text false session bytes out one → one.requested ≡ None → IsReceived end_text false session bytes more other
+    → other.requested ≡ None → (out ≡ more) × (one ≡ other)
 fed_one end_text session one other bytes out more none (no_bytes same) going (no_bytes again) opened = (refl, refl)
 fed_one end_text session one other bytes out more none (no_bytes same) going (move_first again middle end rest said shown made further) opened =
     absurd (not_asked end_text (is_interrupted bytes false) session middle said going made)

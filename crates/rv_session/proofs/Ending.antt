@@ -9,33 +9,33 @@ use Rattle.rv_machine.specs.declared.ending.Ending.{Ending}
 use Rattle.rv_machine.specs.declared.ending.Ending.TheVariants as ending
 use Rattle.rv_machine.specs.declared.ending.FaultKind.{FaultKind}
 use Rattle.rv_machine.specs.declared.ending.FaultKind.TheVariants as fault
-use Rattle.rv_gdb_protocol.specs.Stops.{NoEnding, Told, told_by, end_kind_of_fault}
+use Rattle.rv_gdb_protocol.specs.Stops.{NoEnding, Told, end_kind_of_stop, end_kind_of_fault}
 use Rattle.rv_gdb_protocol.specs.declared.request.Move.{Move}
 use Rattle.rv_session.specs.Endings.{text_with, end_kind_of_ending, end_kind_of_found}
 use Rattle.rv_session.specs.Moved.{IsMoved, end_stop, end_text_at, is_forward, stop_of, watch_between, stop_of_watch_hit}
 use Rattle.rv_session.specs.declared.reply.Reply.{Reply}
 use Rattle.rv_session.specs.declared.session.Session.{Session}
 
-watch_is_none : (found : Option WatchHit) → told_by (stop_of_watch_hit found) ≡ NoEnding
+watch_is_none : (found : Option WatchHit) → end_kind_of_stop (stop_of_watch_hit found) ≡ NoEnding
 watch_is_none (Some (set_off.Change address)) = refl
 watch_is_none (Some (set_off.Read address)) = refl
 watch_is_none (Some (set_off.Access address)) = refl
 watch_is_none None = refl
 
-end_is_told : (ending : Ending) → told_by (end_stop ending) ≡ end_kind_of_ending ending
+end_is_told : (ending : Ending) → end_kind_of_stop (end_stop ending) ≡ end_kind_of_ending ending
 end_is_told (ending.Exit code) = refl
 end_is_told (ending.Fault kind pc value) = refl
 end_is_told ending.Budget = refl
 
-stop_is_told : (session : Session) (asked : Move) (place : ℕ) (found : Found)
-    → told_by (stop_of session asked place found) ≡ end_kind_of_found found
-stop_is_told session asked place found.Done = refl
-stop_is_told session asked place found.Break = refl
-stop_is_told session asked place found.Change = watch_is_none
-    (if is_forward asked then watch_between session place (place + 1) else watch_between session (place - 1) place)
-stop_is_told session asked place (found.End ending) = end_is_told ending
-stop_is_told session asked place found.Begin = refl
-stop_is_told session asked place found.Interrupted = refl
+stop_is_told : (session : Session) (requested : Move) (place : ℕ) (found : Found)
+    → end_kind_of_stop (stop_of session requested place found) ≡ end_kind_of_found found
+stop_is_told session requested place found.Done = refl
+stop_is_told session requested place found.Break = refl
+stop_is_told session requested place found.Change = watch_is_none
+    (if is_forward requested then watch_between session place (place + 1) else watch_between session (place - 1) place)
+stop_is_told session requested place (found.End ending) = end_is_told ending
+stop_is_told session requested place found.Begin = refl
+stop_is_told session requested place found.Interrupted = refl
 
 fault_has_text : (kind : FaultKind) (end_text : List ℕ) → text_with (end_kind_of_fault kind) end_text ≡ end_text
 fault_has_text fault.FetchAccess end_text = refl
@@ -60,12 +60,12 @@ text_is_told end_text found.Change = refl
 text_is_told end_text found.Begin = refl
 text_is_told end_text found.Interrupted = refl
 
-pub end_told : (end_text : List ℕ) (may_break : Bool) (session next : Session) (asked : Move) (reply : Reply)
-    (moved : IsMoved end_text may_break session asked reply next)
-    → (told_by next.last ≡ end_kind_of_found moved.found) × (reply.end_text ≡ text_with (told_by next.last) end_text)
-end_told end_text may_break session next asked reply moved =
-    let told : told_by next.last ≡ end_kind_of_found moved.found =
-    ap (λ (s : Session). told_by s.last) moved.next_is ∙ stop_is_told session asked moved.place moved.found in (
+pub end_told : (end_text : List ℕ) (may_break : Bool) (session next : Session) (requested : Move) (reply : Reply)
+    (moved : IsMoved end_text may_break session requested reply next)
+    → (end_kind_of_stop next.last ≡ end_kind_of_found moved.found) × (reply.end_text ≡ text_with (end_kind_of_stop next.last) end_text)
+end_told end_text may_break session next requested reply moved =
+    let told : end_kind_of_stop next.last ≡ end_kind_of_found moved.found =
+    ap (λ (s : Session). end_kind_of_stop s.last) moved.next_is ∙ stop_is_told session requested moved.place moved.found in (
       told,
       ap (λ (r : Reply). r.end_text) moved.reply_is ∙ text_is_told end_text moved.found
           ∙ ap (λ (t : Told). text_with t end_text) (sym told),

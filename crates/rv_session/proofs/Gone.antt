@@ -45,8 +45,8 @@ step_changes_within stops budget from place start what meets is =
     omega arith
 
 -- a change that a move forward finds is by a step that completes
-gone_within : (asked : Move) (stops : Stops) (budget from place : ℕ) (start : State) (what : Found)
-    → IsMoveResult asked stops budget start from place what → what ≡ found.Change → is_forward asked ≡ true
+gone_within : (requested : Move) (stops : Stops) (budget from place : ℕ) (start : State) (what : Found)
+    → IsMoveResult requested stops budget start from place what → what ≡ found.Change → is_forward requested ≡ true
     → place < last_step budget start
 gone_within move.Continue stops budget from place start what gone is forward =
     changes_within stops bounds.All budget from place start what gone.meets is
@@ -57,45 +57,45 @@ gone_within (move.StepWithin low high) stops budget from place start what gone i
 gone_within move.ContinueBack stops budget from place start what gone is forward = absurd (false≢true forward)
 gone_within move.StepBack stops budget from place start what gone is forward = absurd (false≢true forward)
 
-pub can_tell : (session between : Session) (asked : Move) (found : Found) → between ≡ at_place session between.history.place
-    → IsMoveResult asked session.stops session.history.budget session.history.start session.history.place between.history.place found
-    → CanReportHit between asked found
-can_tell session between asked found same gone is forward =
-    let within = gone_within asked session.stops session.history.budget session.history.place between.history.place
+pub can_tell : (session between : Session) (requested : Move) (found : Found) → between ≡ at_place session between.history.place
+    → IsMoveResult requested session.stops session.history.budget session.history.start session.history.place between.history.place found
+    → CanReportHit between requested found
+can_tell session between requested found same gone is forward =
+    let within = gone_within requested session.stops session.history.budget session.history.place between.history.place
     session.history.start found gone is forward in
     let budget : between.history.budget ≡ session.history.budget = ap (λ (s : Session). s.history.budget) same in
     let start : between.history.start ≡ session.history.start = ap (λ (s : Session). s.history.start) same in
     subst (λ (s : State). between.history.place < last_step between.history.budget s) (sym start)
     (subst (λ (b : ℕ). between.history.place < last_step b session.history.start) (sym budget) within)
 
-moved_at : (end_text : List ℕ) (may_break : Bool) (session next : Session) (asked : Move) (reply : Reply) (place : ℕ) (found : Found) (told : Stop)
-    → IsMoveResult asked session.stops session.history.budget session.history.start session.history.place place found
-    → (IsInterrupted found → may_break ≡ true) → told ≡ stop_of (at_place session place) asked place found
-    → reply ≡ stopping (printed_on session asked (state_at session place)) (end_text_at end_text found) (stop_text told)
-    → next ≡ record (at_place session place) { shown = shown_on session asked (state_at session place); last = told }
-    → IsMoved end_text may_break session asked reply next
-moved_at end_text may_break session next asked reply place found told gone broken is said stands = record {
+moved_at : (end_text : List ℕ) (may_break : Bool) (session next : Session) (requested : Move) (reply : Reply) (place : ℕ) (found : Found) (told : Stop)
+    → IsMoveResult requested session.stops session.history.budget session.history.start session.history.place place found
+    → (IsInterrupted found → may_break ≡ true) → told ≡ stop_of (at_place session place) requested place found
+    → reply ≡ stopping (printed_on session requested (state_at session place)) (end_text_at end_text found) (stop_text told)
+    → next ≡ record (at_place session place) { shown = shown_on session requested (state_at session place); last = told }
+    → IsMoved end_text may_break session requested reply next
+moved_at end_text may_break session next requested reply place found told gone broken is said stands = record {
   place = place;
   found = found;
   gone = gone;
   broken_off = broken;
-  reply_is = said ∙ ap (λ (stop : Stop). stopping (printed_on session asked (state_at session place)) (end_text_at end_text found)
+  reply_is = said ∙ ap (λ (stop : Stop). stopping (printed_on session requested (state_at session place)) (end_text_at end_text found)
       (stop_text stop)) is;
   next_is = stands ∙ ap (λ (stop : Stop). record (at_place session place) {
-    shown = shown_on session asked (state_at session place);
+    shown = shown_on session requested (state_at session place);
     last = stop;
   }) is;
 }
 
-pub moved : (end_text : List ℕ) (may_break : Bool) (session between next : Session) (asked : Move) (reply : Reply) (found : Found) (told : Stop)
+pub moved : (end_text : List ℕ) (may_break : Bool) (session between next : Session) (requested : Move) (reply : Reply) (found : Found) (told : Stop)
     → between ≡ at_place session between.history.place
-    → IsMoveResult asked session.stops session.history.budget session.history.start session.history.place between.history.place found
-    → (IsInterrupted found → may_break ≡ true) → told ≡ stop_of between asked between.history.place found
-    → reply ≡ stopping (printed_on between asked (here between)) (end_text_at end_text found) (stop_text told)
-    → next ≡ record between { shown = shown_on between asked (here between); last = told } → IsMoved end_text may_break session asked reply next
-moved end_text may_break session between next asked reply found told same gone broken =
+    → IsMoveResult requested session.stops session.history.budget session.history.start session.history.place between.history.place found
+    → (IsInterrupted found → may_break ≡ true) → told ≡ stop_of between requested between.history.place found
+    → reply ≡ stopping (printed_on between requested (here between)) (end_text_at end_text found) (stop_text told)
+    → next ≡ record between { shown = shown_on between requested (here between); last = told } → IsMoved end_text may_break session requested reply next
+moved end_text may_break session between next requested reply found told same gone broken =
     let place = between.history.place in
-    subst (λ (b : Session). told ≡ stop_of b asked place found
-    → reply ≡ stopping (printed_on b asked (state_at b place)) (end_text_at end_text found) (stop_text told)
-    → next ≡ record b { shown = shown_on b asked (state_at b place); last = told } → IsMoved end_text may_break session asked reply next)
-    (sym same) (moved_at end_text may_break session next asked reply place found told gone broken)
+    subst (λ (b : Session). told ≡ stop_of b requested place found
+    → reply ≡ stopping (printed_on b requested (state_at b place)) (end_text_at end_text found) (stop_text told)
+    → next ≡ record b { shown = shown_on b requested (state_at b place); last = told } → IsMoved end_text may_break session requested reply next)
+    (sym same) (moved_at end_text may_break session next requested reply place found told gone broken)

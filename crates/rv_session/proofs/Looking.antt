@@ -99,8 +99,8 @@ any_none byte_of a i n all done so_far =
 
 -- ---- bytes that stand somewhere
 
-abbrev pub stands_at : Contents → ℕ → ℕ → Bool
-stands_at bus address byte = nat_lt address end_of_addresses && is_byte (fin.get bus.memory address) byte
+abbrev pub has_byte_at : Contents → ℕ → ℕ → Bool
+has_byte_at bus address byte = nat_lt address end_of_addresses && is_byte (fin.get bus.memory address) byte
 
 three : (x y z : Bool) → (x && (y && z)) ≡ ((x && y) && z)
 three true y z = refl
@@ -108,7 +108,7 @@ three false y z = refl
 
 stand_more : (bus : Contents) (a i byte : ℕ) (bytes : List ℕ) → i < length bytes
     → has_bytes_at bus (a + i) (drop i bytes)
-    ≡ (stands_at bus (a + i) (get_or bytes i byte) && has_bytes_at bus (a + i + 1) (drop (i + 1) bytes))
+    ≡ (has_byte_at bus (a + i) (get_or bytes i byte) && has_bytes_at bus (a + i + 1) (drop (i + 1) bytes))
 unfolding has_bytes_at
 stand_more bus a i byte bytes within =
     at_drop_more (λ (rest : List ℕ). has_bytes_at bus (a + i) rest) bytes i byte within
@@ -119,7 +119,7 @@ pub stand_start : (bus : Contents) (a : ℕ) (bytes : List ℕ) → has_bytes_at
 stand_start bus a bytes = let at : a ≡ a + 0 = omega arith in ap (λ (k : ℕ). has_bytes_at bus k bytes) at
 
 pub stand_later : (bus : Contents) (a i byte : ℕ) (bytes : List ℕ) (all : Bool) → i < length bytes
-    → stands_at bus (a + i) (get_or bytes i byte) ≡ true → all ≡ has_bytes_at bus (a + i) (drop i bytes)
+    → has_byte_at bus (a + i) (get_or bytes i byte) ≡ true → all ≡ has_bytes_at bus (a + i) (drop i bytes)
     → all ≡ has_bytes_at bus (a + (i + 1)) (drop (i + 1) bytes)
 stand_later bus a i byte bytes all within here so_far =
     let next : a + i + 1 ≡ a + (i + 1) = omega arith in
@@ -128,7 +128,7 @@ stand_later bus a i byte bytes all within here so_far =
     ∙ ap (λ (k : ℕ). has_bytes_at bus k (drop (i + 1) bytes)) next
 
 pub stand_not : (bus : Contents) (a i byte : ℕ) (bytes : List ℕ) (all : Bool) → i < length bytes
-    → stands_at bus (a + i) (get_or bytes i byte) ≡ false → all ≡ has_bytes_at bus (a + i) (drop i bytes) → false ≡ all
+    → has_byte_at bus (a + i) (get_or bytes i byte) ≡ false → all ≡ has_bytes_at bus (a + i) (drop i bytes) → false ≡ all
 stand_not bus a i byte bytes all within here so_far =
     sym (so_far ∙ stand_more bus a i byte bytes within
     ∙ ap (λ (is : Bool). is && has_bytes_at bus (a + i + 1) (drop (i + 1) bytes)) here)

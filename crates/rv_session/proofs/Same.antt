@@ -5,7 +5,7 @@ use Rattle.rv_history.specs.Places.{last_step}
 use Rattle.rv_gdb_protocol.specs.Frames.{frame_after, incoming_at}
 use Rattle.rv_gdb_protocol.specs.Packets.{request_of}
 use Rattle.rv_gdb_protocol.specs.declared.frame.Incoming.{Incoming}
-use Rattle.rv_gdb_protocol.specs.declared.frame.Incoming.TheVariants as heard
+use Rattle.rv_gdb_protocol.specs.declared.frame.Incoming.TheVariants as received
 use Rattle.rv_gdb_protocol.specs.declared.request.Refusal.{Refusal}
 use Rattle.rv_gdb_protocol.specs.declared.request.Register.{Register}
 use Rattle.rv_gdb_protocol.specs.declared.request.Register.TheVariants as reg
@@ -14,7 +14,7 @@ use Rattle.rv_gdb_protocol.specs.declared.request.Request.TheVariants as ask
 use Rattle.rv_history.specs.declared.stops.Stops.{Stops}
 use Rattle.rv_gdb_protocol.specs.declared.request.Refusal.TheVariants as refusal
 use Rattle.rv_session.specs.Answers.{IsAnswered, IsSet, IsWritten, is_reset}
-use Rattle.rv_session.specs.Incoming.{IsByteReceived, IsReceived, IsJudged, IsRespondedTo, IsResponse, IsResponseUnless, IsTaken, IsRequestedMoveMade, byte_first, is_interrupted, is_wrong_checksum, move_first, no_bytes, with_sent}
+use Rattle.rv_session.specs.Incoming.{IsByteReceived, IsReceived, IsJudged, IsRespondedTo, IsResponse, IsResponseUnless, IsPacketAnswered, IsRequestedMoveMade, byte_first, is_interrupted, is_wrong_checksum, move_first, no_bytes, with_sent}
 use Rattle.rv_session.specs.Replies.{refused}
 use Rattle.rv_session.specs.Sessions.{IsSameRun, at_place}
 use Rattle.rv_session.specs.declared.reply.Reply.{Reply}
@@ -94,7 +94,7 @@ written_quiet session next reg.Taken value reply written = goes session next nex
 
 answered_quiet : (session next : Session) (request : Request) (reply : Reply) → IsAnswered session request reply next
     → IsQuiet session next
-answered_quiet session next (ask.Move asked) reply answered = by_fields session next _ answered.1 refl refl refl refl refl
+answered_quiet session next (ask.Move requested) reply answered = by_fields session next _ answered.1 refl refl refl refl refl
 answered_quiet session next (ask.WriteRegister register value) reply answered =
     written_quiet session next register value reply answered
 answered_quiet session next (ask.Set place) reply answered = set_quiet session next answered.outcome reply answered.set
@@ -110,46 +110,46 @@ answered_quiet session next request reply answered = stays session next answered
 sent_quiet : (session next : Session) (reply : Reply) → next ≡ with_sent session reply → IsQuiet session next
 sent_quiet session next reply is = by_fields session next (with_sent session reply) is refl refl refl refl refl
 
-taken_quiet : (session next : Session) (body out : List ℕ) → IsTaken session body out next → IsQuiet session next
-taken_quiet session next body out took = quiet_on session took.behind next
-    (answered_quiet session took.behind (request_of body) took.reply took.answered)
-    (sent_quiet took.behind next took.reply took.next_is)
+taken_quiet : (session next : Session) (body out : List ℕ) → IsPacketAnswered session body out next → IsQuiet session next
+taken_quiet session next body out took = quiet_on session took.after_reply next
+    (answered_quiet session took.after_reply (request_of body) took.reply took.answered)
+    (sent_quiet took.after_reply next took.reply took.next_is)
 
 judged_quiet : (session next : Session) (again : Bool) (body out : List ℕ) → IsJudged session again body out next
     → IsQuiet session next
 judged_quiet session next true body out judged = stays session next judged.1
 judged_quiet session next false body out judged = taken_quiet session next body out judged
 
-response_quiet : (session next : Session) (heard : Incoming) (out : List ℕ) → IsResponse session heard out next
+response_quiet : (session next : Session) (received : Incoming) (out : List ℕ) → IsResponse session received out next
     → IsQuiet session next
-response_quiet session next heard.Interrupt out response = stays session next response.1
-response_quiet session next heard.Arrived out response = stays session next response.1
-response_quiet session next heard.Again out response = stays session next response.1
-response_quiet session next heard.TooLong out response = sent_quiet session next (refused refusal.TooLong) response.1
-response_quiet session next (heard.Packet body sum) out response =
+response_quiet session next received.Interrupt out response = stays session next response.1
+response_quiet session next received.Arrived out response = stays session next response.1
+response_quiet session next received.Again out response = stays session next response.1
+response_quiet session next received.TooLong out response = sent_quiet session next (refused refusal.TooLong) response.1
+response_quiet session next (received.Packet body sum) out response =
     judged_quiet session next (session.acknowledges && is_wrong_checksum sum) body out response
 
-unless_quiet : (session next : Session) (over : Bool) (heard : Incoming) (out : List ℕ)
-    → IsResponseUnless over session heard out next → IsQuiet session next
-unless_quiet session next true heard out response = stays session next response.1
-unless_quiet session next false heard out response = response_quiet session next heard out response
+unless_quiet : (session next : Session) (over : Bool) (received : Incoming) (out : List ℕ)
+    → IsResponseUnless over session received out next → IsQuiet session next
+unless_quiet session next true received out response = stays session next response.1
+unless_quiet session next false received out response = response_quiet session next received out response
 
-responded_quiet : (session next : Session) (heard : Option Incoming) (out : List ℕ) → IsRespondedTo session heard out next
+responded_quiet : (session next : Session) (received : Option Incoming) (out : List ℕ) → IsRespondedTo session received out next
     → IsQuiet session next
 responded_quiet session next None out response = stays session next response.1
-responded_quiet session next (Some heard) out response = unless_quiet session next session.is_over heard out response
+responded_quiet session next (Some received) out response = unless_quiet session next session.is_over received out response
 
 byte_quiet : (session next : Session) (byte : ℕ) (out : List ℕ) → IsByteReceived session byte out next → IsQuiet session next
 byte_quiet session next byte out fed =
     let listening : Session = record session { reader = frame_after session.reader byte } in
-    let heard = responded_quiet listening next (incoming_at session.reader byte) out fed in record {
+    let received = responded_quiet listening next (incoming_at session.reader byte) out fed in record {
       run = record {
-        start_is = heard.run.start_is;
-        budget_is = heard.run.budget_is;
-        program_is = heard.run.program_is;
-        script_is = heard.run.script_is;
+        start_is = received.run.start_is;
+        budget_is = received.run.budget_is;
+        program_is = received.run.program_is;
+        script_is = received.run.script_is;
       };
-      shown_is = heard.shown_is;
+      shown_is = received.shown_is;
     }
 
 -- a byte that is heard leaves the run as it is
@@ -166,10 +166,10 @@ byte_shows_none session next byte out fed = (byte_quiet session next byte out fe
 -- a move leaves the run as it is
 pub worked_same : (end_text : List ℕ) (may_break : Bool) (session next : Session) (out : List ℕ)
     → IsRequestedMoveMade end_text may_break session out next → IsSameRun session next
-worked_same end_text may_break session next out made = same_run_on session made.behind next
-    (same_run_by session made.behind _ made.moved.next_is
+worked_same end_text may_break session next out made = same_run_on session made.after_reply next
+    (same_run_by session made.after_reply _ made.moved.next_is
     (record { start_is = refl; budget_is = refl; program_is = refl; script_is = refl }))
-    (sent_quiet made.behind next made.reply made.next_is).run
+    (sent_quiet made.after_reply next made.reply made.next_is).run
 
 pub fed_same : (end_text : List ℕ) (behind : Bool) (session next : Session) (bytes out : List ℕ)
     → IsReceived end_text behind session bytes out next → IsSameRun session next

@@ -54,8 +54,8 @@ stepped_within stops budget from place start found.Break step = absurd step
 stepped_within stops budget from place start found.Begin step = absurd step
 stepped_within stops budget from place start found.Interrupted step = absurd step
 
-went_within : (asked : Move) (stops : Stops) (budget from place : ℕ) (start : State) (found : Found)
-    → is_forward asked ≡ true → IsMoveResult asked stops budget start from place found → place ≤ last_step budget start
+went_within : (requested : Move) (stops : Stops) (budget from place : ℕ) (start : State) (found : Found)
+    → is_forward requested ≡ true → IsMoveResult requested stops budget start from place found → place ≤ last_step budget start
 went_within move.Continue stops budget from place start found forward gone = gone.within
 went_within move.Step stops budget from place start found forward gone =
     stepped_within stops budget from place start found gone
@@ -80,31 +80,31 @@ shows_forward session s end rest shown is first within =
           (shown_within front rest session.shown long),
     )
 
-shows_on : (session : Session) (asked : Move) (place : ℕ) (found : Found) (shown : List ℕ) (forward : Bool)
-    → is_forward asked ≡ forward
-    → IsMoveResult asked session.stops session.history.budget session.history.start session.history.place place found
+shows_on : (session : Session) (requested : Move) (place : ℕ) (found : Found) (shown : List ℕ) (forward : Bool)
+    → is_forward requested ≡ forward
+    → IsMoveResult requested session.stops session.history.budget session.history.start session.history.place place found
     → HasShown session shown
     → Shows session (state_at session (last_step session.history.budget session.history.start))
-    (printed_on session asked (state_at session place)) (shown_on session asked (state_at session place)) shown
-shows_on session asked place found shown true forward gone before =
+    (printed_on session requested (state_at session place)) (shown_on session requested (state_at session place)) shown
+shows_on session requested place found shown true forward gone before =
     let last = last_step session.history.budget session.history.start in
-    let within = went_within asked session.stops session.history.budget session.history.place place session.history.start found
+    let within = went_within requested session.stops session.history.budget session.history.place place session.history.start found
     forward gone in
     let stays = printed_stays place last session.history.start within in
     rw forward (shows_forward session (state_at session place) (state_at session last) stays.rest shown stays.whole_is
     before.first_bytes before.within)
-shows_on session asked place found shown false forward gone before =
+shows_on session requested place found shown false forward gone before =
     rw forward (append-nil shown ∙ before.first_bytes, before.within)
 
-pub shown_once : (end_text : List ℕ) (may_break : Bool) (session next : Session) (asked : Move) (reply : Reply) (shown : List ℕ) → HasShown session shown
-    → IsMoved end_text may_break session asked reply next → HasShown next (shown ++ reply.printed)
-shown_once end_text may_break session next asked reply shown before moved =
+pub shown_once : (end_text : List ℕ) (may_break : Bool) (session next : Session) (requested : Move) (reply : Reply) (shown : List ℕ) → HasShown session shown
+    → IsMoved end_text may_break session requested reply next → HasShown next (shown ++ reply.printed)
+shown_once end_text may_break session next requested reply shown before moved =
     let last = last_step session.history.budget session.history.start in
-    let shows = shows_on session asked moved.place moved.found shown (is_forward asked) refl moved.gone before in
-    let printed : reply.printed ≡ printed_on session asked (state_at session moved.place) =
+    let shows = shows_on session requested moved.place moved.found shown (is_forward requested) refl moved.gone before in
+    let printed : reply.printed ≡ printed_on session requested (state_at session moved.place) =
     ap (λ (r : Reply). r.printed) moved.reply_is in
     let same : printed_by next ≡ printed_by session = ap printed_by moved.next_is in
-    let counted : next.shown ≡ shown_on session asked (state_at session moved.place) =
+    let counted : next.shown ≡ shown_on session requested (state_at session moved.place) =
     ap (λ (s : Session). s.shown) moved.next_is in record {
       first_bytes = ap (λ (text : List ℕ). shown ++ text) printed ∙ shows.0
           ∙ ap (λ (k : ℕ). take k (printed_by session)) (sym counted) ∙ ap (take next.shown) (sym same);

@@ -3,7 +3,7 @@ use Rattle.std.proofs.Common.{◌≡◌, ◌∙◌, ◌≤◌, ℕ, Bool, true, 
 use Rattle.std.specs.Prelude.{◌↔◌, IsTrue, if◌then◌else◌}
 use Rattle.std.proofs.lemmas.Bool.{le-leb, leb-true}
 use Rattle.std.proofs.lemmas.Bool.Decides.{same_from_decides}
-use Rattle.rv_history.specs.Positions.{Stand}
+use Rattle.rv_history.specs.Positions.{Position}
 use Rattle.rv_session.specs.Sessions.{at_place}
 use Rattle.rv_session.specs.declared.session.Session.{Session}
 
@@ -12,13 +12,13 @@ granted_is granted place last tells = same_from_decides granted (leb place last)
     (leb-true place last, le-leb place last)
 
 -- a move that is granted
-moved_where : (session : Session) (history : Stand) (place : ℕ) (granted : Bool)
+moved_where : (session : Session) (history : Position) (place : ℕ) (granted : Bool)
     → history ≡ (if granted then record session.history { place = place } else session.history)
     → record session { history = history } ≡ (if granted then at_place session place else session)
-moved_where session history place true is = ap (λ (h : Stand). record session { history = h }) is
-moved_where session history place false is = ap (λ (h : Stand). record session { history = h }) is
+moved_where session history place true is = ap (λ (h : Position). record session { history = h }) is
+moved_where session history place false is = ap (λ (h : Position). record session { history = h }) is
 
-pub sought_where : (session : Session) (history : Stand) (place last : ℕ) (granted : Bool)
+pub sought_where : (session : Session) (history : Position) (place last : ℕ) (granted : Bool)
     → (IsTrue granted ↔ (place ≤ last))
     → history ≡ (if granted then record session.history { place = place } else session.history)
     → record session { history = history } ≡ (if leb place last then at_place session place else session)
@@ -27,7 +27,7 @@ sought_where session history place last granted tells is =
     ∙ ap (λ (b : Bool). if b then at_place session place else session) (granted_is granted place last tells)
 
 -- the start is always granted
-pub went_to_start : (session : Session) (history : Stand) (last : ℕ) (granted : Bool) → (IsTrue granted ↔ (0 ≤ last))
+pub went_to_start : (session : Session) (history : Position) (last : ℕ) (granted : Bool) → (IsTrue granted ↔ (0 ≤ last))
     → history ≡ (if granted then record session.history { place = 0 } else session.history)
     → record session { history = history } ≡ at_place session 0
 went_to_start session history last granted tells is =

@@ -175,7 +175,7 @@ IsCommanded session text reply next =
 
 -- the reply to a request, and the session `next` after it; a move is only recorded, and its reply follows once it is made
 abbrev pub IsAnswered : Session → Request → Reply → Session → Type 0
-IsAnswered session (ask.Move asked) reply next = (reply ≡ silent) × (next ≡ record session { asked = Some asked })
+IsAnswered session (ask.Move requested) reply next = (reply ≡ silent) × (next ≡ record session { requested = Some requested })
 IsAnswered session (ask.WriteRegister register value) reply next = IsWritten session register value reply next
 IsAnswered session (ask.Set place) reply next = IsStoppointSet session place reply next
 IsAnswered session (ask.Clear place) reply next =

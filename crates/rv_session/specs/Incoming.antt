@@ -6,9 +6,9 @@ use Rattle.rv_gdb_protocol.specs.Frames.{frame_after, incoming_at}
 use Rattle.rv_gdb_protocol.specs.Packets.{request_of}
 use Rattle.rv_gdb_protocol.specs.Sums.{framed}
 use Rattle.rv_gdb_protocol.specs.declared.frame.Incoming.{Incoming}
-use Rattle.rv_gdb_protocol.specs.declared.frame.Incoming.TheVariants as heard
-use Rattle.rv_gdb_protocol.specs.declared.frame.Sum.{Sum}
-use Rattle.rv_gdb_protocol.specs.declared.frame.Sum.TheVariants as verdict
+use Rattle.rv_gdb_protocol.specs.declared.frame.Incoming.TheVariants as received
+use Rattle.rv_gdb_protocol.specs.declared.frame.Checksum.{Checksum}
+use Rattle.rv_gdb_protocol.specs.declared.frame.Checksum.TheVariants as verdict
 use Rattle.rv_gdb_protocol.specs.declared.request.Move.{Move}
 use Rattle.rv_gdb_protocol.specs.declared.request.Refusal.TheVariants as refusal
 use Rattle.rv_session.specs.Answers.{IsAnswered}
@@ -46,13 +46,13 @@ abbrev pub packets_of : Reply → List ℕ
 packets_of reply = printed_packets reply.printed ++ (printed_packets reply.end_text ++ body_packet reply.body)
 
 -- the last packet that was sent: the one with this body, or the earlier one if there is no body
-abbrev pub sent_behind : List ℕ → Option (List ℕ) → List ℕ
-sent_behind sent (Some body) = framed body
-sent_behind sent None = sent
+abbrev pub last_packet_after : List ℕ → Option (List ℕ) → List ℕ
+last_packet_after sent (Some body) = framed body
+last_packet_after sent None = sent
 
 -- the session after sending a reply, whose last packet it keeps in case gdb requests it again
 abbrev pub with_sent : Session → Reply → Session
-with_sent session reply = record session { sent = sent_behind session.sent reply.body }
+with_sent session reply = record session { sent = last_packet_after session.sent reply.body }
 
 -- `+`, if packets are acknowledged; empty otherwise
 abbrev pub acknowledgement : Session → List ℕ
@@ -71,43 +71,43 @@ pub record IsAppended (old new : List ℕ) (IsSuch : List ℕ → Type 0) : Type
 -- ---- received items
 
 -- a packet with this body is acknowledged, parsed and answered: `out` is sent, and the session becomes `next`
-pub record IsTaken (session : Session) (body out : List ℕ) (next : Session) : Type 0 where
+pub record IsPacketAnswered (session : Session) (body out : List ℕ) (next : Session) : Type 0 where
   pub reply : Reply
   -- the session after the reply
-  pub behind : Session
-  pub answered : IsAnswered session (request_of body) reply behind
+  pub after_reply : Session
+  pub answered : IsAnswered session (request_of body) reply after_reply
   pub out_is : out ≡ acknowledgement session ++ packets_of reply
-  pub next_is : next ≡ with_sent behind reply
+  pub next_is : next ≡ with_sent after_reply reply
 
 -- what is sent for a packet: `-`, which requests it again, if the Bool says that it must be rejected; otherwise it is answered
 abbrev pub IsJudged : Session → Bool → List ℕ → List ℕ → Session → Type 0
 IsJudged session true body out next = (out ≡ 45 ∷ []) × (next ≡ session)
-IsJudged session false body out next = IsTaken session body out next
+IsJudged session false body out next = IsPacketAnswered session body out next
 
 -- whether a checksum is wrong
-abbrev pub is_wrong_checksum : Sum → Bool
+abbrev pub is_wrong_checksum : Checksum → Bool
 is_wrong_checksum verdict.Wrong = true
 is_wrong_checksum verdict.Right = false
 
 -- what is sent for a received item, and the session after it; Ctrl-C has no effect, since no move is in progress
 abbrev pub IsResponse : Session → Incoming → List ℕ → Session → Type 0
-IsResponse session heard.Interrupt out next = (out ≡ []) × (next ≡ session)
-IsResponse session heard.Arrived out next = (out ≡ []) × (next ≡ session)
-IsResponse session heard.Again out next = (out ≡ sent_again session) × (next ≡ session)
-IsResponse session heard.TooLong out next =
+IsResponse session received.Interrupt out next = (out ≡ []) × (next ≡ session)
+IsResponse session received.Arrived out next = (out ≡ []) × (next ≡ session)
+IsResponse session received.Again out next = (out ≡ sent_again session) × (next ≡ session)
+IsResponse session received.TooLong out next =
     (out ≡ acknowledgement session ++ packets_of (refused refusal.TooLong)) × (next ≡ with_sent session (refused refusal.TooLong))
-IsResponse session (heard.Packet body sum) out next =
+IsResponse session (received.Packet body sum) out next =
     IsJudged session (session.acknowledges && is_wrong_checksum sum) body out next
 
 -- what is sent for a received item, and the session after it; nothing if the Bool says that the session is over
 abbrev pub IsResponseUnless : Bool → Session → Incoming → List ℕ → Session → Type 0
-IsResponseUnless true session heard out next = (out ≡ []) × (next ≡ session)
-IsResponseUnless false session heard out next = IsResponse session heard out next
+IsResponseUnless true session received out next = (out ≡ []) × (next ≡ session)
+IsResponseUnless false session received out next = IsResponse session received out next
 
 -- what is sent for a received item, and the session after it; nothing if no item is complete
 abbrev pub IsRespondedTo : Session → Option Incoming → List ℕ → Session → Type 0
 IsRespondedTo session None out next = (out ≡ []) × (next ≡ session)
-IsRespondedTo session (Some heard) out next = IsResponseUnless session.is_over session heard out next
+IsRespondedTo session (Some received) out next = IsResponseUnless session.is_over session received out next
 
 -- what is sent when a byte is received, and the session after it
 abbrev pub IsByteReceived : Session → ℕ → List ℕ → Session → Type 0
@@ -117,14 +117,14 @@ IsByteReceived session byte out next = IsRespondedTo (record session { reader = 
 -- the requested move is made: `out` is sent for it, and the session becomes `next`; `may_break` says whether it can be interrupted
 pub record IsRequestedMoveMade (end_text : List ℕ) (may_break : Bool) (session : Session) (out : List ℕ) (next : Session) : Type 0 where
   -- the requested move
-  pub asked : Move
-  pub asked_is : session.asked ≡ Some asked
+  pub requested : Move
+  pub asked_is : session.requested ≡ Some requested
   pub reply : Reply
   -- the session after the move
-  pub behind : Session
-  pub moved : IsMoved end_text may_break (record session { asked = None }) asked reply behind
+  pub after_reply : Session
+  pub moved : IsMoved end_text may_break (record session { requested = None }) requested reply after_reply
   pub out_is : out ≡ packets_of reply
-  pub next_is : next ≡ with_sent behind reply
+  pub next_is : next ≡ with_sent after_reply reply
 
 -- whether a move that is made before these bytes can be interrupted: the first byte is 0x03, which gdb sends for Ctrl-C; without bytes, as
 -- `behind` says
@@ -141,7 +141,7 @@ HasNoInterrupt (byte ∷ rest) = (byte ≢ 3) × HasNoInterrupt rest
 -- whether a move that the last byte requests can be interrupted
 pub data IsReceived (end_text : List ℕ) (behind : Bool) : Session → List ℕ → List ℕ → Session → Type 0 where
   no_bytes : (session : Session) → IsReceived end_text behind session [] [] session
-  byte_first : (session between next : Session) (byte : ℕ) (rest out more : List ℕ) → session.asked ≡ None
+  byte_first : (session between next : Session) (byte : ℕ) (rest out more : List ℕ) → session.requested ≡ None
       → IsByteReceived session byte out between → IsReceived end_text behind between rest more next
       → IsReceived end_text behind session (byte ∷ rest) (out ++ more) next
   move_first : (session between next : Session) (bytes out more : List ℕ)

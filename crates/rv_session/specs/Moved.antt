@@ -59,30 +59,30 @@ watch_between session one other = first_triggered session.stops (state_at sessio
 
 -- the stop at step `place` for a watchpoint hit: by the next step after a forward move, by the preceding step after a backward move
 abbrev pub watch_stop : Session → Move → ℕ → Stop
-watch_stop session asked place = stop_of_watch_hit
-    (if is_forward asked then watch_between session place (place + 1) else watch_between session (place - 1) place)
+watch_stop session requested place = stop_of_watch_hit
+    (if is_forward requested then watch_between session place (place + 1) else watch_between session (place - 1) place)
 
 -- if a forward move found a watchpoint hit, the session is before the last step of its run
 abbrev pub CanReportHit : Session → Move → Found → Type 0
-CanReportHit session asked what = what ≡ found.Change → is_forward asked ≡ true
+CanReportHit session requested what = what ≡ found.Change → is_forward requested ≡ true
     → session.history.place < last_step session.history.budget session.history.start
 
 -- the stop that reports the result `found` of a move to the step `place`
 abbrev pub stop_of : Session → Move → ℕ → Found → Stop
-stop_of session asked place found.Done = stop.Here
-stop_of session asked place found.Break = stop.Here
-stop_of session asked place found.Change = watch_stop session asked place
-stop_of session asked place (found.End ending) = end_stop ending
-stop_of session asked place found.Begin = stop.Beginning
-stop_of session asked place found.Interrupted = stop.Interrupt
+stop_of session requested place found.Done = stop.Here
+stop_of session requested place found.Break = stop.Here
+stop_of session requested place found.Change = watch_stop session requested place
+stop_of session requested place (found.End ending) = end_stop ending
+stop_of session requested place found.Begin = stop.Beginning
+stop_of session requested place found.Interrupted = stop.Interrupt
 
 -- the console output that is sent before the stop in state `s`: after a forward move all that was not sent before, else nothing
 abbrev pub printed_on : Session → Move → State → List ℕ
-printed_on session asked s = if is_forward asked then drop session.shown s.bus.output else []
+printed_on session requested s = if is_forward requested then drop session.shown s.bus.output else []
 
 -- how many console bytes were sent once a move has stopped in state `s`
 abbrev pub shown_on : Session → Move → State → ℕ
-shown_on session asked s = if is_forward asked then max session.shown (length s.bus.output) else session.shown
+shown_on session requested s = if is_forward requested then max session.shown (length s.bus.output) else session.shown
 
 -- the text about the end of the run, if the move reached it; empty otherwise
 abbrev pub end_text_at : List ℕ → Found → List ℕ
@@ -93,18 +93,18 @@ end_text_at end_text found.Change = []
 end_text_at end_text found.Begin = []
 end_text_at end_text found.Interrupted = []
 
--- the session made the move `asked`: its reply and the session after it; `end_text` is about the end of the run, and only if `may_break` is
+-- the session made the move `requested`: its reply and the session after it; `end_text` is about the end of the run, and only if `may_break` is
 -- true can the move have been interrupted
-pub record IsMoved (end_text : List ℕ) (may_break : Bool) (session : Session) (asked : Move) (reply : Reply) (next : Session)
+pub record IsMoved (end_text : List ℕ) (may_break : Bool) (session : Session) (requested : Move) (reply : Reply) (next : Session)
     : Type 0 where
   pub place : ℕ
   pub found : Found
-  pub gone : IsMoveResult asked session.stops session.history.budget session.history.start session.history.place place found
+  pub gone : IsMoveResult requested session.stops session.history.budget session.history.start session.history.place place found
   pub broken_off : IsInterrupted found → may_break ≡ true
-  pub reply_is : reply ≡ stopping (printed_on session asked (state_at session place)) (end_text_at end_text found)
-      (stop_text (stop_of session asked place found))
+  pub reply_is : reply ≡ stopping (printed_on session requested (state_at session place)) (end_text_at end_text found)
+      (stop_text (stop_of session requested place found))
   pub next_is : next ≡ record session {
     history = record session.history { place = place };
-    shown = shown_on session asked (state_at session place);
-    last = stop_of session asked place found;
+    shown = shown_on session requested (state_at session place);
+    last = stop_of session requested place found;
   }

@@ -21,7 +21,7 @@ at_first start budget program = record {
   shown = 0;
   last = stop.Here;
   sent = [];
-  asked = None;
+  requested = None;
   is_over = false;
 }
 
@@ -39,7 +39,7 @@ at_place session place = record session { history = record session.history { pla
 
 -- a session in which a move is requested is not over
 abbrev pub IsOpenIfRequested : Session → Type 0
-IsOpenIfRequested session = (session.asked ≡ None) ⊎ (session.is_over ≡ false)
+IsOpenIfRequested session = (session.requested ≡ None) ⊎ (session.is_over ≡ false)
 
 -- both sessions debug one run: with the same start, budget, program and script
 pub record IsSameRun (session next : Session) : Type 0 where

@@ -1,7 +1,7 @@
 //! Laws about sessions; none of them is executed.
 
 ghost use Rattle.std.specs.Prelude.{◌≡◌, ◌++◌, ℕ, Bool, List, None, false};
-ghost use Rattle.rv_gdb_protocol.specs.Stops.{told_by};
+ghost use Rattle.rv_gdb_protocol.specs.Stops.{end_kind_of_stop};
 ghost use Rattle.rv_gdb_protocol.specs.declared.request.Move.{Move};
 ghost use Rattle.rv_session.specs.Console.{HasShown};
 ghost use Rattle.rv_session.specs.Endings.{text_with, end_kind_of_found};
@@ -21,14 +21,14 @@ pub fn reads_can_be_split()
 /// are made.
 pub fn answers_are_determined()
     ensures { (end_text : List ℕ) (session one other : Session) (bytes out more : List ℕ)
-        → HasNoInterrupt bytes → IsReceived end_text false session bytes out one → one.asked ≡ None
-        → IsReceived end_text false session bytes more other → other.asked ≡ None → (out ≡ more) × (one ≡ other) }
+        → HasNoInterrupt bytes → IsReceived end_text false session bytes out one → one.requested ≡ None
+        → IsReceived end_text false session bytes more other → other.requested ≡ None → (out ≡ more) × (one ≡ other) }
 {}
 
 /// The console output that is sent before stops is a prefix of what the run prints: in order, and each byte once.
 pub fn printed_bytes_go_out_once()
-    ensures { (end_text : List ℕ) (may_break : Bool) (session next : Session) (asked : Move) (reply : Reply) (shown : List ℕ)
-        → HasShown session shown → IsMoved end_text may_break session asked reply next
+    ensures { (end_text : List ℕ) (may_break : Bool) (session next : Session) (requested : Move) (reply : Reply) (shown : List ℕ)
+        → HasShown session shown → IsMoved end_text may_break session requested reply next
         → HasShown next (shown ++ reply.printed) }
 {}
 
@@ -41,7 +41,7 @@ pub fn only_moves_show_printed_bytes()
 /// A move reports the end of the run if it reaches it, and otherwise reports no end. The text about the run's end is sent with the stop at
 /// the end, and with no other.
 pub fn ends_are_reported()
-    ensures { (end_text : List ℕ) (may_break : Bool) (session next : Session) (asked : Move) (reply : Reply)
-        (moved : IsMoved end_text may_break session asked reply next)
-        → (told_by next.last ≡ end_kind_of_found moved.found) × (reply.end_text ≡ text_with (told_by next.last) end_text) }
+    ensures { (end_text : List ℕ) (may_break : Bool) (session next : Session) (requested : Move) (reply : Reply)
+        (moved : IsMoved end_text may_break session requested reply next)
+        → (end_kind_of_stop next.last ≡ end_kind_of_found moved.found) × (reply.end_text ≡ text_with (end_kind_of_stop next.last) end_text) }
 {}

@@ -27,17 +27,17 @@ impl Session {
         end: &E,
         interrupt: &mut I,
     ) -> Result<Vec<u8>, AllocError>
-        requires asked { is_some self.old.asked ≡ true }
+        requires requested { is_some self.old.requested ≡ true }
         requires of_run { E.start end.now ≡ self.old.history.start }
         ensures worked { IfOk result
             (λ out. IsRequestedMoveMade (E.end_text end.now) (I.was_raised interrupt.new) self.old out.items self.new) }
-        ensures made { OnOk result (self.new.asked ≡ None) }
+        ensures made { OnOk result (self.new.requested ≡ None) }
         ensures run { OnOk result (IsSameRun self.old self.new) }
     {
-        let Some(asked) = self.asked.take() else {
+        let Some(requested) = self.requested.take() else {
             return Ok(Vec::new(alloc));
         };
-        let reply = self.move_as(alloc, end, asked, interrupt)?;
+        let reply = self.move_as(alloc, end, requested, interrupt)?;
         let mut out = Vec::new(alloc);
         self.send(alloc, &mut out, &reply)?;
         Ok(out)
@@ -48,32 +48,32 @@ impl Session {
         &mut self,
         alloc: Global,
         end: &E,
-        asked: Move,
+        requested: Move,
         interrupt: &mut I,
     ) -> Result<Reply, AllocError>
         requires { E.start end.now ≡ self.old.history.start }
         ensures { IfOk result
-            (λ reply. IsMoved (E.end_text end.now) (I.was_raised interrupt.new) self.old asked reply self.new) }
+            (λ reply. IsMoved (E.end_text end.now) (I.was_raised interrupt.new) self.old requested reply self.new) }
     {
-        let found = self.go(alloc, asked, interrupt)?;
-        let stop = self.stop_of(alloc, asked, found)?;
+        let found = self.go(alloc, requested, interrupt)?;
+        let stop = self.stop_of(alloc, requested, found)?;
         let text = self.end_text_at(alloc, end, found)?;
-        self.tell(alloc, asked, stop, text)
+        self.stop_reply(alloc, requested, stop, text)
     }
 
     // Makes a move, and returns its result.
     fn go<I: Interrupt>(
         &mut self,
         alloc: Global,
-        asked: Move,
+        requested: Move,
         interrupt: &mut I,
     ) -> Result<Found, AllocError>
-        ensures gone { IfOk result (IsMoveResult asked self.old.stops self.old.history.budget self.old.history.start
+        ensures gone { IfOk result (IsMoveResult requested self.old.stops self.old.history.budget self.old.history.start
             self.old.history.place self.new.history.place) }
         ensures broken_off { IfOk result (λ found. IsInterrupted found → I.was_raised interrupt.new ≡ true) }
         ensures same { self.new ≡ at_place self.old self.new.history.place }
     {
-        match asked {
+        match requested {
             Move::Continue => {
                 self.history
                     .go_on(alloc, &self.stops, Bounds::All, interrupt)
@@ -89,25 +89,25 @@ impl Session {
     }
 
     // Returns the stop that reports the result of a move.
-    fn stop_of(&self, alloc: Global, asked: Move, found: Found) -> Result<Stop, AllocError>
-        requires { CanReportHit self.now asked found }
-        ensures { IfOk result (λ stop. stop ≡ stop_of self.now asked self.now.history.place found) }
+    fn stop_of(&self, alloc: Global, requested: Move, found: Found) -> Result<Stop, AllocError>
+        requires { CanReportHit self.now requested found }
+        ensures { IfOk result (λ stop. stop ≡ stop_of self.now requested self.now.history.place found) }
     {
         match found {
             Found::Done | Found::Break => Ok(Stop::Here),
             Found::Begin => Ok(Stop::Beginning),
             Found::Interrupted => Ok(Stop::Interrupt),
             Found::End(ending) => Ok(end_stop(ending)),
-            Found::Change => self.watch_stop(alloc, asked),
+            Found::Change => self.watch_stop(alloc, requested),
         }
     }
 
     // Returns the stop for a watchpoint hit: by the next step after a forward move, by the preceding step after a backward move.
-    fn watch_stop(&self, alloc: Global, asked: Move) -> Result<Stop, AllocError>
-        requires { CanReportHit self.now asked found.Change }
-        ensures { IfOk result (λ stop. stop ≡ watch_stop self.now asked self.now.history.place) }
+    fn watch_stop(&self, alloc: Global, requested: Move) -> Result<Stop, AllocError>
+        requires { CanReportHit self.now requested found.Change }
+        ensures { IfOk result (λ stop. stop ≡ watch_stop self.now requested self.now.history.place) }
     {
-        if is_forward(asked) {
+        if is_forward(requested) {
             let ahead = self.history.watch_ahead(alloc, &self.stops)?;
             Ok(stop_of_watch_hit(ahead))
         } else {
@@ -138,20 +138,20 @@ impl Session {
     }
 
     // Returns the reply with a stop, the console output before it, and the text about the run's end.
-    fn tell(
+    fn stop_reply(
         &mut self,
         alloc: Global,
-        asked: Move,
+        requested: Move,
         stop: Stop,
         text: Vec<u8>,
     ) -> Result<Reply, AllocError>
         ensures reply { IfOk result
-            (λ reply. reply ≡ stopping (printed_on self.old asked (here self.old)) text.items (stop_text stop)) }
-        ensures next { OnOk result (self.new ≡ record self.old { shown = shown_on self.old asked (here self.old); last = stop }) }
+            (λ reply. reply ≡ stopping (printed_on self.old requested (here self.old)) text.items (stop_text stop)) }
+        ensures next { OnOk result (self.new ≡ record self.old { shown = shown_on self.old requested (here self.old); last = stop }) }
     {
         let mut body = Vec::new(alloc);
         push_stop(&mut body, stop)?;
-        let printed = self.show(alloc, asked)?;
+        let printed = self.show(alloc, requested)?;
         self.last = stop;
         Ok(Reply {
             printed: Bytes::new(printed),
@@ -161,11 +161,11 @@ impl Session {
     }
 
     // Returns the console output that was not sent yet, if the move went forwards; empty otherwise.
-    fn show(&mut self, alloc: Global, asked: Move) -> Result<Vec<u8>, AllocError>
-        ensures printed { IfOk result (λ printed. printed.items ≡ printed_on self.old asked (here self.old)) }
-        ensures shown { IfOk result (λ printed. self.new ≡ record self.old { shown = shown_on self.old asked (here self.old) }) }
+    fn show(&mut self, alloc: Global, requested: Move) -> Result<Vec<u8>, AllocError>
+        ensures printed { IfOk result (λ printed. printed.items ≡ printed_on self.old requested (here self.old)) }
+        ensures shown { IfOk result (λ printed. self.new ≡ record self.old { shown = shown_on self.old requested (here self.old) }) }
     {
-        if !is_forward(asked) {
+        if !is_forward(requested) {
             return Ok(Vec::new(alloc));
         }
         let console = self.history.machine().bus().console();
@@ -176,10 +176,10 @@ impl Session {
 }
 
 // Whether a move goes forwards in the run.
-fn is_forward(asked: Move) -> bool
-    ensures { result ≡ is_forward asked }
+fn is_forward(requested: Move) -> bool
+    ensures { result ≡ is_forward requested }
 {
-    match asked {
+    match requested {
         Move::Continue | Move::Step | Move::StepWithin(..) => true,
         Move::ContinueBack | Move::StepBack => false,
     }

@@ -2,7 +2,7 @@
 
 ghost use Rattle.std.specs.Prelude.{◌≡◌, ◌++◌, ◌∷◌, ◌&&◌, [], IfOk, None, OnOk, Some};
 ghost use Rattle.rv_gdb_protocol.specs.Sums.{framed};
-ghost use Rattle.rv_session.specs.Incoming.{IsAppended, IsByteReceived, IsRespondedTo, IsTaken, acknowledgement, is_wrong_checksum, packets_of, printed_packet, printed_packets, printed_part, sent_again, with_sent};
+ghost use Rattle.rv_session.specs.Incoming.{IsAppended, IsByteReceived, IsRespondedTo, IsPacketAnswered, acknowledgement, is_wrong_checksum, packets_of, printed_packet, printed_packets, printed_part, sent_again, with_sent};
 ghost use Rattle.rv_session.specs.Replies.{refused};
 ghost use Rattle.rv_session.specs.Sessions.{IsSameRun, IsOpenIfRequested};
 ghost use Rattle.rv_gdb_protocol.specs.declared.request.Refusal.TheVariants as refusal;
@@ -10,7 +10,7 @@ ghost use Rattle.rv_gdb_protocol.specs.declared.request.Refusal.TheVariants as r
 use crate::reply::Reply;
 use crate::session::Session;
 use rv_base::Bytes;
-use rv_gdb_protocol::{Incoming, Refusal, Sum, parse_request, push_frame, push_printed};
+use rv_gdb_protocol::{Incoming, Refusal, Checksum, parse_request, push_frame, push_printed};
 use std::alloc::{AllocError, Global};
 
 /// The maximum number of console bytes in a packet, which has two digits for each.
@@ -20,7 +20,7 @@ impl Session {
     /// Receives a byte from gdb and returns the bytes to send. If the byte requests a move, [`Session::work`] must make it before another
     /// byte is received. After an error the session must be abandoned.
     pub fn receive(&mut self, alloc: Global, byte: u8) -> Result<Vec<u8>, AllocError>
-        requires { self.old.asked ≡ None }
+        requires { self.old.requested ≡ None }
         ensures heard { IfOk result (λ out. IsByteReceived self.old byte out.items self.new) }
         ensures not_over { OnOk result (IsOpenIfRequested self.new) }
         ensures run { OnOk result (IsSameRun self.old self.new) }
@@ -36,7 +36,7 @@ impl Session {
             (λ told. IsByteReceived self.old byte told self.new)) }
     {
         match self.reader.take(alloc, byte)? {
-            Some(heard) => self.respond(alloc, out, &heard),
+            Some(received) => self.respond(alloc, out, &received),
             None => Ok(()),
         }
     }
@@ -46,15 +46,15 @@ impl Session {
         &mut self,
         alloc: Global,
         out: &mut Vec<u8>,
-        heard: &Incoming,
+        received: &Incoming,
     ) -> Result<(), AllocError>
         ensures { OnOk result (IsAppended out.old.items out.new.items
-            (λ told. IsRespondedTo self.old (Some heard.now) told self.new)) }
+            (λ told. IsRespondedTo self.old (Some received.now) told self.new)) }
     {
         if self.is_over {
             return Ok(());
         }
-        match heard {
+        match received {
             Incoming::Interrupt => Ok(()),
             Incoming::Arrived => Ok(()),
             Incoming::Again => self.send_again(out),
@@ -90,7 +90,7 @@ impl Session {
     }
 
     // Whether a packet must be requested again. Without acknowledgements its checksum is not checked.
-    fn is_refused(&self, sum: Sum) -> bool
+    fn is_refused(&self, sum: Checksum) -> bool
         ensures { result ≡ (self.now.acknowledges && is_wrong_checksum sum) }
     {
         self.acknowledges && is_wrong_checksum(sum)
@@ -99,7 +99,7 @@ impl Session {
     // Acknowledges a packet, and appends the reply to it.
     fn take_body(&mut self, alloc: Global, out: &mut Vec<u8>, body: &[u8]) -> Result<(), AllocError>
         ensures { OnOk result (IsAppended out.old.items out.new.items
-            (λ told. IsTaken self.old body.now told self.new)) }
+            (λ told. IsPacketAnswered self.old body.now told self.new)) }
     {
         self.acknowledge(out)?;
         let request = parse_request(alloc, body)?;
@@ -157,12 +157,12 @@ fn ask_again(out: &mut Vec<u8>) -> Result<(), AllocError>
 }
 
 // Whether a checksum is wrong.
-fn is_wrong_checksum(sum: Sum) -> bool
+fn is_wrong_checksum(sum: Checksum) -> bool
     ensures { result ≡ is_wrong_checksum sum }
 {
     match sum {
-        Sum::Right => false,
-        Sum::Wrong => true,
+        Checksum::Right => false,
+        Checksum::Wrong => true,
     }
 }
 

@@ -28,18 +28,18 @@ impl Session {
             }
             Request::Set(trap) => self.set(alloc, *trap),
             Request::Clear(trap) => self.clear(alloc, *trap),
-            Request::Move(asked) => Ok(self.ask(alloc, *asked)),
+            Request::Move(requested) => Ok(self.ask(alloc, *requested)),
             Request::Command(text) => self.command(alloc, text.as_slice()),
             Request::Restart => self.restart(alloc),
             Request::NoAcknowledgements => self.end_acknowledgements(alloc),
             Request::Detach => self.detach(alloc),
             Request::Kill => Ok(self.end(alloc)),
-            _ => self.look(alloc, request),
+            _ => self.read_only_reply(alloc, request),
         }
     }
 
     // Returns the reply to a request that does not change the session.
-    fn look(&self, alloc: Global, request: &Request) -> Result<Reply, AllocError>
+    fn read_only_reply(&self, alloc: Global, request: &Request) -> Result<Reply, AllocError>
         ensures { IfOk result (λ reply. reply ≡ shown_reply self.now request.now) }
     {
         match request {
@@ -122,11 +122,11 @@ impl Session {
     }
 
     // Handles `vCont;`, `c`, `s`, `bc` and `bs`: records the move, which is made before another byte is received.
-    fn ask(&mut self, alloc: Global, asked: Move) -> Reply
+    fn ask(&mut self, alloc: Global, requested: Move) -> Reply
         ensures reply { result ≡ silent }
-        ensures next { self.new ≡ record self.old { asked = Some asked } }
+        ensures next { self.new ≡ record self.old { requested = Some requested } }
     {
-        self.asked = Some(asked);
+        self.requested = Some(requested);
         Reply::silent(alloc)
     }
 

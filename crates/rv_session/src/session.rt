@@ -28,7 +28,7 @@ pub struct Session {
     /// The packet that was sent last.
     pub(crate) sent: Bytes,
     /// The requested move that is not made yet.
-    pub(crate) asked: Option<Move>,
+    pub(crate) requested: Option<Move>,
     pub(crate) is_over: bool,
 }
 
@@ -59,7 +59,7 @@ impl Session {
             shown: 0,
             last: Stop::Here,
             sent: Bytes::new(Vec::new(alloc)),
-            asked: None,
+            requested: None,
             is_over: false,
         })
     }
@@ -80,10 +80,10 @@ impl Session {
     }
 
     /// Whether a move is requested and not made yet.
-    pub fn is_asked(&self) -> bool
-        ensures { result ≡ is_some self.now.asked }
+    pub fn is_move_requested(&self) -> bool
+        ensures { result ≡ is_some self.now.requested }
     {
-        self.asked.is_some()
+        self.requested.is_some()
     }
 
     /// Whether gdb has ended the session. Nothing more is answered then.

@@ -30,9 +30,9 @@ impl Session {
         let machine = self.history.machine();
         let mut here = Vec::new(alloc);
         push_registers(&mut here, &machine.registers(), machine.pc())?;
-        let mut asked = Vec::new(alloc);
-        push_memory(alloc, &mut asked, bytes)?;
-        let same = are_same(here.as_slice(), asked.as_slice());
+        let mut requested = Vec::new(alloc);
+        push_memory(alloc, &mut requested, bytes)?;
+        let same = are_same(here.as_slice(), requested.as_slice());
         Reply::granted_if(alloc, same, Refusal::WouldChange)
     }
 
@@ -76,7 +76,7 @@ fn has_bytes_at(bus: &Bus, address: u32, bytes: &[u8]) -> bool
     ensures { result ≡ has_bytes_at bus.now address bytes.now }
 {
     for (offset, byte) in bytes.iter().enumerate() {
-        if !stands_at(bus, u64::from(address) + offset as u64, *byte) {
+        if !has_byte_at(bus, u64::from(address) + offset as u64, *byte) {
             return false;
         }
     }
@@ -84,7 +84,7 @@ fn has_bytes_at(bus: &Bus, address: u32, bytes: &[u8]) -> bool
 }
 
 // Whether memory has this byte at the address, which can be past the last one.
-fn stands_at(bus: &Bus, address: u64, byte: u8) -> bool
+fn has_byte_at(bus: &Bus, address: u64, byte: u8) -> bool
     ensures { result ≡ (nat_lt address end_of_addresses && is_byte (fin.get bus.now.memory address) byte) }
 {
     address < END_OF_ADDRESSES && is_byte(bus.byte(address as u32), byte)

@@ -5,4 +5,4 @@ use Rattle.rv_session.specs.declared.session.Session.{Session}
 
 -- no move is requested, and the session's run starts in this state
 abbrev pub IsReady : State → Session → Type 0
-IsReady start session = (start ≡ session.history.start) × (is_some session.asked ≡ false)
+IsReady start session = (start ≡ session.history.start) × (is_some session.requested ≡ false)

@@ -135,7 +135,7 @@ struct Talk {
     session: Session,
     end: End,
     ghost same_run: { start_of end.start ≡ session.history.start } by { Coded-set state_code (start_of end.start) session.history.start },
-    ghost unasked: { is_some session.asked ≡ false },
+    ghost unasked: { is_some session.requested ≡ false },
 }
 
 // Appends the response to a byte; if the byte completes the request for a move, makes the move and appends its response too.

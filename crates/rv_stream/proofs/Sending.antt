@@ -13,7 +13,7 @@ use Rattle.rv_rows.specs.declared_report.WriteError.TheVariants.{Failed, OutOfMe
 use Rattle.rv_stream.specs.declared.reported_row.ReportedRow.{ReportedRow}
 use Rattle.rv_rows.specs.declared_row.Row.{Row}
 use Rattle.rv_stream.specs.Seen.{text_by_index}
-use Rattle.rv_stream.specs.Texts.{IsSent, IsUnderWay}
+use Rattle.rv_stream.specs.Texts.{IsSent, IsWriteInProgress}
 use Rattle.rv_stream.specs.ReportedRows.{texts_of_reported}
 
 -- nothing is told yet
@@ -43,7 +43,7 @@ none_failed (Some error) goes = absurd (goes refl)
 
 module _ (before now : Option (List ℕ)) (failures_before failures : ℕ) (unsent text : List ℕ) where
   under_way : (failed : Option WriteError) → failed ≡ None → IsSent before now failures_before failures failed unsent text
-      → IsUnderWay before now failures_before failures unsent text
+      → IsWriteInProgress before now failures_before failures unsent text
   under_way failed none sent =
       subst (λ (f : Option WriteError). IsSent before now failures_before failures f unsent text) none sent
 

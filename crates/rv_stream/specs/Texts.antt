@@ -7,7 +7,7 @@ use Rattle.rv_rows.specs.declared_report.WriteError.{WriteError}
 use Rattle.rv_rows.specs.declared_report.WriteError.TheVariants.{Failed, OutOfMemory}
 
 -- the text was written except for `unsent`, its last part, and no write failed
-pub record IsUnderWay (before now : Option (List ℕ)) (failures_before failures : ℕ) (unsent text : List ℕ) : Type 0 where
+pub record IsWriteInProgress (before now : Option (List ℕ)) (failures_before failures : ℕ) (unsent text : List ℕ) : Type 0 where
   pub sent : List ℕ
   pub whole : sent ++ unsent ≡ text
   pub appended : Appends before now sent
@@ -15,7 +15,7 @@ pub record IsUnderWay (before now : Option (List ℕ)) (failures_before failures
 
 -- without an error, the text was written except for `unsent`; after an error a prefix of it was written, and a failed write is counted
 abbrev pub IsSent : Option (List ℕ) → Option (List ℕ) → ℕ → ℕ → Option WriteError → List ℕ → List ℕ → Type 0
-IsSent before now failures_before failures None unsent text = IsUnderWay before now failures_before failures unsent text
+IsSent before now failures_before failures None unsent text = IsWriteInProgress before now failures_before failures unsent text
 IsSent before now failures_before failures (Some OutOfMemory) unsent text =
     AppendsBeginning before now text × (failures ≡ failures_before)
 IsSent before now failures_before failures (Some Failed) unsent text =

@@ -81,20 +81,20 @@ pub record IsGdbAnswered (known : Option FileContents) (is_terminal : Bool) (wor
   pub first : Session
   pub opened : IsOpenedAt known words end_text first
   -- the bytes that were read
-  pub heard : List ℕ
-  pub read : Consumes input rest heard
+  pub received : List ℕ
+  pub read : Consumes input rest received
   -- no byte was read after the session ended
-  pub while_open : IsReadWhileOpen end_text first heard
+  pub while_open : IsReadWhileOpen end_text first received
   -- the replies; before each stop at the end of the run they have what `run` reports for the job
-  pub told : List ℕ
+  pub replies : List ℕ
   pub last : Session
   -- whether the end of the input may have interrupted a move; otherwise only the byte 0x03 did
   pub may_end : Bool
   pub at_end : may_end ≡ true → IsAtEnd rest
-  pub fed : IsReceived end_text may_end first heard told last
-  pub made : last.asked ≡ None
+  pub fed : IsReceived end_text may_end first received replies last
+  pub made : last.requested ≡ None
   pub ended : IsEnded last rest
-  pub put : IsOnlyStandardOutput told before after
+  pub put : IsOnlyStandardOutput replies before after
   pub done : status ≡ 0
 
 -- ---- why the command stops

@@ -6,11 +6,11 @@ use Rattle.rv_gdb.proofs.conversation.serve.Goals as goal
 pub returns-then-is_over-clause-heard : goal.returns-then-is_over-clause-heard
 returns-then-is_over-clause-heard g c =
     silent (g.E.EndText.end_text c.args.context.now.end.now) c.args.session.now (g.I.Read.remaining c.args.input.now)
-    (g.O.Sink.taken c.args.out.now) c.requires.asked
+    (g.O.Sink.taken c.args.out.now) c.requires.requested
 
 pub loop-init : goal.loop-init
 loop-init g c = (
-  first_read (g.E.EndText.end_text c.args.context.now.end.now) c.args.session.now c.in_ok-chunk.chunk.items _ _ _ c.requires.asked
+  first_read (g.E.EndText.end_text c.args.context.now.end.now) c.args.session.now c.in_ok-chunk.chunk.items _ _ _ c.requires.requested
       (sym c.is_over.ensures ∙ c.if-is_over.false) c.in_ok-chunk.ensures.read,
   (same_run c.args.session.now, refl),
 )

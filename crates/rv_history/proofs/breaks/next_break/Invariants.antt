@@ -1,10 +1,10 @@
 use Rattle.std.proofs.Common.{◌≡◌, ◌-◌}
-use Rattle.rv_history.specs.ForwardMoves.{IsUnderWay}
+use Rattle.rv_history.specs.ForwardMoves.{IsMoveInProgress}
 use Rattle.rv_history.proofs.breaks.next_break.Given as goal
 
 abbrev pub invariant-places : goal.invariant-places
 invariant-places g l = record {
-  way : IsUnderWay l.stops l.initial.track l.leg;
+  way : IsMoveInProgress l.stops l.initial.track l.leg;
   leg : l.leg ≡ record l.fn.leg { at = l.leg.at };
   same : l.track ≡ l.initial.track;
 }

@@ -24,8 +24,8 @@ store_and_poll-requires-clause-there g c =
 pub store_and_poll-requires-clause-order : goal.store_and_poll-requires-clause-order
 store_and_poll-requires-clause-order g c = c.places.invariant.way.order
 
-pub come_to-requires : goal.come_to-requires
-come_to-requires g c =
+pub machine_at_step-requires : goal.machine_at_step-requires
+machine_at_step-requires g c =
     subst (λ (s : State). (run_of c.places.leg.at.place s).steps ≡ c.places.leg.at.place)
     (sym (c.store_and_poll.ensures.same ∙ c.places.invariant.same)) c.places.invariant.way.there.completed
 

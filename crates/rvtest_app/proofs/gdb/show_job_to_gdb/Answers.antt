@@ -8,27 +8,27 @@ use Rattle.rvtest_app.proofs.gdb.show_job_to_gdb.Goals as goal
 pub serve-requires-clause-asked : goal.serve-requires-clause-asked
 serve-requires-clause-asked g c =
     let opened = c.in_ok-opened.ensures.opened in λ lifetimes outlive.
-    ap (λ (s : Session). s.asked) c.set_memory.ensures
-    ∙ ap (λ (s : Session). s.asked) (opened.of_list.of_job.over (single_job [] 0 [])).session_is
+    ap (λ (s : Session). s.requested) c.set_memory.ensures
+    ∙ ap (λ (s : Session). s.requested) (opened.of_list.of_job.over (single_job [] 0 [])).session_is
 
 pub returns-in-Ok-clause-answered : goal.returns-in-Ok-clause-answered
 returns-in-Ok-clause-answered g c =
-    let heard = rw (c.in-Ok.is, c.set_memory.ensures) at c.serve.ensures.heard in record {
+    let received = rw (c.in-Ok.is, c.set_memory.ensures) at c.serve.ensures.heard in record {
       spoken = c.if-is_terminal.false;
       end_text = job_end_text c.in_ok-opened.opened.job.plan c.in_ok-opened.opened.job.unread.items c.in_ok-opened.opened.job.place;
       first = c.in_ok-opened.opened.session;
       opened = c.in_ok-opened.ensures.opened;
-      heard = heard.heard;
-      read = heard.read;
-      while_open = heard.while_open;
-      told = heard.told;
+      received = received.received;
+      read = received.read;
+      while_open = received.while_open;
+      replies = received.replies;
       last = c.serve.new.session;
-      may_end = heard.may_end;
-      at_end = heard.ended;
-      fed = heard.fed;
-      made = heard.made;
+      may_end = received.may_end;
+      at_end = received.ended;
+      fed = received.fed;
+      made = received.made;
       ended = rw c.in-Ok.is at c.serve.ensures.ended;
-      put = (heard.put, refl, refl, refl);
+      put = (received.put, refl, refl, refl);
       done = refl;
     }
 

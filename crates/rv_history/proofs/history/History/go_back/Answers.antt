@@ -2,7 +2,7 @@ use Rattle.std.proofs.Common.{◌≤◌, arith, subst}
 use Rattle.rv_machine.specs.State.{State}
 use Rattle.rv_history.specs.Moves.{IsStopBefore}
 use Rattle.rv_history.specs.Places.{last_step}
-use Rattle.rv_history.specs.Positions.{Stand}
+use Rattle.rv_history.specs.Positions.{Position}
 use Rattle.rv_history.specs.declared.found.Found.TheVariants as found
 use Rattle.rv_history.proofs.Arriving.{arrived}
 use Rattle.rv_history.proofs.Reaching.{comes_within}
@@ -33,7 +33,7 @@ pub returns-clause-stop : goal.returns-clause-stop
 returns-clause-stop g c =
     let here = c.self.inside in
     let arrival = c.in_ok-arrival.arrival in
-    let before : Stand = record { start = c.reach.new.self; budget = here.budget; place = here.place } in
+    let before : Position = record { start = c.reach.new.self; budget = here.budget; place = here.place } in
     let stop = subst (λ (s : State). IsStopBefore c.args.stops.now here.budget s here.place arrival.place arrival.found)
     c.reach.ensures.same (c.in_ok-arrival.ensures.stop here.budget c.self.invariant.1) in
     arrived (IsStopBefore c.args.stops.now c.args.self.now.budget c.args.self.now.start c.args.self.now.place) c.arrive-2.result

@@ -8,13 +8,13 @@ use Rattle.rv_session.proofs.session.Session.work.Goals as goal
 pub returns-clause-worked : goal.returns-clause-worked
 returns-clause-worked g c =
     let session = c.args.self.now in
-    let is : session.asked ≡ Some c.in-Some.asked = search rules in record {
-      asked = c.in-Some.asked;
+    let is : session.requested ≡ Some c.in-Some.requested = search rules in record {
+      requested = c.in-Some.requested;
       asked_is = is;
       reply = c.in_ok-reply.reply;
-      behind = c.move_as.new.self;
-      moved = subst (λ (asked : Option Move). IsMoved (g.E.EndText.end_text c.args.end.now)
-          (g.I.Interrupt.was_raised c.move_as.new.interrupt) (record session { asked = asked }) c.in-Some.asked c.in_ok-reply.reply
+      after_reply = c.move_as.new.self;
+      moved = subst (λ (requested : Option Move). IsMoved (g.E.EndText.end_text c.args.end.now)
+          (g.I.Interrupt.was_raised c.move_as.new.interrupt) (record session { requested = requested }) c.in-Some.requested c.in_ok-reply.reply
           c.move_as.new.self)
           c.take.ensures.after c.in_ok-reply.ensures;
       out_is = c.in_ok-send.ensures.out ∙ ap (λ (front : List ℕ). front ++ packets_of c.in_ok-reply.reply) c.new-out.ensures.items;
