@@ -94,45 +94,45 @@ unequal_bytes xs ys other = undecided (bytes_eq xs ys) (xs ≡ ys) (bytes_eq-Dec
 
 -- ---- lines that differ
 
-pub differing_stops : (left : ℕ) (met wanted : List (List ℕ)) → front_line met ≡ front_line wanted
-    → differing_line_count left met wanted ≡ 0
+pub differing_stops : (left : ℕ) (actual expected : List (List ℕ)) → front_line actual ≡ front_line expected
+    → differing_line_count left actual expected ≡ 0
 unfolding differing_line_count
-differing_stops zero met wanted same = refl
-differing_stops (suc most) met wanted same =
-    ap (λ (b : Bool). cond b 0 (1 + differing_line_count most (drop 1 met) (drop 1 wanted)))
-    (equal_bytes (front_line met) (front_line wanted) same)
+differing_stops zero actual expected same = refl
+differing_stops (suc most) actual expected same =
+    ap (λ (b : Bool). cond b 0 (1 + differing_line_count most (drop 1 actual) (drop 1 expected)))
+    (equal_bytes (front_line actual) (front_line expected) same)
 
-pub differing_next : (left : ℕ) (met wanted : List (List ℕ)) → 0 < left → (front_line met ≡ front_line wanted → ⊥)
-    → differing_line_count left met wanted ≡ 1 + differing_line_count (left - 1) (drop 1 met) (drop 1 wanted)
+pub differing_next : (left : ℕ) (actual expected : List (List ℕ)) → 0 < left → (front_line actual ≡ front_line expected → ⊥)
+    → differing_line_count left actual expected ≡ 1 + differing_line_count (left - 1) (drop 1 actual) (drop 1 expected)
 unfolding differing_line_count
-differing_next zero met wanted some other = absurd (omega arith)
-differing_next (suc most) met wanted some other =
+differing_next zero actual expected some other = absurd (omega arith)
+differing_next (suc most) actual expected some other =
     let one_less : suc most - 1 ≡ most = omega arith in
     rw one_less
-    (ap (λ (b : Bool). cond b 0 (1 + differing_line_count most (drop 1 met) (drop 1 wanted)))
-    (unequal_bytes (front_line met) (front_line wanted) other))
+    (ap (λ (b : Bool). cond b 0 (1 + differing_line_count most (drop 1 actual) (drop 1 expected)))
+    (unequal_bytes (front_line actual) (front_line expected) other))
 
-pub differing_none : (met wanted : List (List ℕ)) → differing_line_count 0 met wanted ≡ 0
+pub differing_none : (actual expected : List (List ℕ)) → differing_line_count 0 actual expected ≡ 0
 unfolding differing_line_count
-differing_none met wanted = refl
+differing_none actual expected = refl
 
 -- ---- equal lines in front
 
-pub parted : (met wanted : List (List ℕ)) → (front_line met ≡ front_line wanted → ⊥)
-    → common_prefix_len bytes_eq met wanted ≡ 0
-parted [] wanted other = refl
+pub parted : (actual expected : List (List ℕ)) → (front_line actual ≡ front_line expected → ⊥)
+    → common_prefix_len bytes_eq actual expected ≡ 0
+parted [] expected other = refl
 parted (x ∷ xs) [] other = refl
 parted (x ∷ xs) (y ∷ ys) other =
     ap (λ (b : Bool). cond b (1 + common_prefix_len bytes_eq xs ys) 0) (unequal_bytes x y other)
 
-pub joined : (x : List ℕ) (xs wanted : List (List ℕ)) → 0 < length x → x ≡ front_line wanted
-    → common_prefix_len bytes_eq (x ∷ xs) wanted ≡ 1 + common_prefix_len bytes_eq xs (drop 1 wanted)
+pub joined : (x : List ℕ) (xs expected : List (List ℕ)) → 0 < length x → x ≡ front_line expected
+    → common_prefix_len bytes_eq (x ∷ xs) expected ≡ 1 + common_prefix_len bytes_eq xs (drop 1 expected)
 joined x xs [] full same = let none : length x ≡ 0 = ap length same in absurd (omega arith)
 joined x xs (y ∷ ys) full same =
     ap (λ (b : Bool). cond b (1 + common_prefix_len bytes_eq xs ys) 0) (equal_bytes x y same)
 
-pub none_in_front : (wanted : List (List ℕ)) → common_prefix_len bytes_eq [] wanted ≡ 0
-none_in_front wanted = refl
+pub none_in_front : (expected : List (List ℕ)) → common_prefix_len bytes_eq [] expected ≡ 0
+none_in_front expected = refl
 
 -- ---- lines of a side
 

@@ -75,10 +75,10 @@ differ_there (x ∷ xs) (y ∷ ys) full_x full_y other =
     there_step (bytes_eq x y) x y (common_prefix_len bytes_eq xs ys) xs ys refl
     (differ_there xs ys full_x.1 full_y.1) other
 
-pub differ_first : (met wanted : List ℕ) → met ≢ wanted
-    → DifferFirstAt (equal_line_count met wanted) (whole_lines met) (whole_lines wanted)
-differ_first met wanted other = record {
-  before = equal_before (whole_lines met) (whole_lines wanted);
-  there = differ_there (whole_lines met) (whole_lines wanted) (are_full met) (are_full wanted)
-      (λ same. other (sym (whole_lines-flat met) ∙ ap (flat_map (λ line. line)) same ∙ whole_lines-flat wanted));
+pub differ_first : (actual expected : List ℕ) → actual ≢ expected
+    → DifferFirstAt (equal_line_count actual expected) (whole_lines actual) (whole_lines expected)
+differ_first actual expected other = record {
+  before = equal_before (whole_lines actual) (whole_lines expected);
+  there = differ_there (whole_lines actual) (whole_lines expected) (are_full actual) (are_full expected)
+      (λ same. other (sym (whole_lines-flat actual) ∙ ap (flat_map (λ line. line)) same ∙ whole_lines-flat expected));
 }

@@ -30,21 +30,21 @@ abbrev pub front_line : List (List ℕ) → List ℕ
 front_line [] = []
 front_line (line ∷ lines) = line
 
--- the number of leading lines that are equal in the actual text `met` and the expected text `wanted`
+-- the number of leading lines that are equal in the actual text `actual` and the expected text `expected`
 abbrev pub equal_line_count : List ℕ → List ℕ → ℕ
-equal_line_count met wanted = common_prefix_len bytes_eq (whole_lines met) (whole_lines wanted)
+equal_line_count actual expected = common_prefix_len bytes_eq (whole_lines actual) (whole_lines expected)
 
 -- the number of leading lines that differ pairwise, at most the given number
 unfoldable pub differing_line_count : ℕ → List (List ℕ) → List (List ℕ) → ℕ
-differing_line_count zero met wanted = 0
-differing_line_count (suc most) met wanted =
-    if bytes_eq (front_line met) (front_line wanted) then 0
-    else 1 + differing_line_count most (drop 1 met) (drop 1 wanted)
+differing_line_count zero actual expected = 0
+differing_line_count (suc most) actual expected =
+    if bytes_eq (front_line actual) (front_line expected) then 0
+    else 1 + differing_line_count most (drop 1 actual) (drop 1 expected)
 
 -- the lines before index `place` are equal in both texts; at this index they differ, or one text has no line
-pub record DifferFirstAt (place : ℕ) (met wanted : List (List ℕ)) : Type 0 where
-  pub before : take place met ≡ take place wanted
-  pub there : front_line (drop place met) ≢ front_line (drop place wanted)
+pub record DifferFirstAt (place : ℕ) (actual expected : List (List ℕ)) : Type 0 where
+  pub before : take place actual ≡ take place expected
+  pub there : front_line (drop place actual) ≢ front_line (drop place expected)
 
 -- ---- a shown line
 
@@ -126,46 +126,46 @@ equal_lines equal lines = let earlier = equal - most_equal_lines in
 
 -- the lines that differ at the beginning of two texts: first the expected ones, then the actual ones
 abbrev pub differing_lines : List (List ℕ) → List (List ℕ) → List ℕ
-differing_lines met wanted = let count = differing_line_count most_differing_lines met wanted in
-    side_lines (codes "     - ") count wanted met ++ side_lines (codes "     + ") count met wanted
+differing_lines actual expected = let count = differing_line_count most_differing_lines actual expected in
+    side_lines (codes "     - ") count expected actual ++ side_lines (codes "     + ") count actual expected
 
 -- the lines of two texts around their first difference, given the number of equal leading lines
 abbrev pub lines_around : ℕ → List (List ℕ) → List (List ℕ) → List ℕ
-lines_around equal met wanted = equal_lines equal met ++ differing_lines (drop equal met) (drop equal wanted)
+lines_around equal actual expected = equal_lines equal actual ++ differing_lines (drop equal actual) (drop equal expected)
 
--- the difference between the console `met` and the expected text `wanted`, line by line; `source` names the expected text
+-- the difference between the console `actual` and the expected text `expected`, line by line; `source` names the expected text
 unfoldable pub console_lines : List ℕ → List ℕ → List ℕ → List ℕ
-console_lines source met wanted = let equal = equal_line_count met wanted in
-    lines_heading source (equal + 1) (larger (length (whole_lines met)) (length (whole_lines wanted)))
-    ++ lines_around equal (whole_lines met) (whole_lines wanted)
+console_lines source actual expected = let equal = equal_line_count actual expected in
+    lines_heading source (equal + 1) (larger (length (whole_lines actual)) (length (whole_lines expected)))
+    ++ lines_around equal (whole_lines actual) (whole_lines expected)
 
 -- whether a difference is shown line by line: both texts are present and are UTF-8
 abbrev pub is_shown_by_lines : Difference → List ℕ → List ℕ → Bool
-is_shown_by_lines difference.Absent met wanted = false
-is_shown_by_lines (difference.At place) met wanted = is_utf8 met && is_utf8 wanted
-is_shown_by_lines difference.Lengths met wanted = is_utf8 met && is_utf8 wanted
+is_shown_by_lines difference.Absent actual expected = false
+is_shown_by_lines (difference.At place) actual expected = is_utf8 actual && is_utf8 expected
+is_shown_by_lines difference.Lengths actual expected = is_utf8 actual && is_utf8 expected
 
 -- ---- the expected text
 
 -- an expected text and its name
-pub record Wanted : Type 0 where
+pub record NamedText : Type 0 where
   pub source : List ℕ
   pub text : List ℕ
 
 -- the expected console text with its name: from the list, or from a file whose contents are `file`
-abbrev pub expected_console : Option ExpectedConsole → Option (List ℕ) → Option Wanted
+abbrev pub expected_console : Option ExpectedConsole → Option (List ℕ) → Option NamedText
 expected_console None file = None
 expected_console (Some (console.Text text)) file = Some record { source = codes "the expected text"; text = text }
 expected_console (Some (console.File path)) file = Some record { source = printable_text path; text = unwrap_or file [] }
 
 -- the expected text, if the difference from it is shown line by line
-abbrev pub shown_by_lines : Difference → List ℕ → Option Wanted → Option Wanted
-shown_by_lines difference met None = None
-shown_by_lines difference met (Some wanted) =
-    if is_shown_by_lines difference met wanted.text then Some wanted else None
+abbrev pub shown_by_lines : Difference → List ℕ → Option NamedText → Option NamedText
+shown_by_lines difference actual None = None
+shown_by_lines difference actual (Some expected) =
+    if is_shown_by_lines difference actual expected.text then Some expected else None
 
 -- the expected text of an unmet expectation, if the difference from it is shown line by line
-abbrev pub expected_by_lines : Sides → Unmet → Option Wanted
+abbrev pub expected_by_lines : Sides → Unmet → Option NamedText
 expected_by_lines sides unmet.Exit = None
 expected_by_lines sides unmet.End = None
 expected_by_lines sides (unmet.Console difference) =
@@ -175,5 +175,5 @@ expected_by_lines sides (unmet.Same difference) = None
 expected_by_lines sides unmet.Nothing = None
 
 -- the Rust value `ExpectedText` as the record that contracts use
-abbrev pub named_text_of : ExpectedText → Wanted
-named_text_of wanted = record { source = span_text wanted.source; text = wanted.text.now }
+abbrev pub named_text_of : ExpectedText → NamedText
+named_text_of expected = record { source = span_text expected.source; text = expected.text.now }

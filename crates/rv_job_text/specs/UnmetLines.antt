@@ -26,7 +26,7 @@ use Rattle.rv_rows.specs.declared_row.RowEnd.{RowEnd}
 use Rattle.rv_rows.specs.declared_row.RowEnd.TheVariants as ending
 use Rattle.rv_rows.specs.Report.{line, refusal_name}
 use Rattle.rv_text.specs.Words.{count_text, exit_code_text, word_digits}
-use Rattle.rv_job_text.specs.ConsoleLines.{Wanted, console_lines, expected_by_lines}
+use Rattle.rv_job_text.specs.ConsoleLines.{NamedText, console_lines, expected_by_lines}
 
 -- ---- the exit code and the end
 
@@ -47,37 +47,37 @@ expected_end_text (Some (expected.Fault kind)) = codes "fault " ++ fault_name ki
 abbrev pub quoted_value : List ℕ → List ℕ
 quoted_value value = codes "\"" ++ printable_value value ++ codes "\""
 
--- the first byte in which the actual text `met` and the expected text `wanted` differ, at offset `place`
+-- the first byte in which the actual text `actual` and the expected text `expected` differ, at offset `place`
 unfoldable pub byte_difference_text : ℕ → List ℕ → List ℕ → List ℕ
-byte_difference_text place met wanted =
-    codes " at byte " ++ decimal place ++ codes ": expected " ++ quoted_value (drop place wanted)
-    ++ codes ", found " ++ quoted_value (drop place met)
+byte_difference_text place actual expected =
+    codes " at byte " ++ decimal place ++ codes ": expected " ++ quoted_value (drop place expected)
+    ++ codes ", found " ++ quoted_value (drop place actual)
 
--- the expected number `wanted` and the actual number `met`; `what` is the noun
+-- the expected number `expected` and the actual number `actual`; `what` is the noun
 unfoldable pub count_difference_text : ℕ → List ℕ → ℕ → List ℕ
-count_difference_text met what wanted =
-    codes " in length: expected " ++ count_text wanted what ++ codes ", found " ++ decimal met
+count_difference_text actual what expected =
+    codes " in length: expected " ++ count_text expected what ++ codes ", found " ++ decimal actual
 
--- the first difference between the actual text `met` and the expected text `wanted`
+-- the first difference between the actual text `actual` and the expected text `expected`
 unfoldable pub bytes_difference_text : Difference → List ℕ → List ℕ → List ℕ
-bytes_difference_text (difference.At place) met wanted = byte_difference_text place met wanted
-bytes_difference_text difference.Lengths met wanted = count_difference_text (length met) (codes "byte") (length wanted)
-bytes_difference_text difference.Absent met wanted = codes ", which was not read"
+bytes_difference_text (difference.At place) actual expected = byte_difference_text place actual expected
+bytes_difference_text difference.Lengths actual expected = count_difference_text (length actual) (codes "byte") (length expected)
+bytes_difference_text difference.Absent actual expected = codes ", which was not read"
 
 -- the message that the console differs from the expected one, which is a text of the list or the contents of a file
 unfoldable pub expected_console_text :
     ExpectedConsole → Option (List ℕ) → List ℕ → Difference → List ℕ
-expected_console_text (console.Text text) file met difference =
-    codes "console differs from the expected text" ++ bytes_difference_text difference met text
-expected_console_text (console.File path) file met difference =
+expected_console_text (console.Text text) file actual difference =
+    codes "console differs from the expected text" ++ bytes_difference_text difference actual text
+expected_console_text (console.File path) file actual difference =
     codes "console differs from " ++ printable_text path
-    ++ bytes_difference_text difference met (unwrap_or file [])
+    ++ bytes_difference_text difference actual (unwrap_or file [])
 
 -- the message that the console differs from the expected one
 unfoldable pub console_difference_text :
     Option ExpectedConsole → Option (List ℕ) → List ℕ → Difference → List ℕ
-console_difference_text None file met difference = codes "no console"
-console_difference_text (Some expected) file met difference = expected_console_text expected file met difference
+console_difference_text None file actual difference = codes "no console"
+console_difference_text (Some expected) file actual difference = expected_console_text expected file actual difference
 
 -- ---- words
 
@@ -101,9 +101,9 @@ word_address_text (Some first) place =
 unfoldable pub word_place_text : Option ℕ → ℕ → List ℕ
 word_place_text first place = codes " at word " ++ decimal place ++ word_address_text first place ++ codes ": expected "
 
--- the expected digits `wanted` and the actual digits `met` of the word at index `place`
+-- the expected digits `expected` and the actual digits `actual` of the word at index `place`
 abbrev pub word_difference_text : Option ℕ → ℕ → List ℕ → List ℕ → List ℕ
-word_difference_text first place met wanted = word_place_text first place ++ wanted ++ codes ", found " ++ met
+word_difference_text first place actual expected = word_place_text first place ++ expected ++ codes ", found " ++ actual
 
 -- the message that a line of a signature file is invalid
 unfoldable pub bad_reference_line_text : ℕ → List ℕ
@@ -188,10 +188,10 @@ unmet_margin (unmet.Signature difference) = codes "     "
 unmet_margin _ = codes "     expected: "
 
 -- the lines about an unmet expectation: line by line if the expected text is given, and otherwise a single line
-abbrev pub unmet_line_by : Option ℕ → Sides → Unmet → Option Wanted → List ℕ
+abbrev pub unmet_line_by : Option ℕ → Sides → Unmet → Option NamedText → List ℕ
 unmet_line_by address sides unmet None =
     line (unmet_margin unmet ++ unmet_expectation_text address sides unmet)
-unmet_line_by address sides unmet (Some wanted) = console_lines wanted.source sides.row.console wanted.text
+unmet_line_by address sides unmet (Some expected) = console_lines expected.source sides.row.console expected.text
 
 -- the lines about an unmet expectation
 unfoldable pub unmet_line : Option ℕ → Sides → Unmet → List ℕ

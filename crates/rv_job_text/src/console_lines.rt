@@ -18,29 +18,29 @@ const DIFFERING_LINES: usize = 3;
 
 // The number of equal leading lines of two texts, and the rest of each text.
 #[derive(Clone, Copy)]
-struct Parting<'a> {
+struct Divergence<'a> {
     equal: usize,
-    met: &'a [u8],
-    wanted: &'a [u8],
+    actual: &'a [u8],
+    expected: &'a [u8],
 }
 
-/// Appends the difference between the console `met` and the expected text `wanted`, line by line: the last equal lines, and the first
+/// Appends the difference between the console `actual` and the expected text `expected`, line by line: the last equal lines, and the first
 /// differing ones. `source` names the expected text.
 #[tactic(auto, unfolding(crate::specs::ConsoleLines::console_lines))]
 pub fn push_console_lines(
     bytes: &mut Vec<u8>,
     source: Span<'_>,
-    met: &[u8],
-    wanted: &[u8],
+    actual: &[u8],
+    expected: &[u8],
 ) -> Result<(), AllocError>
     ensures { OnOk result (bytes.new.items
-        ≡ bytes.old.items ++ console_lines (span_text source.entry) met.now wanted.now) }
+        ≡ bytes.old.items ++ console_lines (span_text source.entry) actual.now expected.now) }
 {
-    let parting = skip_equal_lines(met, wanted);
-    let count = larger(whole_line_count(met), whole_line_count(wanted));
+    let parting = skip_equal_lines(actual, expected);
+    let count = larger(whole_line_count(actual), whole_line_count(expected));
     push_lines_heading(bytes, source, parting.equal + 1, count)?;
-    push_equal_lines(bytes, parting.equal, met)?;
-    push_differing_lines(bytes, parting.met, parting.wanted)
+    push_equal_lines(bytes, parting.equal, actual)?;
+    push_differing_lines(bytes, parting.actual, parting.expected)
 }
 
 // Returns the larger of two numbers.
@@ -84,13 +84,13 @@ fn push_equal_lines(bytes: &mut Vec<u8>, equal: usize, text: &[u8]) -> Result<()
 }
 
 // Appends the lines that differ at the beginning of two texts: first the expected ones, then the actual ones.
-fn push_differing_lines(bytes: &mut Vec<u8>, met: &[u8], wanted: &[u8]) -> Result<(), AllocError>
+fn push_differing_lines(bytes: &mut Vec<u8>, actual: &[u8], expected: &[u8]) -> Result<(), AllocError>
     ensures { OnOk result (bytes.new.items
-        ≡ bytes.old.items ++ differing_lines (whole_lines met.now) (whole_lines wanted.now)) }
+        ≡ bytes.old.items ++ differing_lines (whole_lines actual.now) (whole_lines expected.now)) }
 {
-    let count = differing_line_count(DIFFERING_LINES, met, wanted);
-    push_side_lines(bytes, "     - ", count, wanted, met)?;
-    push_side_lines(bytes, "     + ", count, met, wanted)
+    let count = differing_line_count(DIFFERING_LINES, actual, expected);
+    push_side_lines(bytes, "     - ", count, expected, actual)?;
+    push_side_lines(bytes, "     + ", count, actual, expected)
 }
 
 // Appends the first `count` lines of one text, each shown around its difference from the other text's line.
@@ -132,46 +132,46 @@ fn text_after_lines(text: &[u8], count: usize) -> &[u8]
 }
 
 // Skips the equal leading lines of both texts. Returns how many there are, and the rest of each text.
-fn skip_equal_lines<'a>(met: &'a [u8], wanted: &'a [u8]) -> Parting<'a>
-    ensures equal { result.equal ≡ equal_line_count met.now wanted.now }
-    ensures within { result.equal ≤ length met.now }
-    ensures met { whole_lines result.met.now ≡ drop result.equal (whole_lines met.now) }
-    ensures wanted { whole_lines result.wanted.now ≡ drop result.equal (whole_lines wanted.now) }
+fn skip_equal_lines<'a>(actual: &'a [u8], expected: &'a [u8]) -> Divergence<'a>
+    ensures equal { result.equal ≡ equal_line_count actual.now expected.now }
+    ensures within { result.equal ≤ length actual.now }
+    ensures actual { whole_lines result.actual.now ≡ drop result.equal (whole_lines actual.now) }
+    ensures expected { whole_lines result.expected.now ≡ drop result.equal (whole_lines expected.now) }
 {
-    let mut parting = Parting {
+    let mut parting = Divergence {
         equal: 0,
-        met,
-        wanted,
+        actual,
+        expected,
     };
-    while !parting.met.is_empty() {
-        let (line, behind) = split_whole_line(parting.met);
-        let (wanted_line, wanted_behind) = split_whole_line(parting.wanted);
+    while !parting.actual.is_empty() {
+        let (line, behind) = split_whole_line(parting.actual);
+        let (wanted_line, wanted_behind) = split_whole_line(parting.expected);
         if line != wanted_line {
             return parting;
         }
-        parting = Parting {
+        parting = Divergence {
             equal: parting.equal + 1,
-            met: behind,
-            wanted: wanted_behind,
+            actual: behind,
+            expected: wanted_behind,
         };
     }
     parting
 }
 
 // Returns how many leading lines differ pairwise, at most `most`.
-fn differing_line_count(most: usize, met: &[u8], wanted: &[u8]) -> usize
-    ensures { result ≡ differing_line_count most (whole_lines met.now) (whole_lines wanted.now) }
+fn differing_line_count(most: usize, actual: &[u8], expected: &[u8]) -> usize
+    ensures { result ≡ differing_line_count most (whole_lines actual.now) (whole_lines expected.now) }
 {
-    let (mut met, mut wanted) = (met, wanted);
+    let (mut actual, mut expected) = (actual, expected);
     let mut count = 0;
     while count < most {
-        let (line, behind) = split_whole_line(met);
-        let (wanted_line, wanted_behind) = split_whole_line(wanted);
+        let (line, behind) = split_whole_line(actual);
+        let (wanted_line, wanted_behind) = split_whole_line(expected);
         if line == wanted_line {
             return count;
         }
-        met = behind;
-        wanted = wanted_behind;
+        actual = behind;
+        expected = wanted_behind;
         count += 1;
     }
     count

@@ -9,27 +9,27 @@ use rv_jobs::ExpectedConsole;
 use rv_text::{Span, actual_and_expected_from, push_spans, push_text};
 use std::alloc::AllocError;
 
-/// Appends the message that the console `met` differs from the expected one; `file` is the text of the expectation file.
+/// Appends the message that the console `actual` differs from the expected one; `file` is the text of the expectation file.
 #[tactic(auto, unfolding(crate::specs::UnmetLines::console_difference_text, crate::specs::UnmetLines::expected_console_text))]
 pub(crate) fn push_console_difference(
     bytes: &mut Vec<u8>,
     expected: &Option<ExpectedConsole>,
     file: Option<&[u8]>,
-    met: &[u8],
+    actual: &[u8],
     difference: Difference,
 ) -> Result<(), AllocError>
     ensures { OnOk result (bytes.new.items ≡ bytes.old.items
-        ++ console_difference_text expected.now (option_map (λ bytes. bytes.now) file.entry) met.now
+        ++ console_difference_text expected.now (option_map (λ bytes. bytes.now) file.entry) actual.now
         difference) }
 {
     match expected {
         Some(ExpectedConsole::Text(text)) => {
             push_text(bytes, "console differs from the expected text")?;
-            push_bytes_difference(bytes, met, text.as_slice(), difference)
+            push_bytes_difference(bytes, actual, text.as_slice(), difference)
         }
         Some(ExpectedConsole::File(path)) => {
             push_compared_name(bytes, "console differs from ", path.as_str())?;
-            push_bytes_difference(bytes, met, bytes_or_empty(file), difference)
+            push_bytes_difference(bytes, actual, bytes_or_empty(file), difference)
         }
         None => push_text(bytes, "no console"),
     }
@@ -56,66 +56,66 @@ pub(crate) fn bytes_or_empty(file: Option<&[u8]>) -> &[u8]
     }
 }
 
-/// Appends the first difference between the actual text `met` and the expected text `wanted`.
+/// Appends the first difference between the actual text `actual` and the expected text `expected`.
 #[tactic(auto, unfolding(crate::specs::UnmetLines::bytes_difference_text))]
 pub(crate) fn push_bytes_difference(
     bytes: &mut Vec<u8>,
-    met: &[u8],
-    wanted: &[u8],
+    actual: &[u8],
+    expected: &[u8],
     difference: Difference,
 ) -> Result<(), AllocError>
     ensures { OnOk result (bytes.new.items ≡ bytes.old.items
-        ++ bytes_difference_text difference met.now wanted.now) }
+        ++ bytes_difference_text difference actual.now expected.now) }
 {
     match difference {
-        Difference::At(place) => push_byte_difference(bytes, place, met, wanted),
-        Difference::Lengths => push_count_difference(bytes, met.len(), "byte", wanted.len()),
+        Difference::At(place) => push_byte_difference(bytes, place, actual, expected),
+        Difference::Lengths => push_count_difference(bytes, actual.len(), "byte", expected.len()),
         Difference::Absent => push_text(bytes, ", which was not read"),
     }
 }
 
-// Appends the first byte in which the actual text `met` and the expected text `wanted` differ, at offset `place`.
+// Appends the first byte in which the actual text `actual` and the expected text `expected` differ, at offset `place`.
 #[tactic(auto, unfolding(crate::specs::UnmetLines::byte_difference_text))]
 fn push_byte_difference<'a>(
     bytes: &mut Vec<u8>,
     place: usize,
-    met: &'a [u8],
-    wanted: &'a [u8],
+    actual: &'a [u8],
+    expected: &'a [u8],
 ) -> Result<(), AllocError>
-    ensures { OnOk result (bytes.new.items ≡ bytes.old.items ++ byte_difference_text place met.now wanted.now) }
+    ensures { OnOk result (bytes.new.items ≡ bytes.old.items ++ byte_difference_text place actual.now expected.now) }
 {
-    let (met, wanted) = actual_and_expected_from(place, met, wanted);
+    let (actual, expected) = actual_and_expected_from(place, actual, expected);
     push_spans(
         bytes,
         &[
             Span::Text(" at byte "),
             Span::Number(place as u64),
             Span::Text(": expected \""),
-            Span::Value(wanted),
+            Span::Value(expected),
             Span::Text("\", found \""),
-            Span::Value(met),
+            Span::Value(actual),
             Span::Text("\""),
         ],
     )
 }
 
-/// Appends the expected number `wanted` and the actual number `met` of bytes or words.
+/// Appends the expected number `expected` and the actual number `actual` of bytes or words.
 #[tactic(auto, unfolding(crate::specs::UnmetLines::count_difference_text))]
 pub(crate) fn push_count_difference(
     bytes: &mut Vec<u8>,
-    met: usize,
+    actual: usize,
     what: &'static str,
-    wanted: usize,
+    expected: usize,
 ) -> Result<(), AllocError>
-    ensures { OnOk result (bytes.new.items ≡ bytes.old.items ++ count_difference_text met what.now wanted) }
+    ensures { OnOk result (bytes.new.items ≡ bytes.old.items ++ count_difference_text actual what.now expected) }
 {
     push_spans(
         bytes,
         &[
             Span::Text(" in length: expected "),
-            Span::Count(wanted as u64, what),
+            Span::Count(expected as u64, what),
             Span::Text(", found "),
-            Span::Number(met as u64),
+            Span::Number(actual as u64),
         ],
     )
 }

@@ -25,8 +25,8 @@ pub(crate) fn expected_by_lines<'a>(
 {
     match unmet {
         Unmet::Console(difference) => {
-            let wanted = expected_console(&comparison.job.expect_console, comparison.console);
-            shown_by_lines(difference, comparison.row.console.as_slice(), wanted)
+            let expected = expected_console(&comparison.job.expect_console, comparison.console);
+            shown_by_lines(difference, comparison.row.console.as_slice(), expected)
         }
         Unmet::Exit | Unmet::End | Unmet::Signature(_) | Unmet::Same(_) | Unmet::Nothing => None,
     }
@@ -56,23 +56,23 @@ fn expected_console<'a>(
 // Returns the expected text, if the difference from it is shown line by line.
 fn shown_by_lines<'a>(
     difference: Difference,
-    met: &[u8],
-    wanted: Option<ExpectedText<'a>>,
+    actual: &[u8],
+    expected: Option<ExpectedText<'a>>,
 ) -> Option<ExpectedText<'a>>
-    ensures { option_map named_text_of result ≡ shown_by_lines difference met.now (option_map named_text_of wanted.entry) }
+    ensures { option_map named_text_of result ≡ shown_by_lines difference actual.now (option_map named_text_of expected.entry) }
 {
-    match wanted {
-        Some(wanted) if is_shown_by_lines(difference, met, wanted.text) => Some(wanted),
+    match expected {
+        Some(expected) if is_shown_by_lines(difference, actual, expected.text) => Some(expected),
         _ => None,
     }
 }
 
 // Whether a difference is shown line by line: both texts are present and are UTF-8.
-fn is_shown_by_lines(difference: Difference, met: &[u8], wanted: &[u8]) -> bool
-    ensures { result ≡ is_shown_by_lines difference met.now wanted.now }
+fn is_shown_by_lines(difference: Difference, actual: &[u8], expected: &[u8]) -> bool
+    ensures { result ≡ is_shown_by_lines difference actual.now expected.now }
 {
     match difference {
         Difference::Absent => false,
-        Difference::At(_) | Difference::Lengths => is_utf8(met) && is_utf8(wanted),
+        Difference::At(_) | Difference::Lengths => is_utf8(actual) && is_utf8(expected),
     }
 }

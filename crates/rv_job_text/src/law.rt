@@ -12,6 +12,6 @@ pub fn lines_are_the_text()
 /// Before the line that is shown as the first difference, the lines of two texts are equal. At that line they differ, or one text has
 /// ended.
 pub fn shown_line_differs_first()
-    ensures { (met wanted : List ℕ) → met ≢ wanted
-        → DifferFirstAt (equal_line_count met wanted) (whole_lines met) (whole_lines wanted) }
+    ensures { (actual expected : List ℕ) → actual ≢ expected
+        → DifferFirstAt (equal_line_count actual expected) (whole_lines actual) (whole_lines expected) }
 {}

@@ -49,13 +49,13 @@ fn push_reference_difference(
     match difference {
         SignatureDifference::Line(number) => push_bad_reference_line(bytes, number),
         SignatureDifference::Word(place) => {
-            let wanted = Span::Shown(reference_digits_at(reference, place));
+            let expected = Span::Shown(reference_digits_at(reference, place));
             push_word_difference(
                 bytes,
                 first,
                 place,
                 signature_word_digits(words, place),
-                wanted,
+                expected,
             )
         }
         SignatureDifference::Count => push_count_difference(
@@ -95,20 +95,20 @@ pub(crate) fn push_signatures_difference(
     ensures { OnOk result (bytes.new.items ≡ bytes.old.items
         ++ signatures_difference_text first words.now others.now difference) }
 {
-    let met = signature_words_or_empty(words);
-    let wanted = signature_words_or_empty(others);
+    let actual = signature_words_or_empty(words);
+    let expected = signature_words_or_empty(others);
     match difference {
         Difference::At(place) => {
-            let wanted = signature_word_digits(wanted, place);
+            let expected = signature_word_digits(expected, place);
             push_word_difference(
                 bytes,
                 first,
                 place,
-                signature_word_digits(met, place),
-                wanted,
+                signature_word_digits(actual, place),
+                expected,
             )
         }
-        Difference::Lengths => push_count_difference(bytes, met.len(), "word", wanted.len()),
+        Difference::Lengths => push_count_difference(bytes, actual.len(), "word", expected.len()),
         Difference::Absent => push_text(bytes, absent_signature_text(words)),
     }
 }
@@ -123,19 +123,19 @@ fn absent_signature_text(words: &Option<Words>) -> &'static str
     }
 }
 
-// Appends the expected digits `wanted` and the actual digits `met` of the word at index `place`.
+// Appends the expected digits `expected` and the actual digits `actual` of the word at index `place`.
 fn push_word_difference<'a>(
     bytes: &mut Vec<u8>,
     first: Option<u32>,
     place: usize,
-    met: Span<'a>,
-    wanted: Span<'a>,
+    actual: Span<'a>,
+    expected: Span<'a>,
 ) -> Result<(), AllocError>
     ensures { OnOk result (bytes.new.items ≡ bytes.old.items
-        ++ word_difference_text first place (span_text met.entry) (span_text wanted.entry)) }
+        ++ word_difference_text first place (span_text actual.entry) (span_text expected.entry)) }
 {
     push_word_place(bytes, first, place)?;
-    push_spans(bytes, &[wanted, Span::Text(", found "), met])
+    push_spans(bytes, &[expected, Span::Text(", found "), actual])
 }
 
 // Appends the index of a word, and its address if that of the first word is known.

@@ -92,12 +92,12 @@ fn push_unmet_expectation(
         Unmet::Exit => push_expected_exit(bytes, job.expect_exit),
         Unmet::End => push_expected_end(bytes, job.expect_end),
         Unmet::Console(difference) => {
-            let met = row.console.as_slice();
+            let actual = row.console.as_slice();
             push_console_difference(
                 bytes,
                 &job.expect_console,
                 comparison.console,
-                met,
+                actual,
                 difference,
             )
         }

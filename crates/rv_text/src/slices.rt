@@ -39,11 +39,11 @@ pub(crate) fn char_len(first: u8) -> usize
 /// Returns the actual and the expected bytes from an index on.
 pub fn actual_and_expected_from<'a>(
     place: usize,
-    met: &'a [u8],
+    actual: &'a [u8],
     expected: &'a [u8],
 ) -> (&'a [u8], &'a [u8])
-    ensures met { result.0.now ≡ drop place met.now }
+    ensures actual { result.0.now ≡ drop place actual.now }
     ensures expected { result.1.now ≡ drop place expected.now }
 {
-    (tail_from(met, place), tail_from(expected, place))
+    (tail_from(actual, place), tail_from(expected, place))
 }

@@ -4,8 +4,8 @@ use Rattle.rv_job_text.proofs.console_lines.differing_line_count.Given as goal
 
 abbrev pub invariant-loop-count : goal.invariant-loop-count
 invariant-loop-count l = record {
-  counted : differing_line_count l.most (whole_lines l.initial.met) (whole_lines l.initial.wanted)
-      ≡ l.count + differing_line_count (l.most - l.count) (whole_lines l.met) (whole_lines l.wanted);
+  counted : differing_line_count l.most (whole_lines l.initial.actual) (whole_lines l.initial.expected)
+      ≡ l.count + differing_line_count (l.most - l.count) (whole_lines l.actual) (whole_lines l.expected);
   within : l.count ≤ l.most;
 }
 

@@ -11,35 +11,35 @@ use Rattle.rv_job_text.proofs.console_lines.skip_equal_lines.Goals as goal
 
 pub returns-then-ne-clause-equal : goal.returns-then-ne-clause-equal
 returns-then-ne-clause-equal c =
-    let met = c.loop-line.parting.met.now in
-    let wanted = c.loop-line.parting.wanted.now in
+    let actual = c.loop-line.parting.actual.now in
+    let expected = c.loop-line.parting.expected.now in
     let m = c.split_whole_line in
     let w = c.split_whole_line-in-loop-line in
     let unlike : not (bytes_eq m.result.0.now w.result.0.now) ≡ true = sym c.ne.ensures ∙ c.if-ne.true in
-    let front_m = split_front met m.result.0.now m.result.1.now m.ensures.some m.ensures.none in
-    let front_w = split_front wanted w.result.0.now w.result.1.now w.ensures.some w.ensures.none in
-    let none = parted (whole_lines met) (whole_lines wanted)
+    let front_m = split_front actual m.result.0.now m.result.1.now m.ensures.some m.ensures.none in
+    let front_w = split_front expected w.result.0.now w.result.1.now w.ensures.some w.ensures.none in
+    let none = parted (whole_lines actual) (whole_lines expected)
     (λ same. true≢false (sym unlike ∙ ap not (equal_bytes _ _ (front_m ∙ same ∙ sym front_w)))) in
     let kept = c.loop-line.invariant.counted in
     omega arith
 
 pub loop-line-preserved : goal.loop-line-preserved
 loop-line-preserved c =
-    let met = c.loop-line.parting.met.now in
-    let wanted = c.loop-line.parting.wanted.now in
+    let actual = c.loop-line.parting.actual.now in
+    let expected = c.loop-line.parting.expected.now in
     let equal = c.loop-line.parting.equal in
     let m = c.split_whole_line in
     let w = c.split_whole_line-in-loop-line in
-    let some : 0 < length met = grind (arith, common_steps) in
+    let some : 0 < length actual = grind (arith, common_steps) in
     let unlike : not (bytes_eq m.result.0.now w.result.0.now) ≡ false = sym c.ne.ensures ∙ c.if-ne.false in
     let alike = (bytes_eq-Decides m.result.0.now w.result.0.now).0 (not_false (bytes_eq m.result.0.now w.result.0.now) unlike) in
-    let front_w = split_front wanted w.result.0.now w.result.1.now w.ensures.some w.ensures.none in
-    let behind_m = split_behind met m.result.0.now m.result.1.now m.ensures.some m.ensures.none in
-    let behind_w = split_behind wanted w.result.0.now w.result.1.now w.ensures.some w.ensures.none in
-    let next : common_prefix_len bytes_eq (whole_lines met) (whole_lines wanted)
+    let front_w = split_front expected w.result.0.now w.result.1.now w.ensures.some w.ensures.none in
+    let behind_m = split_behind actual m.result.0.now m.result.1.now m.ensures.some m.ensures.none in
+    let behind_w = split_behind expected w.result.0.now w.result.1.now w.ensures.some w.ensures.none in
+    let next : common_prefix_len bytes_eq (whole_lines actual) (whole_lines expected)
     ≡ 1 + common_prefix_len bytes_eq (whole_lines m.result.1.now) (whole_lines w.result.1.now) =
     rw (m.ensures.some some, behind_w)
-    (joined m.result.0.now (whole_lines m.result.1.now) (whole_lines wanted) (m.ensures.full some) (alike ∙ front_w)) in
+    (joined m.result.0.now (whole_lines m.result.1.now) (whole_lines expected) (m.ensures.full some) (alike ∙ front_w)) in
     let shorter = m.ensures.shorter some in
     let kept = c.loop-line.invariant in
     let counted = kept.counted in
@@ -47,8 +47,8 @@ loop-line-preserved c =
     record {
       counted = omega arith;
       small = omega arith;
-      met = behind_m ∙ ap (drop 1) kept.met ∙ drop-drop 1 equal (whole_lines c.args.met.now);
-      wanted = behind_w ∙ ap (drop 1) kept.wanted ∙ drop-drop 1 equal (whole_lines c.args.wanted.now);
+      actual = behind_m ∙ ap (drop 1) kept.actual ∙ drop-drop 1 equal (whole_lines c.args.actual.now);
+      expected = behind_w ∙ ap (drop 1) kept.expected ∙ drop-drop 1 equal (whole_lines c.args.expected.now);
     }
   where
     not_false : (b : _) → not b ≡ false → b ≡ true
@@ -57,9 +57,9 @@ loop-line-preserved c =
 
 pub returns-clause-equal : goal.returns-clause-equal
 returns-clause-equal c =
-    let met = c.loop-line.parting.met.now in
-    let wanted = whole_lines c.loop-line.parting.wanted.now in
-    let empty : length met ≡ 0 = grind (arith, common_steps) in
-    let none = ap (λ lines. common_prefix_len bytes_eq lines wanted) (whole_lines-nil met empty) ∙ none_in_front wanted in
+    let actual = c.loop-line.parting.actual.now in
+    let expected = whole_lines c.loop-line.parting.expected.now in
+    let empty : length actual ≡ 0 = grind (arith, common_steps) in
+    let none = ap (λ lines. common_prefix_len bytes_eq lines expected) (whole_lines-nil actual empty) ∙ none_in_front expected in
     let kept = c.loop-line.invariant.counted in
     omega arith

@@ -6,12 +6,12 @@ use Rattle.rv_job_text.proofs.console_lines.skip_equal_lines.Given as goal
 
 abbrev pub invariant-loop-line : goal.invariant-loop-line
 invariant-loop-line l = record {
-  counted : common_prefix_len bytes_eq (whole_lines l.met) (whole_lines l.wanted)
-      ≡ l.parting.equal + common_prefix_len bytes_eq (whole_lines l.parting.met.now) (whole_lines l.parting.wanted.now);
-  small : l.parting.equal + length l.parting.met.now ≤ length l.met;
-  met : whole_lines l.parting.met.now ≡ drop l.parting.equal (whole_lines l.met);
-  wanted : whole_lines l.parting.wanted.now ≡ drop l.parting.equal (whole_lines l.wanted);
+  counted : common_prefix_len bytes_eq (whole_lines l.actual) (whole_lines l.expected)
+      ≡ l.parting.equal + common_prefix_len bytes_eq (whole_lines l.parting.actual.now) (whole_lines l.parting.expected.now);
+  small : l.parting.equal + length l.parting.actual.now ≤ length l.actual;
+  actual : whole_lines l.parting.actual.now ≡ drop l.parting.equal (whole_lines l.actual);
+  expected : whole_lines l.parting.expected.now ≡ drop l.parting.equal (whole_lines l.expected);
 }
 
 abbrev pub decreases-loop-line : goal.decreases-loop-line
-decreases-loop-line l = length l.parting.met.now
+decreases-loop-line l = length l.parting.actual.now

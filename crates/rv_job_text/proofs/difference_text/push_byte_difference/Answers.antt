@@ -9,7 +9,7 @@ use Rattle.rv_job_text.proofs.difference_text.push_byte_difference.Goals as goal
 pub returns : goal.returns
 unfolding byte_difference_text
 returns c =
-    rw (← c.actual_and_expected_from.ensures.met, ← c.actual_and_expected_from.ensures.expected)
+    rw (← c.actual_and_expected_from.ensures.actual, ← c.actual_and_expected_from.ensures.expected)
     (told _ _ _ _ _ (byte_told (codes " at byte ") (decimal c.args.place) (codes ": expected ") (codes "\"")
     (printable_value c.actual_and_expected_from.result.1.now) (codes ", found ") (printable_value c.actual_and_expected_from.result.0.now))
     c.push_spans.ensures)

@@ -9,5 +9,5 @@ use Rattle.rv_job_text.proofs.difference_text.push_count_difference.Goals as goa
 pub returns : goal.returns
 unfolding count_difference_text
 returns c =
-    told _ _ _ _ _ (words_told (codes " in length: expected ") (count_text c.args.wanted c.args.what.now) (codes ", found ")
-    (decimal c.args.met)) c.push_spans.ensures
+    told _ _ _ _ _ (words_told (codes " in length: expected ") (count_text c.args.expected c.args.what.now) (codes ", found ")
+    (decimal c.args.actual)) c.push_spans.ensures

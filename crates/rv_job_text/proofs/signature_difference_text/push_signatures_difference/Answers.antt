@@ -6,17 +6,17 @@ unfolding signatures_difference_text
 returns-in-At c =
     rw (
       c.in-At.is,
-      ← c.signature_words_or_empty-met.ensures,
-      ← c.signature_words_or_empty-wanted.ensures,
+      ← c.signature_words_or_empty-actual.ensures,
+      ← c.signature_words_or_empty-expected.ensures,
       ← c.signature_word_digits.ensures,
-      ← c.signature_word_digits-wanted.ensures,
+      ← c.signature_word_digits-expected.ensures,
     )
     c.push_word_difference.ensures
 
 pub returns-in-Lengths : goal.returns-in-Lengths
 unfolding signatures_difference_text
 returns-in-Lengths c =
-    rw (c.in-Lengths.is, ← c.signature_words_or_empty-met.ensures, ← c.signature_words_or_empty-wanted.ensures) c.push_count_difference.ensures
+    rw (c.in-Lengths.is, ← c.signature_words_or_empty-actual.ensures, ← c.signature_words_or_empty-expected.ensures) c.push_count_difference.ensures
 
 pub returns-in-Absent : goal.returns-in-Absent
 unfolding signatures_difference_text

@@ -8,5 +8,5 @@ use Rattle.rv_job_text.proofs.signature_difference_text.push_word_difference.Goa
 pub returns : goal.returns
 returns c =
     let place = word_place_text c.args.first c.args.place in
-    told _ _ _ _ _ (words_told place (span_text c.args.wanted) (codes ", found ") (span_text c.args.met))
+    told _ _ _ _ _ (words_told place (span_text c.args.expected) (codes ", found ") (span_text c.args.actual))
     (ended _ _ _ _ place _ c.in_ok-push_word_place.ensures c.push_spans.ensures)

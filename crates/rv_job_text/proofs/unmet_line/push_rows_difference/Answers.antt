@@ -14,19 +14,19 @@ returns-in_ok-push_row_end-in-Ending c =
 pub returns-in_ok-push_text-in-Console : goal.returns-in_ok-push_text-in-Console
 unfolding rows_difference_text
 returns-in_ok-push_text-in-Console c =
-    let met = c.as_slice.result.now in
-    let wanted = c.as_slice-in-Console.result.now in
+    let actual = c.as_slice.result.now in
+    let expected = c.as_slice-in-Console.result.now in
     rw (c.in-Console.is, ← c.as_slice.ensures, ← c.as_slice-in-Console.ensures)
-    (ended _ _ _ _ (codes ": console differs") (bytes_difference_text c.in-Console.difference met wanted)
+    (ended _ _ _ _ (codes ": console differs") (bytes_difference_text c.in-Console.difference actual expected)
     c.in_ok-push_text-in-Console.ensures c.push_bytes_difference.ensures)
 
 pub returns-in_ok-push_text-in-Signature : goal.returns-in_ok-push_text-in-Signature
 unfolding rows_difference_text
 returns-in_ok-push_text-in-Signature c =
-    let met = c.args.row.now.signature in
-    let wanted = c.args.other.now.signature in
+    let actual = c.args.row.now.signature in
+    let expected = c.args.other.now.signature in
     rw c.in-Signature.is
-    (ended _ _ _ _ (codes ": signature differs") (signatures_difference_text c.args.first met wanted c.in-Signature.difference)
+    (ended _ _ _ _ (codes ": signature differs") (signatures_difference_text c.args.first actual expected c.in-Signature.difference)
     c.in_ok-push_text-in-Signature.ensures c.push_signatures_difference.ensures)
 
 pub returns-in-Absent : goal.returns-in-Absent

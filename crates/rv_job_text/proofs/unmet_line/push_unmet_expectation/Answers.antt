@@ -11,7 +11,7 @@ returns-in-End c = rw c.in-End.is c.push_expected_end.ensures
 
 pub returns-in-Console : goal.returns-in-Console
 unfolding unmet_expectation_text
-returns-in-Console c = rw (c.in-Console.is, ← c.as_slice-met.ensures) c.push_console_difference.ensures
+returns-in-Console c = rw (c.in-Console.is, ← c.as_slice-actual.ensures) c.push_console_difference.ensures
 
 pub returns-in-Signature : goal.returns-in-Signature
 unfolding unmet_expectation_text
