@@ -6,7 +6,7 @@ use Rattle.rv_count_tables.specs.declared.table.CountTable.{CountTable}
 use Rattle.rv_count_tables.specs.Lines.{lacks}
 use Rattle.rv_count_tables.specs.Table.{is_greater_than_last, digests_rise, IsImage, IsTable}
 use Rattle.rv_count_tables.specs.Text.{line, image_line, image_text, last_line}
-use Rattle.rv_count_tables.specs.ReadSteps.{Entry, IsEntry, entry_line, entries_of, Place, at_image, nowhere, after_entry, place_behind, place_in, last_digest, CanComeNext, IsNotAnEntry, IsNotAnImage}
+use Rattle.rv_count_tables.specs.ReadSteps.{Entry, IsEntry, entry_line, entries_of, Place, at_image, nowhere, after_entry, after_entries, place_in, last_digest, CanComeNext, IsNotAnEntry, IsNotAnImage}
 use Rattle.rv_count_tables.proofs.Pieces.{same_cut}
 use Rattle.rv_count_tables.proofs.Entries.{entries_fit, entries_stand, image_entries, StandIn}
 use Rattle.rv_count_tables.proofs.AddingImages.{image_low, images_behind}
@@ -130,7 +130,7 @@ behind_image n last place i s h r = image_step n last i s r.es r.more r.runs h r
 
 pub behind_entries : (es : List Entry) (n : ℕ) (last : Option (List ℕ)) (place : Place) (s : List ℕ)
     → AllByRecursion IsEntry es → IsRest n last place (flat_map entry_line es ++ s)
-    → IsRest n last (place_behind place es) s
+    → IsRest n last (after_entries place es) s
 behind_entries [] n last place s h r = r
 behind_entries (e ∷ es) n last place s h r =
     let step = behind_one n last place e (flat_map entry_line es ++ s) h.0
@@ -146,8 +146,8 @@ behind_images (i ∷ is) n last place s h r =
     let step = behind_image n last place i (flat_map entry_line (entries_of i) ++ (flat_map image_text is ++ s)) h.0
     (subst (λ (x : List ℕ). IsRest n last place x) (first_image i is s) r) in
     let inside = behind_entries (entries_of i) (n + 1) (Some i.digest) at_image (flat_map image_text is ++ s) (entries_fit i h.0) step.1 in
-    let others = behind_images is (n + 1) (Some i.digest) (place_behind at_image (entries_of i)) s h.1 inside in
-    subst (λ (m : ℕ). IsRest m (last_digest (Some i.digest) is) (place_in (place_behind at_image (entries_of i)) is) s)
+    let others = behind_images is (n + 1) (Some i.digest) (after_entries at_image (entries_of i)) s h.1 inside in
+    subst (λ (m : ℕ). IsRest m (last_digest (Some i.digest) is) (place_in (after_entries at_image (entries_of i)) is) s)
     (sym (one_behind n (length is))) others
 
 -- the whole text of a table, behind its first line

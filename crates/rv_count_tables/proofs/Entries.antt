@@ -9,7 +9,7 @@ use Rattle.rv_count_tables.specs.declared.table.ImageCounts.{ImageCounts}
 use Rattle.rv_count_tables.specs.declared.table.NamedSpot.{NamedSpot}
 use Rattle.rv_count_tables.specs.Table.{has_name, name_of, rise_from, AreNamesOf, IsCounted, IsImage, IsName, IsSpot}
 use Rattle.rv_count_tables.specs.Text.{address_line, image_line, image_text, line_of_spot, named}
-use Rattle.rv_count_tables.specs.ReadSteps.{Entry, OfAddress, OfSpot, IsEntry, entry_line, entry_of_spot, entries_of, Place, at_image, nowhere, after_entry, place_behind, can_be_next_address, AgreesWith, CanComeNext, IsNotAnEntry, IsNotAnAddress, IsNotANode, function_name, lowest_after, with_name, with_names}
+use Rattle.rv_count_tables.specs.ReadSteps.{Entry, OfAddress, OfSpot, IsEntry, entry_line, entry_of_spot, entries_of, Place, at_image, nowhere, after_entry, after_entries, can_be_next_address, AgreesWith, CanComeNext, IsNotAnEntry, IsNotAnAddress, IsNotANode, function_name, lowest_after, with_name, with_names}
 use Rattle.rv_count_tables.proofs.NamesOfSpots.{agree_more, first_is_last, further, named_fits, one_list_of_first_names, AgreeWithAll}
 use Rattle.rv_call_tree.specs.Profiles.{is_last_of_some}
 use Rattle.rv_call_tree.specs.declared.spot.Spot.{Spot}
@@ -145,7 +145,7 @@ none_stays [] = refl
 none_stays (x ∷ xs) = refl
 
 spots_place : (a : Option ℕ) (ms ns : List FunctionName) (front : List ℕ) (ss : List Spot)
-    → place_behind (record { address = a; names = ms; front = Some front }) (map (entry_of_spot ns) ss)
+    → after_entries (record { address = a; names = ms; front = Some front }) (map (entry_of_spot ns) ss)
     ≡ record { address = if_none ss a; names = with_names ms (map (named ns) ss); front = Some (last_path front ss) }
 spots_place a ms ns front [] = refl
 spots_place a ms ns front (s ∷ ss) =
@@ -158,7 +158,7 @@ spots_place a ms ns front (s ∷ ss) =
     })
 
 entries_place : (lowest : ℕ) (cs : List AddressCounts) (ns : List FunctionName) (ss : List Spot)
-    → place_behind (record { address = Some lowest; names = []; front = Some [] }) (all_entries cs ns ss)
+    → after_entries (record { address = Some lowest; names = []; front = Some [] }) (all_entries cs ns ss)
     ≡ record {
       address = if_none ss (Some (lowest_after lowest cs));
       names = with_names [] (map (named ns) ss);
@@ -183,7 +183,7 @@ no_address_here cs first second no_address (s ∷ ss) one c h may e = false≢tr
 pub no_entry : (cs : List AddressCounts) (ns : List FunctionName) (ss : List Spot) (first second : List ℕ)
     → IsNotAnAddress (lowest_after 0 cs) first → IsNotANode ns (last_path [] ss) second
     → ns ≡ with_names [] (map (named ns) ss) → (ss ≡ [] → first ≡ second)
-    → IsNotAnEntry (place_behind at_image (all_entries cs ns ss)) second
+    → IsNotAnEntry (after_entries at_image (all_entries cs ns ss)) second
 no_entry cs ns ss first second no_address no_spot known one =
     subst (λ (p : Place). IsNotAnEntry p second) (sym (entries_place 0 cs ns ss)) by_kind
   where

@@ -18,7 +18,7 @@ use Rattle.rv_count_tables.specs.declared.table.FunctionName.{FunctionName}
 use Rattle.rv_count_tables.specs.Lines.{lacks, whole_line}
 use Rattle.rv_count_tables.specs.Table.{is_before, is_greater_than_last, digests_rise, rise_from, IsCounted, IsImage}
 use Rattle.rv_count_tables.specs.Text.{line, address_line, image_line, image_text, line_of_spot}
-use Rattle.rv_count_tables.specs.ReadSteps.{lowest_after, last_digest, nowhere, at_image, place_in, place_behind, entries_of, Place, IsNotAnAddress, IsNotAnEntry, IsNotAnImage, AreAddressLines, AreImageLines, AreSpotLines, IsOneImage}
+use Rattle.rv_count_tables.specs.ReadSteps.{lowest_after, last_digest, nowhere, at_image, place_in, after_entries, entries_of, Place, IsNotAnAddress, IsNotAnEntry, IsNotAnImage, AreAddressLines, AreImageLines, AreSpotLines, IsOneImage}
 use Rattle.rv_call_tree.specs.declared.spot.Spot.{Spot}
 use Rattle.rv_count_tables.proofs.Pieces.{cases_line, line_at, no_line}
 use Rattle.rv_count_tables.proofs.AddingImages.{image_low, images_behind, images_rise, no_images_rise}
@@ -87,9 +87,9 @@ digest_push last [] i = refl
 digest_push last (j ∷ js) i = digest_push (Some j.digest) js i
 
 pub place_push : (place : Place) (is : List ImageCounts) (i : ImageCounts)
-    → place_in place (is ++ i ∷ []) ≡ place_behind at_image (entries_of i)
+    → place_in place (is ++ i ∷ []) ≡ after_entries at_image (entries_of i)
 place_push place [] i = refl
-place_push place (j ∷ js) i = place_push (place_behind at_image (entries_of j)) js i
+place_push place (j ∷ js) i = place_push (after_entries at_image (entries_of j)) js i
 
 pub digests_push : (last : Option (List ℕ)) (is : List ImageCounts) (i : ImageCounts) → digests_rise last is ≡ true
     → is_greater_than_last (last_digest last is) i.digest ≡ true → digests_rise last (is ++ i ∷ []) ≡ true
@@ -225,10 +225,10 @@ parts_text text start lines spots n h =
     (drop-drop lines.length start text ∙ second)
 
 no_part : (text : List ℕ) (start : ℕ) (lines : AddressLines) (spots : SpotLines) (n : ℕ) → AreParts text start lines spots n
-    → IsNotAnEntry (place_behind at_image (all_entries lines.addresses spots.functions spots.spots)) (whole_line (drop n text))
+    → IsNotAnEntry (after_entries at_image (all_entries lines.addresses spots.functions spots.spots)) (whole_line (drop n text))
 no_part text start lines spots n h =
     let end = drop-drop spots.length (start + lines.length) text ∙ ap (λ (k : ℕ). drop k text) (sym h.end) in
-    subst (λ (t : List ℕ). IsNotAnEntry (place_behind at_image (all_entries lines.addresses spots.functions spots.spots)) (whole_line t)) end
+    subst (λ (t : List ℕ). IsNotAnEntry (after_entries at_image (all_entries lines.addresses spots.functions spots.spots)) (whole_line t)) end
     (no_entry lines.addresses spots.functions spots.spots (whole_line (drop lines.length (drop start text)))
     (whole_line (drop spots.length (drop (start + lines.length) text)))
     h.addresses.behind h.stacks.behind h.stacks.known
@@ -322,7 +322,7 @@ image_so_far text is n m read h one e =
       images = each_push IsImage is read.image h.images one.image;
       rising = digests_push None is read.image h.rising one.rising;
       entry = subst (λ (p : Place). IsNotAnEntry p (whole_line (drop m text))) (sym (place_push nowhere is read.image))
-          (subst (λ (s : List ℕ). IsNotAnEntry (place_behind at_image (entries_of read.image)) (whole_line s)) d one.behind);
+          (subst (λ (s : List ℕ). IsNotAnEntry (after_entries at_image (entries_of read.image)) (whole_line s)) d one.behind);
     }
 
 pub images_read : (text : List ℕ) (read : ImageLines) → ImagesSoFar text read.images read.length

@@ -95,14 +95,14 @@ after_entry p (OfAddress c) = record { address = Some (c.address + 1); names = [
 after_entry p (OfSpot n) = record { address = None; names = with_name (function_name n) p.names; front = path_in p.front n.spot }
 
 -- the lines that can come next after the lines of these addresses and nodes
-abbrev pub place_behind : Place → List Entry → Place
-place_behind p [] = p
-place_behind p (e ∷ es) = place_behind (after_entry p e) es
+abbrev pub after_entries : Place → List Entry → Place
+after_entries p [] = p
+after_entries p (e ∷ es) = after_entries (after_entry p e) es
 
 -- the lines that can come next after these images
 abbrev pub place_in : Place → List ImageCounts → Place
 place_in p [] = p
-place_in p (i ∷ is) = place_in (place_behind at_image (entries_of i)) is
+place_in p (i ∷ is) = place_in (after_entries at_image (entries_of i)) is
 
 -- whether an address can come next: not if there is no lowest address, or if it is below it
 abbrev pub can_be_next_address : Option ℕ → ℕ → Bool
@@ -177,7 +177,7 @@ pub record IsOneImage (last : Option (List ℕ)) (text : List ℕ) (read : OneIm
   pub some : 0 < read.length
   pub image : IsImage read.image
   pub rising : is_greater_than_last last read.image.digest ≡ true
-  pub behind : IsNotAnEntry (place_behind at_image (entries_of read.image)) (whole_line (drop read.length text))
+  pub behind : IsNotAnEntry (after_entries at_image (entries_of read.image)) (whole_line (drop read.length text))
 
 -- `read` has the images of the first lines of the text, and the length of these lines in bytes; the next line cannot belong to the last
 -- image or begin another one

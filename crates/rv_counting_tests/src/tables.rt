@@ -8,7 +8,7 @@ use rv_counting::count_batch;
 use rv_engine::Crew;
 use rv_fleet::Batch;
 use rv_jobs::{Plan, ReadError, Store, gather, read_jobs, selected_indices};
-use samples::{agree, cell_of, file, has_lines};
+use samples::{agree, cell_of, sample_file, has_lines};
 use std::alloc::{AllocError, Global};
 use std::sync::Wait;
 use std::test::Fail;
@@ -36,7 +36,7 @@ impl Store for Files {
                 return Err(ReadError::Unreadable);
             }
         };
-        match file(alloc, text) {
+        match sample_file(alloc, text) {
             Ok(bytes) if bytes.len() <= 0x100_0000 => Ok(bytes),
             _ => Err(ReadError::OutOfMemory),
         }

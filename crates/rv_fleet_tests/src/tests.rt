@@ -5,7 +5,7 @@ ghost use Rattle.rv_fleet.specs.Choices.{AreJobIndices};
 
 use rv_fleet::Row;
 use rv_jobs::{Plan, ReadError, Store, gather, read_jobs, selected_indices};
-use samples::{agree, cell_of, file, has_lines};
+use samples::{agree, cell_of, sample_file, has_lines};
 use std::alloc::{AllocError, Global};
 use std::sync::Wait;
 use std::test::Fail;
@@ -38,7 +38,7 @@ impl Store for Samples {
     ghost faulted = { λ _. 0 };
 
     fn read(&mut self, alloc: Global, path: &str) -> Result<Vec<u8>, ReadError> {
-        match file(alloc, sample_of(path)) {
+        match sample_file(alloc, sample_of(path)) {
             Ok(bytes) if bytes.len() <= 0x100_0000 => Ok(bytes),
             _ => Err(ReadError::OutOfMemory),
         }

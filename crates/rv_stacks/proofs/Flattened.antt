@@ -10,7 +10,7 @@ use Rattle.rv_call_tree.specs.Trees as spots
 use Rattle.rv_call_tree.proofs.Public.{last_parts, stand_of_parts}
 use Rattle.rv_stacks.specs.declared.flat.Flat.{Flat}
 use Rattle.rv_stacks.specs.declared.node.Node.{Node}
-use Rattle.rv_stacks.specs.Nodes.{all_steps, arrivals_at, is_empty, own_in, path_below, path_of, steps_at, weighed, weighted_sum_after}
+use Rattle.rv_stacks.specs.Nodes.{all_steps, arrivals_at, is_empty, own_in, path_below, path_of, steps_at, weighted_sum, weighted_sum_after}
 use Rattle.rv_stacks.specs.Walks.{AreSpotsOf, GoesBack, IsFlat, IsNext, IsTrail, Moves}
 use Rattle.rv_stacks.proofs.Growing.{trail_longer, trail_stays}
 use Rattle.rv_stacks.proofs.Nodes.{first_paths, path_with, paths_with, weighed_with, IsOfSame}
@@ -132,7 +132,7 @@ module _ (nodes : List Node) (old new : Flat) (number : ℕ) (node : Node) (dept
   -- what it weighed is in the spot
   moved_weight : (w : List ℕ → Node → ℕ) (before more : ℕ) → more ≡ w (path_of number nodes) node
       → w (path_of number nodes) emptied ≡ 0
-      → before + more + weighed w (set nodes (number - 1) emptied) ≡ before + weighed w nodes
+      → before + more + weighted_sum w (set nodes (number - 1) emptied) ≡ before + weighted_sum w nodes
   moved_weight w before more is_more none =
       let all = weighed_with nodes number some next.within w emptied node same in
       let here = ap (w (path_of number nodes)) is in

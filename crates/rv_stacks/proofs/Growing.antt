@@ -7,7 +7,7 @@ use Rattle.std.specs.Str.{bytes_eq}
 use Rattle.rv_call_tree.specs.Trees.{ends_with, once_if, steps_if}
 use Rattle.rv_stacks.specs.declared.node.Node.{Node}
 use Rattle.rv_stacks.specs.declared.walk.Walk.{Walk}
-use Rattle.rv_stacks.specs.Nodes.{all_arrivals, all_steps, arrivals_at, own_in, path_below, paths_appended, path_of, paths_of, steps_at, weighed, ArrivesOnce, HasChild, IsChild, KeepsPaths, StepsMore, times_if}
+use Rattle.rv_stacks.specs.Nodes.{all_arrivals, all_steps, arrivals_at, own_in, path_below, paths_appended, path_of, paths_of, steps_at, weighted_sum, ArrivesOnce, HasChild, IsChild, KeepsPaths, StepsMore, times_if}
 use Rattle.rv_stacks.specs.Walks.{Arrives, IsTrail, Returns}
 use Rattle.rv_stacks.proofs.Nodes.{first_paths, long_paths, path_with, paths_more, paths_with, weighed_more, weighed_with, IsOfSame}
 
@@ -50,7 +50,7 @@ module _ (parent function : ℕ) (nodes : List Node) (within : parent < length n
   abbrev grown : List Node
   grown = nodes ++ fresh ∷ []
 
-  same_weight : (w : List ℕ → Node → ℕ) → ((p : List ℕ) → w p fresh ≡ 0) → weighed w grown ≡ weighed w nodes
+  same_weight : (w : List ℕ → Node → ℕ) → ((p : List ℕ) → w p fresh ≡ 0) → weighted_sum w grown ≡ weighted_sum w nodes
   same_weight w none =
       let more = weighed_more w ([] ∷ []) nodes fresh in
       let zero = none (path_below (paths_of nodes) fresh) in
@@ -125,14 +125,14 @@ module _ (nodes : List Node) (number : ℕ) (some : 0 < number) (within : number
   -- so much more
   more : (w : List ℕ → Node → ℕ) (n : Node) (m : ℕ) → n.parent ≡ old.parent → n.function ≡ old.function
       → w (path_of number nodes) n ≡ w (path_of number nodes) old + m
-      → weighed w (set nodes (number - 1) n) ≡ weighed w nodes + m
+      → weighted_sum w (set nodes (number - 1) n) ≡ weighted_sum w nodes + m
   more w n m above own grows =
       let all = weighed_with nodes number some within w n old (same_of n above own) in
       let here = ap (w (path_of number nodes)) is in
       omega (arith, all, here, grows)
 
   same : (w : List ℕ → Node → ℕ) (n : Node) → n.parent ≡ old.parent → n.function ≡ old.function
-      → w (path_of number nodes) n ≡ w (path_of number nodes) old → weighed w (set nodes (number - 1) n) ≡ weighed w nodes
+      → w (path_of number nodes) n ≡ w (path_of number nodes) old → weighted_sum w (set nodes (number - 1) n) ≡ weighted_sum w nodes
   same w n above own stays =
       let all = more w n 0 above own (omega (arith, stays)) in omega (arith, all)
 

@@ -3,7 +3,7 @@ use Rattle.std.proofs.Common.{◌≡◌, ◌∙◌, ◌+◌, ◌-◌, ◌<◌, �
 use Rattle.std.proofs.lemmas.List.{get_or_append_left}
 use Rattle.std.proofs.Math.Seq.{get_or-append_seam}
 use Rattle.rv_stacks.specs.declared.node.Node.{Node}
-use Rattle.rv_stacks.specs.Nodes.{path_below, paths_appended, paths_of, path_of, weighted_sum_after, weighed}
+use Rattle.rv_stacks.specs.Nodes.{path_below, paths_appended, paths_of, path_of, weighted_sum_after, weighted_sum}
 
 -- ---- one more
 
@@ -135,8 +135,8 @@ module _ (nodes : List Node) (number : ℕ) (some : 0 < number) (within : number
       ∙ ap (λ (k : ℕ). path_of k nodes ++ (get_or nodes (number - 1) d).function ∷ []) above
 
   pub weighed_with : (w : List ℕ → Node → ℕ) (n d : Node) → IsOfSame n (get_or nodes (number - 1) d)
-      → weighed w (set nodes (number - 1) n) + w (path_of number nodes) (get_or nodes (number - 1) d)
-      ≡ weighed w nodes + w (path_of number nodes) n
+      → weighted_sum w (set nodes (number - 1) n) + w (path_of number nodes) (get_or nodes (number - 1) d)
+      ≡ weighted_sum w nodes + w (path_of number nodes) n
   weighed_with w n d h =
       let all = weighed_set w root nodes (number - 1) n d inside h in
       let same = ap (λ (k : ℕ). path_of k nodes) at_number in

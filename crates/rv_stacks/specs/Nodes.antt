@@ -32,28 +32,28 @@ weighted_sum_after weight paths (n ∷ ns) =
     weight (path_below paths n) n + weighted_sum_after weight (paths ++ path_below paths n ∷ []) ns
 
 -- the sum over all nodes of a weight of the node's path and the node
-abbrev pub weighed : (List ℕ → Node → ℕ) → List Node → ℕ
-weighed weight nodes = weighted_sum_after weight ([] ∷ []) nodes
+abbrev pub weighted_sum : (List ℕ → Node → ℕ) → List Node → ℕ
+weighted_sum weight nodes = weighted_sum_after weight ([] ∷ []) nodes
 
 -- how often a run entered the path `path`, by the counts of the nodes
 abbrev pub arrivals_at : List ℕ → List Node → ℕ
-arrivals_at path nodes = weighed (λ p n. if bytes_eq p path then n.arrivals else 0) nodes
+arrivals_at path nodes = weighted_sum (λ p n. if bytes_eq p path then n.arrivals else 0) nodes
 
 -- how many instructions a run executed on the path `path`, by the counts of the nodes
 abbrev pub steps_at : List ℕ → List Node → ℕ
-steps_at path nodes = weighed (λ p n. if bytes_eq p path then n.steps else 0) nodes
+steps_at path nodes = weighted_sum (λ p n. if bytes_eq p path then n.steps else 0) nodes
 
 -- the number of instructions executed in a function itself: those of the nodes that end in it
 abbrev pub own_in : ℕ → List Node → ℕ
-own_in function nodes = weighed (λ p n. steps_if (n.function == function) n.steps) nodes
+own_in function nodes = weighted_sum (λ p n. steps_if (n.function == function) n.steps) nodes
 
 -- the number of entries into all nodes
 abbrev pub all_arrivals : List Node → ℕ
-all_arrivals nodes = weighed (λ p n. n.arrivals) nodes
+all_arrivals nodes = weighted_sum (λ p n. n.arrivals) nodes
 
 -- the number of instructions executed in all nodes
 abbrev pub all_steps : List Node → ℕ
-all_steps nodes = weighed (λ p n. n.steps) nodes
+all_steps nodes = weighted_sum (λ p n. n.steps) nodes
 
 -- whether a node has no counts
 abbrev pub is_empty : Node → Bool

@@ -7,7 +7,7 @@ ghost use Rattle.rv_stacks.specs.Walks.{IsWalk};
 ghost use Rattle.rv_stacks.specs.StackSteps.{IsFunctionCache, Follows, GoesOn, IsAt};
 ghost use Rattle.rv_stacks.specs.Stacks.{function_at};
 
-use crate::functions::{Known, look_up};
+use crate::functions::{CachedFunction, look_up};
 use crate::walk::Walk;
 use rv_calls::{Frame, Transfer, frames_left, pass_control};
 use rv_elf::CodeSymbols;
@@ -16,7 +16,7 @@ use std::alloc::AllocError;
 /// Moves the walk by a transfer of control, and applies the transfer to the frames.
 pub(crate) fn follow(
     symbols: &CodeSymbols<'_>,
-    known: &mut Vec<Known>,
+    known: &mut Vec<CachedFunction>,
     frames: &mut Vec<Frame>,
     walk: &mut Walk,
     transfer: Transfer,

@@ -19,7 +19,7 @@ pub(crate) const LAST_ADDRESS: u32 = u32::MAX;
 
 /// A cache entry: the function of an address.
 #[derive(Clone, Copy)]
-pub struct Known {
+pub struct CachedFunction {
     pub address: u32,
     pub function: u32,
 }
@@ -29,17 +29,17 @@ pub(crate) fn new_function_cache(
     alloc: Global,
     symbols: &CodeSymbols<'_>,
     address: u32,
-) -> Result<Vec<Known>, AllocError>
+) -> Result<Vec<CachedFunction>, AllocError>
     ensures { IfOk result (λ known. IsFunctionCache (function_at symbols.now.image.now symbols.now.bytes.now) known.items) }
 {
     let function = function_of(symbols, address);
     let mut known = Vec::with_capacity(alloc, PLACES)?;
-    known.resize(PLACES, Known { address, function })?;
+    known.resize(PLACES, CachedFunction { address, function })?;
     Ok(known)
 }
 
 /// Returns the function of a code address, from the cache or by a search, and caches it.
-pub(crate) fn look_up(known: &mut Vec<Known>, symbols: &CodeSymbols<'_>, address: u32) -> u32
+pub(crate) fn look_up(known: &mut Vec<CachedFunction>, symbols: &CodeSymbols<'_>, address: u32) -> u32
     requires { IsFunctionCache (function_at symbols.now.image.now symbols.now.bytes.now) known.old.items }
     ensures value { result ≡ function_at symbols.now.image.now symbols.now.bytes.now address }
     ensures known { IsFunctionCache (function_at symbols.now.image.now symbols.now.bytes.now) known.new.items }
@@ -50,14 +50,14 @@ pub(crate) fn look_up(known: &mut Vec<Known>, symbols: &CodeSymbols<'_>, address
         return there.function;
     }
     let function = function_of(symbols, address);
-    known[place] = Known { address, function };
+    known[place] = CachedFunction { address, function };
     function
 }
 
 /// Returns how many instructions, from a block's first one on, belong to its function and are followed in the block by an instruction of
 /// that function.
 pub(crate) fn steps_in_function(
-    known: &mut Vec<Known>,
+    known: &mut Vec<CachedFunction>,
     symbols: &CodeSymbols<'_>,
     counts: &[AddressCounts],
     block: Block,

@@ -24,7 +24,7 @@ mod walk;
 
 pub use children::Children;
 pub use flat::Flat;
-pub use functions::{Known, function_of};
+pub use functions::{CachedFunction, function_of};
 pub use job::count_job_with_stacks;
 pub use law::{
     jobs_have_one_table_with_stacks, names_alone_refuse_a_table_with_stacks,

@@ -5,13 +5,13 @@ use Rattle.std.proofs.Math.Seq.{drop-append_seam, drop-length}
 use Rattle.std.proofs.lemmas.List.Sums.{fold-append}
 use Rattle.std.specs.Io.KnownBytes.{Appends, Keeps}
 use Rattle.std.proofs.KnownBytes.{Appends-nil}
-use Rattle.rv_terminal.specs.Colors.{InText, beginning, colored, place_behind, uncolored}
+use Rattle.rv_terminal.specs.Colors.{InText, beginning, colored, place_after, uncolored}
 use Rattle.rv_terminal.specs.ColorSinks.{IsMarkBegun, IsOutputState, IsOut, IsOutInPart, IsPutBy, IsShownInPart}
 use Rattle.rv_terminal.specs.ColorSinks.{IsShownUpTo, first_state, is_cut_off, results_of}
 use Rattle.rv_terminal.specs.declared.colors.Colors.{Colors}
 use Rattle.rv_terminal.specs.declared.colors.Colors.TheVariants as colors
 use Rattle.rv_terminal.specs.declared.output_state.OutputState.{OutputState}
-use Rattle.rv_terminal.specs.declared.output_state.OutputState.TheVariants as course
+use Rattle.rv_terminal.specs.declared.output_state.OutputState.TheVariants as state
 use Rattle.rv_terminal.specs.declared.place.Mark.TheVariants as mark
 use Rattle.rv_terminal.specs.declared.place.Place.{Place}
 use Rattle.rv_terminal.proofs.Sequences.{colored_append, part_out, text_out}
@@ -59,12 +59,12 @@ module _ (here : Place) (before old more : List ℕ) (shown : IsShownUpTo here b
       (ap (λ place. colored beginning shown.text ++ colored place more) shown.place
       ∙ sym (colored_append beginning shown.text more)))
 
-  pub shown_further : IsShownUpTo (fold place_behind here more) before (old ++ colored here more)
+  pub shown_further : IsShownUpTo (fold place_after here more) before (old ++ colored here more)
   shown_further = record {
     text = shown.text ++ more;
     shown = longer;
-    place = ap (λ place. fold place_behind place more) shown.place
-        ∙ sym (fold-append place_behind beginning shown.text more);
+    place = ap (λ place. fold place_after place more) shown.place
+        ∙ sym (fold-append place_after beginning shown.text more);
   }
 
   pub results_further : before ++ uncolored InText (drop (length before) (old ++ colored here more))
@@ -100,39 +100,39 @@ module _ (here : Place) (before old new more part : List ℕ) (shown : IsShownUp
 -- a put keeps a sink on its course
 pub course_kept : (colors : Colors) (before old new : Option (List ℕ)) (here next : OutputState) (more : List ℕ)
     → IsOutputState colors before old here → IsPutBy here next more old new → IsOutputState colors before new next
-course_kept colors.Without before old new course.Plain next more is put = rw put.0 tt
-course_kept colors.Without before old new (course.Colored here) next more is put = absurd is
-course_kept colors.Without before old new course.CutOff next more is put = absurd is
+course_kept colors.Without before old new state.Plain next more is put = rw put.0 tt
+course_kept colors.Without before old new (state.Colored here) next more is put = absurd is
+course_kept colors.Without before old new state.CutOff next more is put = absurd is
 course_kept colors.With None old new here next more is put = tt
 course_kept colors.With (Some before) None new here next more is put = absurd is
-course_kept colors.With (Some before) (Some old) new course.Plain next more is put = absurd is
-course_kept colors.With (Some before) (Some old) new (course.Colored here) course.Plain more is put = absurd put
-course_kept colors.With (Some before) (Some old) None (course.Colored here) (course.Colored there) more is put = absurd put.1
-course_kept colors.With (Some before) (Some old) (Some new) (course.Colored here) (course.Colored there) more is put =
+course_kept colors.With (Some before) (Some old) new state.Plain next more is put = absurd is
+course_kept colors.With (Some before) (Some old) new (state.Colored here) state.Plain more is put = absurd put
+course_kept colors.With (Some before) (Some old) None (state.Colored here) (state.Colored there) more is put = absurd put.1
+course_kept colors.With (Some before) (Some old) (Some new) (state.Colored here) (state.Colored there) more is put =
     rw (put.0, put.1) (shown_further here before old more is)
-course_kept colors.With (Some before) (Some old) None (course.Colored here) course.CutOff more is put = absurd put.1.1
-course_kept colors.With (Some before) (Some old) (Some new) (course.Colored here) course.CutOff more is put =
+course_kept colors.With (Some before) (Some old) None (state.Colored here) state.CutOff more is put = absurd put.1.1
+course_kept colors.With (Some before) (Some old) (Some new) (state.Colored here) state.CutOff more is put =
     shown_in_part here before old new more put.0 is put.1.0 put.1.1
-course_kept colors.With (Some before) (Some old) new course.CutOff next more is put = rw (put.0, put.1.1) is
+course_kept colors.With (Some before) (Some old) new state.CutOff next more is put = rw (put.0, put.1.1) is
 
 -- what was put are results
 pub results_taken : (colors : Colors) (before old new : Option (List ℕ)) (here next : OutputState) (more : List ℕ)
     → IsOutputState colors before old here → IsPutBy here next more old new
     → Appends (results_of colors before old) (results_of colors before new) more
-results_taken colors.Without before old new course.Plain next more is put = put.1
-results_taken colors.Without before old new (course.Colored here) next more is put = absurd is
-results_taken colors.Without before old new course.CutOff next more is put = absurd is
+results_taken colors.Without before old new state.Plain next more is put = put.1
+results_taken colors.Without before old new (state.Colored here) next more is put = absurd is
+results_taken colors.Without before old new state.CutOff next more is put = absurd is
 results_taken colors.With None old new here next more is put = tt
 results_taken colors.With (Some before) None new here next more is put = absurd is
-results_taken colors.With (Some before) (Some old) new course.Plain next more is put = absurd is
-results_taken colors.With (Some before) (Some old) new (course.Colored here) course.Plain more is put = absurd put
-results_taken colors.With (Some before) (Some old) None (course.Colored here) (course.Colored there) more is put = absurd put.1
-results_taken colors.With (Some before) (Some old) (Some new) (course.Colored here) (course.Colored there) more is put =
+results_taken colors.With (Some before) (Some old) new state.Plain next more is put = absurd is
+results_taken colors.With (Some before) (Some old) new (state.Colored here) state.Plain more is put = absurd put
+results_taken colors.With (Some before) (Some old) None (state.Colored here) (state.Colored there) more is put = absurd put.1
+results_taken colors.With (Some before) (Some old) (Some new) (state.Colored here) (state.Colored there) more is put =
     rw put.1 (results_further here before old more is)
-results_taken colors.With (Some before) (Some old) None (course.Colored here) course.CutOff more is put = absurd put.1.1
-results_taken colors.With (Some before) (Some old) (Some new) (course.Colored here) course.CutOff more is put =
+results_taken colors.With (Some before) (Some old) None (state.Colored here) state.CutOff more is put = absurd put.1.1
+results_taken colors.With (Some before) (Some old) (Some new) (state.Colored here) state.CutOff more is put =
     results_in_part_further here before old new more put.0 is put.1.0 put.1.1
-results_taken colors.With (Some before) (Some old) new course.CutOff next more is put =
+results_taken colors.With (Some before) (Some old) new state.CutOff next more is put =
     rw (put.1.0, put.1.1) (Appends-nil (results_of colors.With (Some before) (Some old)))
 
 -- where nothing was put, they are as they were
@@ -148,28 +148,28 @@ pub out_whole : (colors : Colors) (before out : Option (List ℕ)) (here : Outpu
 out_whole colors.Without before out here is whole = refl
 out_whole colors.With None out here is whole = tt
 out_whole colors.With (Some before) None here is whole = absurd is
-out_whole colors.With (Some before) (Some out) course.Plain is whole = absurd is
-out_whole colors.With (Some before) (Some out) (course.Colored here) is whole = record {
+out_whole colors.With (Some before) (Some out) state.Plain is whole = absurd is
+out_whole colors.With (Some before) (Some out) (state.Colored here) is whole = record {
   text = is.text;
   put = ap (λ xs. before ++ uncolored InText (drop (length before) xs)) is.shown ∙ results_shown before is.text;
   shown = is.shown;
 }
-out_whole colors.With (Some before) (Some out) course.CutOff is whole = absurd (true≢false whole)
+out_whole colors.With (Some before) (Some out) state.CutOff is whole = absurd (true≢false whole)
 
 pub out_in_part : (colors : Colors) (before out : Option (List ℕ)) (here : OutputState) → IsOutputState colors before out here
     → IsOutInPart colors before (results_of colors before out) out
 out_in_part colors.Without before out here is = refl
 out_in_part colors.With None out here is = tt
 out_in_part colors.With (Some before) None here is = absurd is
-out_in_part colors.With (Some before) (Some out) course.Plain is = absurd is
-out_in_part colors.With (Some before) (Some out) (course.Colored here) is = record {
+out_in_part colors.With (Some before) (Some out) state.Plain is = absurd is
+out_in_part colors.With (Some before) (Some out) (state.Colored here) is = record {
   text = is.text;
   part = [];
   begun = record { mark = mark.Nothing; rest = []; whole = refl };
   put = ap (λ xs. before ++ uncolored InText (drop (length before) xs)) is.shown ∙ results_shown before is.text;
   shown = is.shown ∙ ap (λ xs. before ++ xs) (sym (append-nil (colored beginning is.text)));
 }
-out_in_part colors.With (Some before) (Some out) course.CutOff is = record {
+out_in_part colors.With (Some before) (Some out) state.CutOff is = record {
   text = is.text;
   part = is.part;
   begun = is.begun;

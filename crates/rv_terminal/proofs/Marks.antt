@@ -7,20 +7,20 @@ use Rattle.std.proofs.lemmas.Bool.{cases_lt}
 use Rattle.rv_terminal.specs.declared.place.Mark.{Mark}
 use Rattle.rv_terminal.specs.declared.place.Mark.TheVariants as mark
 use Rattle.rv_terminal.specs.declared.place.Place.{Place}
-use Rattle.rv_terminal.specs.Colors.{colored, is_nothing, mark_before, mark_text, place_behind}
+use Rattle.rv_terminal.specs.Colors.{colored, is_nothing, mark_before, mark_text, place_after}
 
 -- one byte more is coloured
 colored_next : (here : Place) (text : List ℕ) (at : ℕ) → at < length text → colored here (take (suc at) text)
-    ≡ colored here (take at text) ++ (mark_text (mark_before (fold place_behind here (take at text)) (slice_index text at))
+    ≡ colored here (take at text) ++ (mark_text (mark_before (fold place_after here (take at text)) (slice_index text at))
     ++ slice_index text at ∷ [])
 unfolding colored
 colored_next here [] at within = absurd (omega arith)
 colored_next here (byte ∷ rest) zero within = refl
 colored_next here (byte ∷ rest) (suc at) within =
     ap (λ more. mark_text (mark_before here byte) ++ byte ∷ more)
-    (colored_next (place_behind here byte) rest at (omega arith))
-    ∙ sym (append_assoc (mark_text (mark_before here byte)) (byte ∷ colored (place_behind here byte) (take at rest))
-    (mark_text (mark_before (fold place_behind (place_behind here byte) (take at rest)) (slice_index rest at))
+    (colored_next (place_after here byte) rest at (omega arith))
+    ∙ sym (append_assoc (mark_text (mark_before here byte)) (byte ∷ colored (place_after here byte) (take at rest))
+    (mark_text (mark_before (fold place_after (place_after here byte) (take at rest)) (slice_index rest at))
     ++ slice_index rest at ∷ []))
 
 nothing_text : (here : Mark) → is_nothing here ≡ true → mark_text here ≡ []
@@ -47,7 +47,7 @@ marked_one here text some count least most =
 
 module _ (here : Place) (text : List ℕ) (at : ℕ) (least : 1 ≤ at) (within : at < length text)
     (before : (count : ℕ) → 1 ≤ count → count ≤ at → IsMarkedFirst here text count)
-    (silent : is_nothing (mark_before (fold place_behind here (take at text)) (slice_index text at)) ≡ true) where
+    (silent : is_nothing (mark_before (fold place_after here (take at text)) (slice_index text at)) ≡ true) where
   marked_next : IsMarkedFirst here text (suc at)
   marked_next =
       let byte = slice_index text at in

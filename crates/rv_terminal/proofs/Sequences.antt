@@ -4,7 +4,7 @@ use Rattle.std.proofs.lemmas.Bool.{cases_Bool}
 use Rattle.rv_terminal.specs.declared.place.Mark.{Mark}
 use Rattle.rv_terminal.specs.declared.place.Mark.TheVariants as mark
 use Rattle.rv_terminal.specs.declared.place.Place.{Place}
-use Rattle.rv_terminal.specs.Colors.{InText, Seat, colored, is_escape, line_mark, mark_before, mark_text, place_behind}
+use Rattle.rv_terminal.specs.Colors.{InText, Seat, colored, is_escape, line_mark, mark_before, mark_text, place_after}
 use Rattle.rv_terminal.specs.Colors.{seat_after, text_of_byte, uncolored}
 
 -- ---- marks out
@@ -35,9 +35,9 @@ pub text_out : (here : Place) (text more : List ℕ)
 unfolding colored
 text_out here [] more = refl
 text_out here (byte ∷ rest) more =
-    let behind = colored (place_behind here byte) rest in
+    let behind = colored (place_after here byte) rest in
     ap (uncolored InText) (append_assoc (mark_text (mark_before here byte)) (byte ∷ behind) more)
-    ∙ (marked_out here byte (behind ++ more) ∙ ap (λ xs. byte ∷ xs) (text_out (place_behind here byte) rest more))
+    ∙ (marked_out here byte (behind ++ more) ∙ ap (λ xs. byte ∷ xs) (text_out (place_after here byte) rest more))
 
 -- ---- a mark in part
 
@@ -71,10 +71,10 @@ part_out here part rest whole =
 -- ---- texts that follow one another
 
 pub colored_append : (here : Place) (xs ys : List ℕ)
-    → colored here (xs ++ ys) ≡ colored here xs ++ colored (fold place_behind here xs) ys
+    → colored here (xs ++ ys) ≡ colored here xs ++ colored (fold place_after here xs) ys
 unfolding colored
 colored_append here [] ys = refl
 colored_append here (x ∷ xs) ys =
-    let next = place_behind here x in
+    let next = place_after here x in
     ap (λ rest. mark_text (mark_before here x) ++ x ∷ rest) (colored_append next xs ys)
-    ∙ sym (append_assoc (mark_text (mark_before here x)) (x ∷ colored next xs) (colored (fold place_behind next xs) ys))
+    ∙ sym (append_assoc (mark_text (mark_before here x)) (x ∷ colored next xs) (colored (fold place_after next xs) ys))

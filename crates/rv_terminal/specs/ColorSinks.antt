@@ -4,11 +4,11 @@ use Rattle.std.specs.Prelude.{if◌then◌else◌}
 use Rattle.std.specs.Option.{option_map}
 use Rattle.std.specs.Io.KnownBytes.{Appends}
 use Rattle.rv_base.specs.Counts.{one_more}
-use Rattle.rv_terminal.specs.Colors.{InText, beginning, colored, mark_text, place_behind, uncolored}
+use Rattle.rv_terminal.specs.Colors.{InText, beginning, colored, mark_text, place_after, uncolored}
 use Rattle.rv_terminal.specs.declared.colors.Colors.{Colors}
 use Rattle.rv_terminal.specs.declared.colors.Colors.TheVariants as colors
 use Rattle.rv_terminal.specs.declared.output_state.OutputState.{OutputState}
-use Rattle.rv_terminal.specs.declared.output_state.OutputState.TheVariants as course
+use Rattle.rv_terminal.specs.declared.output_state.OutputState.TheVariants as state
 use Rattle.rv_terminal.specs.declared.place.Mark.{Mark}
 use Rattle.rv_terminal.specs.declared.place.Place.{Place}
 
@@ -58,7 +58,7 @@ IsOutInPart colors.With (Some before) plain out = AreBothKnown (IsColoredInPart 
 pub record InColors (S : Type 0) : Type 0 where
   pub sink : S
   pub failures : ℕ
-  pub course : OutputState
+  pub state : OutputState
 
 -- the results that were written, without their colours, given the bytes `before` them and what the sink below received
 abbrev pub results_of : Colors → Option (List ℕ) → Option (List ℕ) → Option (List ℕ)
@@ -69,27 +69,27 @@ results_of colors.With (Some before) out =
 
 -- how the output of a sink with or without colours begins
 abbrev pub first_state : Colors → OutputState
-first_state colors.Without = course.Plain
-first_state colors.With = course.Colored beginning
+first_state colors.Without = state.Plain
+first_state colors.With = state.Colored beginning
 
 -- whether the output ends because a write failed
 abbrev pub is_cut_off : OutputState → Bool
-is_cut_off course.Plain = false
-is_cut_off (course.Colored here) = false
-is_cut_off course.CutOff = true
+is_cut_off state.Plain = false
+is_cut_off (state.Colored here) = false
+is_cut_off state.CutOff = true
 
 -- the text was written in its colours from the position `here` on: up to the next position, or up to a failed write
 abbrev pub IsPutFrom : Place → OutputState → List ℕ → Option (List ℕ) → Option (List ℕ) → Type 0
-IsPutFrom here course.Plain text old new = ⊥
-IsPutFrom here (course.Colored there) text old new = (there ≡ fold place_behind here text) × Appends old new (colored here text)
-IsPutFrom here course.CutOff text old new =
+IsPutFrom here state.Plain text old new = ⊥
+IsPutFrom here (state.Colored there) text old new = (there ≡ fold place_after here text) × Appends old new (colored here text)
+IsPutFrom here state.CutOff text old new =
     (part : List ℕ) × (IsMarkBegun part × Appends old new (colored here text ++ part))
 
 -- the text was written in the first state, which led to the second; no text was written only if a write failed
 abbrev pub IsPutBy : OutputState → OutputState → List ℕ → Option (List ℕ) → Option (List ℕ) → Type 0
-IsPutBy course.Plain next text old new = (next ≡ course.Plain) × Appends old new text
-IsPutBy (course.Colored here) next text old new = IsPutFrom here next text old new
-IsPutBy course.CutOff next text old new = (next ≡ course.CutOff) × ((text ≡ []) × (new ≡ old))
+IsPutBy state.Plain next text old new = (next ≡ state.Plain) × Appends old new text
+IsPutBy (state.Colored here) next text old new = IsPutFrom here next text old new
+IsPutBy state.CutOff next text old new = (next ≡ state.CutOff) × ((text ≡ []) × (new ≡ old))
 
 -- the failures of the sink below after a write of `count` bytes that led from one state to the next: one more than `before` if no byte was
 -- written or the output was cut off by it; unchanged if it was cut off already
@@ -99,14 +99,14 @@ failures_below here next count before = if is_cut_off here then before
 
 -- the colouring sink has as many failures as the sink below; once the output is cut off, the sink below has at least one
 abbrev pub IsCounted : OutputState → ℕ → ℕ → Type 0
-IsCounted course.CutOff failures below = 1 ≤ below
+IsCounted state.CutOff failures below = 1 ≤ below
 IsCounted _ failures below = failures ≡ below
 
 -- `out` is `before` followed by a text in its colours, which ends at the position `here` in a line
 pub record IsShownUpTo (here : Place) (before out : List ℕ) : Type 0 where
   pub text : List ℕ
   pub shown : out ≡ before ++ colored beginning text
-  pub place : here ≡ fold place_behind beginning text
+  pub place : here ≡ fold place_after beginning text
 
 -- `out` is `before` followed by a text in its colours and the first bytes of an escape sequence
 pub record IsShownInPart (before out : List ℕ) : Type 0 where
@@ -117,15 +117,15 @@ pub record IsShownInPart (before out : List ℕ) : Type 0 where
 
 -- how coloured output continues, given that `out` was written, of which `before` are the earlier bytes
 abbrev pub IsStateAfter : List ℕ → List ℕ → OutputState → Type 0
-IsStateAfter before out course.Plain = ⊥
-IsStateAfter before out (course.Colored here) = IsShownUpTo here before out
-IsStateAfter before out course.CutOff = IsShownInPart before out
+IsStateAfter before out state.Plain = ⊥
+IsStateAfter before out (state.Colored here) = IsShownUpTo here before out
+IsStateAfter before out state.CutOff = IsShownInPart before out
 
 -- how the output of a sink with or without colours continues, if the bytes that were written are known
 abbrev pub IsOutputState : Colors → Option (List ℕ) → Option (List ℕ) → OutputState → Type 0
-IsOutputState colors.Without before out course.Plain = ⊤
-IsOutputState colors.Without before out (course.Colored here) = ⊥
-IsOutputState colors.Without before out course.CutOff = ⊥
-IsOutputState colors.With None out course = ⊤
-IsOutputState colors.With (Some before) None course = ⊥
-IsOutputState colors.With (Some before) (Some out) course = IsStateAfter before out course
+IsOutputState colors.Without before out state.Plain = ⊤
+IsOutputState colors.Without before out (state.Colored here) = ⊥
+IsOutputState colors.Without before out state.CutOff = ⊥
+IsOutputState colors.With None out state = ⊤
+IsOutputState colors.With (Some before) None state = ⊥
+IsOutputState colors.With (Some before) (Some out) state = IsStateAfter before out state

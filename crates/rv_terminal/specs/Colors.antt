@@ -98,8 +98,8 @@ place_in_line place.Word byte = if is_space byte then place.Rest else place.Word
 place_in_line here byte = here
 
 -- the position after a byte: the rest of a line is not coloured once it has an escape sequence of its own
-abbrev pub place_behind : Place → ℕ → Place
-place_behind here byte = if is_feed byte then place.Margin 0
+abbrev pub place_after : Place → ℕ → Place
+place_after here byte = if is_feed byte then place.Margin 0
     else if is_escape byte then place.Rest else place_in_line here byte
 
 -- ---- coloured texts
@@ -107,7 +107,7 @@ place_behind here byte = if is_feed byte then place.Margin 0
 -- a text with its marks, which begins at this position in a line
 unfoldable pub colored : Place → List ℕ → List ℕ
 colored here [] = []
-colored here (byte ∷ rest) = mark_text (mark_before here byte) ++ byte ∷ colored (place_behind here byte) rest
+colored here (byte ∷ rest) = mark_text (mark_before here byte) ++ byte ∷ colored (place_after here byte) rest
 
 -- the position at which a text begins: the start of a line
 abbrev pub beginning : Place

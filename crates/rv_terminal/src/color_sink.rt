@@ -32,7 +32,7 @@ impl Results for Brand {
 #[derive(Drop)]
 pub struct ColorSink<J: Results, S: Sink + Drop> {
     sink: S,
-    course: OutputState,
+    state: OutputState,
     failures: u64,
     of: PhantomData<J>,
 }
@@ -42,10 +42,10 @@ impl<J: Results, S: Sink + Drop> Model for ColorSink<J, S> {
 
     ghost Value = { InColors S };
 
-    ghost view = { λ s. record { sink = s.sink; failures = s.failures; course = s.course } };
+    ghost view = { λ s. record { sink = s.sink; failures = s.failures; state = s.state } };
 
-    ghost invariant = { λ s. IsOutputState J.colors J.before (S.taken s.sink) s.course
-        × IsCounted s.course s.failures (S.failed s.sink) };
+    ghost invariant = { λ s. IsOutputState J.colors J.before (S.taken s.sink) s.state
+        × IsCounted s.state s.failures (S.failed s.sink) };
 }
 
 impl<J: Results, S: Sink + Drop> ColorSink<J, S> {
@@ -55,12 +55,12 @@ impl<J: Results, S: Sink + Drop> ColorSink<J, S> {
         requires before { S.taken sink ≡ J.before }
         ensures taken { results_of J.colors J.before (S.taken result.sink) ≡ S.taken sink }
         ensures failures { result.failures ≡ S.failed sink }
-        ensures course { result.course ≡ first_state colors }
+        ensures state { result.state ≡ first_state colors }
     {
         let failures = sink.failures();
         ColorSink {
             sink,
-            course: OutputState::first(colors),
+            state: OutputState::first(colors),
             failures,
             of: PhantomData,
         }
@@ -69,7 +69,7 @@ impl<J: Results, S: Sink + Drop> ColorSink<J, S> {
     /// Returns the other sink, and whether it received the results completely: an error if a write to it failed with colours.
     pub fn finish(self) -> (S, Result<(), SinkFailed>)
         ensures sink { result.0 ≡ self.sink }
-        ensures told { is_err result.1 ≡ is_cut_off self.course }
+        ensures told { is_err result.1 ≡ is_cut_off self.state }
         ensures failed { IfErr result.1 (λ _. 1 ≤ S.failed self.sink) }
         ensures whole { OnOk result.1 (IsOut J.colors J.before (results_of J.colors J.before (S.taken self.sink))
             (S.taken self.sink)) }
@@ -77,11 +77,11 @@ impl<J: Results, S: Sink + Drop> ColorSink<J, S> {
     {
         let ColorSink {
             sink,
-            course,
+            state,
             failures: _,
             of: _,
         } = self;
-        let whole = if course.is_cut_off() {
+        let whole = if state.is_cut_off() {
             Err(SinkFailed)
         } else {
             Ok(())
@@ -98,8 +98,8 @@ impl<J: Results, S: Sink + Drop> Sink for ColorSink<J, S> {
     ghost failed = { λ s. s.failures };
 
     fn put(&mut self, bytes: &[u8]) -> Result<usize, SinkFailed> {
-        let (count, course) = put_in_state(&mut self.sink, self.course, bytes);
-        self.course = course;
+        let (count, state) = put_in_state(&mut self.sink, self.state, bytes);
+        self.state = state;
         if count == 0 {
             self.failures = self.failures.saturating_add(1);
             return Err(SinkFailed);

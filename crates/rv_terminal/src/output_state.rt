@@ -6,7 +6,7 @@ ghost use Rattle.rv_base.specs.Counts.{one_more};
 ghost use Rattle.rv_base.specs.Sinks.{AppendsBeginning};
 ghost use Rattle.rv_terminal.specs.Colors.{colored, mark_before, mark_text};
 ghost use Rattle.rv_terminal.specs.ColorSinks.{IsPutBy, IsPutFrom, failures_below, first_state, is_cut_off};
-ghost use Rattle.rv_terminal.specs.declared.output_state.OutputState.TheVariants as course;
+ghost use Rattle.rv_terminal.specs.declared.output_state.OutputState.TheVariants as state;
 
 use crate::colors::Colors;
 use crate::place::Place;
@@ -46,15 +46,15 @@ impl OutputState {
 /// output continues.
 pub(crate) fn put_in_state<S: Sink>(
     sink: &mut S,
-    course: OutputState,
+    state: OutputState,
     bytes: &[u8],
 ) -> (usize, OutputState)
     requires { 0 < length bytes.now }
     ensures within { result.0 ≤ length bytes.now }
-    ensures put { IsPutBy course result.1 (take result.0 bytes.now) (S.taken sink.old) (S.taken sink.new) }
-    ensures counted { S.failed sink.new ≡ failures_below course result.1 result.0 (S.failed sink.old) }
+    ensures put { IsPutBy state result.1 (take result.0 bytes.now) (S.taken sink.old) (S.taken sink.new) }
+    ensures counted { S.failed sink.new ≡ failures_below state result.1 result.0 (S.failed sink.old) }
 {
-    match course {
+    match state {
         OutputState::Plain => match sink.put(bytes) {
             Ok(count) => (count, OutputState::Plain),
             Err(_) => (0, OutputState::Plain),
@@ -69,7 +69,7 @@ fn put_colored<S: Sink>(sink: &mut S, place: Place, bytes: &[u8]) -> (usize, Out
     requires { 0 < length bytes.now }
     ensures within { result.0 ≤ length bytes.now }
     ensures put { IsPutFrom place result.1 (take result.0 bytes.now) (S.taken sink.old) (S.taken sink.new) }
-    ensures counted { S.failed sink.new ≡ failures_below (course.Colored place) result.1 result.0 (S.failed sink.old) }
+    ensures counted { S.failed sink.new ≡ failures_below (state.Colored place) result.1 result.0 (S.failed sink.old) }
 {
     let mut at = 0;
     let mut here = place;

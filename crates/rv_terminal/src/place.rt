@@ -1,7 +1,7 @@
 //! Where colours begin and end in the lines of results.
 
 ghost use Rattle.std.specs.Prelude.{◌≡◌, fold};
-ghost use Rattle.rv_terminal.specs.Colors.{begin_mark, begun_place, is_nothing, line_mark, mark_before, mark_text, place_behind};
+ghost use Rattle.rv_terminal.specs.Colors.{begin_mark, begun_place, is_nothing, line_mark, mark_before, mark_text, place_after};
 ghost use Rattle.rv_terminal.specs.Colors.{place_in_line, sign_mark, word_mark};
 
 /// The escape sequence that is sent to a terminal before a byte, if any.
@@ -80,7 +80,7 @@ impl Place {
 
     /// Returns the position after a byte at this position.
     pub(crate) fn behind(self, byte: u8) -> Place
-        ensures { result ≡ place_behind self byte }
+        ensures { result ≡ place_after self byte }
     {
         match byte {
             b'\n' => Place::Margin(0),
@@ -109,7 +109,7 @@ impl Place {
 
     /// Returns the position after these bytes, the first of which is at this position.
     pub(crate) fn after_all(self, bytes: &[u8]) -> Place
-        ensures { result ≡ fold place_behind self bytes.now }
+        ensures { result ≡ fold place_after self bytes.now }
     {
         let mut place = self;
         for byte in bytes {

@@ -18,7 +18,7 @@ use std::test::Fail;
 use std::thread::Threads;
 
 // Returns the output of the program for a case, with these bytes as its input.
-fn told_of(
+fn output_of(
     rt: &(impl Threads + Wait),
     alloc: Global,
     case: &str,
@@ -33,7 +33,7 @@ fn told_of(
 // Returns the output of the program for a case.
 fn told(rt: &(impl Threads + Wait), alloc: Global, case: &str) -> Result<String, Fail> {
     let bytes = numbers(alloc, part(case, 6))?;
-    told_of(rt, alloc, case, &bytes)
+    output_of(rt, alloc, case, &bytes)
 }
 
 // Appends a word, after a space if the text has words already.

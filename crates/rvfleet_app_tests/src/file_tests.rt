@@ -3,7 +3,7 @@
 use crate::testing::output_with_store;
 use rv_files::FileStore;
 use rv_jobs::{ReadError, Store};
-use samples::{agree, cell_of, file, numbers};
+use samples::{agree, cell_of, sample_file, numbers};
 use std::fs;
 use std::test::Fail;
 
@@ -21,7 +21,7 @@ done 1
 // The program runs an image that is a file.
 #[test]
 fn runs_a_file(rt: HostRuntime) -> Result<(), Fail> {
-    fs::write(&rt, "image.elf", file(rt.alloc(), "one")?)?;
+    fs::write(&rt, "image.elf", sample_file(rt.alloc(), "one")?)?;
     let line = "rvfleet one image.elf --budget 10";
     let told = output_with_store(&rt, rt.alloc(), line, &mut FileStore::new(&rt))?;
     fs::remove_file(&rt, "image.elf")?;

@@ -5,7 +5,7 @@ ghost use Rattle.std.specs.Prelude.{None};
 use crate::forms::part;
 use crate::testing::number;
 use rv_jobs::{ReadError, Store};
-use samples::{SampleError, CHECKSUM, UPPER, file, file_bytes, numbers};
+use samples::{SampleError, CHECKSUM, UPPER, sample_file, file_bytes, numbers};
 use std::alloc::Global;
 
 /// A store that makes each file of a case when it is read. A line of its files, such as `image = one 51`, describes the file at a path;
@@ -67,7 +67,7 @@ fn bytes_of(alloc: Global, sample: &str) -> Result<Vec<u8>, SampleError> {
         "bytes" => numbers(alloc, text),
         "upper" => file_bytes(alloc, UPPER),
         "checksum" => file_bytes(alloc, CHECKSUM),
-        _ => file(alloc, sample),
+        _ => sample_file(alloc, sample),
     }
 }
 

@@ -42,7 +42,7 @@ outcome_told known words list judged claims files new told path left are golden 
   claims = rw (of.2, of.1) are;
   files = rw (of.3, of.2, of.1) golden;
   edited = rw of.4 edited;
-  meant = rw (of.4, of.1) meant;
+  intended = rw (of.4, of.1) meant;
   unchanged = rw (of.4, of.1) unchanged;
 }
 

@@ -225,10 +225,10 @@ module _ (words : AcceptArgs) (before after : FileContents) (bytes : List ℕ) (
           (ap job_list_of same ∙ listed) in
           reads_jobs ∙ sym (outcome.unchanged is)
       go (Some new) is =
-          let held = list_is_there told after new.items store.there (rw is refl) in
+          let held = list_is_there told after new.items store.written_contents (rw is refl) in
           let same : text ≡ new.items = some_same text new.items (sym there ∙ held) in
           ok_same others (intended_jobs jobs told.runs.now) (job_list_of text) reads
-          (ap job_list_of same ∙ (rw is at outcome.meant))
+          (ap job_list_of same ∙ (rw is at outcome.intended))
 
   -- a golden file that an accepted job names, and that is not left, holds what the job gives it
   golden_text : (job : Job) (path text : List ℕ) → names_golden_file path job ≡ true → is_target path targets ≡ true
@@ -351,7 +351,7 @@ passes_after words before after bytes jobs chosen status from to place job row r
     let outcome = accepted.outcome in
     let judged = accepted.judged in
     let earlier = accepted.ran.are.plan in
-    let at : slice_get jobs place ≡ Some job = rw outcome.listed at whole.stands in
+    let at : slice_get jobs place ≡ Some job = rw outcome.listed at whole.at_index in
     let run : AcceptedRun (slice_get told.runs.now place) = accepted_run (slice_get told.runs.now place) whole.accepted in
     let first = accepted_from_the_first judged told.runs.now place run.of outcome.runs run.is run.accepted in
     let of : IsAccepted (acceptance_of words.ends) job accepted.judging.candidates accepted.rows place run.of =
@@ -369,7 +369,7 @@ passes_after words before after bytes jobs chosen status from to place job row r
     let jobs_are = list_reads words before after bytes jobs judged told outcome read listed store alike later.bytes later.jobs
     later.read later.listed in
     let job_is : later.job ≡ accepted_job job run.of.row.ending run.of.row.console =
-    new_job jobs later.jobs told.runs.now place job later.job run.of jobs_are at run.is run.accepted later.stands in
+    new_job jobs later.jobs told.runs.now place job later.job run.of jobs_are at run.is run.accepted later.at_index in
     let files = read_of_job later.plan.answers job run.of.row
     (subst (AreFilesRead later.plan.answers) job_is later.files) in
     let finds_them = finds words before after bytes jobs judged told outcome read listed store alike place job run.of at run.is

@@ -30,7 +30,7 @@ pub unadded_table : (known : Option FileContents) (paths : List (Bor (List ℕ))
 unadded_table known paths i d sum why within are stopped = record {
   before = take i paths;
   path = get_or paths i d;
-  behind = drop (suc i) paths;
+  later_tables = drop (suc i) paths;
   sum = sum;
   listed = sym (take-append-drop i paths) ∙ ap (λ rest. take i paths ++ rest) (drop-cons paths i d within);
   added = are;

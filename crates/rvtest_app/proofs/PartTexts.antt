@@ -37,7 +37,7 @@ pub unread_part : (known : Option FileContents) (paths : List (Bor (List ℕ))) 
 unread_part known paths i d texts why within are unread = inr (record {
   before = take i paths;
   path = get_or paths i d;
-  behind = drop (suc i) paths;
+  later_parts = drop (suc i) paths;
   texts = texts;
   listed = sym (take-append-drop i paths) ∙ ap (λ rest. take i paths ++ rest) (drop-cons paths i d within);
   read = are;

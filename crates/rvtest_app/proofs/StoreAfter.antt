@@ -83,7 +83,7 @@ stood before root [] [] are = All-nil (Stood before)
 stood before root [] (file ∷ files) are = absurd are
 stood before root (target ∷ targets) [] are = absurd are
 stood before root (target ∷ targets) (file ∷ files) are =
-    All-cons (Stood before) file files are.0.stands (stood before root targets files are.1)
+    All-cons (Stood before) file files are.0.old_contents (stood before root targets files are.1)
 
 -- ---- what is never written
 
@@ -124,7 +124,7 @@ holds_still told before after path bytes store stood holds keeps list = go (stor
     golden = λ k other below text written leads.
         let file : GoldenFile = get_or told.files.now k other in
         kept_is_not_written told.list file bytes text
-        (sym (stood k other below) ∙ store.one_before file.resolved_path path leads ∙ holds) keeps written
+        (sym (stood k other below) ∙ store.same_before file.resolved_path path leads ∙ holds) keeps written
 
     go : (after path ≡ before path) ⊎ Any (λ (file : CommittedFile). store.leads file.path ≡ store.leads path) (written_files told)
         → after path ≡ Some bytes
@@ -150,7 +150,7 @@ image_stays told before after path bytes store stood list no_image holds magic =
     holds_still told before after path bytes store stood holds
     (or_right (bytes_eq bytes told.list.text.now) (starts_with nat_eq bytes elf_magic) magic)
     (λ text written leads.
-    let same : told.list.text.now ≡ bytes = one_of (sym list ∙ store.one_before told.list.path.now path leads ∙ holds) in
+    let same : told.list.text.now ≡ bytes = one_of (sym list ∙ store.same_before told.list.path.now path leads ∙ holds) in
     absurd_of (sym no_image ∙ ap (λ bytes. starts_with nat_eq bytes elf_magic) same ∙ magic))
   where
     one_of : {x y : List ℕ} → Some x ≡ Some y → x ≡ y
@@ -231,7 +231,7 @@ module _ (told : AcceptSummary) (before after : FileContents) (store : IsStoreAf
   golden_there k d below text agreed kept (Some written) new =
       let there = of_golden (λ (file : CommittedFile). after file.path ≡ Some file.bytes) told.list told.files.now
       (all_left (λ (file : CommittedFile). after file.path ≡ Some file.bytes) (golden_written told) (file_if told.list.path.now (new_list_text told))
-      store.there) k d below written new in
+      store.written_contents) k d below written new in
       let same = agreed_text (is_kept told.list (get_or told.files.now k d)) text written (get_or told.files.now k d).old
       (rw agreed at new) in
       there ∙ ap Some (sym same)
@@ -249,15 +249,15 @@ module _ (told : AcceptSummary) (before after : FileContents) (store : IsStoreAf
           let other : GoldenFile = get_or told.files.now j e in
           let there = of_golden (λ (file : CommittedFile). after file.path ≡ Some file.bytes) told.list told.files.now
           (all_left (λ (file : CommittedFile). after file.path ≡ Some file.bytes) (golden_written told)
-          (file_if told.list.path.now (new_list_text told)) store.there) j e within written is in
+          (file_if told.list.path.now (new_list_text told)) store.written_contents) j e within written is in
           let fate_is : other.target.fate ≡ fate.Agreed text = sym (alike k d below j e within (sym leads)) ∙ agreed in
           let same = agreed_text (is_kept told.list other) text written other.old (rw fate_is at is) in
-          store.one_after file.resolved_path other.resolved_path (sym leads) ∙ there ∙ ap Some (sym same)
+          store.same_after file.resolved_path other.resolved_path (sym leads) ∙ there ∙ ap Some (sym same)
 
       no_list : (written : List ℕ) → new_list_text told ≡ Some written
           → store.leads told.list.path.now ≡ store.leads file.resolved_path → after file.resolved_path ≡ Some text
       no_list written is leads = is_not_kept told.list file told.list.text.now
-          (sym (stood k d below) ∙ store.one_before file.resolved_path told.list.path.now (sym leads) ∙ list)
+          (sym (stood k d below) ∙ store.same_before file.resolved_path told.list.path.now (sym leads) ∙ list)
           (same_bytes told.list.text.now) kept
 
       go : (after file.resolved_path ≡ before file.resolved_path)

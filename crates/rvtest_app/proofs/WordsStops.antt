@@ -5,7 +5,7 @@ use Rattle.clap.specs.Kinds.{IsAmong}
 use Rattle.clap.specs.declared.error.kind.ErrorKind.{ErrorKind}
 use Rattle.rv_base.specs.Files.{FileContents}
 use Rattle.rvtest_cli.specs.RvtestWords.{IsMisuseReported, misuse_text, words_fault_kinds, words_faults, words_misuse}
-use Rattle.rvtest_cli.specs.WordsErrors.{IsToldOf}
+use Rattle.rvtest_cli.specs.WordsErrors.{IsErrorOfKinds}
 use Rattle.rvtest_cli.specs.declared.words_error.WordsError.{WordsError}
 use Rattle.rvtest_cli.specs.declared.words_error.WordsError.TheVariants as error
 use Rattle.rv_command.specs.Stops.{IsUsageStop}
@@ -34,7 +34,7 @@ help_stop known is_terminal words before after why args is =
 
 -- a fault of words stops the program by its kind
 stop_of_error : (known : Option FileContents) (is_terminal : Bool) (words : List (List ℕ)) (told : WordsError) (before after : ℕ) (why : Stop)
-    → IsToldOf (words_fault_kinds words) told
+    → IsErrorOfKinds (words_fault_kinds words) told
     → (words_faults words ≡ [] → IsMisuseReported (words_misuse words) told)
     → IsWordsErrorStop told before after why → IsStopFor known is_terminal words why
 stop_of_error known is_terminal words error.OutOfMemory before after why among misused is = inr (inl is)
@@ -49,7 +49,7 @@ stop_of_error known is_terminal words (error.Told fault text) before after why a
     })))) is
 
 pub words_stop : (known : Option FileContents) (is_terminal : Bool) (words : List (List ℕ)) (told : WordsError) (answer : Result ℕ Stop)
-    (before after : ℕ) → IsToldOf (words_fault_kinds words) told
+    (before after : ℕ) → IsErrorOfKinds (words_fault_kinds words) told
     → (words_faults words ≡ [] → IsMisuseReported (words_misuse words) told)
     → IfErr answer (IsWordsErrorStop told before after) → IfErr answer (IsStopFor known is_terminal words)
 words_stop known is_terminal words told (Ok status) before after among misused is = tt
@@ -57,13 +57,13 @@ words_stop known is_terminal words told (Err why) before after among misused is 
     stop_of_error known is_terminal words told before after why among misused is
 
 -- where the help was written, the words ask for it, and nothing went to other places
-help_requested : (words : List (List ℕ)) (told : WordsError) (before after : Option (List ℕ)) → IsToldOf (words_fault_kinds words) told
+help_requested : (words : List (List ℕ)) (told : WordsError) (before after : Option (List ℕ)) → IsErrorOfKinds (words_fault_kinds words) told
     → IsHelpWritten told before after → AskForHelp words
 help_requested words error.OutOfMemory before after among written = absurd written
 help_requested words (error.Told fault text) before after among written = ask_for_help words fault among written.0
 
 pub words_answered : (known : Option FileContents) (input : Option (List ℕ)) (is_terminal is_colored : Bool) (words : List (List ℕ))
-    (told : WordsError) (answer : Result ℕ Stop) (before after : CommandOutputs) → IsToldOf (words_fault_kinds words) told
+    (told : WordsError) (answer : Result ℕ Stop) (before after : CommandOutputs) → IsErrorOfKinds (words_fault_kinds words) told
     → IfOk answer (λ status. status ≡ 0) → OnOk answer (IsHelpWritten told before.out after.out)
     → (after.errors ≡ before.errors) × (after.failures ≡ before.failures) × (after.placed ≡ before.placed)
     → IfOk answer (λ status. IsAnswered known input is_terminal is_colored words status before after)

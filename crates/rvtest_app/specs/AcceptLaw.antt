@@ -30,11 +30,11 @@ pub record IsStoreAfter (written : List CommittedFile) (before after : FileConte
   -- the file that a path leads to; links give one file several paths
   pub leads : List ℕ → List ℕ
   -- paths that lead to one file had equal contents before
-  pub one_before : (path other : List ℕ) → leads path ≡ leads other → before path ≡ before other
+  pub same_before : (path other : List ℕ) → leads path ≡ leads other → before path ≡ before other
   -- paths that lead to one file have equal contents afterwards
-  pub one_after : (path other : List ℕ) → leads path ≡ leads other → after path ≡ after other
+  pub same_after : (path other : List ℕ) → leads path ≡ leads other → after path ≡ after other
   -- the new store has the bytes of each written file
-  pub there : All (λ file. after file.path ≡ Some file.bytes) written
+  pub written_contents : All (λ file. after file.path ≡ Some file.bytes) written
   -- a path that leads to no written file keeps its contents
   pub others : (path : List ℕ) → (after path ≡ before path) ⊎ Any (λ file. leads file.path ≡ leads path) written
 
@@ -48,7 +48,7 @@ HaveOneTextEach leads files = All (λ (file : GoldenFile). All (λ (other : Gold
 -- `job` is at index `place` of the list, it is accepted, none of its golden files is skipped, and it has no `same_as`
 pub record IsFullyAccepted (told : AcceptSummary) (place : ℕ) (job : Job) : Type 0 where
   -- the job is at index `place` of the list
-  pub stands : slice_get told.list.jobs.now place ≡ Some job
+  pub at_index : slice_get told.list.jobs.now place ≡ Some job
   pub accepted : IsTrue (is_of_accepted (slice_get told.runs.now place))
   pub files : All (λ (file : GoldenFile). IsTrue (names_golden_file file.target.path job)
       → IsFalse (is_left told.list file)) told.files.now
@@ -75,7 +75,7 @@ pub record IsRowIn (store : FileContents) (words : RunArgs) (place : ℕ) (row :
   pub listed : job_list_of bytes ≡ Ok jobs
   pub job : Job
   -- the job is at index `place`
-  pub stands : slice_get jobs place ≡ Some job
+  pub at_index : slice_get jobs place ≡ Some job
   pub places : List ℕ
   pub plan : Planned
   pub unread : List UnreadPath

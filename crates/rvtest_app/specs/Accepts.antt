@@ -79,7 +79,7 @@ pub record IsGoldenFile (known : Option FileContents) (root : Option (List ℕ))
   pub of : file.target ≡ target
   pub leads : file.resolved_path ≡ resolved_path root target.path
   -- the old contents are those of the file there
-  pub stands : IsOldAt known file.resolved_path file.old
+  pub old_contents : IsOldAt known file.resolved_path file.old
 
 -- the files are the golden files of the targets, in order: with the targets' paths, resolved against `root`, and the contents of the files
 -- there
@@ -125,7 +125,7 @@ pub record IsOutcome (known : Option FileContents) (words : AcceptArgs) (bytes :
   -- a new list is the old one with some edits
   pub edited : IfSome told.new.now.text (λ text. (edits : List Edit) × (text.items ≡ edited_from 0 bytes edits))
   -- a new list parses as the intended jobs
-  pub meant : IfSome told.new.now.text (λ text. job_list_of text.items ≡ Ok (intended_jobs jobs told.runs.now))
+  pub intended : IfSome told.new.now.text (λ text. job_list_of text.items ≡ Ok (intended_jobs jobs told.runs.now))
   -- without a new list, the intended jobs are those of the old list
   pub unchanged : told.new.now.text ≡ None → intended_jobs jobs told.runs.now ≡ jobs
 

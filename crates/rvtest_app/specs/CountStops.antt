@@ -70,9 +70,9 @@ pub record IsSumStop (known : Option FileContents) (paths : List (Bor (List ℕ)
   pub before : List (Bor (List ℕ))
   pub path : Bor (List ℕ)
   -- the paths after that of the table
-  pub behind : List (Bor (List ℕ))
+  pub later_tables : List (Bor (List ℕ))
   pub sum : CountTable
-  pub listed : paths ≡ before ++ path ∷ behind
+  pub listed : paths ≡ before ++ path ∷ later_tables
   pub added : AreAdded known before no_counts sum
   pub stopped : IsUnaddedStop known path.now sum why
 

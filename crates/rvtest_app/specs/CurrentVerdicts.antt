@@ -95,12 +95,12 @@ is_true None = false
 is_true (Some marked) = marked
 
 -- whether the job at index `place` is selected
-abbrev pub is_marked : List Bool → ℕ → Bool
-is_marked marks place = is_true (slice_get marks place)
+abbrev pub is_selected : List Bool → ℕ → Bool
+is_selected marks place = is_true (slice_get marks place)
 
 -- `candidate` is the job at index `place`: whether it is chosen, and the verdict on it
 abbrev pub IsCandidateAt : Option FileContents → Option (List ℕ) → List (Option Row) → List Bool → ℕ → Job → Candidate → Type 0
-IsCandidateAt known root rows chosen place job candidate = (candidate.is_chosen ≡ is_marked chosen place)
+IsCandidateAt known root rows chosen place job candidate = (candidate.is_chosen ≡ is_selected chosen place)
     × IsStandingIfRun known root rows job (row_or_none (slice_get rows place)) candidate.standing
 
 -- ---- all jobs

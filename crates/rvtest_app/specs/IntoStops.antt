@@ -45,7 +45,7 @@ name_refusal path list number name wanted = codes "rvtest: " ++ printable_text p
 abbrev pub not_whole_refusal : List ℕ → List ℕ → NotWhole → List ℕ
 not_whole_refusal path list (other.Part rows jobs) = part_refusal path rows jobs
 not_whole_refusal path list (other.Count rows jobs) = count_refusal path list rows jobs
-not_whole_refusal path list (other.Name name) = name_refusal path list name.number name.met.now name.listed.now
+not_whole_refusal path list (other.Name name) = name_refusal path list name.number name.in_report.now name.listed.now
 
 -- ---- which message is shown
 
@@ -60,9 +60,9 @@ pub record IsFirstOtherName (names all : List (List ℕ)) (other : OtherName) : 
   -- the index of the name
   pub place : ℕ
   pub number : other.number ≡ place + 1
-  pub met : slice_get names place ≡ Some other.met.now
+  pub name_in_report : slice_get names place ≡ Some other.in_report.now
   pub listed : slice_get all place ≡ Some other.listed.now
-  pub differ : bytes_eq other.met.now other.listed.now ≡ false
+  pub differ : bytes_eq other.in_report.now other.listed.now ≡ false
   pub before : take place names ≡ take place all
 
 -- why a report is not a report of all jobs of the list: it is partial, its number of rows differs, or the name of a row does

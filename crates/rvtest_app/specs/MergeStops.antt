@@ -19,9 +19,9 @@ pub record IsPartUnreadStop (known : Option FileContents) (paths : List (Bor (Li
   pub before : List (Bor (List ℕ))
   pub path : Bor (List ℕ)
   -- the paths after that of the part
-  pub behind : List (Bor (List ℕ))
+  pub later_parts : List (Bor (List ℕ))
   pub texts : List (List ℕ)
-  pub listed : paths ≡ before ++ path ∷ behind
+  pub listed : paths ≡ before ++ path ∷ later_parts
   pub read : AreTextsAt known before texts
   pub unread : IsResultUnreadStop known path.now why
 

@@ -31,7 +31,7 @@ pub(crate) fn read_golden_files<D: Inputs>(
 {
     let mut files = Vec::new(alloc);
     for target in targets {
-        let place = place_of_path(alloc, folder, target.path.as_str())?;
+        let place = golden_file_path(alloc, folder, target.path.as_str())?;
         let old = read_golden_file(inputs, alloc, place.as_str())?;
         add_file(&mut files, GoldenFile { target, resolved_path: place, old })?;
     }
@@ -46,7 +46,7 @@ fn add_file(files: &mut Vec<GoldenFile>, file: GoldenFile) -> Result<(), AllocEr
 }
 
 /// Returns the path of a golden file, resolved against `folder` if given.
-pub(crate) fn place_of_path(
+pub(crate) fn golden_file_path(
     alloc: Global,
     folder: Option<&str>,
     path: &str,

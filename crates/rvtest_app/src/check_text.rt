@@ -43,16 +43,16 @@ impl<'a> CheckedList<'a> {
     pub(crate) fn push_refused_jobs(
         &self,
         alloc: Global,
-        told: &mut Vec<u8>,
+        text: &mut Vec<u8>,
     ) -> Result<usize, AllocError>
-        ensures text { OnOk result (told.new.items ≡ told.old.items ++ texts_of_jobs
+        ensures text { OnOk result (text.new.items ≡ text.old.items ++ texts_of_jobs
             (refused_job_text self.now.path.now self.now.lines.now self.now.plan.now self.now.unread.now)
             self.now.plan.now.jobs) }
         ensures count { IfOk result (λ refused. refused ≡ refused_job_count self.now.plan.now) }
     {
         let mut refused = 0;
         for place in 0..self.plan.jobs() {
-            let is_refused = self.push_job_if_refused(alloc, told, place)?;
+            let is_refused = self.push_job_if_refused(alloc, text, place)?;
             if is_refused {
                 refused += 1;
             }
@@ -65,11 +65,11 @@ impl<'a> CheckedList<'a> {
     fn push_job_if_refused(
         &self,
         alloc: Global,
-        told: &mut Vec<u8>,
+        text: &mut Vec<u8>,
         place: usize,
     ) -> Result<bool, AllocError>
         requires { place < length self.now.plan.now.jobs }
-        ensures text { OnOk result ((d : AJob) → told.new.items ≡ told.old.items ++ refused_job_text
+        ensures text { OnOk result ((d : AJob) → text.new.items ≡ text.old.items ++ refused_job_text
             self.now.path.now self.now.lines.now self.now.plan.now self.now.unread.now place
             (slice_index_or self.now.plan.now.jobs place d)) }
         ensures refused { IfOk result (λ refused. (d : AJob) → refused
@@ -77,7 +77,7 @@ impl<'a> CheckedList<'a> {
     {
         match refusal_at(alloc, self.plan, place)? {
             Some(_) => {
-                self.push_refused_files(alloc, told, place)?;
+                self.push_refused_files(alloc, text, place)?;
                 Ok(true)
             }
             None => Ok(false),
@@ -89,26 +89,26 @@ impl<'a> CheckedList<'a> {
     fn push_refused_files(
         &self,
         alloc: Global,
-        told: &mut Vec<u8>,
+        text: &mut Vec<u8>,
         place: usize,
     ) -> Result<(), AllocError>
         requires { place < length self.now.plan.now.jobs }
-        ensures { OnOk result ((d : AJob) → told.new.items ≡ told.old.items ++ refused_files_text
+        ensures { OnOk result ((d : AJob) → text.new.items ≡ text.old.items ++ refused_files_text
             self.now.path.now self.now.lines.now self.now.plan.now self.now.unread.now place
             (slice_index_or self.now.plan.now.jobs place d)) }
     {
-        self.push_image_if_refused(alloc, told, place)?;
+        self.push_image_if_refused(alloc, text, place)?;
         let job = self.plan.job(place);
         let signature = Reference {
             kept: self.plan.reference(place),
             path: reference_path(job),
         };
-        self.push_reference_if_unread(alloc, told, place, signature)?;
+        self.push_reference_if_unread(alloc, text, place, signature)?;
         let console = Reference {
             kept: self.plan.console_reference(place),
             path: console_path(job),
         };
-        self.push_reference_if_unread(alloc, told, place, console)
+        self.push_reference_if_unread(alloc, text, place, console)
     }
 
     // Appends the line for the image of the job at index `place` if the image makes the job refused.
@@ -116,11 +116,11 @@ impl<'a> CheckedList<'a> {
     fn push_image_if_refused(
         &self,
         alloc: Global,
-        told: &mut Vec<u8>,
+        text: &mut Vec<u8>,
         place: usize,
     ) -> Result<(), AllocError>
         requires { place < length self.now.plan.now.jobs }
-        ensures { OnOk result ((d : AJob) → told.new.items ≡ told.old.items ++ refused_image_text
+        ensures { OnOk result ((d : AJob) → text.new.items ≡ text.old.items ++ refused_image_text
             self.now.path.now self.now.lines.now self.now.plan.now self.now.unread.now place
             (slice_index_or self.now.plan.now.jobs place d)) }
     {
@@ -128,7 +128,7 @@ impl<'a> CheckedList<'a> {
             Some(why) => {
                 let ending = RowEnd::Refused(why);
                 let reason = ending_reason(alloc, self.plan, self.unread, place, ending)?;
-                self.push_refused_file(told, place, why, reason)
+                self.push_refused_file(text, place, why, reason)
             }
             None => Ok(()),
         }
@@ -138,12 +138,12 @@ impl<'a> CheckedList<'a> {
     fn push_reference_if_unread(
         &self,
         alloc: Global,
-        told: &mut Vec<u8>,
+        text: &mut Vec<u8>,
         place: usize,
         file: Reference<'_>,
     ) -> Result<(), AllocError>
         requires { place < length self.now.plan.now.jobs }
-        ensures { OnOk result ((d : AJob) → told.new.items ≡ told.old.items ++ unread_reference_text
+        ensures { OnOk result ((d : AJob) → text.new.items ≡ text.old.items ++ unread_reference_text
             self.now.path.now self.now.lines.now self.now.unread.now place
             (slice_index_or self.now.plan.now.jobs place d) (option_map (λ kept. kept.now) file.entry.kept)
             (option_map (λ path. path.now) file.entry.path)) }
@@ -151,11 +151,11 @@ impl<'a> CheckedList<'a> {
         match (file.kept, file.path) {
             (Some(Kept::Unreadable), Some(path)) => {
                 let reason = unread_file_text(alloc, self.unread, path)?;
-                self.push_refused_file(told, place, Refusal::ReferenceUnreadable, Some(reason))
+                self.push_refused_file(text, place, Refusal::ReferenceUnreadable, Some(reason))
             }
             (Some(Kept::TooLong), Some(path)) => {
                 let reason = too_long_file_text(alloc, path)?;
-                self.push_refused_file(told, place, Refusal::ReferenceTooLong, Some(reason))
+                self.push_refused_file(text, place, Refusal::ReferenceTooLong, Some(reason))
             }
             _ => Ok(()),
         }
@@ -165,31 +165,31 @@ impl<'a> CheckedList<'a> {
     #[tactic(auto, unfolding(crate::specs::CheckText::refused_file_line))]
     fn push_refused_file(
         &self,
-        told: &mut Vec<u8>,
+        text: &mut Vec<u8>,
         place: usize,
         why: Refusal,
         reason: Option<Vec<u8>>,
     ) -> Result<(), AllocError>
         requires { place < length self.now.plan.now.jobs }
-        ensures { OnOk result ((d : AJob) → told.new.items ≡ told.old.items ++ refused_file_line
+        ensures { OnOk result ((d : AJob) → text.new.items ≡ text.old.items ++ refused_file_line
             self.now.path.now self.now.lines.now place (slice_index_or self.now.plan.now.jobs place d) why
             (option_map (λ text. text.items) reason)) }
     {
-        self.push_job_prefix(told, ": error:", place, self.plan.job(place))?;
-        push_refusal(told, why, reason)?;
-        push_text(told, "\n")
+        self.push_job_prefix(text, ": error:", place, self.plan.job(place))?;
+        push_refusal(text, why, reason)?;
+        push_text(text, "\n")
     }
 
     /// Appends a warning for each job that expects two ends, and returns their number.
-    pub(crate) fn push_warned_jobs(&self, told: &mut Vec<u8>) -> Result<usize, AllocError>
-        ensures text { OnOk result (told.new.items ≡ told.old.items ++ texts_of_jobs
+    pub(crate) fn push_warned_jobs(&self, text: &mut Vec<u8>) -> Result<usize, AllocError>
+        ensures text { OnOk result (text.new.items ≡ text.old.items ++ texts_of_jobs
             (warned_job_text self.now.path.now self.now.lines.now) self.now.plan.now.jobs) }
         ensures count { IfOk result (λ warned. warned ≡ warned_job_count self.now.plan.now) }
     {
         let mut warned = 0;
         for place in 0..self.plan.jobs() {
             let job = self.plan.job(place);
-            self.push_job_if_warned(told, place, job)?;
+            self.push_job_if_warned(text, place, job)?;
             if expects_two_ends(job) {
                 warned += 1;
             }
@@ -201,16 +201,16 @@ impl<'a> CheckedList<'a> {
     #[tactic(auto, unfolding(crate::specs::CheckText::warned_job_text))]
     fn push_job_if_warned(
         &self,
-        told: &mut Vec<u8>,
+        text: &mut Vec<u8>,
         place: usize,
         job: &Job,
     ) -> Result<(), AllocError>
         requires { place < length self.now.plan.now.jobs }
-        ensures { OnOk result (told.new.items ≡ told.old.items
+        ensures { OnOk result (text.new.items ≡ text.old.items
             ++ warned_job_text self.now.path.now self.now.lines.now place job.now) }
     {
         if expects_two_ends(job) {
-            self.push_two_ends_warning(told, place, job)?;
+            self.push_two_ends_warning(text, place, job)?;
         }
         Ok(())
     }
@@ -218,35 +218,35 @@ impl<'a> CheckedList<'a> {
     #[tactic(auto, unfolding(crate::specs::CheckText::two_ends_line))]
     fn push_two_ends_warning(
         &self,
-        told: &mut Vec<u8>,
+        text: &mut Vec<u8>,
         place: usize,
         job: &Job,
     ) -> Result<(), AllocError>
         requires { place < length self.now.plan.now.jobs }
-        ensures { OnOk result (told.new.items ≡ told.old.items
+        ensures { OnOk result (text.new.items ≡ text.old.items
             ++ two_ends_line self.now.path.now self.now.lines.now place job.now) }
     {
-        self.push_job_prefix(told, ": warning:", place, job)?;
-        push_two_ends(told, job.expect_exit, job.expect_end)?;
-        push_text(told, "\n")
+        self.push_job_prefix(text, ": warning:", place, job)?;
+        push_two_ends(text, job.expect_exit, job.expect_end)?;
+        push_text(text, "\n")
     }
 
     // Appends the location of the job at index `place`, the severity of the problem, and the job's number and name.
     #[tactic(auto, unfolding(crate::specs::CheckText::job_prefix))]
     fn push_job_prefix(
         &self,
-        told: &mut Vec<u8>,
+        text: &mut Vec<u8>,
         severity: &'static str,
         place: usize,
         job: &Job,
     ) -> Result<(), AllocError>
         requires { place < length self.now.plan.now.jobs }
-        ensures { OnOk result (told.new.items ≡ told.old.items
+        ensures { OnOk result (text.new.items ≡ text.old.items
             ++ job_prefix severity.now self.now.path.now self.now.lines.now place job.now) }
     {
-        self.push_path_and_line(told, place)?;
+        self.push_path_and_line(text, place)?;
         push_spans(
-            told,
+            text,
             &[
                 Span::Text(severity),
                 Span::Text(" job "),
@@ -259,28 +259,28 @@ impl<'a> CheckedList<'a> {
     }
 
     // Appends the path of the list, and the line on which the job begins if it is known.
-    fn push_path_and_line(&self, told: &mut Vec<u8>, place: usize) -> Result<(), AllocError>
-        ensures { OnOk result (told.new.items ≡ told.old.items
+    fn push_path_and_line(&self, text: &mut Vec<u8>, place: usize) -> Result<(), AllocError>
+        ensures { OnOk result (text.new.items ≡ text.old.items
             ++ path_and_line self.now.path.now (slice_get self.now.lines.now place)) }
     {
         let path = Span::Shown(self.path.as_bytes());
         match self.lines.get(place) {
-            Some(line) => push_spans(told, &[path, Span::Text(":"), Span::Number(*line as u64)]),
-            None => push_spans(told, &[path]),
+            Some(line) => push_spans(text, &[path, Span::Text(":"), Span::Number(*line as u64)]),
+            None => push_spans(text, &[path]),
         }
     }
 }
 
 // Appends the reason of a refusal, with details if they are known.
-fn push_refusal(told: &mut Vec<u8>, why: Refusal, reason: Option<Vec<u8>>) -> Result<(), AllocError>
-    ensures { OnOk result (told.new.items ≡ told.old.items
+fn push_refusal(text: &mut Vec<u8>, why: Refusal, reason: Option<Vec<u8>>) -> Result<(), AllocError>
+    ensures { OnOk result (text.new.items ≡ text.old.items
         ++ refusal_text why (option_map (λ text. text.items) reason)) }
 {
     let refused = Span::Text("refused ");
     let name = Span::Text(why.name());
     match reason {
         Some(reason) => push_spans(
-            told,
+            text,
             &[
                 refused,
                 name,
@@ -288,20 +288,20 @@ fn push_refusal(told: &mut Vec<u8>, why: Refusal, reason: Option<Vec<u8>>) -> Re
                 Span::Shown(reason.as_slice()),
             ],
         ),
-        None => push_spans(told, &[refused, name]),
+        None => push_spans(text, &[refused, name]),
     }
 }
 
 // Appends the warning that a job expects both an exit code and another end.
 fn push_two_ends(
-    told: &mut Vec<u8>,
+    text: &mut Vec<u8>,
     code: Option<u32>,
     end: Option<ExpectedEnd>,
 ) -> Result<(), AllocError>
-    ensures { OnOk result (told.new.items ≡ told.old.items ++ two_ends_text code end) }
+    ensures { OnOk result (text.new.items ≡ text.old.items ++ two_ends_text code end) }
 {
     push_spans(
-        told,
+        text,
         &[
             Span::Text("expect_exit = "),
             Span::Number(code.unwrap_or(0) as u64),
@@ -325,48 +325,48 @@ fn expected_end_name(end: Option<ExpectedEnd>) -> &'static str
 /// Appends the line that counts the jobs, the refused jobs and the warnings.
 #[tactic(auto, unfolding(crate::specs::CheckText::job_counts_line))]
 pub(crate) fn push_job_counts_line(
-    told: &mut Vec<u8>,
+    text: &mut Vec<u8>,
     jobs: usize,
     refused: usize,
     warned: usize,
 ) -> Result<(), AllocError>
-    ensures { OnOk result (told.new.items ≡ told.old.items ++ job_counts_line jobs refused warned) }
+    ensures { OnOk result (text.new.items ≡ text.old.items ++ job_counts_line jobs refused warned) }
 {
     push_spans(
-        told,
+        text,
         &[
             Span::Number(jobs as u64),
             Span::Text(job_word(jobs)),
             Span::Text(", "),
         ],
     )?;
-    push_refused_count(told, refused)?;
-    push_warning_count(told, warned)?;
-    push_text(told, "\n")
+    push_refused_count(text, refused)?;
+    push_warning_count(text, warned)?;
+    push_text(text, "\n")
 }
 
 // Appends the number of refused jobs, in words.
-fn push_refused_count(told: &mut Vec<u8>, refused: usize) -> Result<(), AllocError>
-    ensures { OnOk result (told.new.items ≡ told.old.items ++ refused_count_text refused) }
+fn push_refused_count(text: &mut Vec<u8>, refused: usize) -> Result<(), AllocError>
+    ensures { OnOk result (text.new.items ≡ text.old.items ++ refused_count_text refused) }
 {
     if refused == 0 {
-        return push_text(told, "none refused");
+        return push_text(text, "none refused");
     }
     push_spans(
-        told,
+        text,
         &[Span::Number(refused as u64), Span::Text(" refused")],
     )
 }
 
 // Appends the number of warnings; nothing if there are none.
-fn push_warning_count(told: &mut Vec<u8>, warned: usize) -> Result<(), AllocError>
-    ensures { OnOk result (told.new.items ≡ told.old.items ++ warning_count_text warned) }
+fn push_warning_count(text: &mut Vec<u8>, warned: usize) -> Result<(), AllocError>
+    ensures { OnOk result (text.new.items ≡ text.old.items ++ warning_count_text warned) }
 {
     if warned == 0 {
         return Ok(());
     }
     push_spans(
-        told,
+        text,
         &[Span::Text(", "), Span::Count(warned as u64, "warning")],
     )
 }

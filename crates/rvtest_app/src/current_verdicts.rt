@@ -8,10 +8,10 @@ ghost use Rattle.rv_command.specs.Texts.{optional_text};
 ghost use Rattle.rv_expect.specs.Comparisons.{sides_of};
 ghost use Rattle.rv_expect.specs.UnmetExpectations.{is_same};
 ghost use Rattle.rv_files.specs.UnreadPaths.{resolved_path};
-ghost use Rattle.rvtest_app.specs.CurrentVerdicts.{AreCandidates, IsCandidateAt, IsGoldenText, IsStanding, IsWholeText, compared_row, is_marked, is_none_unmet, path_to_read};
+ghost use Rattle.rvtest_app.specs.CurrentVerdicts.{AreCandidates, IsCandidateAt, IsGoldenText, IsStanding, IsWholeText, compared_row, is_selected, is_none_unmet, path_to_read};
 ghost use Rattle.rvtest_app.specs.CurrentVerdicts.{sides_over, verdict_by, verdict_of_sides};
 
-use crate::accepted_files::place_of_path;
+use crate::accepted_files::golden_file_path;
 use rv_accept::{Acceptance, Candidate, CurrentVerdict, console_path, is_accepted_end};
 use rv_expect::{Comparison, Unmet, unmet_expectations};
 use rv_files::{InputError, Inputs, read_whole_up_to};
@@ -61,7 +61,7 @@ impl<'x, D: Inputs> CurrentFiles<'x, D> {
         ensures { IfOk result (IsCandidateAt (D.contents self.now.inputs.now) (optional_text self.now.folder)
             self.now.rows.now chosen.now place job.now) }
     {
-        let is_chosen = is_marked(chosen, place);
+        let is_chosen = is_selected(chosen, place);
         match self.row_at(place) {
             Some(row) => {
                 let standing = self.standing(job, row)?;
@@ -141,7 +141,7 @@ impl<'x, D: Inputs> CurrentFiles<'x, D> {
         ensures { IfOk result (λ text. IsWholeText (D.contents self.now.inputs.now)
             (resolved_path (optional_text self.now.folder) path.now) (option_map (λ bytes. bytes.items) text)) }
     {
-        let place = place_of_path(self.alloc, self.folder, path)?;
+        let place = golden_file_path(self.alloc, self.folder, path)?;
         self.text_at(place.as_str())
     }
 
@@ -167,8 +167,8 @@ fn add_candidate(candidates: &mut Vec<Candidate>, candidate: Candidate) -> Resul
 }
 
 // Whether the job at index `place` is selected.
-fn is_marked(marks: &[bool], place: usize) -> bool
-    ensures { result ≡ is_marked marks.now place }
+fn is_selected(marks: &[bool], place: usize) -> bool
+    ensures { result ≡ is_selected marks.now place }
 {
     match marks.get(place) {
         Some(marked) => *marked,

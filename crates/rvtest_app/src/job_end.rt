@@ -41,7 +41,7 @@ impl EndText for JobEnd {
         machine: &Machine,
         text: &mut Vec<u8>,
     ) -> Result<(), AllocError> {
-        let row = row_behind(alloc, self, place, machine)?;
+        let row = row_after_steps(alloc, self, place, machine)?;
         let reporter = TextReporter {
             plan: &self.plan,
             unread: self.unread.as_slice(),
@@ -54,7 +54,7 @@ impl EndText for JobEnd {
 }
 
 // Returns the row of the job, given its machine after `steps` steps of the run.
-fn row_behind(alloc: Global, job: &JobEnd, steps: u32, machine: &Machine) -> Result<Row, AllocError>
+fn row_after_steps(alloc: Global, job: &JobEnd, steps: u32, machine: &Machine) -> Result<Row, AllocError>
     requires { IsReached (job_start job.now.plan job.now.place) steps (state_of machine.now) }
     ensures { IfOk result (λ row. (d : AJob) → row
         ≡ row_of job.now.plan (slice_index_or job.now.plan.jobs job.now.place d)) }

@@ -86,11 +86,11 @@ fn is_image_missing(job: &Job, unread: &[UnreadPath]) -> bool
     ensures { result ≡ is_image_missing unread.now job.now }
 {
     let path = job.image.as_str();
-    !path.as_bytes().starts_with(b"/") && is_reported_missing(unread_note(unread, path))
+    !path.as_bytes().starts_with(b"/") && is_reported_missing(unread_path(unread, path))
 }
 
 // Returns the first entry for this path in the list of paths that could not be read.
-fn unread_note<'a>(unread: &'a [UnreadPath], path: &str) -> Option<&'a UnreadPath>
+fn unread_path<'a>(unread: &'a [UnreadPath], path: &str) -> Option<&'a UnreadPath>
     ensures { option_map (λ one. one.now) result ≡ unread_note unread.now path.now }
 {
     unread.iter().find(|one| path == one.path.as_str())

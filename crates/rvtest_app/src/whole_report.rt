@@ -31,7 +31,7 @@ pub(crate) enum NotWhole<'a> {
 #[derive(Clone, Copy)]
 pub(crate) struct OtherName<'a> {
     pub(crate) number: usize,
-    pub(crate) met: &'a str,
+    pub(crate) in_report: &'a str,
     pub(crate) listed: &'a str,
 }
 
@@ -97,7 +97,7 @@ fn first_other_name<'a>(rows: &'a [Row], jobs: &'a [Job]) -> Option<OtherName<'a
         if met != listed {
             return Some(OtherName {
                 number: place + 1,
-                met,
+                in_report: met,
                 listed,
             });
         }
@@ -179,7 +179,7 @@ fn name_refusal<'a>(
     name: OtherName<'a>,
 ) -> Result<Vec<u8>, AllocError>
     ensures { IfOk result (λ text. text.items
-        ≡ name_refusal path.now list.now name.entry.number name.entry.met.now name.entry.listed.now) }
+        ≡ name_refusal path.now list.now name.entry.number name.entry.in_report.now name.entry.listed.now) }
 {
     text_of_spans(
         alloc,
@@ -189,7 +189,7 @@ fn name_refusal<'a>(
             Span::Text(": job "),
             Span::Number(name.number as u64),
             Span::Text(" is \""),
-            Span::Text(name.met),
+            Span::Text(name.in_report),
             Span::Text("\", but \""),
             Span::Text(name.listed),
             Span::Text("\" in "),

@@ -19,9 +19,9 @@ use Rattle.clap.specs.declared.parser.matches.ArgMatches.TheViews.{out-SubComman
 use Rattle.clap.specs.declared.parser.matches.SubCommand.{SubCommand}
 use Rattle.rvtest_cli.specs.RvtestCommand.{test_app}
 use Rattle.rvtest_cli.specs.RvtestWords.{FailsByMisuse, IsRequestInRange, IsMisuseReported, value_of_request, help_command_args, is_command_help, is_help}
-use Rattle.rvtest_cli.specs.RvtestWords.{matched_misuse, matched_words, misuse_kinds, plain_fault_kinds, plain_misuse, words_fault_kinds, words_faults}
+use Rattle.rvtest_cli.specs.RvtestWords.{matched_misuse, matched_request, misuse_kinds, plain_fault_kinds, plain_misuse, words_fault_kinds, words_faults}
 use Rattle.rvtest_cli.specs.RvtestWords.{words_misuse, request_of_args}
-use Rattle.rvtest_cli.specs.WordsErrors.{FailsByKinds, IsToldOf, IsErrorOfKind}
+use Rattle.rvtest_cli.specs.WordsErrors.{FailsByKinds, IsErrorOfKinds, IsErrorOfKind}
 use Rattle.rvtest_cli.specs.declared.refusals.Misuse.{Misuse}
 use Rattle.rvtest_cli.specs.declared.requests.Request.{Request}
 use Rattle.rvtest_cli.specs.declared.words_error.WordsError.{WordsError}
@@ -57,13 +57,13 @@ refused app words error is has =
 
 -- an error of one of these kinds is told as one of them
 pub told_of : (kinds : Kinds) (met : ErrorKind) (told : WordsError) → (met ≡ OutOfMemory) ⊎ IsAmong met kinds
-    → IsErrorOfKind met told → IsToldOf kinds told
+    → IsErrorOfKind met told → IsErrorOfKinds kinds told
 told_of kinds met error.OutOfMemory has is = tt
 told_of kinds met (error.Told fault text) has is =
     ⊎_elim (λ memory. absurd (is.1 memory)) (λ among. subst (λ k. IsAmong k kinds) (sym is.0) among) has
 
 -- where there is none of any kind, memory was wanting
-pub none_told : (misuse : Option Misuse) (told : WordsError) → IsToldOf [] told → IsMisuseReported misuse told
+pub none_told : (misuse : Option Misuse) (told : WordsError) → IsErrorOfKinds [] told → IsMisuseReported misuse told
 none_told misuse error.OutOfMemory is = tt
 none_told misuse (error.Told fault text) is = absurd is
 
@@ -71,7 +71,7 @@ none_told misuse (error.Told fault text) is = absurd is
 pub of_memory : {T : Type 0} (r : Result T WordsError) (kinds : Kinds) → IsErrAnd r (λ e. e ≡ error.OutOfMemory)
     → FailsByKinds kinds r
 of_memory (Ok x) kinds fails = absurd fails
-of_memory (Err e) kinds fails = subst (IsToldOf kinds) (sym fails) tt
+of_memory (Err e) kinds fails = subst (IsErrorOfKinds kinds) (sym fails) tt
 
 pub no_misuse : {T : Type 0} (r : Result T WordsError) (misuse : Option Misuse) → IsErrAnd r (λ e. e ≡ error.OutOfMemory)
     → IfErr r (IsMisuseReported misuse)
@@ -108,7 +108,7 @@ module _ (words help : List Text) (is : help_command_args words ≡ Some help) w
       → IfOk r (λ request. option_map value_of_request request ≡ request_of_args words)
   help_value r none =
       IfOk-weaker r _ _ (λ request nothing. ap (option_map value_of_request) nothing
-      ∙ sym (ap (λ found. matched_words (option_map_or (λ _. None) found (subcommand_of test_app words))) is)) none
+      ∙ sym (ap (λ found. matched_request (option_map_or (λ _. None) found (subcommand_of test_app words))) is)) none
 
   pub help_kinds : {T : Type 0} (r : Result T WordsError) → FailsByKinds (fault_of test_app help) r
       → FailsByKinds (words_fault_kinds words) r
@@ -122,12 +122,12 @@ module _ (words help : List Text) (is : help_command_args words ≡ Some help) w
   help_misused (Ok x) fails none = tt
   help_misused (Err e) fails none =
       let found : Option (List Text) → Kinds = λ h. fault_of test_app (option_map_or (λ h. h) h words) in
-      none_told (words_misuse words) e (subst (λ kinds. IsToldOf kinds e) (sym (ap found is) ∙ none) fails)
+      none_told (words_misuse words) e (subst (λ kinds. IsErrorOfKinds kinds e) (sym (ap found is) ∙ none) fails)
 
 -- other arguments, which are parsed as they are
 module _ (words : List Text) (none : help_command_args words ≡ None) where
   pub plain_value : (r : Result (Option Request) WordsError)
-      → IfOk r (λ request. option_map value_of_request request ≡ matched_words (subcommand_of test_app words))
+      → IfOk r (λ request. option_map value_of_request request ≡ matched_request (subcommand_of test_app words))
       → IfOk r (λ request. option_map value_of_request request ≡ request_of_args words)
   plain_value r request = rw none request
 

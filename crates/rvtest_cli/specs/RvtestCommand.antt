@@ -17,11 +17,11 @@ use Rattle.rv_cli.specs.RvfleetCommand.{group_rule}
 abbrev pub repeated_rule : Rule → Rule
 repeated_rule rule = record rule { action = Some Append }
 
--- the rule of an option with a number from `least` to `most`, and its default values `usual`
+-- the rule of an option with a number from `least` to `most`, and its default values `defaults`
 abbrev pub number_rule : Text → ℤ → ℤ → List (Bor Text) → Rule
-number_rule name least most usual = record (option_rule name) {
+number_rule name least most defaults = record (option_rule name) {
   parser = Some (value_parser.Signed least most);
-  defaults = map (λ text. text.now) usual;
+  defaults = map (λ text. text.now) defaults;
 }
 
 -- the rule of an option with the path of a file, which is not empty
@@ -66,8 +66,8 @@ argument_rule (argument.Option name value help) = option_rule name.now
 argument_rule (argument.File name help) = file_rule name.now
 argument_rule (argument.Again name value help) = repeated_rule (option_rule name.now)
 argument_rule (argument.Flag name letter help) = with_letter (flag_rule name.now) letter
-argument_rule (argument.Number name letter help bounds usual) =
-    with_letter (number_rule name.now bounds.least bounds.most usual.now) letter
+argument_rule (argument.Number name letter help bounds defaults) =
+    with_letter (number_rule name.now bounds.least bounds.most defaults.now) letter
 argument_rule argument.Group = group_rule
 
 -- the rule of <PART>..

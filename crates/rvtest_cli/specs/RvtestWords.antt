@@ -346,8 +346,8 @@ abbrev pub help_request : List Row → Option Words
 help_request rows = option_map help (first_of (codes "topic") rows)
 
 -- the request of the subcommand `name` with these matches of `clap`; none if a required argument is missing
-abbrev pub subcommand_words : Text → List Row → Option Words
-subcommand_words name rows = if bytes_eq name (codes "run") then test_run_request rows
+abbrev pub subcommand_request : Text → List Row → Option Words
+subcommand_request name rows = if bytes_eq name (codes "run") then test_run_request rows
     else if bytes_eq name (codes "list") then list_request rows
     else if bytes_eq name (codes "explain") then explain_request rows
     else if bytes_eq name (codes "console") then console_request rows
@@ -364,8 +364,8 @@ subcommand_words name rows = if bytes_eq name (codes "run") then test_run_reques
     else None
 
 -- the request of the matched subcommand and its matches; none without a subcommand
-abbrev pub matched_words : Option (Text × List Row) → Option Words
-matched_words = option_and_then (λ found. subcommand_words found.0 found.1)
+abbrev pub matched_request : Option (Text × List Row) → Option Words
+matched_request = option_and_then (λ found. subcommand_request found.0 found.1)
 
 -- ---- help for a command
 
@@ -395,7 +395,7 @@ requested_subcommand words = option_map_or (λ help. None) (help_command_args wo
 
 -- the request that the arguments make, by the matches of `clap`
 abbrev pub request_of_args : List Text → Option Words
-request_of_args words = matched_words (requested_subcommand words)
+request_of_args words = matched_request (requested_subcommand words)
 
 -- ---- misused options
 

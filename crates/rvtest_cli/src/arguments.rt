@@ -62,8 +62,8 @@ impl<'a> Argument<'a> {
             Argument::Flag(name, letter, help) => {
                 with_letter(flag_argument(alloc, name, help), letter)
             }
-            Argument::Number(name, letter, help, bounds, usual) => {
-                with_letter(number_argument(alloc, name, help, bounds, usual), letter)
+            Argument::Number(name, letter, help, bounds, defaults) => {
+                with_letter(number_argument(alloc, name, help, bounds, defaults), letter)
             }
             Argument::Group => group_argument(alloc),
         }
@@ -128,12 +128,12 @@ fn number_argument<'a>(
     name: &'a str,
     help: &'a str,
     bounds: Bounds,
-    usual: &'a [&'a str],
+    defaults: &'a [&'a str],
 ) -> Arg<'a>
-    ensures { (rule_of result ≡ number_rule name.entry.now bounds.least bounds.most usual.entry.now)
+    ensures { (rule_of result ≡ number_rule name.entry.now bounds.least bounds.most defaults.entry.now)
         × (result.global ≡ false) }
 {
     option_argument(alloc, name, "N", help)
         .value_parser(ValueParser::Signed(bounds.least, bounds.most))
-        .default_values(usual)
+        .default_values(defaults)
 }

@@ -4,8 +4,8 @@ ghost use Rattle.std.specs.Prelude.{◌≡◌, [], IfErr, IfOk, IfSome, None, ma
 ghost use Rattle.clap.specs.Words.{fault_of, found_of, rows_of, subcommand_of, subcommand_rows_of};
 ghost use Rattle.rvtest_cli.specs.RvtestCommand.{test_app};
 ghost use Rattle.rvtest_cli.specs.RvtestWords.{IsRequestInRange, IsMisuseReported, ReadsRequest, matched_misuse, subcommand_misuse};
-ghost use Rattle.rvtest_cli.specs.RvtestWords.{value_of_request, is_command_help, is_help, matched_words, plain_fault_kinds, plain_misuse};
-ghost use Rattle.rvtest_cli.specs.RvtestWords.{subcommand_words, words_fault_kinds, words_faults, words_misuse, request_of_args};
+ghost use Rattle.rvtest_cli.specs.RvtestWords.{value_of_request, is_command_help, is_help, matched_request, plain_fault_kinds, plain_misuse};
+ghost use Rattle.rvtest_cli.specs.RvtestWords.{subcommand_request, words_fault_kinds, words_faults, words_misuse, request_of_args};
 ghost use Rattle.rvtest_cli.specs.WordsErrors.{FailsByKinds};
 
 use crate::accept::{AcceptArgs, accept_request};
@@ -122,7 +122,7 @@ fn read_request<'a, T: AsStr>(
     words: &'a [T],
 ) -> Result<Option<Request<'a>>, WordsError>
     ensures value { IfOk result
-        (λ request. option_map value_of_request request ≡ matched_words (subcommand_of test_app (map T.text words.entry.now))) }
+        (λ request. option_map value_of_request request ≡ matched_request (subcommand_of test_app (map T.text words.entry.now))) }
     ensures within { IfOk result (λ request. IfSome request IsRequestInRange) }
     ensures kinds { FailsByKinds (plain_fault_kinds (map T.text words.entry.now)) result }
     ensures misused { fault_of test_app (map T.text words.entry.now) ≡ []
@@ -139,7 +139,7 @@ fn matched_request<'a>(
     alloc: Global,
     matches: &ArgMatches<'a>,
 ) -> Result<Option<Request<'a>>, WordsError>
-    ensures { ReadsRequest (matched_words (subcommand_rows_of matches.now))
+    ensures { ReadsRequest (matched_request (subcommand_rows_of matches.now))
         (matched_misuse (subcommand_rows_of matches.now)) result }
 {
     match matches.subcommand() {
@@ -153,7 +153,7 @@ fn subcommand_request<'a>(
     name: &str,
     values: &ArgMatches<'a>,
 ) -> Result<Option<Request<'a>>, WordsError>
-    ensures { ReadsRequest (subcommand_words name.now (rows_of (found_of values.now)))
+    ensures { ReadsRequest (subcommand_request name.now (rows_of (found_of values.now)))
         (subcommand_misuse name.now (rows_of (found_of values.now))) result }
 {
     match name {

@@ -16,7 +16,7 @@ const MEMORY_SIZE: usize = 72;
 ///
 /// After `code` come numbers, the bytes of the only segment. After the other words come changes: `24=90000000` writes the number at byte
 /// 24, little-endian, and `51` keeps only the first 51 bytes.
-pub fn file(alloc: Global, text: &str) -> Result<Vec<u8>, SampleError> {
+pub fn sample_file(alloc: Global, text: &str) -> Result<Vec<u8>, SampleError> {
     let (name, rest) = text.split_once(' ').unwrap_or((text, ""));
     match name {
         "one" => changed(alloc, &ONE_SEGMENT, rest),

@@ -7,6 +7,6 @@ mod images;
 mod tables;
 
 pub use digits::{SampleError, file_bytes, numbers};
-pub use files::file;
+pub use files::sample_file;
 pub use images::{CHECKSUM, ONE_SEGMENT, UPPER, UPPER_STRIPPED};
 pub use tables::{agree, cell_of, has_lines, hex_of};

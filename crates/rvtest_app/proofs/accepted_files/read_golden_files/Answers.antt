@@ -16,7 +16,7 @@ loop-target-preserved g c =
           (record {
             of = refl;
             leads = rw c.as_str.ensures at c.in_ok-place.ensures;
-            stands = rw c.as_str-in-loop-target.ensures at c.in_ok-old.ensures.old;
+            old_contents = rw c.as_str-in-loop-target.ensures at c.in_ok-old.ensures.old;
           })
           c.in_ok-add_file.ensures;
       last = one_target_less known root c.args.targets.items (into_iter_items c.loop-target.target-iterator)

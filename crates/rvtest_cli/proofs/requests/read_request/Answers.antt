@@ -1,7 +1,7 @@
 use Rattle.std.proofs.Common.{◌∙◌, [], ap, map, subst, sym}
 use Rattle.std.proofs.lemmas.Result.{IfOk-weaker}
 use Rattle.clap.specs.Words.{HasKind, app_of, fault_of, is_simple_and_free, kind_of}
-use Rattle.rvtest_cli.specs.RvtestWords.{FailsByMisuse, matched_misuse, misuse_kinds, plain_fault_kinds, plain_misuse, matched_words}
+use Rattle.rvtest_cli.specs.RvtestWords.{FailsByMisuse, matched_misuse, misuse_kinds, plain_fault_kinds, plain_misuse, matched_request}
 use Rattle.rvtest_cli.specs.WordsErrors.{FailsByKinds}
 use Rattle.rvtest_cli.proofs.RvtestReading.{faults, here, kinds_of_misuse, no_misuse, none_told, of_memory, refused, told_of, told_where_failed}
 use Rattle.rvtest_cli.proofs.requests.read_request.Goals as goal
@@ -33,7 +33,7 @@ returns-in-Ok-clause-value g c =
     let words = map g.T.AsStr.text c.args.words.now in
     let is = here (app_of c.in_ok-command.command) words c.in-Ok.matches c.in_ok-command.ensures
     c.in-Ok.ensures.matches in
-    IfOk-weaker c.matched_request.result _ _ (λ request reads. reads.0 ∙ ap matched_words is) c.matched_request.ensures.0
+    IfOk-weaker c.matched_request.result _ _ (λ request reads. reads.0 ∙ ap matched_request is) c.matched_request.ensures.0
 
 pub returns-in-Ok-clause-within : goal.returns-in-Ok-clause-within
 returns-in-Ok-clause-within g c = IfOk-weaker c.matched_request.result _ _ (λ request reads. reads.1) c.matched_request.ensures.0

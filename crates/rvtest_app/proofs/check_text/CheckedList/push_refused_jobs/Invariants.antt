@@ -7,7 +7,7 @@ use Rattle.rvtest_app.proofs.check_text.CheckedList.push_refused_jobs.Given as g
 
 abbrev pub invariant-loop-place : goal.invariant-loop-place
 invariant-loop-place l = record {
-  text : l.told.items ≡ l.fn.told.items ++ texts_before
+  text : l.text.items ≡ l.fn.text.items ++ texts_before
       (refused_job_text l.self.path.now l.self.lines.now l.self.plan.now l.self.unread.now) l.self.plan.now.jobs l.place;
   count : l.refused ≡ length (filter (is_job_refused l.self.plan.now) (take l.place l.self.plan.now.jobs));
   within : l.refused ≤ l.place;

@@ -18,7 +18,7 @@ loop-place-preserved c =
     let line = warned_job_text list.path.now list.lines.now in
     let text = texts_before-more line jobs place job _ _ _ below c.loop-place.invariant.text
     (c.in_ok-push_job_if_warned.ensures
-    ∙ ap (λ (one : Job). c.loop-place.told.items ++ line place one) c.job-job.ensures.value) in
+    ∙ ap (λ (one : Job). c.loop-place.text.items ++ line place one) c.job-job.ensures.value) in
     let before = length (filter expects_two_ends (take place jobs)) in
     let more = length-filter_more expects_two_ends jobs place job below in
     let warned = c.expects_two_ends.ensures ∙ ap expects_two_ends c.job-job.ensures.value in

@@ -7,7 +7,7 @@ use Rattle.rvtest_app.proofs.check_text.CheckedList.push_warned_jobs.Given as go
 
 abbrev pub invariant-loop-place : goal.invariant-loop-place
 invariant-loop-place l = record {
-  text : l.told.items ≡ l.fn.told.items ++ texts_before
+  text : l.text.items ≡ l.fn.text.items ++ texts_before
       (warned_job_text l.self.path.now l.self.lines.now) l.self.plan.now.jobs l.place;
   count : l.warned ≡ length (filter expects_two_ends (take l.place l.self.plan.now.jobs));
   within : l.warned ≤ l.place;

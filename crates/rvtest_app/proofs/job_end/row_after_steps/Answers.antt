@@ -3,7 +3,7 @@ use Rattle.std.proofs.lemmas.List.{get_or_read}
 use Rattle.rv_lists.specs.declared.job.Job.{Job}
 use Rattle.rvtest_app.specs.Debugging.{job_start}
 use Rattle.rvtest_app.proofs.JobStarts.{starts_there}
-use Rattle.rvtest_app.proofs.job_end.row_behind.Goals as goal
+use Rattle.rvtest_app.proofs.job_end.row_after_steps.Goals as goal
 
 pub row_from-requires-clause-way : goal.row_from-requires-clause-way
 row_from-requires-clause-way c =
