@@ -13,7 +13,7 @@ use Rattle.rv_claims.specs.declared.view.Entry.{Entry}
 use Rattle.rv_claims.specs.Draws.{numbers, entry, first_place_of}
 use Rattle.rv_claims.specs.Passes.{SharedDraw, PassView, has_ended, with_draw, AllBelow, piece_of}
 use Rattle.rv_claims.proofs.Passes.{ends_now}
-use Rattle.rv_claims.specs.NewPieces.{Grew, new_pieces}
+use Rattle.rv_claims.specs.NewPieces.{HasDrawnMore, new_pieces}
 
 -- one more than the greatest number
 abbrev pub above : List Entry → ℕ
@@ -77,14 +77,14 @@ took_none p q r pieces t is same = ⊎_elim
     (bool_cases (has_ended p))
 
 -- one draw more
-pub grew_more : (s p : PassView) (n : ℕ) → Grew s p → Grew s (with_draw p n)
+pub grew_more : (s p : PassView) (n : ℕ) → HasDrawnMore s p → HasDrawnMore s (with_draw p n)
 grew_more s p n g = let e = entry (first_place_of p.places) n in
     (g.0, g.1, (g.2.0 ++ e ∷ [], ap (λ (l : List Entry). l ++ e ∷ []) g.2.1 ∙ append_assoc s.draws g.2.0 (e ∷ [])))
 
-since : (s p : PassView) (g : Grew s p) → drop (length s.draws) p.draws ≡ g.2.0
+since : (s p : PassView) (g : HasDrawnMore s p) → drop (length s.draws) p.draws ≡ g.2.0
 since s p g = ap (drop (length s.draws)) g.2.1 ∙ drop-append_seam s.draws g.2.0
 
-new_more : (s p : PassView) (n : ℕ) → Grew s p → new_pieces s (with_draw p n) ≡ new_pieces s p
+new_more : (s p : PassView) (n : ℕ) → HasDrawnMore s p → new_pieces s (with_draw p n) ≡ new_pieces s p
     ++ filter (λ k. nat_lt k s.draw.pieces) (n ∷ [])
 unfolding grew_more
 new_more s p n g =
@@ -96,23 +96,23 @@ new_more s p n g =
     ∙ (filter-append test (numbers g.2.0) (n ∷ [])
     ∙ ap (λ (l : List ℕ). l ++ filter test (n ∷ [])) (ap list (sym (since s p g)))))
 
-pub new_piece : (s p : PassView) (n : ℕ) → Grew s p → n < s.draw.pieces → new_pieces s (with_draw p n) ≡ new_pieces s p
+pub new_piece : (s p : PassView) (n : ℕ) → HasDrawnMore s p → n < s.draw.pieces → new_pieces s (with_draw p n) ≡ new_pieces s p
     ++ n ∷ []
 new_piece s p n g h = new_more s p n g
     ∙ ap (λ (b : Bool). new_pieces s p ++ cond b (n ∷ []) []) (lt-ltb n s.draw.pieces h)
 
-pub no_new_piece : (s p : PassView) (n : ℕ) → Grew s p → s.draw.pieces ≤ n
+pub no_new_piece : (s p : PassView) (n : ℕ) → HasDrawnMore s p → s.draw.pieces ≤ n
     → new_pieces s (with_draw p n) ≡ new_pieces s p
 no_new_piece s p n g h = new_more s p n g
     ∙ (ap (λ (b : Bool). new_pieces s p ++ cond b (n ∷ []) []) (le-ltb n s.draw.pieces h) ∙ append-nil (new_pieces s p))
 
 -- after a piece was made
-pub made_one : {A : Type 0} (f : ℕ → A) (s p q : PassView) (k pieces : ℕ) (had now : List A) (x : A) → Grew s p
+pub made_one : {A : Type 0} (f : ℕ → A) (s p q : PassView) (k pieces : ℕ) (had now : List A) (x : A) → HasDrawnMore s p
     → q ≡ with_draw p k → k < pieces → s.draw.pieces ≡ pieces
-    → had ≡ map f (new_pieces s p) → now ≡ had ++ x ∷ [] → x ≡ f k → Grew s q × (now ≡ map f (new_pieces s q))
+    → had ≡ map f (new_pieces s p) → now ≡ had ++ x ∷ [] → x ≡ f k → HasDrawnMore s q × (now ≡ map f (new_pieces s q))
 made_one f s p q k pieces had now x g is low same was pushed made =
     let low' : k < s.draw.pieces = omega arith in
-    subst (λ (z : PassView). Grew s z × (now ≡ map f (new_pieces s z))) (sym is) (
+    subst (λ (z : PassView). HasDrawnMore s z × (now ≡ map f (new_pieces s z))) (sym is) (
       grew_more s p k g,
       pushed
           ∙ ((λ i. was i ++ made i ∷ [])
@@ -120,17 +120,17 @@ made_one f s p q k pieces had now x g is low same was pushed made =
     )
 
 -- after the last take
-pub made_all : {A : Type 0} (f : ℕ → A) (s p q : PassView) (r : Option ℕ) (pieces : ℕ) (had : List A) → Grew s p
+pub made_all : {A : Type 0} (f : ℕ → A) (s p q : PassView) (r : Option ℕ) (pieces : ℕ) (had : List A) → HasDrawnMore s p
     → Takes p q r pieces → r ≡ None → s.draw.pieces ≡ pieces → had ≡ map f (new_pieces s p)
-    → Grew s q × (has_ended q ≡ true) × (had ≡ map f (new_pieces s q))
+    → HasDrawnMore s q × (has_ended q ≡ true) × (had ≡ map f (new_pieces s q))
 made_all f s p q r pieces had g t nothing same was =
     let at : p.draw.pieces ≡ pieces = ap (λ (d : SharedDraw). d.pieces) g.0 ∙ same in
     let o = took_none p q r pieces t nothing at in
     ⊎_elim
-    (λ (e : q ≡ p). (subst (Grew s) (sym e) g, o.0, was ∙ ap (λ (z : PassView). map f (new_pieces s z)) (sym e)))
+    (λ (e : q ≡ p). (subst (HasDrawnMore s) (sym e) g, o.0, was ∙ ap (λ (z : PassView). map f (new_pieces s z)) (sym e)))
     (λ (d : (n : ℕ) × (q ≡ with_draw p n) × (pieces ≤ n)). let high : s.draw.pieces ≤ d.0 =
     let h = d.2 in omega arith in (
-      subst (Grew s) (sym d.1) (grew_more s p d.0 g),
+      subst (HasDrawnMore s) (sym d.1) (grew_more s p d.0 g),
       o.0,
       was
           ∙ (ap (map f) (sym (no_new_piece s p d.0 g high)) ∙ ap (λ (z : PassView). map f (new_pieces s z)) (sym d.1)),

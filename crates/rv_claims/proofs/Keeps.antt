@@ -12,9 +12,9 @@ use Rattle.atomic_table.specs.Table.{State, step, keeps, stepped, opening, Allow
 use Rattle.atomic_table.proofs.Lists.{at_set, set_again}
 use Rattle.rv_claims.specs.declared.view.Entry.{Entry}
 use Rattle.rv_claims.specs.declared.view.View.{View}
-use Rattle.rv_claims.specs.Draws.{total, times, IsIn, Within, IsHistory, past_count, entry, entry_count, numbers, Same}
+use Rattle.rv_claims.specs.Draws.{total, times, IsIn, Within, IsHistory, past_count, entry, entry_count, numbers, HaveSameDraws}
 use Rattle.rv_claims.specs.Draws.{view, first_view, new_seat_view, note_of, joined_view, empty_view, Fits, Runs}
-use Rattle.rv_claims.specs.Draws.{Sitting, first_place_of, Drew, Sat, Looked}
+use Rattle.rv_claims.specs.Draws.{Sitting, first_place_of, IsDraw, IsSeatRequest, IsLook}
 use Rattle.rv_claims.proofs.Sums.{snoc_at, at_lt, in_append, in_left, in_right, in_one, in_none, total-append}
 use Rattle.rv_claims.proofs.Sums.{total-set, term_le, terms_le, some_term, only_term, total_le, total-map, places_few}
 use Rattle.rv_claims.proofs.Sums.{past_no, past_le, history_past, history-snoc, counted_in, weighs_same, views_weigh}
@@ -111,7 +111,7 @@ opens pieces ws wide zeroth first others = record {
 -- a draw
 pub draws : (pieces slots id : ℕ) (m : Sitting) → pieces ≤ 4096 → past_count pieces m.0.draws ≡ 0
     → 0 < length m.0.places
-    → Allows (Runs pieces) slots id m 0 (λ n. (n + 1) % 2 ^ 64) (Drew (step slots 0 1 0 none) m)
+    → Allows (Runs pieces) slots id m 0 (λ n. (n + 1) % 2 ^ 64) (IsDraw (step slots 0 1 0 none) m)
 draws pieces slots id m most going sits s r _ at small =
     let v = m.0 in
     let n : ℕ = get_or s.words 0 0 in
@@ -183,7 +183,7 @@ unmoved pieces s r i id m at =
 
 -- a look
 pub looks : (pieces slots id : ℕ) (m : Sitting)
-    → Allows (Runs pieces) slots id m 0 (λ n. n) (Looked (step slots 0 0 0 none) m)
+    → Allows (Runs pieces) slots id m 0 (λ n. n) (IsLook (step slots 0 0 0 none) m)
 looks pieces slots id m s r _ at small = (
   m.0,
   keeps,
@@ -215,7 +215,7 @@ looks pieces slots id m s r _ at small = (
 
 -- sitting
 pub sits : (pieces slots id : ℕ) (m : Sitting) (p k : ℕ) → p < 64 → k ≡ p + 1
-    → Allows (Runs pieces) slots id m k (λ _. 1) (Sat (step slots k 1 0 none) m)
+    → Allows (Runs pieces) slots id m k (λ _. 1) (IsSeatRequest (step slots k 1 0 none) m)
 sits pieces slots id m p k low is s r _ at small =
     let v = m.0 in
     let n : ℕ = get_or s.words k 0 in
@@ -381,7 +381,7 @@ times_in p ps i = omega (arith, term_le (one_at p) ps i.0 p i.1, one_at-same p)
 
 -- a view with every place that was given holds the whole history
 pub whole : (pieces : ℕ) (s : St) (r : Runs pieces s) (id : ℕ) (v : View) → get_elem? s.views id ≡ some v
-    → ((p : ℕ) → p < 64 → get_or s.words (p + 1) 0 ≡ 1 → IsIn p v.places) → Same v.draws r.history
+    → ((p : ℕ) → p < 64 → get_or s.words (p + 1) 0 ≡ 1 → IsIn p v.places) → HaveSameDraws v.draws r.history
 whole pieces s r id v at all x =
     let empty : (k : ℕ) (u : View) → k ≢ id → get_elem? s.views k ≡ some u → entry_count x u.draws ≡ 0 =
     λ k u ne there.
@@ -421,7 +421,7 @@ at_history h is x low =
     entry_at (e ∷ es) (suc i) h = entry_at es i (omega arith)
 
 -- draws that are a whole history, with one past the end, have each piece once
-pub each_once : (pieces : ℕ) (ds h : List Entry) → IsHistory h → Same ds h → 0 < past_count pieces ds
+pub each_once : (pieces : ℕ) (ds h : List Entry) → IsHistory h → HaveSameDraws ds h → 0 < past_count pieces ds
     → (x : ℕ)
     → x < pieces
     → times x (numbers ds) ≡ 1

@@ -18,7 +18,7 @@ use Rattle.atomic_table.specs.Seated.{TableId}
 use Rattle.atomic_table.specs.Table.{Step, opening, Final, Seen}
 use Rattle.rv_claims.specs.declared.view.Entry.{Entry}
 use Rattle.rv_claims.specs.Draws.{times, joined_view, IsIn, IsHistory, Within, past_count, entry, numbers, first_place_of}
-use Rattle.rv_claims.specs.Draws.{view, Sitting, Drew, Sat, first_view, Runs}
+use Rattle.rv_claims.specs.Draws.{view, Sitting, IsDraw, IsSeatRequest, first_view, Runs}
 use Rattle.rv_claims.specs.Passes.{pass_of, with_draw, piece_of, IsPass, pass_view, opening_row, AreAll}
 use Rattle.rv_claims.proofs.Keeps.{opens, whole, each_once}
 use Rattle.rv_claims.proofs.Sums.{in_append, in_one, in_left, in_right, in_none, total-append, term_le, one_at}
@@ -33,7 +33,7 @@ first_in (p ∷ ps) h = (0, refl)
 
 -- the places of a pass that drew are as they were
 pub drew_pass : {st : Step (Unit {0})} (m m' : Sitting) (n bits : ℕ) (ended now : Bool) → IsPass m bits ended
-    → Drew st m n m' → now ≡ nat_lt 0 (past_count m.0.pieces (m.0.draws ++ entry (first_place_of m.0.places) n ∷ []))
+    → IsDraw st m n m' → now ≡ nat_lt 0 (past_count m.0.pieces (m.0.draws ++ entry (first_place_of m.0.places) n ∷ []))
     → IsPass m' bits now
 drew_pass m m' n bits ended now p d stop =
     let e = entry (first_place_of m.0.places) n in
@@ -68,7 +68,7 @@ ends_now pieces ds e high =
     sym (lt-ltb 0 (past_count pieces (ds ++ e ∷ []))
     (omega (arith, total-append (one_past pieces) ds (e ∷ []), past_yes pieces e high)))
 
-pub seen_drew : {st : Step (Unit {0})} (t t' : TableId) (m m' : Sitting) (n : ℕ) → t' ≡ t → Drew st m n m'
+pub seen_drew : {st : Step (Unit {0})} (t t' : TableId) (m m' : Sitting) (n : ℕ) → t' ≡ t → IsDraw st m n m'
     → pass_view t' m' ≡ with_draw (pass_view t m) n
 seen_drew t t' m m' n same d =
     let v = d.drawn in λ i. pass_of (record { table = same i; pieces = (v i).pieces }) (v i).places (v i).draws
@@ -162,7 +162,7 @@ small_power place low = let h : 2 ^ place < 2 ^ 64 = pow-lt low in
 
 -- a seat that sat
 pub sat_there : {st : Step (Unit {0})} (m m' : Sitting) (pieces place n : ℕ) → st.word ≡ place + 1
-    → m ≡ (view pieces [] [] [], []) → n ≡ 0 → Sat st m n m' → m' ≡ (view pieces (place ∷ []) [] [], [])
+    → m ≡ (view pieces [] [] [], []) → n ≡ 0 → IsSeatRequest st m n m' → m' ≡ (view pieces (place ∷ []) [] [], [])
 sat_there {st} m m' pieces place n word blank free sat = let k : st.word - 1 ≡ place = omega arith in
     (λ i. (sat.free free i, sat.slots i))
     ∙ (λ i. (view (blank i).0.pieces (k i ∷ (blank i).0.places) (blank i).0.draws (blank i).0.noted, (blank i).1))

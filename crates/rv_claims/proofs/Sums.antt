@@ -9,7 +9,7 @@ use lib.ListN.{get_elem?}
 use Rattle.atomic_table.proofs.Lists.{at_longer}
 use Rattle.rv_claims.specs.declared.view.Entry.{Entry}
 use Rattle.rv_claims.specs.declared.view.View.{View}
-use Rattle.rv_claims.specs.Draws.{total, times, IsIn, IsHistory, is_past_last_piece, past_count, is_entry, entry_count, Same}
+use Rattle.rv_claims.specs.Draws.{total, times, IsIn, IsHistory, is_past_last_piece, past_count, is_entry, entry_count, HaveSameDraws}
 
 -- what an item counts for in each of the counts
 abbrev pub one_at : ℕ → ℕ → ℕ
@@ -233,13 +233,13 @@ counted_in e l h =
     (t.0, subst (λ (y : Entry). get_elem? l t.0 ≡ some y) (is_same e t.1 t.3) t.2)
 
 -- lists with the same entries, as often, weigh the same, however entries are weighed
-pub weighs_same : (f : Entry → ℕ) (xs ys : List Entry) → Same xs ys → total f xs ≡ total f ys
+pub weighs_same : (f : Entry → ℕ) (xs ys : List Entry) → HaveSameDraws xs ys → total f xs ≡ total f ys
 weighs_same f [] [] same = refl
 weighs_same f [] (y ∷ ys) same = let e = same y in let one = one_for-same y in absurd (omega arith)
 weighs_same f (x ∷ xs) ys same =
     let here = counted_in x ys (omega (arith, same x, one_for-same x)) in
     let r = parted_at ys here.0 x here.1 in
-    let rest : Same xs (r.0 ++ r.1) = λ e.
+    let rest : HaveSameDraws xs (r.0 ++ r.1) = λ e.
     omega (arith, same e, ap (entry_count e) r.2, total-between (one_for e) r.0 x r.1) in
     omega (arith, weighs_same f xs (r.0 ++ r.1) rest, ap (total f) r.2, total-between f r.0 x r.1)
 

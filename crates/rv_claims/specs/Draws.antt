@@ -46,8 +46,8 @@ abbrev pub entry_count : Entry → List Entry → ℕ
 entry_count e draws = count (is_entry e) draws
 
 -- each draw occurs equally often in both lists
-abbrev pub Same : List Entry → List Entry → Type 0
-Same xs ys = (e : Entry) → entry_count e xs ≡ entry_count e ys
+abbrev pub HaveSameDraws : List Entry → List Entry → Type 0
+HaveSameDraws xs ys = (e : Entry) → entry_count e xs ≡ entry_count e ys
 
 -- the draws are a history: the draw at each index of the list, counted from 0, has this index as its number
 abbrev pub IsHistory : List Entry → Type 0
@@ -146,20 +146,20 @@ abbrev pub view_seated : View → ℕ → View
 view_seated v place = view v.pieces (place ∷ v.places) v.draws v.noted
 
 -- the step is a draw: afterwards the seat also holds the drawn number `n`, which is greater than every number that it held
-pub record Drew (st : Step (Unit {0})) (me : Sitting) (n : ℕ) (after : Sitting) : Type 0 where
+pub record IsDraw (st : Step (Unit {0})) (me : Sitting) (n : ℕ) (after : Sitting) : Type 0 where
   pub drawn : view_of after ≡ view_drawn (view_of me) n
   pub slots : slots_of after ≡ slots_of me
   pub above : (e : Entry) → IsIn e (view_of me).draws → e.number < n
 
 -- the step asks for the pass index whose word, one above the index, is `st.word`: if the word was 0, the seat gets the index; otherwise it
 -- is assigned already
-pub record Sat (st : Step (Unit {0})) (me : Sitting) (n : ℕ) (after : Sitting) : Type 0 where
+pub record IsSeatRequest (st : Step (Unit {0})) (me : Sitting) (n : ℕ) (after : Sitting) : Type 0 where
   pub slots : slots_of after ≡ slots_of me
   pub free : n ≡ 0 → view_of after ≡ view_seated (view_of me) (st.word - 1)
   pub taken : n ≢ 0 → view_of after ≡ view_of me
 
 -- the step reads word 0: the draws that the seat made and those that it noted are in one history, and it holds each pass index at most once
-pub record Looked (st : Step (Unit {0})) (me : Sitting) (n : ℕ) (after : Sitting) : Type 0 where
+pub record IsLook (st : Step (Unit {0})) (me : Sitting) (n : ℕ) (after : Sitting) : Type 0 where
   pub same : after ≡ me
   pub history : List Entry
   pub numbered : IsHistory history

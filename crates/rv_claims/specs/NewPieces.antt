@@ -6,8 +6,8 @@ use Rattle.rv_claims.specs.Draws.{numbers}
 use Rattle.rv_claims.specs.Passes.{PassView}
 
 -- `q` is the pass `p` with further draws
-abbrev pub Grew : PassView → PassView → Type 0
-Grew p q = (q.draw ≡ p.draw) × (q.places ≡ p.places)
+abbrev pub HasDrawnMore : PassView → PassView → Type 0
+HasDrawnMore p q = (q.draw ≡ p.draw) × (q.places ≡ p.places)
     × ((more : List Entry) × (q.draws ≡ p.draws ++ more))
 
 -- the drawn numbers that are below the number of chunks, in order

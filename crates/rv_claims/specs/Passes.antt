@@ -5,7 +5,7 @@ use Rattle.std.specs.Int.{bit_at}
 use Rattle.atomic_table.specs.Seated.{TableId}
 use Rattle.rv_claims.specs.declared.view.Entry.{Entry}
 use Rattle.rv_claims.specs.Draws.{IsIn, past_count, entry, first_place_of, Sitting, view_of, slots_of}
-use Rattle.rv_claims.specs.Draws.{IsHistory, Within, Same}
+use Rattle.rv_claims.specs.Draws.{IsHistory, Within, HaveSameDraws}
 
 -- a shared counter: its identity, and the number of its chunks
 pub record SharedDraw : Type 0 where
@@ -49,7 +49,7 @@ NoneInBoth xs ys = (n : ℕ) → IsIn n xs → IsIn n ys → ⊥
 
 -- the draws are all draws of a history
 abbrev pub AreAll : List Entry → Type 0
-AreAll draws = (history : List Entry) × IsHistory history × Same draws history
+AreAll draws = (history : List Entry) × IsHistory history × HaveSameDraws draws history
 
 -- what always holds for the fields of a pass: a bit is set for each of its pass indices, of which there is at least one, and `ended` is
 -- whether it drew a number past the last chunk

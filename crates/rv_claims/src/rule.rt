@@ -20,27 +20,27 @@ impl TableRule<(), View, u64> for Running {
 pub(crate) struct Draw;
 
 impl Play<(), View> for Draw {
-    ghost use Rattle.rv_claims.specs.Draws.{Drew};
+    ghost use Rattle.rv_claims.specs.Draws.{IsDraw};
 
-    ghost then = { Drew };
+    ghost then = { IsDraw };
 }
 
 /// Asking for an index: writes 1 to its word. The seat gets the index if it found 0.
 pub(crate) struct Sit;
 
 impl Play<(), View> for Sit {
-    ghost use Rattle.rv_claims.specs.Draws.{Sat};
+    ghost use Rattle.rv_claims.specs.Draws.{IsSeatRequest};
 
-    ghost then = { Sat };
+    ghost then = { IsSeatRequest };
 }
 
 /// A look: reads word 0. The seat learns what the rule says about what it holds.
 pub(crate) struct Look;
 
 impl Play<(), View> for Look {
-    ghost use Rattle.rv_claims.specs.Draws.{Looked};
+    ghost use Rattle.rv_claims.specs.Draws.{IsLook};
 
-    ghost then = { Looked };
+    ghost then = { IsLook };
 }
 
 /// A new seat, without an index and without draws.

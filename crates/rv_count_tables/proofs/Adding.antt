@@ -8,7 +8,7 @@ use Rattle.std.specs.List.{AllByRecursion}
 use Rattle.rv_count_tables.specs.declared.table.AddressCounts.{AddressCounts}
 use Rattle.rv_count_tables.specs.declared.sum.SumError.{SumError}
 use Rattle.rv_count_tables.specs.declared.sum.SumError.TheVariants.{OutOfMemory, Count, Spot, Runs, Names}
-use Rattle.rv_count_tables.specs.Table.{begun_at, taken_at, rise_from, IsCounted, AreCounts}
+use Rattle.rv_count_tables.specs.Table.{executed_at, taken_at, rise_from, IsCounted, AreCounts}
 use Rattle.rv_count_tables.specs.Sum.{IsSumOfCounts, CountsHaveNoSum}
 use Rattle.rv_count_tables.specs.SumSteps.{AddsUp, IsNextCount}
 use Rattle.rv_count_tables.proofs.Told.{low, behind}
@@ -84,7 +84,7 @@ both_ahead c d sum cs ds others counted also one at begun taken fits h = record 
       rises lowest sum others (let k = low lowest c cs p in omega arith)
       (h.rising (sum.address + 1) (ap (λ (n : ℕ). rise_from (n + 1) cs) at ∙ behind lowest c cs p)
       (ap (λ (n : ℕ). rise_from (n + 1) ds) (at ∙ one) ∙ behind lowest d ds q));
-  begun = λ n. ap (λ (k : ℕ). cond (k == n) sum.begun 0 + begun_at n others) at
+  begun = λ n. ap (λ (k : ℕ). cond (k == n) sum.begun 0 + executed_at n others) at
       ∙ parts (c.address == n) (d.address == n) c.begun d.begun sum.begun _ _ _
       (ap (λ (k : ℕ). k == n) one) begun (h.begun n);
   taken = λ n. ap (λ (k : ℕ). cond (k == n) sum.taken 0 + taken_at n others) at
@@ -162,7 +162,7 @@ all_behind (suc n) [] h = h
 all_behind (suc n) (c ∷ cs) h = all_behind n cs h.1
 
 -- no list has less than what is left of it
-pub some_left : (n address : ℕ) (cs : List AddressCounts) → begun_at address (drop n cs) ≤ begun_at address cs
+pub some_left : (n address : ℕ) (cs : List AddressCounts) → executed_at address (drop n cs) ≤ executed_at address cs
 some_left zero address cs = omega arith
 some_left (suc n) address [] = omega arith
 some_left (suc n) address (c ∷ cs) = let h = some_left n address cs in omega (arith, h)

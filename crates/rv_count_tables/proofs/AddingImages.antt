@@ -12,7 +12,7 @@ use Rattle.rv_count_tables.specs.declared.sum.SumError.{SumError}
 use Rattle.rv_count_tables.specs.declared.sum.SumError.TheVariants.{OutOfMemory, Count, Spot, Names, Runs}
 use Rattle.rv_count_tables.specs.declared.sum_of_images.NextImage.{NextImage}
 use Rattle.rv_count_tables.specs.Lines.{lacks}
-use Rattle.rv_count_tables.specs.Table.{begun_at, taken_at, name_at, executed_in, taken_in, path_in, name_in, arrivals_in, steps_in, least_path, least_path_of}
+use Rattle.rv_count_tables.specs.Table.{executed_at, taken_at, name_at, executed_in, taken_in, path_in, name_in, arrivals_in, steps_in, least_path, least_path_of}
 use Rattle.rv_count_tables.specs.Table.{is_before, is_greater_than_last, digests_rise, AreNamesOf, AreSpots, IsImage, IsSpot, IsTable}
 use Rattle.rv_count_tables.specs.Sum.{sum_error_of, Agree, HasName, HasNameIn, IsSum, IsSumOfCounts, IsSumOfNames, CountsHaveNoSum, NamesHaveNoSum}
 use Rattle.rv_count_tables.specs.SumSteps.{ImagesAddUp, IsNextImage, ImagesHaveNoSum, ImageHasNoSum}
@@ -222,9 +222,9 @@ both_images_ahead x y sum xs ys others image also one at path counts names of tr
   agree = λ last p q d f. both_agree x y xs ys d f one (names.agree f) (images_behind last x xs p) (images_behind last y ys q)
       (h.agree (Some x.digest) (images_behind last x xs p)
       (ap (λ (s : List ℕ). digests_rise (Some s) ys) one ∙ images_behind last y ys q) d f);
-  begun = λ d n. ap (λ (s : List ℕ). cond (bytes_eq s d) (begun_at n sum.addresses) 0 + executed_in d n others) at
-      ∙ parts (bytes_eq x.digest d) (bytes_eq y.digest d) (begun_at n x.addresses) (begun_at n y.addresses)
-      (begun_at n sum.addresses) _ _ _ (ap (λ (s : List ℕ). bytes_eq s d) one) (counts.begun n) (h.begun d n);
+  begun = λ d n. ap (λ (s : List ℕ). cond (bytes_eq s d) (executed_at n sum.addresses) 0 + executed_in d n others) at
+      ∙ parts (bytes_eq x.digest d) (bytes_eq y.digest d) (executed_at n x.addresses) (executed_at n y.addresses)
+      (executed_at n sum.addresses) _ _ _ (ap (λ (s : List ℕ). bytes_eq s d) one) (counts.begun n) (h.begun d n);
   taken = λ d n. ap (λ (s : List ℕ). cond (bytes_eq s d) (taken_at n sum.addresses) 0 + taken_in d n others) at
       ∙ parts (bytes_eq x.digest d) (bytes_eq y.digest d) (taken_at n x.addresses) (taken_at n y.addresses)
       (taken_at n sum.addresses) _ _ _ (ap (λ (s : List ℕ). bytes_eq s d) one) (counts.taken n) (h.taken d n);
@@ -367,7 +367,7 @@ no_sum_of_first (x ∷ xs) (y ∷ ys) z w (Names f) some other is at first secon
 no_sum_of_first (x ∷ xs) (y ∷ ys) z w (Count n) some other is at first second h =
     let one : x.digest ≡ y.digest = ap (λ (i : ImageCounts). i.digest) (sym is)
     ∙ same_place z.digest w.digest first second ∙ ap (λ (i : ImageCounts). i.digest) at in
-    (x.digest, great_here (λ i. begun_at n i.addresses) x y z w (executed_in x.digest n xs) (executed_in x.digest n ys) is at one h)
+    (x.digest, great_here (λ i. executed_at n i.addresses) x y z w (executed_in x.digest n xs) (executed_in x.digest n ys) is at one h)
 no_sum_of_first (x ∷ xs) (y ∷ ys) z w (Spot f) some other is at first second h =
     let one : x.digest ≡ y.digest = ap (λ (i : ImageCounts). i.digest) (sym is)
     ∙ same_place z.digest w.digest first second ∙ ap (λ (i : ImageCounts). i.digest) at in (

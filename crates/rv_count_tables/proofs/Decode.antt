@@ -6,7 +6,7 @@ use Rattle.rv_count_tables.specs.declared.table.CountTable.{CountTable}
 use Rattle.rv_count_tables.specs.Lines.{lacks}
 use Rattle.rv_count_tables.specs.Table.{is_greater_than_last, digests_rise, IsImage, IsTable}
 use Rattle.rv_count_tables.specs.Text.{line, image_line, image_text, last_line}
-use Rattle.rv_count_tables.specs.ReadSteps.{Entry, IsEntry, entry_line, entries_of, Place, at_image, nowhere, after_entry, after_entries, place_in, last_digest, CanComeNext, IsNotAnEntry, IsNotAnImage}
+use Rattle.rv_count_tables.specs.ReadSteps.{Entry, IsEntry, entry_line, entries_of, NextLines, at_image, before_first_image, after_entry, after_entries, place_in, last_digest, CanComeNext, IsNotAnEntry, IsNotAnImage}
 use Rattle.rv_count_tables.proofs.Pieces.{same_cut}
 use Rattle.rv_count_tables.proofs.Entries.{entries_fit, entries_stand, image_entries, StandIn}
 use Rattle.rv_count_tables.proofs.AddingImages.{image_low, images_behind}
@@ -21,7 +21,7 @@ same_line xs ys s t h k e =
     (ap line p.0, p.1)
 
 -- what may stand behind so many images, at a place
-pub record IsRest (n : ℕ) (last : Option (List ℕ)) (place : Place) (text : List ℕ) : Type 0 where
+pub record IsRest (n : ℕ) (last : Option (List ℕ)) (place : NextLines) (text : List ℕ) : Type 0 where
   pub es : List Entry
   pub more : List ImageCounts
   pub runs : ℕ
@@ -47,7 +47,7 @@ first_image i is t = append_assoc (image_text i) (flat_map image_text is) t
 
 -- ---- the steps
 
-entry_step : (n : ℕ) (last : Option (List ℕ)) (place : Place) (e : Entry) (s : List ℕ)
+entry_step : (n : ℕ) (last : Option (List ℕ)) (place : NextLines) (e : Entry) (s : List ℕ)
     (es : List Entry) (more : List ImageCounts) (runs : ℕ) → IsEntry e
     → entry_line e ++ s ≡ flat_map entry_line es ++ (flat_map image_text more ++ last_line (n + length more) runs)
     → AllByRecursion IsEntry es → StandIn place es → AllByRecursion IsImage more
@@ -116,19 +116,19 @@ image_step n last i s [] (j ∷ js) runs h all images digests few fits =
       },
     )
 
-pub behind_one : (n : ℕ) (last : Option (List ℕ)) (place : Place) (e : Entry) (s : List ℕ)
+pub behind_one : (n : ℕ) (last : Option (List ℕ)) (place : NextLines) (e : Entry) (s : List ℕ)
     → IsEntry e → IsRest n last place (entry_line e ++ s) → CanComeNext place e × IsRest n last (after_entry place e) s
 behind_one n last place e s h r = entry_step n last place e s r.es r.more r.runs h r.all r.fit r.stand
     r.images r.digests r.few r.fits
 
-pub behind_image : (n : ℕ) (last : Option (List ℕ)) (place : Place) (i : ImageCounts) (s : List ℕ)
+pub behind_image : (n : ℕ) (last : Option (List ℕ)) (place : NextLines) (i : ImageCounts) (s : List ℕ)
     → IsImage i → IsRest n last place (image_line i ++ s)
     → (is_greater_than_last last i.digest ≡ true) × IsRest (n + 1) (Some i.digest) at_image s
 behind_image n last place i s h r = image_step n last i s r.es r.more r.runs h r.all r.images r.digests r.few r.fits
 
 -- ---- behind lines that stand there
 
-pub behind_entries : (es : List Entry) (n : ℕ) (last : Option (List ℕ)) (place : Place) (s : List ℕ)
+pub behind_entries : (es : List Entry) (n : ℕ) (last : Option (List ℕ)) (place : NextLines) (s : List ℕ)
     → AllByRecursion IsEntry es → IsRest n last place (flat_map entry_line es ++ s)
     → IsRest n last (after_entries place es) s
 behind_entries [] n last place s h r = r
@@ -137,7 +137,7 @@ behind_entries (e ∷ es) n last place s h r =
     (subst (λ (x : List ℕ). IsRest n last place x) (first_entry e es s) r) in
     behind_entries es n last (after_entry place e) s h.1 step.1
 
-pub behind_images : (is : List ImageCounts) (n : ℕ) (last : Option (List ℕ)) (place : Place) (s : List ℕ)
+pub behind_images : (is : List ImageCounts) (n : ℕ) (last : Option (List ℕ)) (place : NextLines) (s : List ℕ)
     → AllByRecursion IsImage is → IsRest n last place (flat_map image_text is ++ s)
     → IsRest (n + length is) (last_digest last is) (place_in place is) s
 behind_images [] n last place s h r = let e : n ≡ n + 0 = omega arith in
@@ -152,7 +152,7 @@ behind_images (i ∷ is) n last place s h r =
 
 -- the whole text of a table, behind its first line
 pub rest_of_table : (t : CountTable) → IsTable t
-    → IsRest 0 None nowhere (flat_map image_text t.images ++ last_line (length t.images) t.runs)
+    → IsRest 0 None before_first_image (flat_map image_text t.images ++ last_line (length t.images) t.runs)
 rest_of_table t h =
     let e : 0 + length t.images ≡ length t.images = omega arith in
     let few = h.few in record {
@@ -170,7 +170,7 @@ rest_of_table t h =
 
 -- ---- a line that may not stand there
 
-refused : (n : ℕ) (last : Option (List ℕ)) (place : Place) (xs s : List ℕ)
+refused : (n : ℕ) (last : Option (List ℕ)) (place : NextLines) (xs s : List ℕ)
     (es : List Entry) (more : List ImageCounts) (runs : ℕ) → lacks 10 xs ≡ true
     → line xs ++ s ≡ flat_map entry_line es ++ (flat_map image_text more ++ last_line (n + length more) runs)
     → AllByRecursion IsEntry es → StandIn place es → AllByRecursion IsImage more
@@ -194,7 +194,7 @@ refused n last place xs s [] [] runs plain all fit stand images digests few fits
     (all ∙ sym (append-nil (last_line (n + 0) runs)) ∙ ap (λ (x : List ℕ). x ++ []) (last_is_line (n + 0) runs)) in
     no_last runs fits (same.0 ∙ sym (last_is_line (n + 0) runs) ∙ ap (λ (m : ℕ). last_line m runs) e)
 
-pub no_rest : (n : ℕ) (last : Option (List ℕ)) (place : Place) (xs s : List ℕ) → lacks 10 xs ≡ true
+pub no_rest : (n : ℕ) (last : Option (List ℕ)) (place : NextLines) (xs s : List ℕ) → lacks 10 xs ≡ true
     → IsNotAnEntry place (line xs) → IsNotAnImage last (line xs)
     → ((r : ℕ) → r < 2 ^ 64 → line xs ≡ last_line n r → ⊥) → IsRest n last place (line xs ++ s) → ⊥
 no_rest n last place xs s plain no_entry no_image no_last r =

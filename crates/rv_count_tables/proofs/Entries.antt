@@ -9,7 +9,7 @@ use Rattle.rv_count_tables.specs.declared.table.ImageCounts.{ImageCounts}
 use Rattle.rv_count_tables.specs.declared.table.NamedSpot.{NamedSpot}
 use Rattle.rv_count_tables.specs.Table.{has_name, name_of, rise_from, AreNamesOf, IsCounted, IsImage, IsName, IsSpot}
 use Rattle.rv_count_tables.specs.Text.{address_line, image_line, image_text, line_of_spot, named}
-use Rattle.rv_count_tables.specs.ReadSteps.{Entry, OfAddress, OfSpot, IsEntry, entry_line, entry_of_spot, entries_of, Place, at_image, nowhere, after_entry, after_entries, can_be_next_address, AgreesWith, CanComeNext, IsNotAnEntry, IsNotAnAddress, IsNotANode, function_name, lowest_after, with_name, with_names}
+use Rattle.rv_count_tables.specs.ReadSteps.{Entry, OfAddress, OfSpot, IsEntry, entry_line, entry_of_spot, entries_of, NextLines, at_image, before_first_image, after_entry, after_entries, can_be_next_address, AgreesWith, CanComeNext, IsNotAnEntry, IsNotAnAddress, IsNotANode, function_name, lowest_after, with_name, with_names}
 use Rattle.rv_count_tables.proofs.NamesOfSpots.{agree_more, first_is_last, further, named_fits, one_list_of_first_names, AgreeWithAll}
 use Rattle.rv_call_tree.specs.Profiles.{is_last_of_some}
 use Rattle.rv_call_tree.specs.declared.spot.Spot.{Spot}
@@ -93,7 +93,7 @@ same_parts i j h k e =
 
 -- ---- they may stand there
 
-abbrev pub StandIn : Place → List Entry → Type 0
+abbrev pub StandIn : NextLines → List Entry → Type 0
 StandIn p [] = Unit {0}
 StandIn p (e ∷ es) = CanComeNext p e × StandIn (after_entry p e) es
 
@@ -169,7 +169,7 @@ entries_place lowest (c ∷ cs) ns ss = entries_place (c.address + 1) cs ns ss
 
 -- ---- what may not stand there
 
-pub nothing_nowhere : (line : List ℕ) → IsNotAnEntry nowhere line
+pub nothing_nowhere : (line : List ℕ) → IsNotAnEntry before_first_image line
 nothing_nowhere line (OfAddress c) h may e = false≢true may
 nothing_nowhere line (OfSpot n) h may e = may.0
 
@@ -185,7 +185,7 @@ pub no_entry : (cs : List AddressCounts) (ns : List FunctionName) (ss : List Spo
     → ns ≡ with_names [] (map (named ns) ss) → (ss ≡ [] → first ≡ second)
     → IsNotAnEntry (after_entries at_image (all_entries cs ns ss)) second
 no_entry cs ns ss first second no_address no_spot known one =
-    subst (λ (p : Place). IsNotAnEntry p second) (sym (entries_place 0 cs ns ss)) by_kind
+    subst (λ (p : NextLines). IsNotAnEntry p second) (sym (entries_place 0 cs ns ss)) by_kind
   where
     by_kind : IsNotAnEntry (record {
       address = if_none ss (Some (lowest_after 0 cs));

@@ -5,7 +5,7 @@ use Rattle.std.proofs.lemmas.Bool.{and_parts, leb-true, cases_lt}
 use Rattle.std.proofs.lemmas.Bool.Decides.{nat_tests}
 use Rattle.std.proofs.lemmas.List.{get_or_default}
 use Rattle.rv_count_tables.specs.declared.table.AddressCounts.{AddressCounts}
-use Rattle.rv_count_tables.specs.Table.{begun_at, rise_from, taken_at}
+use Rattle.rv_count_tables.specs.Table.{executed_at, rise_from, taken_at}
 
 -- the first of a list is not below the lowest, and the others are behind it
 first_and_rest : (lowest : ℕ) (c : AddressCounts) (cs : List AddressCounts) → rise_from lowest (c ∷ cs) ≡ true
@@ -75,50 +75,50 @@ same_first at begun rest address e z = grind (arith, nat_tests)
 
 -- an address in front of the lowest has no counts
 below : (address lowest : ℕ) (cs : List AddressCounts) → rise_from lowest cs ≡ true → address < lowest
-    → (begun_at address cs ≡ 0) × (taken_at address cs ≡ 0)
+    → (executed_at address cs ≡ 0) × (taken_at address cs ≡ 0)
 below address lowest [] h l = (refl, refl)
 below address lowest (c ∷ cs) h l =
     let f = first_and_rest lowest c cs h in
     let under : address < c.address = (let a = f.0 in omega (arith, a)) in
     let r = below address (c.address + 1) cs f.1 (omega arith) in (
-      higher_first c.address c.begun (begun_at address cs) address under ∙ r.0,
+      higher_first c.address c.begun (executed_at address cs) address under ∙ r.0,
       higher_first c.address c.taken (taken_at address cs) address under ∙ r.1,
     )
 
 -- an address that does not stand at its place has none
 pub none_at : (address lowest : ℕ) (cs : List AddressCounts) (n : ℕ) → rise_from lowest cs ≡ true → IsPlaceOf address cs n
     → ((d : AddressCounts) → n < length cs → address < (get_or cs n d).address)
-    → (begun_at address cs ≡ 0) × (taken_at address cs ≡ 0)
+    → (executed_at address cs ≡ 0) × (taken_at address cs ≡ 0)
 none_at address lowest [] n h p above = (refl, refl)
 none_at address lowest (c ∷ cs) zero h p above =
     let f = first_and_rest lowest c cs h in
     let under : address < c.address = above c (omega arith) in
     let r = below address (c.address + 1) cs f.1 (omega arith) in (
-      higher_first c.address c.begun (begun_at address cs) address under ∙ r.0,
+      higher_first c.address c.begun (executed_at address cs) address under ∙ r.0,
       higher_first c.address c.taken (taken_at address cs) address under ∙ r.1,
     )
 none_at address lowest (c ∷ cs) (suc n) h p above =
     let b = behind_first address c cs n p in
     let r = none_at address (c.address + 1) cs n (first_and_rest lowest c cs h).1 b.1 (λ d l. above d (omega arith)) in (
-      other_first c.address c.begun (begun_at address cs) address b.0 ∙ r.0,
+      other_first c.address c.begun (executed_at address cs) address b.0 ∙ r.0,
       other_first c.address c.taken (taken_at address cs) address b.0 ∙ r.1,
     )
 
 -- one that stands there has those of its entry
 pub those_at : (address lowest : ℕ) (cs : List AddressCounts) (n : ℕ) (d : AddressCounts) → rise_from lowest cs ≡ true
     → IsPlaceOf address cs n → n < length cs → (get_or cs n d).address ≡ address
-    → (begun_at address cs ≡ (get_or cs n d).begun) × (taken_at address cs ≡ (get_or cs n d).taken)
+    → (executed_at address cs ≡ (get_or cs n d).begun) × (taken_at address cs ≡ (get_or cs n d).taken)
 those_at address lowest [] n d h p l e = absurd (omega arith)
 those_at address lowest (c ∷ cs) zero d h p l e =
     let f = first_and_rest lowest c cs h in
     let r = below address (c.address + 1) cs f.1 (omega (arith, e)) in (
-      same_first c.address c.begun (begun_at address cs) address e r.0,
+      same_first c.address c.begun (executed_at address cs) address e r.0,
       same_first c.address c.taken (taken_at address cs) address e r.1,
     )
 those_at address lowest (c ∷ cs) (suc n) d h p l e =
     let b = behind_first address c cs n p in
     let r = those_at address (c.address + 1) cs n d (first_and_rest lowest c cs h).1 b.1 (omega arith) e in (
-      other_first c.address c.begun (begun_at address cs) address b.0 ∙ r.0,
+      other_first c.address c.begun (executed_at address cs) address b.0 ∙ r.0,
       other_first c.address c.taken (taken_at address cs) address b.0 ∙ r.1,
     )
 

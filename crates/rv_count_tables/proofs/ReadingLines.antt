@@ -18,7 +18,7 @@ use Rattle.rv_count_tables.specs.declared.table.FunctionName.{FunctionName}
 use Rattle.rv_count_tables.specs.Lines.{lacks, whole_line}
 use Rattle.rv_count_tables.specs.Table.{is_before, is_greater_than_last, digests_rise, rise_from, IsCounted, IsImage}
 use Rattle.rv_count_tables.specs.Text.{line, address_line, image_line, image_text, line_of_spot}
-use Rattle.rv_count_tables.specs.ReadSteps.{lowest_after, last_digest, nowhere, at_image, place_in, after_entries, entries_of, Place, IsNotAnAddress, IsNotAnEntry, IsNotAnImage, AreAddressLines, AreImageLines, AreSpotLines, IsOneImage}
+use Rattle.rv_count_tables.specs.ReadSteps.{lowest_after, last_digest, before_first_image, at_image, place_in, after_entries, entries_of, NextLines, IsNotAnAddress, IsNotAnEntry, IsNotAnImage, AreAddressLines, AreImageLines, AreSpotLines, IsOneImage}
 use Rattle.rv_call_tree.specs.declared.spot.Spot.{Spot}
 use Rattle.rv_count_tables.proofs.Pieces.{cases_line, line_at, no_line}
 use Rattle.rv_count_tables.proofs.AddingImages.{image_low, images_behind, images_rise, no_images_rise}
@@ -86,7 +86,7 @@ pub digest_push : (last : Option (List ℕ)) (is : List ImageCounts) (i : ImageC
 digest_push last [] i = refl
 digest_push last (j ∷ js) i = digest_push (Some j.digest) js i
 
-pub place_push : (place : Place) (is : List ImageCounts) (i : ImageCounts)
+pub place_push : (place : NextLines) (is : List ImageCounts) (i : ImageCounts)
     → place_in place (is ++ i ∷ []) ≡ after_entries at_image (entries_of i)
 place_push place [] i = refl
 place_push place (j ∷ js) i = place_push (after_entries at_image (entries_of j)) js i
@@ -296,7 +296,7 @@ pub record ImagesSoFar (text : List ℕ) (is : List ImageCounts) (n : ℕ) : Typ
   pub lines : text ≡ flat_map image_text is ++ drop n text
   pub images : AllByRecursion IsImage is
   pub rising : digests_rise None is ≡ true
-  pub entry : IsNotAnEntry (place_in nowhere is) (whole_line (drop n text))
+  pub entry : IsNotAnEntry (place_in before_first_image is) (whole_line (drop n text))
 
 pub no_images_so_far : (text : List ℕ) → ImagesSoFar text [] 0
 no_images_so_far text = record {
@@ -321,7 +321,7 @@ image_so_far text is n m read h one e =
           (one.lines ∙ ap (λ (s : List ℕ). image_text read.image ++ s) d);
       images = each_push IsImage is read.image h.images one.image;
       rising = digests_push None is read.image h.rising one.rising;
-      entry = subst (λ (p : Place). IsNotAnEntry p (whole_line (drop m text))) (sym (place_push nowhere is read.image))
+      entry = subst (λ (p : NextLines). IsNotAnEntry p (whole_line (drop m text))) (sym (place_push before_first_image is read.image))
           (subst (λ (s : List ℕ). IsNotAnEntry (after_entries at_image (entries_of read.image)) (whole_line s)) d one.behind);
     }
 

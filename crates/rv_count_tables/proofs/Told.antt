@@ -5,7 +5,7 @@ use Rattle.std.proofs.lemmas.Bool.Decides.{nat_tests}
 use Rattle.std.specs.Prelude.{◌&&◌, nat_le}
 use Rattle.std.specs.List.{AllByRecursion}
 use Rattle.rv_count_tables.specs.declared.table.AddressCounts.{AddressCounts}
-use Rattle.rv_count_tables.specs.Table.{begun_at, taken_at, rise_from, IsCounted, AreCounts}
+use Rattle.rv_count_tables.specs.Table.{executed_at, taken_at, rise_from, IsCounted, AreCounts}
 use Rattle.rv_count_tables.specs.Sum.{IsSumOfCounts}
 
 pub here : (a : ℕ) → (a == a) ≡ true
@@ -32,11 +32,11 @@ behind lowest c cs h = (and_parts (nat_le lowest c.address) (rise_from (c.addres
 
 -- below its lowest address a list has nothing
 pub none_below : (cs : List AddressCounts) (lowest address : ℕ) → rise_from lowest cs ≡ true → address < lowest
-    → begun_at address cs ≡ 0
+    → executed_at address cs ≡ 0
 none_below [] lowest address h under = refl
 none_below (c ∷ cs) lowest address h under =
     let l = low lowest c cs h in
-    passed (c.address == address) c.begun (begun_at address cs) (elsewhere address c.address (omega arith))
+    passed (c.address == address) c.begun (executed_at address cs) (elsewhere address c.address (omega arith))
     ∙ none_below cs (c.address + 1) address (behind lowest c cs h) (omega arith)
 
 pub untaken_below : (cs : List AddressCounts) (lowest address : ℕ) → rise_from lowest cs ≡ true → address < lowest
@@ -49,10 +49,10 @@ untaken_below (c ∷ cs) lowest address h under =
 
 -- at its first address a list has the first entry's numbers
 pub first_begun : (lowest : ℕ) (c : AddressCounts) (cs : List AddressCounts) → rise_from lowest (c ∷ cs) ≡ true
-    → begun_at c.address (c ∷ cs) ≡ c.begun
+    → executed_at c.address (c ∷ cs) ≡ c.begun
 first_begun lowest c cs h =
     let rest = none_below cs (c.address + 1) c.address (behind lowest c cs h) (omega arith) in
-    picked (c.address == c.address) c.begun (begun_at c.address cs) (here c.address) ∙ omega arith
+    picked (c.address == c.address) c.begun (executed_at c.address cs) (here c.address) ∙ omega arith
 
 pub first_taken : (lowest : ℕ) (c : AddressCounts) (cs : List AddressCounts) → rise_from lowest (c ∷ cs) ≡ true
     → taken_at c.address (c ∷ cs) ≡ c.taken
@@ -72,17 +72,17 @@ from_own k e es h =
 -- lists with the same numbers begin at one address
 pub one_address : (c d : AddressCounts) (cs ds : List AddressCounts) (l m : ℕ) → rise_from l (c ∷ cs) ≡ true
     → rise_from m (d ∷ ds) ≡ true → 0 < c.begun → 0 < d.begun
-    → begun_at c.address (c ∷ cs) ≡ begun_at c.address (d ∷ ds)
-    → begun_at d.address (c ∷ cs) ≡ begun_at d.address (d ∷ ds) → c.address ≡ d.address
+    → executed_at c.address (c ∷ cs) ≡ executed_at c.address (d ∷ ds)
+    → executed_at d.address (c ∷ cs) ≡ executed_at d.address (d ∷ ds) → c.address ≡ d.address
 one_address c d cs ds l m rc rd pc pd at_c at_d =
     let fc = first_begun l c cs rc in
     let fd = first_begun m d ds rd in
     let not_less : c.address < d.address → ⊥ = λ h.
     let z = none_below (d ∷ ds) d.address c.address (from_own m d ds rd) h in
-    let some : 0 < begun_at c.address (c ∷ cs) = omega (arith, fc) in omega (arith, z, at_c, some) in
+    let some : 0 < executed_at c.address (c ∷ cs) = omega (arith, fc) in omega (arith, z, at_c, some) in
     let not_more : d.address < c.address → ⊥ = λ h.
     let z = none_below (c ∷ cs) c.address d.address (from_own l c cs rc) h in
-    let some : 0 < begun_at d.address (d ∷ ds) = omega (arith, fd) in omega (arith, z, at_d, some) in
+    let some : 0 < executed_at d.address (d ∷ ds) = omega (arith, fd) in omega (arith, z, at_d, some) in
     omega (arith, not_less, not_more)
 
 -- an entry is its three numbers
@@ -96,7 +96,7 @@ left_over n m p q e h = omega arith
 -- lists with the same numbers at each address are one
 pub one_list : (xs ys : List AddressCounts) (l m : ℕ) → AllByRecursion IsCounted xs → AllByRecursion IsCounted ys
     → rise_from l xs ≡ true → rise_from m ys ≡ true
-    → ((address : ℕ) → begun_at address xs ≡ begun_at address ys)
+    → ((address : ℕ) → executed_at address xs ≡ executed_at address ys)
     → ((address : ℕ) → taken_at address xs ≡ taken_at address ys) → xs ≡ ys
 one_list [] [] l m px py rx ry begun taken = refl
 one_list [] (d ∷ ds) l m px py rx ry begun taken =
@@ -114,7 +114,7 @@ one_list (c ∷ cs) [] l m px py rx ry begun taken =
 one_list (c ∷ cs) (d ∷ ds) l m px py rx ry begun taken =
     let a = one_address c d cs ds l m rx ry px.0.begun py.0.begun (begun c.address) (begun d.address) in
     let b : c.begun ≡ d.begun = sym (first_begun l c cs rx) ∙ begun c.address
-    ∙ (λ i. begun_at (a i) (d ∷ ds)) ∙ first_begun m d ds ry in
+    ∙ (λ i. executed_at (a i) (d ∷ ds)) ∙ first_begun m d ds ry in
     let t : c.taken ≡ d.taken = sym (first_taken l c cs rx) ∙ taken c.address
     ∙ (λ i. taken_at (a i) (d ∷ ds)) ∙ first_taken m d ds ry in
     let rest = one_list cs ds (c.address + 1) (d.address + 1) px.1 py.1 (behind l c cs rx) (behind m d ds ry)
@@ -125,7 +125,7 @@ one_list (c ∷ cs) (d ∷ ds) l m px py rx ry begun taken =
     λ i. same_entry c d a b t i ∷ rest i
 
 pub one_of : (xs ys : List AddressCounts) → AreCounts xs → AreCounts ys
-    → ((address : ℕ) → begun_at address xs ≡ begun_at address ys)
+    → ((address : ℕ) → executed_at address xs ≡ executed_at address ys)
     → ((address : ℕ) → taken_at address xs ≡ taken_at address ys) → xs ≡ ys
 one_of xs ys x y begun taken = one_list xs ys 0 0 x.each y.each x.rising y.rising begun taken
 
@@ -137,13 +137,13 @@ either_first ab bc x y a b c p q r s = omega arith
 
 pub commute : (a b ab ba : List AddressCounts) → IsSumOfCounts a b ab → IsSumOfCounts b a ba → ab ≡ ba
 commute a b ab ba p q = one_of ab ba p.counts q.counts
-    (λ n. either_order _ _ (begun_at n a) (begun_at n b) (p.begun n) (q.begun n))
+    (λ n. either_order _ _ (executed_at n a) (executed_at n b) (p.begun n) (q.begun n))
     (λ n. either_order _ _ (taken_at n a) (taken_at n b) (p.taken n) (q.taken n))
 
 pub associate : (a b c ab bc first last : List AddressCounts) → IsSumOfCounts a b ab → IsSumOfCounts ab c first
     → IsSumOfCounts b c bc → IsSumOfCounts a bc last → first ≡ last
 associate a b c ab bc first last p q r s = one_of first last q.counts s.counts
-    (λ n. either_first (begun_at n ab) (begun_at n bc) _ _ (begun_at n a) (begun_at n b) (begun_at n c)
+    (λ n. either_first (executed_at n ab) (executed_at n bc) _ _ (executed_at n a) (executed_at n b) (executed_at n c)
     (p.begun n) (q.begun n) (r.begun n) (s.begun n))
     (λ n. either_first (taken_at n ab) (taken_at n bc) _ _ (taken_at n a) (taken_at n b) (taken_at n c)
     (p.taken n) (q.taken n) (r.taken n) (s.taken n))

@@ -6,7 +6,7 @@ use Rattle.std.specs.List.{AllByRecursion}
 use Rattle.std.specs.Str.{bytes_eq}
 use Rattle.rv_count_tables.specs.declared.table.ImageCounts.{ImageCounts}
 use Rattle.rv_count_tables.specs.declared.table.CountTable.{CountTable}
-use Rattle.rv_count_tables.specs.Table.{begun_at, taken_at, name_at, executed_in, taken_in, path_in, name_in, arrivals_in, steps_in, least_path_of, is_before, digests_rise, IsImage, IsTable}
+use Rattle.rv_count_tables.specs.Table.{executed_at, taken_at, name_at, executed_in, taken_in, path_in, name_in, arrivals_in, steps_in, least_path_of, is_before, digests_rise, IsImage, IsTable}
 use Rattle.rv_call_tree.specs.Trees.{arrivals_at, steps_at}
 use Rattle.rv_call_tree.proofs.Public.{one_tree_of_counts}
 use Rattle.rv_count_tables.proofs.AddingNames.{one_list_of_names}
@@ -39,9 +39,9 @@ none_counted count (i ∷ is) last digest h up =
 
 -- these are such numbers
 begun_is : (n : ℕ) (digest : List ℕ) (is : List ImageCounts)
-    → executed_in digest n is ≡ counted_in (λ i. begun_at n i.addresses) digest is
+    → executed_in digest n is ≡ counted_in (λ i. executed_at n i.addresses) digest is
 begun_is n digest [] = refl
-begun_is n digest (i ∷ is) = ap (λ (m : ℕ). cond (bytes_eq i.digest digest) (begun_at n i.addresses) 0 + m) (begun_is n digest is)
+begun_is n digest (i ∷ is) = ap (λ (m : ℕ). cond (bytes_eq i.digest digest) (executed_at n i.addresses) 0 + m) (begun_is n digest is)
 
 taken_is : (n : ℕ) (digest : List ℕ) (is : List ImageCounts)
     → taken_in digest n is ≡ counted_in (λ i. taken_at n i.addresses) digest is
@@ -129,7 +129,7 @@ same_image l m i j is js h k p q d alike =
     let path = some_is i.path j.path (sym (path_of_first l i is h) ∙ alike.paths i.digest
     ∙ ap (λ (s : List ℕ). path_in s (j ∷ js)) d ∙ path_of_first m j js k) in
     let addresses = one_of i.addresses j.addresses p.counts q.counts
-    (λ n. first_count (λ x. begun_at n x.addresses) l m i j is js h k d
+    (λ n. first_count (λ x. executed_at n x.addresses) l m i j is js h k d
     (sym (begun_is n i.digest (i ∷ is)) ∙ alike.begun i.digest n ∙ begun_is n i.digest (j ∷ js)))
     (λ n. first_count (λ x. taken_at n x.addresses) l m i j is js h k d
     (sym (taken_is n i.digest (i ∷ is)) ∙ alike.taken i.digest n ∙ taken_is n i.digest (j ∷ js))) in
@@ -179,7 +179,7 @@ other_names l m i j is js digest f same h k e = elim (cases_Bool (bytes_eq i.dig
 others_alike : (l m : Option (List ℕ)) (i j : ImageCounts) (is js : List ImageCounts) → digests_rise l (i ∷ is) ≡ true
     → digests_rise m (j ∷ js) ≡ true → i ≡ j → AreAlike (i ∷ is) (j ∷ js) → AreAlike is js
 others_alike l m i j is js h k one alike = record {
-  begun = λ d n. begun_is n d is ∙ other_counts (λ x. begun_at n x.addresses) d i j is js one
+  begun = λ d n. begun_is n d is ∙ other_counts (λ x. executed_at n x.addresses) d i j is js one
       (sym (begun_is n d (i ∷ is)) ∙ alike.begun d n ∙ begun_is n d (j ∷ js)) ∙ sym (begun_is n d js);
   taken = λ d n. taken_is n d is ∙ other_counts (λ x. taken_at n x.addresses) d i j is js one
       (sym (taken_is n d (i ∷ is)) ∙ alike.taken d n ∙ taken_is n d (j ∷ js)) ∙ sym (taken_is n d js);

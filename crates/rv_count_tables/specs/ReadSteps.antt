@@ -68,7 +68,7 @@ entries_of i = map OfAddress i.addresses ++ map (entry_of_spot i.functions) i.sp
 
 -- which lines can come next: those of addresses from the lowest on, or those of nodes after a path, whose names agree with `names`; or
 -- neither
-pub record Place : Type 0 where
+pub record NextLines : Type 0 where
   -- the lowest address that can come next, if an address can
   pub address : Option ℕ
   -- the names of functions so far
@@ -77,11 +77,11 @@ pub record Place : Type 0 where
   pub front : Option (List ℕ)
 
 -- before the first image, no line of an address or a node can come next
-abbrev pub nowhere : Place
-nowhere = record { address = None; names = []; front = None }
+abbrev pub before_first_image : NextLines
+before_first_image = record { address = None; names = []; front = None }
 
 -- the lines that can come next after the first line of an image: all addresses, or a node of depth 0
-abbrev pub at_image : Place
+abbrev pub at_image : NextLines
 at_image = record { address = Some 0; names = []; front = Some [] }
 
 -- the path of a node after one with the path `front`, if there is one
@@ -90,17 +90,17 @@ path_in None s = None
 path_in (Some front) s = Some (path_after front s)
 
 -- the lines that can come next after the line of an address or a node: nodes come after addresses
-abbrev pub after_entry : Place → Entry → Place
+abbrev pub after_entry : NextLines → Entry → NextLines
 after_entry p (OfAddress c) = record { address = Some (c.address + 1); names = []; front = Some [] }
 after_entry p (OfSpot n) = record { address = None; names = with_name (function_name n) p.names; front = path_in p.front n.spot }
 
 -- the lines that can come next after the lines of these addresses and nodes
-abbrev pub after_entries : Place → List Entry → Place
+abbrev pub after_entries : NextLines → List Entry → NextLines
 after_entries p [] = p
 after_entries p (e ∷ es) = after_entries (after_entry p e) es
 
 -- the lines that can come next after these images
-abbrev pub place_in : Place → List ImageCounts → Place
+abbrev pub place_in : NextLines → List ImageCounts → NextLines
 place_in p [] = p
 place_in p (i ∷ is) = place_in (after_entries at_image (entries_of i)) is
 
@@ -115,12 +115,12 @@ CanComeNextIn None s = ⊥
 CanComeNextIn (Some front) s = FollowsInPreorder front s
 
 -- the address or the node can come next: the address is not too low, or the node may follow the preceding one and its name agrees
-abbrev pub CanComeNext : Place → Entry → Type 0
+abbrev pub CanComeNext : NextLines → Entry → Type 0
 CanComeNext p (OfAddress c) = can_be_next_address p.address c.address ≡ true
 CanComeNext p (OfSpot n) = CanComeNextIn p.front n.spot × AgreesWith n.name (name_of n.spot.function p.names)
 
 -- the line is not that of an address or a node that can come next
-abbrev pub IsNotAnEntry : Place → List ℕ → Type 0
+abbrev pub IsNotAnEntry : NextLines → List ℕ → Type 0
 IsNotAnEntry p line = (e : Entry) → IsEntry e → CanComeNext p e → line ≡ entry_line e → ⊥
 
 -- ---- lines of one kind
@@ -186,5 +186,5 @@ pub record AreImageLines (text : List ℕ) (read : ImageLines) : Type 0 where
   pub lines : text ≡ flat_map image_text read.images ++ drop read.length text
   pub images : AllByRecursion IsImage read.images
   pub rising : digests_rise None read.images ≡ true
-  pub entry : IsNotAnEntry (place_in nowhere read.images) (whole_line (drop read.length text))
+  pub entry : IsNotAnEntry (place_in before_first_image read.images) (whole_line (drop read.length text))
   pub image : IsNotAnImage (last_digest None read.images) (whole_line (drop read.length text))

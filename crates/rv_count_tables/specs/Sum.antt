@@ -7,7 +7,7 @@ use Rattle.rv_count_tables.specs.declared.table.ImageCounts.{ImageCounts}
 use Rattle.rv_count_tables.specs.declared.table.CountTable.{CountTable}
 use Rattle.rv_count_tables.specs.declared.sum.SumError.{SumError}
 use Rattle.rv_count_tables.specs.declared.sum.SumError.TheVariants.{OutOfMemory, Count, Spot, Names, Runs}
-use Rattle.rv_count_tables.specs.Table.{begun_at, taken_at, name_at, executed_in, taken_in, path_in, name_in, arrivals_in, steps_in, least_path_of, AreCounts, AreNames, IsTable}
+use Rattle.rv_count_tables.specs.Table.{executed_at, taken_at, name_at, executed_in, taken_in, path_in, name_in, arrivals_in, steps_in, least_path_of, AreCounts, AreNames, IsTable}
 use Rattle.rv_call_tree.specs.Trees.{ends_with}
 use Rattle.rv_call_tree.specs.declared.sum.SpotSumError.{SpotSumError}
 use Rattle.rv_call_tree.specs.declared.sum.SpotSumError.TheVariants as spots
@@ -15,7 +15,7 @@ use Rattle.rv_call_tree.specs.declared.sum.SpotSumError.TheVariants as spots
 -- `sum` are valid counts, and those at each address are the sums of both counts
 pub record IsSumOfCounts (a b sum : List AddressCounts) : Type 0 where
   pub counts : AreCounts sum
-  pub begun : (address : ℕ) → begun_at address sum ≡ begun_at address a + begun_at address b
+  pub begun : (address : ℕ) → executed_at address sum ≡ executed_at address a + executed_at address b
   pub taken : (address : ℕ) → taken_at address sum ≡ taken_at address a + taken_at address b
 
 -- two names of a function are equal, or one is missing
@@ -81,7 +81,7 @@ HaveNoSum Runs a b = 2 ^ 64 ≤ a.runs + b.runs
 -- the error is true of the counts of one image in the two tables
 abbrev pub CountsHaveNoSum : SumError → List AddressCounts → List AddressCounts → Type 0
 CountsHaveNoSum OutOfMemory a b = Unit {0}
-CountsHaveNoSum (Count address) a b = 2 ^ 64 ≤ begun_at address a + begun_at address b
+CountsHaveNoSum (Count address) a b = 2 ^ 64 ≤ executed_at address a + executed_at address b
 CountsHaveNoSum (Spot function) a b = ⊥
 CountsHaveNoSum (Names function) a b = ⊥
 CountsHaveNoSum Runs a b = ⊥

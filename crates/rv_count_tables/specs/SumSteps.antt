@@ -10,7 +10,7 @@ use Rattle.rv_count_tables.specs.declared.sum_of_counts.NextCount.{NextCount}
 use Rattle.rv_count_tables.specs.declared.sum_of_images.NextImage.{NextImage}
 use Rattle.rv_count_tables.specs.declared.sum_of_names.NextName.{NextName}
 use Rattle.rv_count_tables.specs.Sum.{Agree, CountsHaveNoSum, HasNameIn, NamesHaveNoSum}
-use Rattle.rv_count_tables.specs.Table.{begun_at, taken_at, name_at, executed_in, taken_in, path_in, name_in, arrivals_in, steps_in, least_path_of}
+use Rattle.rv_count_tables.specs.Table.{executed_at, taken_at, name_at, executed_in, taken_in, path_in, name_in, arrivals_in, steps_in, least_path_of}
 use Rattle.rv_count_tables.specs.Table.{rise_from, names_rise, digests_rise, IsCounted, IsImage, IsName}
 use Rattle.rv_call_tree.specs.Trees.{arrivals_at, ends_with, steps_at}
 
@@ -18,7 +18,7 @@ use Rattle.rv_call_tree.specs.Trees.{arrivals_at, ends_with, steps_at}
 pub record AddsUp (a b sum : List AddressCounts) : Type 0 where
   pub each : AllByRecursion IsCounted sum
   pub rising : (lowest : ℕ) → rise_from lowest a ≡ true → rise_from lowest b ≡ true → rise_from lowest sum ≡ true
-  pub begun : (address : ℕ) → begun_at address sum ≡ begun_at address a + begun_at address b
+  pub begun : (address : ℕ) → executed_at address sum ≡ executed_at address a + executed_at address b
   pub taken : (address : ℕ) → taken_at address sum ≡ taken_at address a + taken_at address b
 
 -- `next` has the first counts of a sum, and how many counts of each list they add up: followed by the sum of the rest, they are the sum of

@@ -16,9 +16,9 @@ use Rattle.rv_call_tree.specs.Trees.{arrivals_at, steps_at, IsTree}
 -- ---- the counts in a table
 
 -- how often the instruction at an address was executed
-abbrev pub begun_at : ℕ → List AddressCounts → ℕ
-begun_at address [] = 0
-begun_at address (c ∷ cs) = (if c.address == address then c.begun else 0) + begun_at address cs
+abbrev pub executed_at : ℕ → List AddressCounts → ℕ
+executed_at address [] = 0
+executed_at address (c ∷ cs) = (if c.address == address then c.begun else 0) + executed_at address cs
 
 -- how often the instruction at an address was a taken conditional branch
 abbrev pub taken_at : ℕ → List AddressCounts → ℕ
@@ -29,7 +29,7 @@ taken_at address (c ∷ cs) = (if c.address == address then c.taken else 0) + ta
 abbrev pub executed_in : List ℕ → ℕ → List ImageCounts → ℕ
 executed_in digest address [] = 0
 executed_in digest address (i ∷ is) =
-    (if bytes_eq i.digest digest then begun_at address i.addresses else 0) + executed_in digest address is
+    (if bytes_eq i.digest digest then executed_at address i.addresses else 0) + executed_in digest address is
 
 -- how often the instruction at an address was a taken conditional branch, in the image with a digest
 abbrev pub taken_in : List ℕ → ℕ → List ImageCounts → ℕ

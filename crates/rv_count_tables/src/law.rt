@@ -3,14 +3,14 @@
 ghost use Rattle.std.specs.Prelude.{◌≡◌, ℕ, List};
 ghost use Rattle.rv_count_tables.specs.declared.table.AddressCounts.{AddressCounts};
 ghost use Rattle.rv_count_tables.specs.declared.table.CountTable.{CountTable};
-ghost use Rattle.rv_count_tables.specs.Table.{AreCounts, IsTable, begun_at, taken_at, executed_in, taken_in, path_in, name_in, arrivals_in, steps_in};
+ghost use Rattle.rv_count_tables.specs.Table.{AreCounts, IsTable, executed_at, taken_at, executed_in, taken_in, path_in, name_in, arrivals_in, steps_in};
 ghost use Rattle.rv_count_tables.specs.Text.{table_text};
 ghost use Rattle.rv_count_tables.specs.Sum.{IsSumOfCounts, IsSum, no_counts};
 
 /// Proves that two lists of counts which have equal counts at each address are equal.
 pub fn one_list_has_these_counts()
     ensures { (a b : List AddressCounts) → AreCounts a → AreCounts b
-        → ((address : ℕ) → begun_at address a ≡ begun_at address b)
+        → ((address : ℕ) → executed_at address a ≡ executed_at address b)
         → ((address : ℕ) → taken_at address a ≡ taken_at address b) → a ≡ b }
 {}
 

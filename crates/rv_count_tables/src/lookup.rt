@@ -3,14 +3,14 @@
 ghost use Rattle.std.specs.Prelude.{◌≡◌, ◌<◌, ◌≤◌, ◌&&◌, ℕ, length, nat_le, nat_lt, slice_index_or, true};
 ghost use Rattle.std.specs.List.{list_any};
 ghost use Rattle.rv_count_tables.specs.declared.table.AddressCounts.{AddressCounts as Counts};
-ghost use Rattle.rv_count_tables.specs.Table.{begun_at, rise_from, taken_at};
+ghost use Rattle.rv_count_tables.specs.Table.{executed_at, rise_from, taken_at};
 
 use crate::table::AddressCounts;
 
 /// Returns the counts of the instruction at an address, which are 0 if it was never executed.
 pub fn counts_at(counts: &[AddressCounts], address: u32) -> AddressCounts
     requires { rise_from 0 counts.now ≡ true }
-    ensures { result ≡ record { address = address; begun = begun_at address counts.now; taken = taken_at address counts.now } }
+    ensures { result ≡ record { address = address; begun = executed_at address counts.now; taken = taken_at address counts.now } }
 {
     let place = index_of_address(counts, address);
     if place < counts.len() && counts[place].address == address {

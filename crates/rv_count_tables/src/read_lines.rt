@@ -144,7 +144,7 @@ fn parse_address_line(
     ensures none { IfOk result (λ read. IfNone read (IsNotAnAddress lowest line.now)) }
 {
     let counts = counts_of_line(line);
-    if can_stand(counts, lowest) && has_address_line(alloc, counts, line)? {
+    if can_come_next(counts, lowest) && has_address_line(alloc, counts, line)? {
         Ok(Some(counts))
     } else {
         Ok(None)
@@ -152,7 +152,7 @@ fn parse_address_line(
 }
 
 // Whether a table can have these counts after those of addresses below `lowest`.
-fn can_stand(counts: AddressCounts, lowest: u64) -> bool
+fn can_come_next(counts: AddressCounts, lowest: u64) -> bool
     ensures { IsTrue result ↔ (IsCounted counts × (lowest ≤ counts.address)) }
 {
     counts.address % 2 == 0

@@ -83,7 +83,7 @@ fn next_spot(
     ensures none { IfOk result (λ read. IfNone read (IsNotANode names.now front.now line.now)) }
 {
     let read = spot_of_line(alloc, line)?;
-    if can_stand(read.spot, front) && agrees(&read, names) && has_spot_line(alloc, &read, line)? {
+    if can_come_next(read.spot, front) && agrees(&read, names) && has_spot_line(alloc, &read, line)? {
         Ok(Some(read))
     } else {
         Ok(None)
@@ -91,7 +91,7 @@ fn next_spot(
 }
 
 // Whether a table can have the node after one with this path.
-fn can_stand(spot: Spot, front: &[u32]) -> bool
+fn can_come_next(spot: Spot, front: &[u32]) -> bool
     ensures { IsTrue result ↔ (IsSpot spot × FollowsInPreorder front.now spot) }
 {
     0 < spot.arrivals

@@ -21,11 +21,11 @@ use Rattle.rv_machine.specs.declared.ending.FaultKind.TheVariants as fault
 use Rattle.rv_machine.specs.State.{State, register, is_misaligned}
 use Rattle.rv_machine.specs.Effect.{effect, effect_of, after_branch, from_pc, address, rs2_value, load, after_load, store, after_store, fault_of_load, fault_of_store, next_pc}
 use Rattle.rv_machine.specs.Fetch.{Fetched, fetch, with_half, or_illegal, fault_of_fetch, second_half}
-use Rattle.rv_machine.specs.Run.{Ran, after_fetch, step_of, run_of, go_on}
+use Rattle.rv_machine.specs.Run.{Ran, after_fetch, step_of, run_of, run_rest}
 use Rattle.rv_trace.specs.declared.code.Code.{Code}
 use Rattle.rv_trace.specs.Code.{code_at, instr_of}
 use Rattle.rv_trace.proofs.Public.{code_is_fetched}
-use Rattle.rv_counting.specs.Coverage.{fetch_at, is_begun, is_taken, takes, begins_at_fault, begins_at_end, is_branch_instr, is_taken_code}
+use Rattle.rv_counting.specs.Coverage.{fetch_at, is_executed, is_taken, takes, begins_at_fault, begins_at_end, is_branch_instr, is_taken_code}
 
 -- what holds of an error
 abbrev pub err_is : {A E : Type 0} → (E → Type 0) → Result A E → Type 0
@@ -160,8 +160,8 @@ fetch_begins_none isa contents pc =
 
 -- what a step says of its fetch
 abbrev Tells : Fetched → Result State Ending → Type 0
-Tells r (Ok t) = is_begun r ≡ true
-Tells r (Err e) = begins_at_end e ≡ is_begun r
+Tells r (Ok t) = is_executed r ≡ true
+Tells r (Err e) = begins_at_end e ≡ is_executed r
 
 effect_tells : (p : Instr × ℕ) (r : Result State Ending) → IsOfEffect r → Tells (Ok p) r
 effect_tells p (Ok t) h = refl
@@ -176,10 +176,10 @@ step_tells : (s : State) → Tells (fetch_at s) (step_of s)
 unfolding step_of
 step_tells s = fetch_tells (fetch_at s) s (fetch_begins_none s.isa s.bus s.pc)
 
-pub completed_begins : (s t : State) → step_of s ≡ Ok t → is_begun (fetch_at s) ≡ true
+pub completed_begins : (s t : State) → step_of s ≡ Ok t → is_executed (fetch_at s) ≡ true
 completed_begins s t e = subst (λ (r : Result State Ending). Tells (fetch_at s) r) e (step_tells s)
 
-pub ended_begins : (s : State) (e : Ending) → step_of s ≡ Err e → begins_at_end e ≡ is_begun (fetch_at s)
+pub ended_begins : (s : State) (e : Ending) → step_of s ≡ Err e → begins_at_end e ≡ is_executed (fetch_at s)
 ended_begins s e is = subst (λ (r : Result State Ending). Tells (fetch_at s) r) is (step_tells s)
 
 -- ---- a run of one step
@@ -188,7 +188,7 @@ abbrev RanOnce : Result State Ending → State → Ran → Type 0
 RanOnce (Ok u) s ran = (ran.steps ≡ 1) × (ran.state ≡ u)
 RanOnce (Err e) s ran = (ran.steps ≡ 0) × (ran.state ≡ s) × (ran.ending ≡ e)
 
-ran_once : (s : State) (r : Result State Ending) → RanOnce r s (go_on r s (λ t. run_of 0 t))
+ran_once : (s : State) (r : Result State Ending) → RanOnce r s (run_rest r s (λ t. run_of 0 t))
 unfolding run_of
 ran_once s (Ok u) = (refl, refl)
 ran_once s (Err e) = (refl, refl, refl)
@@ -224,7 +224,7 @@ completed_of s t e n is some =
 
 -- ---- a branch that is taken
 
-pub begun_is : (r : Fetched) → is_begun r ≡ true → (p : Instr × ℕ) × (r ≡ Ok p)
+pub begun_is : (r : Fetched) → is_executed r ≡ true → (p : Instr × ℕ) × (r ≡ Ok p)
 begun_is (Ok p) h = (p, refl)
 begun_is (Err f) h = absurd (false≢true h)
 

@@ -9,8 +9,8 @@ use Rattle.rv_machine.specs.Fetch.{Fetched}
 use Rattle.rv_machine.specs.Run.{after_fetch, step_of}
 use Rattle.rv_machine.specs.State.{State}
 use Rattle.rv_count_tables.specs.declared.table.AddressCounts.{AddressCounts}
-use Rattle.rv_count_tables.specs.Table.{begun_at, AreCounts, IsCounted}
-use Rattle.rv_counting.specs.Coverage.{fetch_at, is_begun, once_if, behind, executed_in_run, IsTallied, AreCountsOf}
+use Rattle.rv_count_tables.specs.Table.{executed_at, AreCounts, IsCounted}
+use Rattle.rv_counting.specs.Coverage.{fetch_at, is_executed, once_if, behind, executed_in_run, IsTallied, AreCountsOf}
 
 -- ---- a step
 
@@ -53,7 +53,7 @@ none_at_odd : (n at : ℕ) (s : State) → IsEven s → at % 2 ≡ 1 → execute
 unfolding executed_in_run
 none_at_odd zero at s even odd = refl
 none_at_odd (suc n) at s even odd =
-    let here = never_once (is_begun (fetch_at s)) (s.pc == at) (other_address s.pc at even odd) in
+    let here = never_once (is_executed (fetch_at s)) (s.pc == at) (other_address s.pc at even odd) in
     let rest = none_behind (step_of s) (λ t. executed_in_run at n t) (step_even s even) (λ t e. none_at_odd n at t e odd) in
     omega (arith, here, rest)
 
@@ -69,7 +69,7 @@ pub few_begin : (n at : ℕ) (s : State) → executed_in_run at n s ≤ n
 unfolding executed_in_run
 few_begin zero at s = omega arith
 few_begin (suc n) at s =
-    let here = at_most_once (is_begun (fetch_at s) && (s.pc == at)) in
+    let here = at_most_once (is_executed (fetch_at s) && (s.pc == at)) in
     let rest = few_behind (step_of s) (λ t. executed_in_run at n t) n (few_begin n at) in
     omega (arith, here, rest)
 
@@ -88,7 +88,7 @@ own_address : (a : ℕ) → (a == a) ≡ true
 own_address a = elim (eqb_tells a a) [ inl h ↦ h.0 | inr h ↦ absurd (h.1 refl) ]
 
 even_if_begun : (c : AddressCounts) (cs : List AddressCounts) → IsTallied c
-    → ((at : ℕ) → at % 2 ≡ 1 → begun_at at (c ∷ cs) ≡ 0) → c.address % 2 ≡ 0
+    → ((at : ℕ) → at % 2 ≡ 1 → executed_at at (c ∷ cs) ≡ 0) → c.address % 2 ≡ 0
 even_if_begun c cs h none = elim (even_or_odd c.address) [
   | inl even ↦ even
   | inr odd ↦ absurd (
@@ -98,7 +98,7 @@ even_if_begun c cs h none = elim (even_or_odd c.address) [
       omega (arith, here, all, some))
 ]
 
-each_even : (cs : List AddressCounts) → AllByRecursion IsTallied cs → ((at : ℕ) → at % 2 ≡ 1 → begun_at at cs ≡ 0)
+each_even : (cs : List AddressCounts) → AllByRecursion IsTallied cs → ((at : ℕ) → at % 2 ≡ 1 → executed_at at cs ≡ 0)
     → AllByRecursion IsCounted cs
 each_even [] h none = tt
 each_even (c ∷ cs) h none = (
@@ -120,5 +120,5 @@ counts_even n s cs h even = record {
 }
 
 -- the run counts an address at most once a step
-pub counts_few : (n : ℕ) (s : State) (cs : List AddressCounts) (at : ℕ) → AreCountsOf n s cs → begun_at at cs ≤ n
+pub counts_few : (n : ℕ) (s : State) (cs : List AddressCounts) (at : ℕ) → AreCountsOf n s cs → executed_at at cs ≤ n
 counts_few n s cs at h = let few = few_begin n at s in let is = h.begun at in omega (arith, few, is)

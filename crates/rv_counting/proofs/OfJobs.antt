@@ -17,7 +17,7 @@ use Rattle.rv_count_tables.specs.declared.table.FunctionName.{FunctionName}
 use Rattle.rv_count_tables.specs.declared.table.ImageCounts.{ImageCounts}
 use Rattle.rv_count_tables.specs.declared.sum.SumError.TheVariants.{Names}
 use Rattle.rv_count_tables.specs.Sum.{HasName, HasNameIn, HaveNoSum, IsSum, no_counts}
-use Rattle.rv_count_tables.specs.Table.{begun_at, taken_at, name_at, name_in, least_path, least_path_of, digests_rise, names_rise, AreNames, AreNamesOf, AreSpots, IsImage, IsTable}
+use Rattle.rv_count_tables.specs.Table.{executed_at, taken_at, name_at, name_in, least_path, least_path_of, digests_rise, names_rise, AreNames, AreNamesOf, AreSpots, IsImage, IsTable}
 use Rattle.rv_jobs.specs.declared.answers.Answer.{Answer}
 use Rattle.rv_jobs.specs.declared_job.Job.{Job}
 use Rattle.rv_machine.specs.State.{State}
@@ -196,11 +196,11 @@ picked_few : (b : Bool) (n m : ℕ) → n < m → cond b n 0 ≤ m
 picked_few true n m h = omega arith
 picked_few false n m h = omega arith
 
-run_is_few : (path file : List ℕ) (cs : List AddressCounts) → ((address : ℕ) → begun_at address cs < 2 ^ 32)
+run_is_few : (path file : List ℕ) (cs : List AddressCounts) → ((address : ℕ) → executed_at address cs < 2 ^ 32)
     → IsTableOfFew 1 (table_of_run path file cs)
 run_is_few path file cs few = record {
   begun = λ digest address.
-      let h = picked_few (bytes_eq (sha256 file) digest) (begun_at address cs) (2 ^ 32) (few address) in
+      let h = picked_few (bytes_eq (sha256 file) digest) (executed_at address cs) (2 ^ 32) (few address) in
       omega (arith, h);
   runs = omega arith;
   stacks = run_has_none path file cs;
@@ -245,7 +245,7 @@ module _ (answers : List Answer) (job : Job) where
     table = table;
     begun = λ digest address.
         let here = bytes_eq (sha256 file) digest in
-        let e = picked_begun here (begun_at address cs) address job.budget s (counts.begun address) in
+        let e = picked_begun here (executed_at address cs) address job.budget s (counts.begun address) in
         let k = ap (begun_from address job.budget) (over digest file s bytes start) in
         omega (arith, e, k);
     taken = λ digest address.
@@ -266,7 +266,7 @@ module _ (answers : List Answer) (job : Job) where
   -- with the counts that `count_job` answers
   pub ran : (file : List ℕ) (cs : List AddressCounts) (t : CountTable) → image_bytes answers job ≡ Some file
       → t ≡ table_of_run job.image file cs → IsTable t → AreCountsOfJob job.budget (start_in answers job) (Some cs)
-      → ((address : ℕ) → begun_at address cs < 2 ^ 32) → IsTableOfOne answers job t
+      → ((address : ℕ) → executed_at address cs < 2 ^ 32) → IsTableOfOne answers job t
   ran file cs t bytes is table counts few = by (start_in answers job) refl counts
     where
       by : (r : Result State Refusal) → start_in answers job ≡ r → AreCountsOfJob job.budget r (Some cs)

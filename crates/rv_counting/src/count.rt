@@ -1,7 +1,7 @@
 //! The counts of a run.
 
 ghost use Rattle.std.specs.Prelude.{◌^◌, ◌<◌, ℕ, IfOk, IfSome};
-ghost use Rattle.rv_count_tables.specs.Table.{AreCounts, begun_at};
+ghost use Rattle.rv_count_tables.specs.Table.{AreCounts, executed_at};
 ghost use Rattle.rv_jobs.specs.declared_job.Job.{Job as AJob};
 ghost use Rattle.rv_machine.specs.Machine.{state_of};
 ghost use Rattle.rv_rows.specs.Rows.{start_in};
@@ -77,7 +77,7 @@ pub fn count_job(
         (job_at job.now.plan.now job.now.place d).budget
         (start_in job.now.plan.now.answers (job_at job.now.plan.now job.now.place d)) counts) }
     ensures table { IfOk result (λ counts. IfSome counts AreCounts) }
-    ensures few { IfOk result (λ counts. IfSome counts (λ counts. (address : ℕ) → begun_at address counts < 2 ^ 32)) }
+    ensures few { IfOk result (λ counts. IfSome counts (λ counts. (address : ℕ) → executed_at address counts < 2 ^ 32)) }
 {
     match machine_at_reusing(alloc, job.plan, job.place, job.image, spare)? {
         Ok(machine) => {

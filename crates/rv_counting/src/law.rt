@@ -15,17 +15,17 @@ ghost use Rattle.rv_machine.specs.declared.ending.Ending.{Ending};
 ghost use Rattle.rv_machine.specs.Run.{run_of, step_of};
 ghost use Rattle.rv_machine.specs.State.{State};
 ghost use Rattle.rv_rows.specs.Wholes.{HaveSameResults};
-ghost use Rattle.rv_counting.specs.Coverage.{fetch_at, is_begun, once_if, begins_at_end, executed_total, AreCountsOf};
+ghost use Rattle.rv_counting.specs.Coverage.{fetch_at, is_executed, once_if, begins_at_end, executed_total, AreCountsOf};
 ghost use Rattle.rv_counting.specs.JobTables.{AreTablesOfParts, AreTablesOfShards, IsTableOfJobs, IsTableOfPlaces, SumsTo};
 
 /// Proves that a completed step counts as an execution.
 pub fn run_begins_its_steps()
-    ensures { (s t : State) → step_of s ≡ Ok t → is_begun (fetch_at s) ≡ true }
+    ensures { (s t : State) → step_of s ≡ Ok t → is_executed (fetch_at s) ≡ true }
 {}
 
 /// Proves that a step which ends a run counts as an execution if and only if `begins_at_end` says so.
 pub fn run_begins_its_end()
-    ensures { (s : State) (e : Ending) → step_of s ≡ Err e → is_begun (fetch_at s) ≡ begins_at_end e }
+    ensures { (s : State) (e : Ending) → step_of s ≡ Err e → is_executed (fetch_at s) ≡ begins_at_end e }
 {}
 
 /// Proves that the counts of a run add up to its completed steps, plus one if it ended with an exit or with a fault other than one of the

@@ -3,7 +3,7 @@ use Rattle.std.proofs.Common.{◌≡◌, ◌==◌, ◌+◌, ◌<◌, ◌≤◌, 
 use Rattle.std.specs.List.{AllByRecursion, list_any}
 use Rattle.std.proofs.lemmas.Bool.Decides.{nat_tests}
 use Rattle.rv_count_tables.specs.declared.table.AddressCounts.{AddressCounts}
-use Rattle.rv_count_tables.specs.Table.{AreCounts, IsCounted, begun_at}
+use Rattle.rv_count_tables.specs.Table.{AreCounts, IsCounted, executed_at}
 use Rattle.rv_elf.specs.Functions.{Named}
 use Rattle.rv_cover_view.specs.Cover.{WasNotExecuted, has_run, never_run}
 use Rattle.rv_cover_view.specs.Functions.{address_of, bytes_of}
@@ -20,10 +20,10 @@ not_begun_first : (from behind at begun address rest : ℕ) (any : Bool) → (le
 not_begun_first from behind at begun address rest any e l h z = grind (arith, nat_tests)
 
 pub not_begun : (from behind : ℕ) (cs : List AddressCounts) → list_any (is_within from behind) cs ≡ false
-    → (address : ℕ) → from ≤ address → address < behind → begun_at address cs ≡ 0
+    → (address : ℕ) → from ≤ address → address < behind → executed_at address cs ≡ 0
 not_begun from behind [] e address l h = refl
 not_begun from behind (c ∷ cs) e address l h =
-    not_begun_first from behind c.address c.begun address (begun_at address cs) (list_any (is_within from behind) cs) e l h
+    not_begun_first from behind c.address c.begun address (executed_at address cs) (list_any (is_within from behind) cs) e l h
     (not_begun from behind cs (others (is_within from behind c) (list_any (is_within from behind) cs) e) address l h)
 
 none_first : (from behind at begun rest : ℕ) (any : Bool) → 0 < begun → any ≡ false
@@ -31,10 +31,10 @@ none_first : (from behind at begun rest : ℕ) (any : Bool) → 0 < begun → an
 none_first from behind at begun rest any l e h = grind (arith, nat_tests)
 
 pub none_within : (from behind : ℕ) (cs : List AddressCounts) → AllByRecursion IsCounted cs
-    → ((address : ℕ) → from ≤ address → address < behind → begun_at address cs ≡ 0) → list_any (is_within from behind) cs ≡ false
+    → ((address : ℕ) → from ≤ address → address < behind → executed_at address cs ≡ 0) → list_any (is_within from behind) cs ≡ false
 none_within from behind [] each h = refl
 none_within from behind (c ∷ cs) each h =
-    none_first from behind c.address c.begun (begun_at c.address cs) (list_any (is_within from behind) cs) each.0.begun
+    none_first from behind c.address c.begun (executed_at c.address cs) (list_any (is_within from behind) cs) each.0.begun
     (none_within from behind cs each.1 (λ address l m. let z = h address l m in omega (arith, z)))
     (h c.address)
 

@@ -2,7 +2,7 @@
 use Rattle.std.specs.Prelude.{◌≡◌, ◌+◌, ◌≤◌, ◌<◌, ◌&&◌, ℕ, Bool, not, nat_le, nat_lt, List, filter, is_some, length}
 use Rattle.std.specs.List.{count_by, flat_map, list_any}
 use Rattle.rv_count_tables.specs.declared.table.AddressCounts.{AddressCounts}
-use Rattle.rv_count_tables.specs.Table.{begun_at, taken_at}
+use Rattle.rv_count_tables.specs.Table.{executed_at, taken_at}
 use Rattle.rv_counting.specs.Coverage.{is_branch_code}
 use Rattle.rv_elf.specs.Functions.{Named}
 use Rattle.rv_trace.specs.Code.{instr_of}
@@ -28,16 +28,16 @@ abbrev pub is_instruction : Placed → Bool
 is_instruction p = is_some (instr_of p.1)
 
 -- whether an instruction was executed at the encoding's address
-abbrev pub has_begun : List AddressCounts → Placed → Bool
-has_begun counts p = nat_lt 0 (begun_at p.0 counts)
+abbrev pub was_executed : List AddressCounts → Placed → Bool
+was_executed counts p = nat_lt 0 (executed_at p.0 counts)
 
 -- whether RV32IMC has an instruction for the encoding, and one was executed at its address
 abbrev pub is_run : List AddressCounts → Placed → Bool
-is_run counts p = is_instruction p && has_begun counts p
+is_run counts p = is_instruction p && was_executed counts p
 
 -- whether the branch was taken at least once, and also executed without being taken
 abbrev pub went_both_ways : List AddressCounts → Placed → Bool
-went_both_ways counts p = nat_lt 0 (taken_at p.0 counts) && nat_lt (taken_at p.0 counts) (begun_at p.0 counts)
+went_both_ways counts p = nat_lt 0 (taken_at p.0 counts) && nat_lt (taken_at p.0 counts) (executed_at p.0 counts)
 
 -- whether the encoding is a conditional branch that was both taken and not taken
 abbrev pub is_branch_both_ways : List AddressCounts → Placed → Bool
@@ -45,11 +45,11 @@ is_branch_both_ways counts p = is_branch_code p.1 && went_both_ways counts p
 
 -- whether the encoding is a conditional branch that was executed, but always taken or never taken
 abbrev pub is_branch_one_way : List AddressCounts → Placed → Bool
-is_branch_one_way counts p = is_branch_code p.1 && (has_begun counts p && not (went_both_ways counts p))
+is_branch_one_way counts p = is_branch_code p.1 && (was_executed counts p && not (went_both_ways counts p))
 
 -- whether the encoding is a conditional branch that was never executed
 abbrev pub is_branch_never : List AddressCounts → Placed → Bool
-is_branch_never counts p = is_branch_code p.1 && not (has_begun counts p)
+is_branch_never counts p = is_branch_code p.1 && not (was_executed counts p)
 
 -- ---- sums
 
@@ -76,4 +76,4 @@ amounts_of counts fs = record {
 -- no instruction was executed at the function's addresses
 abbrev pub WasNotExecuted : List AddressCounts → Named → Type 0
 WasNotExecuted counts f = (address : ℕ) → address_of f ≤ address → address < address_of f + length (bytes_of f)
-    → begun_at address counts ≡ 0
+    → executed_at address counts ≡ 0

@@ -19,16 +19,16 @@ abbrev pub head_text : Bool → List ℕ
 head_text csv = if csv then csv_head else cover_head
 
 -- the text is the coverage of an image by a table's counts
-abbrev pub IsShownOf : Bool → CountTable → FileImage → List ℕ → Type 0
-IsShownOf csv table image text = (cover : ImageCover)
+abbrev pub IsImageCoverText : Bool → CountTable → FileImage → List ℕ → Type 0
+IsImageCoverText csv table image text = (cover : ImageCover)
     × (IsCoverOf image.path image.image image.bytes (counts_of table image.bytes) cover × (text ≡ image_text csv cover))
 
 -- the text is the coverage of each image by a table's counts, in order
-abbrev pub AreShown : Bool → CountTable → List FileImage → List ℕ → Type 0
-AreShown csv table [] text = text ≡ []
-AreShown csv table (image ∷ images) text = (first : List ℕ) × (IsShownOf csv table image first
-    × ((rest : List ℕ) × (AreShown csv table images rest × (text ≡ first ++ rest))))
+abbrev pub AreImageCoverTexts : Bool → CountTable → List FileImage → List ℕ → Type 0
+AreImageCoverTexts csv table [] text = text ≡ []
+AreImageCoverTexts csv table (image ∷ images) text = (first : List ℕ) × (IsImageCoverText csv table image first
+    × ((rest : List ℕ) × (AreImageCoverTexts csv table images rest × (text ≡ first ++ rest))))
 
 -- the text is the header, and then the coverage of each image by a table's counts, in order
 abbrev pub IsCoverText : Bool → CountTable → List FileImage → List ℕ → Type 0
-IsCoverText csv table images text = (lines : List ℕ) × (AreShown csv table images lines × (text ≡ head_text csv ++ lines))
+IsCoverText csv table images text = (lines : List ℕ) × (AreImageCoverTexts csv table images lines × (text ≡ head_text csv ++ lines))

@@ -7,9 +7,9 @@ use Rattle.rv_text.specs.Printable.{printable_name, printable_text}
 use Rattle.rv_cover_view.specs.declared.amounts.Amounts.{Amounts}
 use Rattle.rv_cover_view.specs.declared.amounts.CodeAmounts.{CodeAmounts}
 
--- a number with leading spaces up to a width of `places`
+-- a number with leading spaces up to a width of `width`
 unfoldable pub right : ℕ → ℕ → List ℕ
-right places number = replicate (places - length (decimal number)) 32 ++ decimal number
+right width number = replicate (width - length (decimal number)) 32 ++ decimal number
 
 -- the header of the coverage table
 unfoldable pub cover_head : List ℕ

@@ -23,7 +23,7 @@ pub(crate) fn amounts_of_code(address: u32, code: &[u8], counts: &[AddressCounts
     while let Some(code) = front_code(rest) {
         amounts = amounts.plus(amounts_at(address, code, counts));
         address = address.wrapping_add(code_length(code));
-        rest = bytes_behind(rest, code);
+        rest = bytes_after(rest, code);
     }
     amounts
 }
@@ -37,15 +37,15 @@ fn amounts_at(address: u32, code: Code, counts: &[AddressCounts]) -> CodeAmounts
         return CodeAmounts::none();
     };
     let counts = counts_at(counts, address);
-    let has_begun = 0 < counts.begun;
+    let was_executed = 0 < counts.begun;
     let both_ways = 0 < counts.taken && counts.taken < counts.begun;
     let is_branch = is_branch(instr.op);
     CodeAmounts {
         instructions: 1,
-        instructions_run: u64::from(has_begun),
+        instructions_run: u64::from(was_executed),
         branches_both_ways: u64::from(is_branch && both_ways),
-        branches_one_way: u64::from(is_branch && has_begun && !both_ways),
-        branches_never: u64::from(is_branch && !has_begun),
+        branches_one_way: u64::from(is_branch && was_executed && !both_ways),
+        branches_never: u64::from(is_branch && !was_executed),
     }
 }
 
@@ -73,7 +73,7 @@ fn front_half(bytes: &[u8]) -> Option<u16>
 }
 
 // Returns the bytes after the encoding at the start.
-fn bytes_behind(bytes: &[u8], code: Code) -> &[u8]
+fn bytes_after(bytes: &[u8], code: Code) -> &[u8]
     requires { size_of_code code ≤ length bytes.now }
     ensures { result.now ≡ drop (size_of_code code) bytes.now }
 {

@@ -2,7 +2,7 @@
 
 ghost use Rattle.std.specs.Prelude.{◌≡◌, ◌++◌, IfOk, List, OnOk, ℕ};
 ghost use Rattle.rv_count_tables.specs.Table.{IsTable};
-ghost use Rattle.rv_cover_view.specs.ImagesText.{IsCoverText, IsShownOf, head_text, image_text};
+ghost use Rattle.rv_cover_view.specs.ImagesText.{IsCoverText, IsImageCoverText, head_text, image_text};
 ghost use Rattle.rv_cover_view.specs.JobImages.{image_of_file, images_of_files};
 
 use crate::csv::{push_csv_head, push_csv_row};
@@ -51,7 +51,7 @@ fn push_image(
     image: &ImageFile<'_>,
 ) -> Result<(), AllocError>
     requires { IsTable table.now }
-    ensures { OnOk result ((shown : List ℕ) × (IsShownOf csv table.now (image_of_file image.now) shown
+    ensures { OnOk result ((shown : List ℕ) × (IsImageCoverText csv table.now (image_of_file image.now) shown
         × (text.new.items ≡ text.old.items ++ shown))) }
 {
     let counts = counts_of(table, image.bytes);

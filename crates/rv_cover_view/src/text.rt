@@ -95,19 +95,19 @@ fn push_code_columns(
     push_right(alloc, bytes, 10, amounts.branches_never)
 }
 
-/// Appends a number with leading spaces up to a width of `places`. A longer number widens the column.
+/// Appends a number with leading spaces up to a width of `width`. A longer number widens the column.
 #[tactic(auto, unfolding(crate::specs::Text::right))]
 pub fn push_right(
     alloc: Global,
     bytes: &mut Vec<u8>,
-    places: usize,
+    width: usize,
     number: u64,
 ) -> Result<(), AllocError>
-    ensures { OnOk result (bytes.new.items ≡ bytes.old.items ++ right places number) }
+    ensures { OnOk result (bytes.new.items ≡ bytes.old.items ++ right width number) }
 {
     let mut digits = Vec::new(alloc);
     push_number(&mut digits, number)?;
-    push_spaces(bytes, places.saturating_sub(digits.len()))?;
+    push_spaces(bytes, width.saturating_sub(digits.len()))?;
     bytes.extend_from_slice(&digits)
 }
 

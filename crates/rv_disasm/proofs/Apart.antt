@@ -97,6 +97,6 @@ words_apart w i e =
 pub halfwords_apart : (h : ℕ) (i : Instr) → meaning16 set.Imc h ≡ Some i → unsimulated16 h ≡ None
 unfolding meaning16 unsimulated16
 halfwords_apart h i e =
-    none_beside h (λ q. q.fixed) (fits16 set.Imc h) (λ q. q.gives h)
-    (λ q f. let parts = and_parts (has set.Imc q.extension) (has_fields h q.fixed && (lacks_fields h q.barred && q.needs h)) f in
-    (and_parts (has_fields h q.fixed) (lacks_fields h q.barred && q.needs h) parts.1).0) i c_rows rows16 halfwords_differ e
+    none_beside h (λ q. q.fixed) (fits16 set.Imc h) (λ q. q.instr h)
+    (λ q f. let parts = and_parts (has set.Imc q.extension) (has_fields h q.fixed && (lacks_fields h q.excluded && q.needs h)) f in
+    (and_parts (has_fields h q.fixed) (lacks_fields h q.excluded && q.needs h) parts.1).0) i c_rows rows16 halfwords_differ e

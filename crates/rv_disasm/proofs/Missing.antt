@@ -58,6 +58,6 @@ halfwords_of_c isa h i c e =
     let m = (meaning16_means set.Imc h i).0 e in
     let held = has_halfwords isa m.1.extension c
     (all_at (λ r. of_halfwords r.extension) rows16 m.0 m.1 halfwords_only m.2 m.3) in
-    let rest : Bool = has_fields h m.1.fixed && (lacks_fields h m.1.barred && m.1.needs h) in
+    let rest : Bool = has_fields h m.1.fixed && (lacks_fields h m.1.excluded && m.1.needs h) in
     let stands = and_from (has isa m.1.extension) rest held (and_parts (has set.Imc m.1.extension) rest m.4.0).1 in
     (meaning16_means isa h i).1 (m.0, m.1, m.2, m.3, (stands, m.4.1))

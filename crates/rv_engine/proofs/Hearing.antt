@@ -9,7 +9,7 @@ use Rattle.rv_engine.specs.declared.in_order.End.{End}
 use Rattle.rv_engine.specs.declared.in_order.End.TheVariants.{GaveUp, Stopped}
 use Rattle.rv_engine.specs.declared.listener.Flow.{Flow}
 use Rattle.rv_engine.specs.declared.listener.Flow.TheVariants.{GoOn, Stop}
-use Rattle.rv_engine.specs.Results.{AreComputed, HasReceived, HasReceivedSome, IsDelivered, HasReceivedUntil, IsPiece, piece_count}
+use Rattle.rv_engine.specs.Results.{AreComputed, HasReceived, HasReceivedSome, IsDelivered, HasReceivedUntil, IsChunk, chunk_count}
 
 module _ {H : Type 0} (is_result : ℕ → H → Type 0) (jobs : ℕ) where
   -- nothing yet
@@ -62,7 +62,7 @@ module _ {H : Type 0} (is_result : ℕ → H → Type 0) (jobs : ℕ) where
       → HasReceived is_result jobs has_received m
   heard_as has_received n m same received = subst (HasReceived is_result jobs has_received) same received
 
-  module _ (group piece : ℕ) (results : List H) (are : IsPiece is_result jobs group piece results) where
+  module _ (group piece : ℕ) (results : List H) (are : IsChunk is_result jobs group piece results) where
     -- the next result of a piece
     pub piece_more : (had has : List H → Type 0) (before : List H) (made : H) (rest : List H) → before ++ made ∷ rest ≡ results
         → HasReceived is_result jobs had (min (piece * group) jobs + length before)
@@ -102,7 +102,7 @@ nothing_left (x ∷ xs) h = absurd (omega arith)
 
 -- a piece of what is made
 pub piece_made : {H : Type 0} (is_made is_result : ℕ → H → Type 0) (jobs group piece : ℕ) (results : List H)
-    → AreComputed is_made is_result → IsPiece is_made jobs group piece results → IsPiece is_result jobs group piece results
+    → AreComputed is_made is_result → IsChunk is_made jobs group piece results → IsChunk is_result jobs group piece results
 piece_made is_made is_result jobs group piece results are made = record {
   each = λ k any low. are (piece * group + k) (get_or results k any) (made.each k any low);
   count = made.count;
@@ -120,10 +120,10 @@ heard_paused is_result jobs group had has stops next Stop hears kept goes ends =
 )
 
 -- behind the last piece there is no job
-pub all_pieces : (jobs group piece : ℕ) → 0 < group → piece_count jobs group ≤ piece → min (piece * group) jobs ≡ jobs
+pub all_pieces : (jobs group piece : ℕ) → 0 < group → chunk_count jobs group ≤ piece → min (piece * group) jobs ≡ jobs
 all_pieces jobs group piece some past =
-    let all : jobs ≤ piece_count jobs group * group = (div_ceil_times jobs group some).0 in
-    let more : piece_count jobs group * group ≤ piece * group = mul-le-mul_right group past in
+    let all : jobs ≤ chunk_count jobs group * group = (div_ceil_times jobs group some).0 in
+    let more : chunk_count jobs group * group ≤ piece * group = mul-le-mul_right group past in
     omega (arith, all, more)
 
 -- however a run ended, the first jobs are heard

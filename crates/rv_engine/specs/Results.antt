@@ -38,18 +38,18 @@ IsRunDelivered is_result jobs has_received stops (Err error) = HasReceivedSome i
 -- ---- computed in chunks
 
 -- the number of chunks of `group` jobs that the jobs are divided into
-abbrev pub piece_count : ℕ → ℕ → ℕ
-piece_count jobs group = div_ceil jobs group
+abbrev pub chunk_count : ℕ → ℕ → ℕ
+chunk_count jobs group = div_ceil jobs group
 
 -- these are the results of the jobs in the chunk with this index: `group` of them, or fewer in the last chunk
-pub record IsPiece {H : Type 0} (is_result : ℕ → H → Type 0) (jobs group piece : ℕ) (results : List H) : Type 0 where
+pub record IsChunk {H : Type 0} (is_result : ℕ → H → Type 0) (jobs group piece : ℕ) (results : List H) : Type 0 where
   pub each : AreResults (λ k. is_result (piece * group + k)) results
   pub count : length results ≡ min group (jobs - piece * group)
 
 -- the results that were computed before their turn are at the indices of their chunks
 abbrev pub ArePending : {H : Type 0} → (ℕ → H → Type 0) → ℕ → ℕ → List (Option (Vec H Global)) → Type 0
 ArePending is_result jobs group pending = (k : ℕ)
-    → IfSome (slice_index_or pending k None) (λ results. IsPiece is_result jobs group k results.items)
+    → IfSome (slice_index_or pending k None) (λ results. IsChunk is_result jobs group k results.items)
 
 -- a listener has received the results of all chunks before this one, and has not stopped the run
 abbrev pub HasReceivedUpTo : {H : Type 0} → (ℕ → H → Type 0) → ℕ → ℕ → (List H → Type 0) → Type 0 → ℕ → Type 0

@@ -1,7 +1,7 @@
 //! Runs jobs in threads.
 
 ghost use Rattle.std.specs.Prelude.{◌≡◌, [], IfOk};
-ghost use Rattle.rv_engine.specs.Results.{ArePending, AreComputed, IsRunDelivered, HasReceivedUpTo, IsInOrder, piece_count};
+ghost use Rattle.rv_engine.specs.Results.{ArePending, AreComputed, IsRunDelivered, HasReceivedUpTo, IsInOrder, chunk_count};
 ghost use Rattle.rv_engine.specs.declared.engine.RunError.TheVariants.{OutOfMemory};
 
 use crate::crew::Crew;
@@ -9,7 +9,7 @@ use crate::in_order::{
     End, InOrder, RunSpec, Undelivered, deliver_chunk, no_results, take_pending,
 };
 use crate::listener::{Flow, Listener};
-use crate::piece::{make_piece, piece_count};
+use crate::piece::{compute_chunk, chunk_count};
 use crate::threads::run_workers;
 use crate::work::Work;
 use crate::worker::WorkerContext;
@@ -58,7 +58,7 @@ pub fn run_jobs<
     requires goes { L.stops listener → ⊥ }
     ensures { IsRunDelivered J.is_result J.jobs (L.has_received result.0) (L.stops result.0) result.1 }
 {
-    let pieces = piece_count(work.jobs(), crew.group);
+    let pieces = chunk_count(work.jobs(), crew.group);
     let pending = match no_results(crew.alloc, pieces) {
         Ok(pending) => pending,
         Err(error) => return (listener, Err(RunError::from(error))),
@@ -125,10 +125,10 @@ fn deliver_from<J: RunSpec<H>, H: Drop, R, W: Work<H>, L: Listener<H>>(
 {
     let mut pending = pending;
     let mut worker_state = work.new_worker_state(crew.alloc);
-    for piece in next..piece_count(work.jobs(), crew.group) as usize {
+    for piece in next..chunk_count(work.jobs(), crew.group) as usize {
         let results = match take_pending::<J, H>(&mut pending, piece) {
             Some(results) => results,
-            None => make_piece::<H, W>(
+            None => compute_chunk::<H, W>(
                 crew.alloc,
                 work,
                 crew.group,

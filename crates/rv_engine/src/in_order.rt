@@ -1,7 +1,7 @@
 //! Results that wait for their turn, and the listener that receives them.
 
 ghost use Rattle.std.specs.Prelude.{◌≡◌, ◌+◌, [], ℕ, IfOk, IfSome, None, length, slice_index_or};
-ghost use Rattle.rv_engine.specs.Results.{ArePending, IsDelivered, HasReceivedUpTo, IsInOrder, IsPiece};
+ghost use Rattle.rv_engine.specs.Results.{ArePending, IsDelivered, HasReceivedUpTo, IsInOrder, IsChunk};
 
 use crate::listener::{Flow, Listener};
 use std::alloc::{AllocError, Global};
@@ -74,7 +74,7 @@ impl<J: RunSpec<H>, H: Drop, L: Listener<H> + Drop> InOrder<J, H, L> {
 
     /// Stores the results of a chunk, and delivers all results whose turn has come. Returns whether to continue.
     pub(crate) fn receive_chunk(&mut self, piece: u64, results: Vec<H>) -> Flow
-        requires { IsPiece J.is_result J.jobs J.group piece results.items }
+        requires { IsChunk J.is_result J.jobs J.group piece results.items }
     {
         store_chunk::<J, H>(&mut self.pending, piece as usize, results);
         if self.ended.is_some() {
@@ -143,7 +143,7 @@ fn store_chunk<J: RunSpec<H>, H: Drop>(
     results: Vec<H>,
 )
     requires pending { ArePending J.is_result J.jobs J.group pending.old.items }
-    requires results { IsPiece J.is_result J.jobs J.group piece results.items }
+    requires results { IsChunk J.is_result J.jobs J.group piece results.items }
     ensures { ArePending J.is_result J.jobs J.group pending.new.items }
 {
     if piece < pending.len() {
@@ -209,7 +209,7 @@ pub(crate) fn deliver_chunk<J: RunSpec<H>, H: Drop, L: Listener<H>>(
     piece: usize,
     results: Vec<H>,
 ) -> Flow
-    requires results { IsPiece J.is_result J.jobs J.group piece results.items }
+    requires results { IsChunk J.is_result J.jobs J.group piece results.items }
     requires received { HasReceivedUpTo J.is_result J.jobs J.group (L.has_received listener.old) (L.stops listener.old) piece }
     ensures { IsDelivered J.is_result J.jobs J.group (L.has_received listener.new) (L.stops listener.new) (piece + 1) result }
 {
@@ -229,7 +229,7 @@ pub(crate) fn take_pending<J: RunSpec<H>, H: Drop>(
     requires { ArePending J.is_result J.jobs J.group pending.old.items }
     ensures pending { ArePending J.is_result J.jobs J.group pending.new.items }
     ensures length { length pending.new.items ≡ length pending.old.items }
-    ensures results { IfSome result (λ results. IsPiece J.is_result J.jobs J.group piece results.items) }
+    ensures results { IfSome result (λ results. IsChunk J.is_result J.jobs J.group piece results.items) }
 {
     if piece < pending.len() {
         pending[piece].take()

@@ -2,24 +2,24 @@
 
 ghost use Rattle.std.specs.Prelude.{◌≡◌, ◌*◌, ◌<◌, ◌≤◌, IfOk, OnOk};
 ghost use Rattle.rv_jobs.specs.Limits.{most_group, most_jobs};
-ghost use Rattle.rv_engine.specs.Results.{IsPiece, piece_count};
+ghost use Rattle.rv_engine.specs.Results.{IsChunk, chunk_count};
 
 use crate::work::Work;
 use crate::worker_state::WorkerState;
 use std::alloc::{AllocError, Global};
 
 /// Returns the number of chunks of `group` jobs that the jobs are divided into. The last chunk may have fewer jobs.
-pub(crate) fn piece_count(jobs: usize, group: u32) -> u64
+pub(crate) fn chunk_count(jobs: usize, group: u32) -> u64
     requires few { jobs ≤ most_jobs }
     requires some { 0 < group }
-    ensures value { result ≡ piece_count jobs group }
+    ensures value { result ≡ chunk_count jobs group }
     ensures few { result ≤ most_jobs }
 {
     jobs.div_ceil(group as usize) as u64
 }
 
 /// Computes the results of the jobs in a chunk.
-pub(crate) fn make_piece<H: Drop, W: Work<H>>(
+pub(crate) fn compute_chunk<H: Drop, W: Work<H>>(
     alloc: Global,
     work: &W,
     group: u32,
@@ -27,9 +27,9 @@ pub(crate) fn make_piece<H: Drop, W: Work<H>>(
     worker_state: &mut WorkerState,
 ) -> Result<Vec<H>, AllocError>
     requires group { (0 < group) × (group ≤ most_group) }
-    requires piece { piece < piece_count (W.jobs work.now) group }
+    requires piece { piece < chunk_count (W.jobs work.now) group }
     requires worker_state { W.is_worker_state work.now worker_state.old }
-    ensures made { IfOk result (λ made. IsPiece (W.is_made work.now) (W.jobs work.now) group piece made.items) }
+    ensures made { IfOk result (λ made. IsChunk (W.is_made work.now) (W.jobs work.now) group piece made.items) }
     ensures worker_state { OnOk result (W.is_worker_state work.now worker_state.new) }
 {
     let jobs = work.jobs();

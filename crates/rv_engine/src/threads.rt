@@ -21,7 +21,7 @@ pub(crate) trait Worker: Sync {
     ghost draws: { Self → SharedDraw → Type 0 };
 
     /// Draws chunks and computes them until none is left or the run ends.
-    fn work_on_pieces(&self, claims: &Claims, pass: Pass) -> Result<(), AllocError>
+    fn compute_chunks(&self, claims: &Claims, pass: Pass) -> Result<(), AllocError>
         requires claims { draws self.now claims.now }
         requires pass { pass.draw ≡ claims.now };
 
@@ -53,7 +53,7 @@ pub(crate) fn run_workers<R: Threads + Wait, S: Worker>(
                 let Ok(handle) = scope.spawn(
                     move || -> Result<(), AllocError>
                         requires { S.draws worker.now claims.now × (pass.draw ≡ claims.now) }
-                    { worker.work_on_pieces(claims, pass) },
+                    { worker.compute_chunks(claims, pass) },
                 ) else {
                     // The others need not continue.
                     worker.give_up();

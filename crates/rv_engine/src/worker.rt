@@ -5,7 +5,7 @@ ghost use Rattle.std.specs.Prelude.{◌≡◌, ◌<◌, ◌≤◌};
 
 use crate::in_order::{InOrder, RunSpec};
 use crate::listener::{Flow, Listener};
-use crate::piece::make_piece;
+use crate::piece::compute_chunk;
 use crate::threads::Worker;
 use crate::work::Work;
 use rv_claims::{Claims, Pass};
@@ -34,15 +34,15 @@ impl<
     L: Listener<H> + Drop + Send,
 > Worker for WorkerContext<'a, J, H, R, W, L> {
     ghost use Rattle.std.specs.Prelude.{◌≡◌};
-    ghost use Rattle.rv_engine.specs.Results.{AreComputed, piece_count};
+    ghost use Rattle.rv_engine.specs.Results.{AreComputed, chunk_count};
 
-    ghost draws = { λ s draw. (draw.pieces ≡ piece_count (W.jobs s.work.now) s.group) × AreComputed (W.is_made s.work.now) J.is_result };
+    ghost draws = { λ s draw. (draw.pieces ≡ chunk_count (W.jobs s.work.now) s.group) × AreComputed (W.is_made s.work.now) J.is_result };
 
-    fn work_on_pieces(&self, claims: &Claims, pass: Pass) -> Result<(), AllocError> {
+    fn compute_chunks(&self, claims: &Claims, pass: Pass) -> Result<(), AllocError> {
         let mut pass = pass;
         let mut worker_state = self.work.new_worker_state(self.alloc);
         while let Some(piece) = claims.take(&mut pass) {
-            let made = make_piece::<H, W>(
+            let made = compute_chunk::<H, W>(
                 self.alloc,
                 self.work,
                 self.group,

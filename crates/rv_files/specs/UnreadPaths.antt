@@ -5,7 +5,7 @@ use Rattle.std.specs.Path.{path_join}
 use Rattle.rv_base.specs.Files.{FileContents}
 use Rattle.rv_files.specs.declared.file_store.WholeError.{WholeError}
 use Rattle.rv_files.specs.declared.file_store.WholeError.TheVariants as whole
-use Rattle.rv_files.specs.declared.recording_store.UnreadPath.{UnreadPath}
+use Rattle.rv_files.specs.declared.recording_store.UnreadablePath.{UnreadablePath}
 
 -- the path of a file: below the directory `folder` if it is given and the path is relative, else the path itself
 abbrev pub resolved_path : Option (List ℕ) → List ℕ → List ℕ
@@ -23,14 +23,14 @@ HasNoContentsIfUnreadable known path whole.TooLong = Unit {0}
 HasNoContentsIfUnreadable known path whole.OutOfMemory = Unit {0}
 
 -- the record that a path could not be read for this reason
-abbrev pub unread_entry : List ℕ → ErrorKind → UnreadPath
+abbrev pub unread_entry : List ℕ → ErrorKind → UnreadablePath
 unread_entry path reason = record {
   path = path;
   reason = reason;
 }
 
 -- the records to add after a path could not be read: one if the system failed to open or read the file, else none
-abbrev pub unread_entries : List ℕ → WholeError → List UnreadPath
+abbrev pub unread_entries : List ℕ → WholeError → List UnreadablePath
 unread_entries path (whole.Failed reason) = unread_entry path reason ∷ []
 unread_entries path whole.TooLong = []
 unread_entries path whole.OutOfMemory = []

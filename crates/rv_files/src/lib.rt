@@ -38,7 +38,7 @@ pub use last_error::LastError;
 pub use memory_files::{MemoryFile, MemoryInputs, MemoryOutputs};
 pub use outputs::Outputs;
 pub use pipe_sink::{Closable, PipeSink};
-pub use recording_store::{RecordingStore, UnreadPath};
+pub use recording_store::{RecordingStore, UnreadablePath};
 pub use roots::resolved_path;
 pub use streams::StreamSink;
 pub use system_outputs::SystemOutputs;

@@ -1,7 +1,7 @@
 //! The temporary file that receives the bytes of a file until it is placed.
 
 use crate::file_lock::FileLock;
-use crate::sink_paths::{Places, directory_of};
+use crate::sink_paths::{FilePaths, directory_of};
 use std::fs::{self, Metadata, OpenFile, OpenOptions};
 use std::io::{self, ErrorKind};
 use std::os::unix::fs::MetadataExt;
@@ -9,7 +9,7 @@ use std::rt::Files;
 
 /// Creates a locked file at the temporary path, with the mode of the file at the final path. A temporary file that an earlier run left is
 /// replaced; one that another process has locked is an error, and so is a read-only file at the final path.
-pub(crate) fn create_new_file<R: Files>(files: &R, places: &Places) -> io::Result<R::File>
+pub(crate) fn create_new_file<R: Files>(files: &R, places: &FilePaths) -> io::Result<R::File>
 where
     R::File: FileLock,
 {
@@ -102,7 +102,7 @@ pub(crate) fn sync_directory<R: Files>(files: &R, path: &str) {
 }
 
 /// Checks, as far as possible before the file is created, that it can be placed: its directory exists, and no read-only file is in the way.
-pub(crate) fn check_distinct_files<R: Files>(files: &R, places: &Places) -> io::Result<()> {
+pub(crate) fn check_distinct_files<R: Files>(files: &R, places: &FilePaths) -> io::Result<()> {
     replaceable_file(files, places.whole.as_str())?;
     files.metadata(directory_of(places.whole.as_str()).as_str())?;
     Ok(())

@@ -16,7 +16,7 @@ use std::io::ErrorKind;
 
 /// A path that was unreadable, and why.
 #[derive(Debug, Drop)]
-pub struct UnreadPath {
+pub struct UnreadablePath {
     /// The path as requested.
     pub path: Text,
     /// The system's error when the file was opened or read.
@@ -29,7 +29,7 @@ pub struct UnreadPath {
 pub struct RecordingStore<'a, D: Inputs> {
     inputs: &'a D,
     folder: Option<&'a str>,
-    unread: Vec<UnreadPath>,
+    unread: Vec<UnreadablePath>,
 }
 
 impl<'a, D: Inputs> RecordingStore<'a, D> {
@@ -47,14 +47,14 @@ impl<'a, D: Inputs> RecordingStore<'a, D> {
     }
 
     /// Returns the unreadable paths, in the order in which they were requested.
-    pub fn unreadable_paths(&self) -> &[UnreadPath]
+    pub fn unreadable_paths(&self) -> &[UnreadablePath]
         ensures { result.now ≡ self.now.unread.items }
     {
         &self.unread
     }
 
     /// Returns the unreadable paths and consumes the store.
-    pub fn into_unreadable_paths(self) -> Vec<UnreadPath>
+    pub fn into_unreadable_paths(self) -> Vec<UnreadablePath>
         ensures { result.items ≡ self.entry.unread.items }
     {
         self.unread
@@ -115,7 +115,7 @@ impl<'a, D: Inputs> RecordingStore<'a, D> {
         ensures same { OnErr result (self.new.unread.items ≡ self.old.unread.items) }
     {
         let path = Text::new(String::from_str(alloc, path)?);
-        self.unread.push(UnreadPath { path, reason })?;
+        self.unread.push(UnreadablePath { path, reason })?;
         Ok(())
     }
 }

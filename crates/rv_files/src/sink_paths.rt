@@ -15,12 +15,12 @@ use std::rt::Files;
 
 /// The temporary path of a file, at which it is written, and its final path.
 #[derive(Drop)]
-pub(crate) struct Places {
+pub(crate) struct FilePaths {
     pub(crate) new: PathBuf,
     pub(crate) whole: PathBuf,
 }
 
-impl Places {
+impl FilePaths {
     /// Returns the identities of the files at the final and the temporary path.
     pub(crate) fn identities<R: Files>(
         &self,
@@ -41,7 +41,7 @@ pub(crate) fn temporary_and_final_path<R: Files>(
     files: &R,
     alloc: Global,
     path: &str,
-) -> Result<Option<Places>, FileError>
+) -> Result<Option<FilePaths>, FileError>
     ensures { IfErr result (λ error. error ≢ FileError.SamePlace) }
 {
     if !is_replaceable(files, path)? {
@@ -49,7 +49,7 @@ pub(crate) fn temporary_and_final_path<R: Files>(
     }
     let whole = follow_links(files, alloc, path)?;
     let new = with_new_suffix(alloc, whole.as_str())?;
-    Ok(Some(Places { new, whole }))
+    Ok(Some(FilePaths { new, whole }))
 }
 
 // Whether there is nothing or a regular file at a path. A link is followed.

@@ -9,7 +9,7 @@ use crate::file_sink::FileSink;
 use crate::new_file::{check_distinct_files, create_new_file, sync_directory};
 use crate::outputs::Outputs;
 use crate::sink_paths::{
-    Places, follow_links, is_same_file, temporary_and_final_path, with_new_suffix,
+    FilePaths, follow_links, is_same_file, temporary_and_final_path, with_new_suffix,
 };
 use crate::streams::StreamSink;
 use rv_base::Text;
@@ -39,7 +39,7 @@ pub struct PendingFile {
     // The path as given.
     given: Text,
     // None if the bytes are written directly to what is at the path.
-    places: Option<Places>,
+    places: Option<FilePaths>,
 }
 
 /// A system file that is synced to disk. It stays open, and so stays locked, until it is placed.
@@ -68,7 +68,7 @@ where
         &mut self,
         alloc: Global,
         path: &str,
-        places: Option<&Places>,
+        places: Option<&FilePaths>,
     ) -> Result<R::File, FileError>
         ensures first { IfErr result (λ error. error ≡ FileError.SamePlace → 0 < vec_len self.old.unplaced) }
     {
@@ -84,7 +84,7 @@ where
     }
 
     // Creates a file at its temporary path, and records it as not yet placed.
-    fn create_uncommitted(&mut self, alloc: Global, places: &Places) -> Result<R::File, FileError>
+    fn create_uncommitted(&mut self, alloc: Global, places: &FilePaths) -> Result<R::File, FileError>
         ensures first { IfErr result (λ error. error ≡ FileError.SamePlace → 0 < vec_len self.old.unplaced) }
     {
         self.check_not_same_file(alloc, places)?;
@@ -99,7 +99,7 @@ where
     }
 
     // Fails if one of the file's paths is a path of a file that is not yet placed: neither would end up complete.
-    fn check_not_same_file(&self, alloc: Global, places: &Places) -> Result<(), FileError>
+    fn check_not_same_file(&self, alloc: Global, places: &FilePaths) -> Result<(), FileError>
         ensures first { IfErr result (λ error. error ≡ FileError.SamePlace → 0 < vec_len self.now.unplaced) }
     {
         // If the other file's final path is this one's temporary path, this is the other's temporary path.

@@ -12,7 +12,7 @@ use Rattle.rv_rows.specs.Rows.{rows_at}
 use Rattle.rv_fleet.specs.declared.piece.Piece.{Piece}
 use Rattle.rv_rows.specs.declared_row.Row.{Row}
 use Rattle.rv_fleet.specs.declared.pieces.Pieces.{Pieces}
-use Rattle.rv_fleet.specs.declared.worker_promise.Worked.{Worked}
+use Rattle.rv_fleet.specs.declared.worker_promise.WorkerResult.{WorkerResult}
 use Rattle.rv_fleet.specs.Batches.{batch_rows}
 use Rattle.rv_fleet.specs.Collected.{IsPiece, ArePieces}
 use Rattle.rv_claims.specs.Draws.{numbers}
@@ -27,7 +27,7 @@ pub All-first : {X : Type 0} (P : X → Type 0) (x : X) (xs all : List X) → al
 All-first P x xs all is each = All-head P x xs (All-same P _ _ (sym is) each)
 
 -- what a worker made is pieces with the rows of their numbers
-pub pieces_worked : (pieces : Pieces) (draw : SharedDraw) (worked : Worked) (made : Vec Piece Global)
+pub pieces_worked : (pieces : Pieces) (draw : SharedDraw) (worked : WorkerResult) (made : Vec Piece Global)
     → KeepsPromise (batch_rows pieces.batch) pieces.group draw worked → worked.pieces ≡ Ok made
     → draw.pieces ≡ count_of_pieces pieces → ArePieces pieces made.items
 pieces_worked pieces draw worked made has is total =

@@ -1,7 +1,7 @@
 -- The promise of a worker about its result.
 use Rattle.std.specs.Prelude.{◌≡◌, ℕ, List, [], map, All, IfOk}
 use Rattle.rv_rows.specs.declared_row.Row.{Row}
-use Rattle.rv_fleet.specs.declared.worker_promise.Worked.{Worked}
+use Rattle.rv_fleet.specs.declared.worker_promise.WorkerResult.{WorkerResult}
 use Rattle.rv_claims.specs.NewPieces.{pieces_among}
 use Rattle.rv_claims.specs.Passes.{SharedDraw, PassView}
 use Rattle.rv_fleet.specs.Pieces.{piece_for}
@@ -15,11 +15,11 @@ abbrev pub AreFresh : SharedDraw → List PassView → Type 0
 AreFresh draw passes = All (IsFresh draw) passes
 
 -- the promise of a worker: unless memory ran out, its result is the chunks that its pass drew, each with its number and its rows
-abbrev pub KeepsPromise : List Row → ℕ → SharedDraw → Worked → Type 0
+abbrev pub KeepsPromise : List Row → ℕ → SharedDraw → WorkerResult → Type 0
 KeepsPromise rows group draw worked = (worked.pass.draw ≡ draw)
     × IfOk worked.pieces (λ made. made.items
     ≡ map (piece_for rows group) (pieces_among draw.pieces worked.pass.draws))
 
 -- each worker kept its promise
-abbrev pub HaveWorked : List Row → ℕ → SharedDraw → List Worked → Type 0
+abbrev pub HaveWorked : List Row → ℕ → SharedDraw → List WorkerResult → Type 0
 HaveWorked rows group draw all = All (KeepsPromise rows group draw) all

@@ -5,8 +5,8 @@ use Rattle.std.specs.declared.thread.PromisedHandle.{PromisedHandle}
 use Rattle.rv_jobs.specs.Limits.{most_group, most_jobs}
 use Rattle.rv_rows.specs.declared_row.Row.{Row}
 use Rattle.rv_rows.specs.Rows.{rows_at}
-use Rattle.rv_fleet.specs.declared.worker_promise.Worked.{Worked}
-use Rattle.rv_fleet.specs.declared.worker_promise.Works.{Works}
+use Rattle.rv_fleet.specs.declared.worker_promise.WorkerResult.{WorkerResult}
+use Rattle.rv_fleet.specs.declared.worker_promise.WorkerPromise.{WorkerPromise}
 use Rattle.rv_claims.specs.Passes.{SharedDraw}
 use Rattle.rv_jobs.specs.Plans.{Planned}
 use Rattle.rv_fleet.specs.Choices.{AreJobIndices}
@@ -25,7 +25,7 @@ CanWork plan places group draw = AreGrouped plan places group
     × (draw.pieces ≡ piece_count_of_rows (rows_at plan places) group)
 
 -- the promise of a started thread is about these rows, this chunk size and this shared counter
-abbrev pub IsStarted : List Row → ℕ → SharedDraw → PromisedHandle Worked Works → Type 0
+abbrev pub IsStarted : List Row → ℕ → SharedDraw → PromisedHandle WorkerResult WorkerPromise → Type 0
 IsStarted rows group draw handle =
     (rows_at handle.promise.plan.now handle.promise.places.now ≡ rows)
     × (handle.promise.group ≡ group) × (handle.promise.claims.now ≡ draw)

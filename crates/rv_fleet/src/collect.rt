@@ -7,9 +7,9 @@ ghost use Rattle.rv_fleet.specs.Pieces.{count_of_pieces, piece_rows};
 ghost use Rattle.rv_fleet.specs.Promised.{HaveWorked};
 
 use crate::gate::Gate;
-use crate::piece::{Piece, make_piece};
+use crate::piece::{Piece, compute_chunk};
 use crate::pieces::Pieces;
-use crate::worker_promise::Worked;
+use crate::worker_promise::WorkerResult;
 use rv_claims::{Claims, Pass};
 use rv_engine::WorkerState;
 use rv_rows::{Row, Rows};
@@ -28,7 +28,7 @@ pub(crate) struct Collected {
 pub(crate) fn collect_chunks(
     alloc: Global,
     claims: &Claims,
-    worked: Vec<Worked>,
+    worked: Vec<WorkerResult>,
     pieces: &Pieces<'_>,
 ) -> Result<Collected, AllocError>
     requires pieces { claims.now.pieces ≡ count_of_pieces pieces.now }
@@ -39,7 +39,7 @@ pub(crate) fn collect_chunks(
 {
     let mut slots = empty_slots(alloc, pieces)?;
     let mut all = None;
-    for Worked { pass, pieces: made } in worked {
+    for WorkerResult { pass, pieces: made } in worked {
         store_chunks(&mut slots, pieces, made?);
         all = Some(join_passes(claims, all, pass));
     }
@@ -128,7 +128,7 @@ fn rows_in_slot<G: Gate>(
         Some(rows) => Ok(rows),
         None => {
             let mut worker_state = WorkerState::new(alloc);
-            let piece = make_piece(alloc, pieces, gate, number, &mut worker_state)?;
+            let piece = compute_chunk(alloc, pieces, gate, number, &mut worker_state)?;
             Ok(piece.rows)
         }
     }

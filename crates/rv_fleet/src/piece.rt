@@ -19,7 +19,7 @@ pub struct Piece {
 }
 
 /// Enters the gate for a chunk, and then computes the chunk.
-pub(crate) fn make_piece<G: Gate>(
+pub(crate) fn compute_chunk<G: Gate>(
     alloc: Global,
     pieces: &Pieces<'_>,
     gate: &G,

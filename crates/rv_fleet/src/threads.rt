@@ -14,7 +14,7 @@ use crate::fleet::FleetError;
 use crate::gate::Gate;
 use crate::pieces::Pieces;
 use crate::worker::work_with_own_pass;
-use crate::worker_promise::{Worked, Works};
+use crate::worker_promise::{WorkerResult, WorkerPromise};
 use rv_claims::{Claims, Pass, SplitError};
 use rv_engine::Crew;
 use rv_rows::Rows;
@@ -83,7 +83,7 @@ fn run_workers<R: Threads + Wait, G: Gate>(
     passes: Vec<Pass>,
     pieces: &Pieces<'_>,
     gate: &G,
-) -> Result<Vec<Worked>, FleetError>
+) -> Result<Vec<WorkerResult>, FleetError>
     requires pieces { claims.now.pieces ≡ count_of_pieces pieces.now }
     requires passes { AreFresh claims.now passes.items }
     ensures { IfOk result (λ worked. HaveWorked
@@ -95,7 +95,7 @@ fn run_workers<R: Threads + Wait, G: Gate>(
     thread::scope(
         thread::scope_env(),
         rt,
-        |scope| -> Result<Vec<Worked>, FleetError>
+        |scope| -> Result<Vec<WorkerResult>, FleetError>
             requires { CanWork plan.now places.now group claims.now
                 × AreFresh claims.now passes.items }
             ensures { IfOk result (λ worked. HaveWorked
@@ -103,7 +103,7 @@ fn run_workers<R: Threads + Wait, G: Gate>(
         {
             let mut handles = Vec::with_capacity(alloc, passes.len())?;
             for pass in passes {
-                let promise = Works {
+                let promise = WorkerPromise {
                     plan,
                     places,
                     group,
@@ -111,7 +111,7 @@ fn run_workers<R: Threads + Wait, G: Gate>(
                 };
                 let Ok(handle) = scope.spawn_with(
                     promise,
-                    move || -> Worked
+                    move || -> WorkerResult
                         requires { CanWork plan.now places.now group claims.now
                             × (pass.draw ≡ claims.now) × (pass.draws ≡ []) }
                         ensures { KeepsPromise (rows_at plan.entry.now places.entry.now) group

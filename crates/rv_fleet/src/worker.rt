@@ -2,7 +2,7 @@
 
 ghost use Rattle.rv_jobs.specs.Limits.{most_group};
 ghost use Rattle.std.specs.Prelude.{◌≡◌, ◌<◌, ◌≤◌, [], true, map, IfOk};
-ghost use Rattle.rv_claims.specs.NewPieces.{Grew, new_pieces};
+ghost use Rattle.rv_claims.specs.NewPieces.{HasDrawnMore, new_pieces};
 ghost use Rattle.rv_claims.specs.Passes.{has_ended};
 ghost use Rattle.rv_fleet.specs.Batches.{batch_rows};
 ghost use Rattle.rv_fleet.specs.Pieces.{count_of_pieces, piece_at, numbered_piece, pieces_of};
@@ -10,10 +10,10 @@ ghost use Rattle.rv_fleet.specs.Promised.{KeepsPromise};
 
 use crate::batch::Batch;
 use crate::gate::Gate;
-use crate::piece::{Piece, make_piece};
+use crate::piece::{Piece, compute_chunk};
 use crate::pieces::Pieces;
 use crate::places::all_indices;
-use crate::worker_promise::Worked;
+use crate::worker_promise::WorkerResult;
 use rv_claims::{Claims, Pass};
 use rv_engine::WorkerState;
 use rv_jobs::Plan;
@@ -32,7 +32,7 @@ pub fn work<G: Gate>(
     requires group { (0 < group) × (group ≤ most_group) }
     requires pieces { claims.now.pieces ≡ pieces_of plan.now group }
     requires pass { pass.old.draw ≡ claims.now }
-    ensures pass { Grew pass.old pass.new }
+    ensures pass { HasDrawnMore pass.old pass.new }
     ensures ended { IfOk result (λ _. has_ended pass.new ≡ true) }
     ensures made { IfOk result (λ made. made.items
         ≡ map (piece_at plan.now group) (new_pieces pass.old pass.new)) }
@@ -40,11 +40,11 @@ pub fn work<G: Gate>(
     let places = all_indices(alloc, plan)?;
     let batch = Batch::new(plan, places.as_slice());
     let pieces = Pieces { batch, group };
-    work_on_pieces(alloc, claims, pass, &pieces, gate)
+    compute_drawn_chunks(alloc, claims, pass, &pieces, gate)
 }
 
 /// Draws and computes chunks like [`work`], but those of a batch.
-pub(crate) fn work_on_pieces<G: Gate>(
+pub(crate) fn compute_drawn_chunks<G: Gate>(
     alloc: Global,
     claims: &Claims,
     pass: &mut Pass,
@@ -53,7 +53,7 @@ pub(crate) fn work_on_pieces<G: Gate>(
 ) -> Result<Vec<Piece>, AllocError>
     requires pieces { claims.now.pieces ≡ count_of_pieces pieces.now }
     requires pass { pass.old.draw ≡ claims.now }
-    ensures pass { Grew pass.old pass.new }
+    ensures pass { HasDrawnMore pass.old pass.new }
     ensures ended { IfOk result (λ _. has_ended pass.new ≡ true) }
     ensures made { IfOk result (λ made. made.items
         ≡ map (numbered_piece pieces.now) (new_pieces pass.old pass.new)) }
@@ -61,7 +61,7 @@ pub(crate) fn work_on_pieces<G: Gate>(
     let mut drawn = Vec::new(alloc);
     let mut worker_state = WorkerState::new(alloc);
     while let Some(number) = claims.take(pass) {
-        let made = make_piece(alloc, pieces, gate, number, &mut worker_state)?;
+        let made = compute_chunk(alloc, pieces, gate, number, &mut worker_state)?;
         drawn.push(made)?;
     }
     Ok(drawn)
@@ -74,11 +74,11 @@ pub(crate) fn work_with_own_pass<G: Gate>(
     mut pass: Pass,
     pieces: &Pieces<'_>,
     gate: &G,
-) -> Worked
+) -> WorkerResult
     requires pieces { claims.now.pieces ≡ count_of_pieces pieces.now }
     requires pass { (pass.draw ≡ claims.now) × (pass.draws ≡ []) }
     ensures { KeepsPromise (batch_rows pieces.now.batch) pieces.now.group claims.now result }
 {
-    let pieces = work_on_pieces(alloc, claims, &mut pass, pieces, gate);
-    Worked { pass, pieces }
+    let pieces = compute_drawn_chunks(alloc, claims, &mut pass, pieces, gate);
+    WorkerResult { pass, pieces }
 }

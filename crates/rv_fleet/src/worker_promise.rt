@@ -8,21 +8,21 @@ use std::thread::Promise;
 
 /// The chunks that a worker computed, and the pass that it drew them with.
 #[derive(Drop)]
-pub(crate) struct Worked {
+pub(crate) struct WorkerResult {
     pub pass: Pass,
     pub pieces: Result<Vec<Piece>, AllocError>,
 }
 
 /// The promise of a worker: it computes exactly the chunks that its pass draws.
 #[derive(Clone, Copy)]
-pub(crate) struct Works<'a> {
+pub(crate) struct WorkerPromise<'a> {
     pub plan: &'a Plan,
     pub places: &'a [usize],
     pub group: u32,
     pub claims: &'a Claims,
 }
 
-impl<'a> Promise<Worked> for Works<'a> {
+impl<'a> Promise<WorkerResult> for WorkerPromise<'a> {
     ghost use Rattle.rv_rows.specs.Rows.{rows_at};
     ghost use Rattle.rv_fleet.specs.Promised.{KeepsPromise};
 

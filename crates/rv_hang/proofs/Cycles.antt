@@ -6,7 +6,7 @@ use Rattle.std.proofs.lemmas.Slice.Eq.{bytes_eq-Decides}
 use Rattle.std.specs.Str.{bytes_eq}
 use Rattle.rv_machine.specs.declared.ending.Ending.{Ending}
 use Rattle.rv_machine.specs.declared.ending.Ending.TheVariants.{Budget}
-use Rattle.rv_machine.specs.Run.{go_on, run_of, step_of}
+use Rattle.rv_machine.specs.Run.{run_rest, run_of, step_of}
 use Rattle.rv_machine.specs.State.{State}
 use Rattle.rv_trace.specs.Trace.{state_after}
 use Rattle.rv_trace.proofs.Public.{after_more, completes, each_completes, steps_more}
@@ -27,7 +27,7 @@ order (suc m) (suc n) = elim (order m n) [ inl l ↦ inl (omega arith) | inr l �
 
 used_rest : (n : ℕ) (s : State) (r : Result State Ending)
     → ((t : State) → (run_of n t).steps ≡ n → (run_of n t).ending ≡ Budget)
-    → (go_on r s (λ t. run_of n t)).steps ≡ suc n → (go_on r s (λ t. run_of n t)).ending ≡ Budget
+    → (run_rest r s (λ t. run_of n t)).steps ≡ suc n → (run_rest r s (λ t. run_of n t)).ending ≡ Budget
 used_rest n s (Ok t) rest h = rest t (omega arith)
 used_rest n s (Err e) rest h = absurd (omega arith)
 

@@ -9,11 +9,11 @@ use Rattle.rv_isa.specs.declared.instruction.Op.TheVariants as op
 use Rattle.rv_isa.specs.declared.sets.Isa.{Isa}
 use Rattle.rv_isa.specs.declared.sets.Isa.TheVariants as set
 use Rattle.rv_isa.specs.Words.{operands, meaning32, rows}
-use Rattle.rv_isa.specs.Halfwords.{rows16, meaning16, rd, short, immediate_ci, immediate_ciw, immediate_cl}
+use Rattle.rv_isa.specs.Halfwords.{rows16, meaning16, rd, short_register, immediate_ci, immediate_ciw, immediate_cl}
 use Rattle.rv_isa.specs.Halfwords.{immediate_addi16sp, upper, immediate_cj, immediate_cb, immediate_lwsp, immediate_css}
 
 pub c_addi4spn : (h : ℕ) → field h 1 0 ≡ 0 → field h 15 13 ≡ 0 → immediate_ciw h ≢ 0
-    → meaning16 set.Imc h ≡ Some (operands op.Addi (short h 4 2) 2 0 (pos (immediate_ciw h)))
+    → meaning16 set.Imc h ≡ Some (operands op.Addi (short_register h 4 2) 2 0 (pos (immediate_ciw h)))
 unfolding meaning16 rows16
 c_addi4spn h p q z = rw (p, q, ne_eqb (immediate_ciw h) 0 z) refl
 
@@ -23,12 +23,12 @@ unfolding meaning16 rows16
 c_addi4spn_of_zero h p q z = rw (p, q, z) refl
 
 pub c_lw : (h : ℕ) → field h 1 0 ≡ 0 → field h 15 13 ≡ 2
-    → meaning16 set.Imc h ≡ Some (operands op.Lw (short h 4 2) (short h 9 7) 0 (pos (immediate_cl h)))
+    → meaning16 set.Imc h ≡ Some (operands op.Lw (short_register h 4 2) (short_register h 9 7) 0 (pos (immediate_cl h)))
 unfolding meaning16 rows16
 c_lw h p q = rw (p, q) refl
 
 pub c_sw : (h : ℕ) → field h 1 0 ≡ 0 → field h 15 13 ≡ 6
-    → meaning16 set.Imc h ≡ Some (operands op.Sw 0 (short h 9 7) (short h 4 2) (pos (immediate_cl h)))
+    → meaning16 set.Imc h ≡ Some (operands op.Sw 0 (short_register h 9 7) (short_register h 4 2) (pos (immediate_cl h)))
 unfolding meaning16 rows16
 c_sw h p q = rw (p, q) refl
 
@@ -77,41 +77,41 @@ unfolding meaning16 rows16
 c_lui_of_zero h p q r z = rw (p, q, ne_eqb (field h 11 7) 2 r, z) refl
 
 pub c_srli : (h : ℕ) → field h 1 0 ≡ 1 → field h 15 13 ≡ 4 → field h 11 10 ≡ 0 → field h 12 12 ≡ 0
-    → meaning16 set.Imc h ≡ Some (operands op.Srli (short h 9 7) (short h 9 7) 0 (pos (field h 6 2)))
+    → meaning16 set.Imc h ≡ Some (operands op.Srli (short_register h 9 7) (short_register h 9 7) 0 (pos (field h 6 2)))
 unfolding meaning16 rows16
 c_srli h p q r s = rw (p, q, r, s) refl
 
 pub c_srai : (h : ℕ) → field h 1 0 ≡ 1 → field h 15 13 ≡ 4 → field h 11 10 ≡ 1 → field h 12 12 ≡ 0
-    → meaning16 set.Imc h ≡ Some (operands op.Srai (short h 9 7) (short h 9 7) 0 (pos (field h 6 2)))
+    → meaning16 set.Imc h ≡ Some (operands op.Srai (short_register h 9 7) (short_register h 9 7) 0 (pos (field h 6 2)))
 unfolding meaning16 rows16
 c_srai h p q r s = rw (p, q, r, s) refl
 
 pub c_andi : (h : ℕ) → field h 1 0 ≡ 1 → field h 15 13 ≡ 4 → field h 11 10 ≡ 2
-    → meaning16 set.Imc h ≡ Some (operands op.Andi (short h 9 7) (short h 9 7) 0 (sign_extended 6 (immediate_ci h)))
+    → meaning16 set.Imc h ≡ Some (operands op.Andi (short_register h 9 7) (short_register h 9 7) 0 (sign_extended 6 (immediate_ci h)))
 unfolding meaning16 rows16
 c_andi h p q r = rw (p, q, r) refl
 
 pub c_sub : (h : ℕ) → field h 1 0 ≡ 1 → field h 15 13 ≡ 4 → field h 11 10 ≡ 3 → field h 12 12 ≡ 0
     → field h 6 5 ≡ 0
-    → meaning16 set.Imc h ≡ Some (operands op.Sub (short h 9 7) (short h 9 7) (short h 4 2) (pos 0))
+    → meaning16 set.Imc h ≡ Some (operands op.Sub (short_register h 9 7) (short_register h 9 7) (short_register h 4 2) (pos 0))
 unfolding meaning16 rows16
 c_sub h p q r s t = rw (p, q, r, s, t) refl
 
 pub c_xor : (h : ℕ) → field h 1 0 ≡ 1 → field h 15 13 ≡ 4 → field h 11 10 ≡ 3 → field h 12 12 ≡ 0
     → field h 6 5 ≡ 1
-    → meaning16 set.Imc h ≡ Some (operands op.Xor (short h 9 7) (short h 9 7) (short h 4 2) (pos 0))
+    → meaning16 set.Imc h ≡ Some (operands op.Xor (short_register h 9 7) (short_register h 9 7) (short_register h 4 2) (pos 0))
 unfolding meaning16 rows16
 c_xor h p q r s t = rw (p, q, r, s, t) refl
 
 pub c_or : (h : ℕ) → field h 1 0 ≡ 1 → field h 15 13 ≡ 4 → field h 11 10 ≡ 3 → field h 12 12 ≡ 0
     → field h 6 5 ≡ 2
-    → meaning16 set.Imc h ≡ Some (operands op.Or (short h 9 7) (short h 9 7) (short h 4 2) (pos 0))
+    → meaning16 set.Imc h ≡ Some (operands op.Or (short_register h 9 7) (short_register h 9 7) (short_register h 4 2) (pos 0))
 unfolding meaning16 rows16
 c_or h p q r s t = rw (p, q, r, s, t) refl
 
 pub c_and : (h : ℕ) → field h 1 0 ≡ 1 → field h 15 13 ≡ 4 → field h 11 10 ≡ 3 → field h 12 12 ≡ 0
     → field h 6 5 ≡ 3
-    → meaning16 set.Imc h ≡ Some (operands op.And (short h 9 7) (short h 9 7) (short h 4 2) (pos 0))
+    → meaning16 set.Imc h ≡ Some (operands op.And (short_register h 9 7) (short_register h 9 7) (short_register h 4 2) (pos 0))
 unfolding meaning16 rows16
 c_and h p q r s t = rw (p, q, r, s, t) refl
 
@@ -127,12 +127,12 @@ unfolding meaning16 rows16
 c_j h p q = rw (p, q) refl
 
 pub c_beqz : (h : ℕ) → field h 1 0 ≡ 1 → field h 15 13 ≡ 6
-    → meaning16 set.Imc h ≡ Some (operands op.Beq 0 (short h 9 7) 0 (sign_extended 9 (immediate_cb h)))
+    → meaning16 set.Imc h ≡ Some (operands op.Beq 0 (short_register h 9 7) 0 (sign_extended 9 (immediate_cb h)))
 unfolding meaning16 rows16
 c_beqz h p q = rw (p, q) refl
 
 pub c_bnez : (h : ℕ) → field h 1 0 ≡ 1 → field h 15 13 ≡ 7
-    → meaning16 set.Imc h ≡ Some (operands op.Bne 0 (short h 9 7) 0 (sign_extended 9 (immediate_cb h)))
+    → meaning16 set.Imc h ≡ Some (operands op.Bne 0 (short_register h 9 7) 0 (sign_extended 9 (immediate_cb h)))
 unfolding meaning16 rows16
 c_bnez h p q = rw (p, q) refl
 

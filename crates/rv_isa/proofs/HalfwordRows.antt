@@ -22,8 +22,8 @@ same f g = eqb f.high g.high && (eqb f.low g.low && eqb f.value g.value)
 abbrev apart : Row16 → Row16 → Bool
 apart r s =
     list_any (λ f. list_any (λ g. differ f g) s.fixed) r.fixed
-    || (list_any (λ f. list_any (λ g. same f g) s.barred) r.fixed
-    || list_any (λ f. list_any (λ g. same f g) r.barred) s.fixed)
+    || (list_any (λ f. list_any (λ g. same f g) s.excluded) r.fixed
+    || list_any (λ f. list_any (λ g. same f g) r.excluded) s.fixed)
 
 rows_apart : pairs_pass apart rows16 ≡ true
 unfolding rows16
@@ -49,26 +49,26 @@ barred_in h (g ∷ gs) f l t p =
 
 apart_sound : (isa : Isa) (h : ℕ) (r s : Row16) → apart r s ≡ true → fits16 isa h r ≡ true → fits16 isa h s ≡ true → ⊥
 apart_sound isa h r s a p q =
-    let rf = and_parts (has isa r.extension) (has_fields h r.fixed && (lacks_fields h r.barred && r.needs h)) p in
-    let sf = and_parts (has isa s.extension) (has_fields h s.fixed && (lacks_fields h s.barred && s.needs h)) q in
-    let rs = and_parts (has_fields h r.fixed) (lacks_fields h r.barred && r.needs h) rf.1 in
-    let ss = and_parts (has_fields h s.fixed) (lacks_fields h s.barred && s.needs h) sf.1 in
-    let rl = and_parts (lacks_fields h r.barred) (r.needs h) rs.1 in
-    let sl = and_parts (lacks_fields h s.barred) (s.needs h) ss.1 in
+    let rf = and_parts (has isa r.extension) (has_fields h r.fixed && (lacks_fields h r.excluded && r.needs h)) p in
+    let sf = and_parts (has isa s.extension) (has_fields h s.fixed && (lacks_fields h s.excluded && s.needs h)) q in
+    let rs = and_parts (has_fields h r.fixed) (lacks_fields h r.excluded && r.needs h) rf.1 in
+    let ss = and_parts (has_fields h s.fixed) (lacks_fields h s.excluded && s.needs h) sf.1 in
+    let rl = and_parts (lacks_fields h r.excluded) (r.needs h) rs.1 in
+    let sl = and_parts (lacks_fields h s.excluded) (s.needs h) ss.1 in
     let first = list_any (λ f. list_any (λ g. differ f g) s.fixed) r.fixed in
-    let second = list_any (λ f. list_any (λ g. same f g) s.barred) r.fixed in
-    let third = list_any (λ f. list_any (λ g. same f g) r.barred) s.fixed in
+    let second = list_any (λ f. list_any (λ g. same f g) s.excluded) r.fixed in
+    let third = list_any (λ f. list_any (λ g. same f g) r.excluded) s.fixed in
     elim (or_cases first (second || third) a) [
       | inl t ↦
           fixed_in h r.fixed (λ f. list_any (λ g. differ f g) s.fixed) rs.0 t ⊥
           (λ f any x. fixed_in h s.fixed (λ g. differ f g) ss.0 any ⊥ (λ g c y. differ_sound h f g c x y))
       | inr more ↦ elim (or_cases second third more) [
         | inl t ↦
-            fixed_in h r.fixed (λ f. list_any (λ g. same f g) s.barred) rs.0 t ⊥
-            (λ f any x. barred_in h s.barred f sl.0 any x)
+            fixed_in h r.fixed (λ f. list_any (λ g. same f g) s.excluded) rs.0 t ⊥
+            (λ f any x. barred_in h s.excluded f sl.0 any x)
         | inr t ↦
-            fixed_in h s.fixed (λ f. list_any (λ g. same f g) r.barred) ss.0 t ⊥
-            (λ f any x. barred_in h r.barred f rl.0 any x)
+            fixed_in h s.fixed (λ f. list_any (λ g. same f g) r.excluded) ss.0 t ⊥
+            (λ f any x. barred_in h r.excluded f rl.0 any x)
       ]
     ]
 
@@ -79,8 +79,8 @@ one_row isa h = at_most_one (fits16 isa h) apart (apart_sound isa h) rows16 rows
 pub meaning16_means : (isa : Isa) (h : ℕ) (i : Instr) → (meaning16 isa h ≡ Some i) ↔ Means16 isa h i
 unfolding meaning16 Means16
 meaning16_means isa h i = (
-  (λ e. first_of-found (fits16 isa h) (λ r. r.gives h) rows16 i e),
-  (λ m. first_of-only (fits16 isa h) (λ r. r.gives h) rows16 m.0 m.1 (one_row isa h) m.2 m.3 m.4.0
+  (λ e. first_of-found (fits16 isa h) (λ r. r.instr h) rows16 i e),
+  (λ m. first_of-only (fits16 isa h) (λ r. r.instr h) rows16 m.0 m.1 (one_row isa h) m.2 m.3 m.4.0
       ∙ ap (λ j. Some j) (sym m.4.1)),
 )
 

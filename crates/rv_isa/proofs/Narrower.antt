@@ -30,5 +30,5 @@ pub meaning16_wider : (isa : Isa) (h : ℕ) (i : Instr) → meaning16 isa h ≡ 
 unfolding Means16
 meaning16_wider isa h i e =
     let m = (meaning16_means isa h i).0 e in
-    let rest : Bool = has_fields h m.1.fixed && (lacks_fields h m.1.barred && m.1.needs h) in
+    let rest : Bool = has_fields h m.1.fixed && (lacks_fields h m.1.excluded && m.1.needs h) in
     (meaning16_means set.Imc h i).1 (m.0, m.1, m.2, m.3, (wider_too isa m.1.extension rest m.4.0, m.4.1))

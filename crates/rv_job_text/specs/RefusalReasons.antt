@@ -3,7 +3,7 @@
 use Rattle.std.specs.Prelude.{ℕ, List, Option, Some, None, option_map}
 use Rattle.std.specs.Option.{option_or}
 use Rattle.rv_elf.specs.declared.error.ImageError.{ImageError}
-use Rattle.rv_files.specs.declared.recording_store.UnreadPath.{UnreadPath}
+use Rattle.rv_files.specs.declared.recording_store.UnreadablePath.{UnreadablePath}
 use Rattle.rv_jobs.specs.declared.answers.Answer.{Answer}
 use Rattle.rv_jobs.specs.Plans.{result_for_path}
 use Rattle.rv_jobs.specs.declared_job.Job.{Job}
@@ -34,7 +34,7 @@ image_refusal_text answers job why =
     (content_if_read (Some (result_for_path answers job.image)))
 
 -- the reason why a job is refused; `unread` says why files could not be read
-unfoldable pub refusal_reason : List Answer → List UnreadPath → Job → Refusal → Option (List ℕ)
+unfoldable pub refusal_reason : List Answer → List UnreadablePath → Job → Refusal → Option (List ℕ)
 refusal_reason answers unread job refusal.ImageUnreadable = Some (unread_file_text unread job.image)
 refusal_reason answers unread job refusal.ImageTooLong = Some (too_long_file_text job.image)
 refusal_reason answers unread job refusal.ReferenceUnreadable =
@@ -44,6 +44,6 @@ refusal_reason answers unread job refusal.ReferenceTooLong =
 refusal_reason answers unread job (refusal.Image why) = image_refusal_text answers job why
 
 -- the reason why a job is refused; none if it is not
-unfoldable pub ending_reason : List Answer → List UnreadPath → Job → RowEnd → Option (List ℕ)
+unfoldable pub ending_reason : List Answer → List UnreadablePath → Job → RowEnd → Option (List ℕ)
 ending_reason answers unread job (ending.Refused why) = refusal_reason answers unread job why
 ending_reason answers unread job _ = None

@@ -5,7 +5,7 @@ use Rattle.rv_calls.specs.Calls.{calls_in}
 use Rattle.rv_expect.specs.declared.unmet.Unmet.{Unmet}
 use Rattle.rv_expect.specs.Comparisons.{Sides}
 use Rattle.rv_expect.specs.UnmetInPlan.{sides_in, unmet_in}
-use Rattle.rv_files.specs.declared.recording_store.UnreadPath.{UnreadPath}
+use Rattle.rv_files.specs.declared.recording_store.UnreadablePath.{UnreadablePath}
 use Rattle.rv_jobs.specs.declared_job.Job.{Job}
 use Rattle.rv_jobs.specs.Plans.{Planned}
 use Rattle.rv_expect.specs.Judgement.{Judging, fails, is_unknown_failure, judgement, judging_of}
@@ -31,7 +31,7 @@ use Rattle.rv_trace.specs.Trace.{image_bytes, trace_in}
 pub record RowReporter : Type 0 where
   pub plan : Planned
   -- the files that could not be read, with the reasons
-  pub unread : List UnreadPath
+  pub unread : List UnreadablePath
   -- which rows are failures
   pub judging : Judging
   -- which rows are shown
@@ -54,7 +54,7 @@ abbrev pub signature_address : Planned → Job → Option ℕ
 signature_address plan job = signature_begin job.isa (image_bytes plan.answers job) job.signature
 
 -- the line about a row, with the symbol at the pc of a fault and with the reason of a refusal
-unfoldable pub row_line : Planned → List UnreadPath → Judging → Job → Row → List ℕ
+unfoldable pub row_line : Planned → List UnreadablePath → Judging → Job → Row → List ℕ
 row_line plan unread judging job row =
     result_line (judgement judging row) row (fault_symbol job.isa (image_bytes plan.answers job) row.ending)
     (ending_reason plan.answers unread job row.ending)
@@ -122,7 +122,7 @@ abbrev pub unmet_if_run : Planned → Job → Row → List ℕ
 unmet_if_run plan job row = if did_run row.ending then expectation_lines detail.Unmet plan job row else []
 
 -- the line about a row, followed by its unmet expectations
-unfoldable pub outcome_text : Planned → List UnreadPath → Judging → Job → Row → List ℕ
+unfoldable pub outcome_text : Planned → List UnreadablePath → Judging → Job → Row → List ℕ
 outcome_text plan unread judging job row = row_line plan unread judging job row ++ unmet_if_run plan job row
 
 -- ---- the explanation of a job
@@ -145,6 +145,6 @@ explanation_if_run plan job row way =
     if did_run row.ending then run_explanation plan job row way else []
 
 -- the line about a row, followed by the lines that explain its run
-unfoldable pub explanation_text : Planned → List UnreadPath → Judging → Job → Row → TraceOptions → List ℕ
+unfoldable pub explanation_text : Planned → List UnreadablePath → Judging → Job → Row → TraceOptions → List ℕ
 explanation_text plan unread judging job row way =
     row_line plan unread judging job row ++ explanation_if_run plan job row way

@@ -4,20 +4,20 @@ use Rattle.std.specs.Fmt.{decimal}
 use Rattle.std.specs.List.{find}
 use Rattle.std.specs.Str.{bytes_eq}
 use Rattle.rv_files.specs.IoErrors.{io_error_text}
-use Rattle.rv_files.specs.declared.recording_store.UnreadPath.{UnreadPath}
+use Rattle.rv_files.specs.declared.recording_store.UnreadablePath.{UnreadablePath}
 use Rattle.rv_jobs.specs.Limits.{most_bytes}
 
 -- the first entry for this path in the list of files that could not be read
-abbrev pub unread_note : List UnreadPath → List ℕ → Option UnreadPath
-unread_note unread path = find (λ (one : UnreadPath). bytes_eq path one.path) unread
+abbrev pub unread_note : List UnreadablePath → List ℕ → Option UnreadablePath
+unread_note unread path = find (λ (one : UnreadablePath). bytes_eq path one.path) unread
 
 -- why a file could not be read, in words
-abbrev pub unread_note_text : Option UnreadPath → List ℕ
+abbrev pub unread_note_text : Option UnreadablePath → List ℕ
 unread_note_text None = codes "cannot be read"
 unread_note_text (Some one) = io_error_text one.reason
 
 -- the path of a file, and why it could not be read
-unfoldable pub unread_file_text : List UnreadPath → List ℕ → List ℕ
+unfoldable pub unread_file_text : List UnreadablePath → List ℕ → List ℕ
 unread_file_text unread path = path ++ codes ": " ++ unread_note_text (unread_note unread path)
 
 -- the path of a file, and that the file is too long

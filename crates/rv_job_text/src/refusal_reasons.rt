@@ -22,7 +22,7 @@ use std::alloc::{AllocError, Global};
 pub fn ending_reason(
     alloc: Global,
     plan: &Plan,
-    unread: &[UnreadPath],
+    unread: &[UnreadablePath],
     place: usize,
     ending: RowEnd,
 ) -> Result<Option<Vec<u8>>, AllocError>
@@ -41,7 +41,7 @@ pub fn ending_reason(
 fn refusal_reason(
     alloc: Global,
     plan: &Plan,
-    unread: &[UnreadPath],
+    unread: &[UnreadablePath],
     place: usize,
     why: Refusal,
 ) -> Result<Option<Vec<u8>>, AllocError>
@@ -66,7 +66,7 @@ fn refusal_reason(
 
 fn unread_file_reason(
     alloc: Global,
-    unread: &[UnreadPath],
+    unread: &[UnreadablePath],
     path: Option<&str>,
 ) -> Result<Option<Vec<u8>>, AllocError>
     ensures { IfOk result (λ reason. option_map (λ text. text.items) reason

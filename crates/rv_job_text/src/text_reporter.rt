@@ -34,7 +34,7 @@ use std::alloc::{AllocError, Global};
 pub struct TextReporter<'a> {
     pub plan: &'a Plan,
     /// The files that could not be read, with the reasons.
-    pub unread: &'a [UnreadPath],
+    pub unread: &'a [UnreadablePath],
     /// Which rows are failures.
     pub judge: Judge<'a>,
     pub verbosity: Verbosity,

@@ -3,7 +3,7 @@
 ghost use Rattle.std.specs.Prelude.{◌≡◌, IfOk, option_map};
 ghost use Rattle.rv_job_text.specs.UnreadFiles.{too_long_file_text, unread_note, unread_note_text, unread_file_text};
 
-use rv_files::{UnreadPath, io_error_text};
+use rv_files::{UnreadablePath, io_error_text};
 use rv_jobs::limits::MOST_BYTES;
 use rv_text::{Span, text_of_spans};
 use std::alloc::{AllocError, Global};
@@ -12,7 +12,7 @@ use std::alloc::{AllocError, Global};
 #[tactic(auto, unfolding(crate::specs::UnreadFiles::unread_file_text))]
 pub fn unread_file_text(
     alloc: Global,
-    unread: &[UnreadPath],
+    unread: &[UnreadablePath],
     path: &str,
 ) -> Result<Vec<u8>, AllocError>
     ensures { IfOk result (λ text. text.items ≡ unread_file_text unread.now path.now) }
@@ -41,14 +41,14 @@ pub fn too_long_file_text(alloc: Global, path: &str) -> Result<Vec<u8>, AllocErr
 }
 
 // Returns the first entry for this path in the list of files that could not be read.
-fn unread_note<'a>(unread: &'a [UnreadPath], path: &str) -> Option<&'a UnreadPath>
+fn unread_note<'a>(unread: &'a [UnreadablePath], path: &str) -> Option<&'a UnreadablePath>
     ensures { option_map (λ one. one.now) result ≡ unread_note unread.now path.now }
 {
     unread.iter().find(|one| path == one.path.as_str())
 }
 
 // Returns why a file could not be read, in words.
-fn unread_note_text(noted: Option<&UnreadPath>) -> &'static str
+fn unread_note_text(noted: Option<&UnreadablePath>) -> &'static str
     ensures { result.now ≡ unread_note_text (option_map (λ one. one.now) noted.entry) }
 {
     match noted {

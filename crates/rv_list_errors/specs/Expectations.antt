@@ -31,8 +31,8 @@ negative_words false = codes ""
 negative_words true = codes "; write -1 as 4294967295"
 
 -- given the number of `expect_exit`
-abbrev pub exit_told : Option ℤ → Option (List ℕ) × List ℕ
-exit_told number = (
+abbrev pub exit_explanation : Option ℤ → Option (List ℕ) × List ℕ
+exit_explanation number = (
   Some (codes "expect_exit"),
   codes "expected an integer from 0 to " ++ (decimal 0xffff_ffff ++ negative_words (is_negative number)),
 )
@@ -46,29 +46,29 @@ kinds_explanation = (
 
 -- the explanation of a bad `expect_end` with this text: the key whose value is shown, if any, and the words; for `exit`, that `expect_exit`
 -- is the key to use
-abbrev pub end_told : Option (List ℕ) → Option (List ℕ) × List ℕ
-end_told None = kinds_explanation
-end_told (Some end) =
+abbrev pub end_explanation : Option (List ℕ) → Option (List ℕ) × List ℕ
+end_explanation None = kinds_explanation
+end_explanation (Some end) =
     if bytes_eq end (codes "exit")
     then (None, codes "expect_end = \"exit\": to expect an exit, set \"expect_exit\" to its code") else kinds_explanation
 
 -- the explanation of a bad `expect_console`, `expect_console_file` or `expect_end`, given the texts at these keys: the key whose value is
 -- shown, if any, and the words
-abbrev pub console_told : Option (List ℕ) → Option (List ℕ) → Option (List ℕ) → Option (List ℕ) × List ℕ
-console_told (Some text) (Some path) end =
+abbrev pub console_explanation : Option (List ℕ) → Option (List ℕ) → Option (List ℕ) → Option (List ℕ) × List ℕ
+console_explanation (Some text) (Some path) end =
     (None, codes "\"expect_console\" and \"expect_console_file\" cannot both be set")
-console_told (Some text) None end =
+console_explanation (Some text) None end =
     if nat_lt most_console (length text)
-    then (Some (codes "expect_console"), codes "expected at most " ++ (decimal most_console ++ codes " bytes")) else end_told end
-console_told None (Some path) end =
-    if is_invalid_path path then (Some (codes "expect_console_file"), path_words) else end_told end
-console_told None None end = end_told end
+    then (Some (codes "expect_console"), codes "expected at most " ++ (decimal most_console ++ codes " bytes")) else end_explanation end
+console_explanation None (Some path) end =
+    if is_invalid_path path then (Some (codes "expect_console_file"), path_words) else end_explanation end
+console_explanation None None end = end_explanation end
 
 -- the explanation of a bad `expect_signature`, given its text: the key whose value is shown, and the words; `asked` is whether the job has
 -- a signature; `rest` if the key is missing or good
-abbrev pub reference_told : Bool → Option (List ℕ) → Option (List ℕ) × List ℕ → Option (List ℕ) × List ℕ
-reference_told asked None rest = rest
-reference_told asked (Some path) rest =
+abbrev pub reference_explanation : Bool → Option (List ℕ) → Option (List ℕ) × List ℕ → Option (List ℕ) × List ℕ
+reference_explanation asked None rest = rest
+reference_explanation asked (Some path) rest =
     if asked then if is_invalid_path path then (Some (codes "expect_signature"), path_words) else rest
     else (
       Some (codes "expect_signature"),
@@ -78,19 +78,19 @@ reference_told asked (Some path) rest =
 -- the explanation of a job's bad `expect_console`, `expect_console_file` or `expect_end`: the key whose value is shown, if any, and the
 -- words
 abbrev pub console_explanation_of : Members → Option (List ℕ) × List ℕ
-console_explanation_of ms = console_told (text_at_key (codes "expect_console") ms)
+console_explanation_of ms = console_explanation (text_at_key (codes "expect_console") ms)
     (text_at_key (codes "expect_console_file") ms) (text_at_key (codes "expect_end") ms)
 
 -- the explanation of a job's bad `expect_signature`, or, if that is missing or good, of the expected console or end
 abbrev pub reference_explanation_of : Members → Option (List ℕ) × List ℕ
-reference_explanation_of ms = reference_told (is_some (get_member (codes "signature") ms))
+reference_explanation_of ms = reference_explanation (is_some (get_member (codes "signature") ms))
     (text_at_key (codes "expect_signature") ms) (console_explanation_of ms)
 
 -- `told`, the key whose value is shown and the words, explains the first bad expectation of the job: `expect_exit`, if the job has this
 -- key, or another expectation
 abbrev pub IsExpectationTold : Members → Option (List ℕ) × List ℕ → Type 0
 IsExpectationTold ms told =
-    ((is_some (get_member (codes "expect_exit") ms) ≡ true) × (told ≡ exit_told (number_at_key (codes "expect_exit") ms)))
+    ((is_some (get_member (codes "expect_exit") ms) ≡ true) × (told ≡ exit_explanation (number_at_key (codes "expect_exit") ms)))
     ⊎ (told ≡ reference_explanation_of ms)
 
 -- ---- instruction sets
@@ -107,5 +107,5 @@ isa_words None = sets_words
 isa_words (Some isa) = set_words isa
 
 -- the explanation of a job's bad `isa`: the key whose value is shown, and the words
-abbrev pub isa_told : Members → Option (List ℕ) × List ℕ
-isa_told ms = (Some (codes "isa"), isa_words (text_at_key (codes "isa") ms))
+abbrev pub isa_explanation : Members → Option (List ℕ) × List ℕ
+isa_explanation ms = (Some (codes "isa"), isa_words (text_at_key (codes "isa") ms))

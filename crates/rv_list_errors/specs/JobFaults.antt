@@ -19,7 +19,7 @@ use Rattle.rv_lists.specs.declared.error.What.TheVariants as what
 use Rattle.rv_memory.specs.declared.map.Region.{Region}
 use Rattle.rv_text.specs.Words.{word_digits}
 use Rattle.rv_list_errors.specs.Lines.{BeginsWith}
-use Rattle.rv_list_errors.specs.Expectations.{IsExpectationTold, isa_told}
+use Rattle.rv_list_errors.specs.Expectations.{IsExpectationTold, isa_explanation}
 use Rattle.rv_list_errors.specs.FaultHeads.{borrowed_names}
 use Rattle.rv_list_errors.specs.Explanation.{IsKeyAndValue, IsShownValue, key_words, region_number_text, rest_words, explained_words}
 use Rattle.rv_list_errors.specs.UnknownKeys.{TellsUnknownKey}
@@ -123,18 +123,18 @@ abbrev pub most_script_words : List ℕ
 most_script_words = codes "expected at most " ++ (decimal most_script ++ codes " bytes")
 
 -- the explanation of a bad script, given the texts of `input` and `input_hex`: the key whose value is shown, if any, and the words
-abbrev pub script_told : Option (List ℕ) → Option (List ℕ) → Option (List ℕ) × List ℕ
-script_told (Some text) (Some digits) = (None, codes "\"input\" and \"input_hex\" cannot both be set")
-script_told (Some text) None = (Some (codes "input"), most_script_words)
-script_told None (Some digits) = (
+abbrev pub script_explanation : Option (List ℕ) → Option (List ℕ) → Option (List ℕ) × List ℕ
+script_explanation (Some text) (Some digits) = (None, codes "\"input\" and \"input_hex\" cannot both be set")
+script_explanation (Some text) None = (Some (codes "input"), most_script_words)
+script_explanation None (Some digits) = (
   Some (codes "input_hex"),
   if are_digit_pairs digits then most_script_words else codes "expected pairs of hexadecimal digits",
 )
-script_told None None = (None, codes "input")
+script_explanation None None = (None, codes "input")
 
 -- the explanation of a job's bad script: the key whose value is shown, if any, and the words
 abbrev pub script_explanation_of : Members → Option (List ℕ) × List ℕ
-script_explanation_of ms = script_told (text_at_key (codes "input") ms) (text_at_key (codes "input_hex") ms)
+script_explanation_of ms = script_explanation (text_at_key (codes "input") ms) (text_at_key (codes "input_hex") ms)
 
 -- ---- the explanation of one key
 
@@ -144,10 +144,10 @@ explained_key (told.Text text) = None
 explained_key (told.Expected wanted) = Some wanted.now.key.now
 
 -- the number of bytes that a text of this length represents, or 0 if it is not to be shown
-abbrev pub told_bytes : Bytes → ℕ → ℕ
-told_bytes bytes.Untold length = 0
-told_bytes bytes.Each length = length
-told_bytes bytes.Pairs length = length / 2
+abbrev pub shown_byte_count : Bytes → ℕ → ℕ
+shown_byte_count bytes.Untold length = 0
+shown_byte_count bytes.Each length = length
+shown_byte_count bytes.Pairs length = length / 2
 
 -- the number of bytes in parentheses, if it exceeds the maximum, or else nothing
 abbrev pub bytes_text : Rest → ℕ → List ℕ
@@ -166,7 +166,7 @@ expected_words wanted = wanted.before.now ++ (rest_words wanted.rest ++ wanted.b
 -- `told` is the key with its value, or that it is missing, then the number of bytes if there are too many, and then what is expected
 abbrev pub ExplainsExpectedValue : Expected → Members → List ℕ → Type 0
 ExplainsExpectedValue wanted ms told = (met : List ℕ) × IsKeyAndValue wanted.key.now (get_member wanted.key.now ms) met
-    × (told ≡ met ++ (bytes_text wanted.rest (told_bytes wanted.bytes (text_length (text_at_key wanted.key.now ms)))
+    × (told ≡ met ++ (bytes_text wanted.rest (shown_byte_count wanted.bytes (text_length (text_at_key wanted.key.now ms)))
     ++ (codes ": " ++ expected_words wanted)))
 
 -- `told` is the text of an explanation, given the values of the job
@@ -277,7 +277,7 @@ pub record IsToldOf (wrong : What) (ms : Members) (explained : Explanation) : Ty
   pub key : IfSome (key_of wrong) (λ key. explained_key explained ≡ Some key)
   pub script : wrong ≡ what.Input → (explained_key explained, explained_words explained) ≡ script_explanation_of ms
   pub expectation : wrong ≡ what.Expect → IsExpectationTold ms (explained_key explained, explained_words explained)
-  pub isa : wrong ≡ what.Isa → (explained_key explained, explained_words explained) ≡ isa_told ms
+  pub isa : wrong ≡ what.Isa → (explained_key explained, explained_words explained) ≡ isa_explanation ms
 
 -- `told` explains this error of a job, which does not depend on the other jobs
 abbrev pub TellsOwnFault : What → Members → List ℕ → Type 0

@@ -12,7 +12,7 @@ use crate::faults::{push_faults, suggestion_for_fault};
 use crate::found_faults::{FoundFault, faults_of_job};
 use crate::list::List;
 use crate::names::Suggestion;
-use rv_list_locations::{Cursor, Place, job_texts};
+use rv_list_locations::{Cursor, Location, job_texts};
 use rv_lists::JobError;
 use rv_text::{Span, push_spans, push_text};
 use std::alloc::{AllocError, Global};
@@ -153,7 +153,7 @@ impl<'a> PlacedLines<'a> {
 }
 
 // Appends a location as `:LINE:COLUMN`.
-fn push_line_and_column(message: &mut Vec<u8>, place: Place) -> Result<(), AllocError>
+fn push_line_and_column(message: &mut Vec<u8>, place: Location) -> Result<(), AllocError>
     ensures { OnOk result (message.new.items ≡ message.old.items
         ++ (codes ":" ++ (decimal place.line ++ (codes ":" ++ decimal place.column)))) }
 {

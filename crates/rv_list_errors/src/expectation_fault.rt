@@ -4,8 +4,8 @@
 ghost use Rattle.std.specs.Prelude.{◌≡◌, codes};
 ghost use Rattle.toml.specs.View.{table_view};
 ghost use Rattle.rv_lists.specs.Keys.{text_at_key};
-ghost use Rattle.rv_list_errors.specs.Expectations.{IsExpectationTold, console_told, console_explanation_of, end_told, is_invalid_path};
-ghost use Rattle.rv_list_errors.specs.Expectations.{exit_told, reference_told, reference_explanation_of};
+ghost use Rattle.rv_list_errors.specs.Expectations.{IsExpectationTold, console_explanation, console_explanation_of, end_explanation, is_invalid_path};
+ghost use Rattle.rv_list_errors.specs.Expectations.{exit_explanation, reference_explanation, reference_explanation_of};
 ghost use Rattle.rv_list_errors.specs.FaultHeads.{borrowed_name};
 ghost use Rattle.rv_list_errors.specs.JobFaults.{explained_key};
 ghost use Rattle.rv_list_errors.specs.Explanation.{explained_words};
@@ -31,7 +31,7 @@ pub(crate) fn expectation_explanation(table: &Table) -> Explanation
 
 /// Returns the explanation of a bad exit code, if the value is a number.
 pub(crate) fn exit_explanation(number: Option<i64>) -> Explanation
-    ensures { (explained_key result, explained_words result) ≡ exit_told number }
+    ensures { (explained_key result, explained_words result) ≡ exit_explanation number }
 {
     match number {
         Some(number) if number < 0 => Explanation::Expected(&NEGATIVE_EXIT),
@@ -53,7 +53,7 @@ fn reference_or_console_explanation(table: &Table) -> Explanation
 // Returns the explanation of a bad `expect_signature`, or `rest` if it is missing or good. `is_asked` is whether the job has a signature.
 fn reference_explanation(is_asked: bool, path: Option<&str>, rest: Explanation) -> Explanation
     ensures { (explained_key result, explained_words result)
-        ≡ reference_told is_asked (borrowed_name path.entry) (explained_key rest, explained_words rest) }
+        ≡ reference_explanation is_asked (borrowed_name path.entry) (explained_key rest, explained_words rest) }
 {
     match path {
         Some(_) if !is_asked => Explanation::Expected(&UNASKED),
@@ -83,7 +83,7 @@ fn console_or_end_explanation(table: &Table) -> Explanation
 // Returns the explanation of a bad `expect_console`, `expect_console_file` or `expect_end`, given the texts at these keys.
 fn console_explanation(text: Option<&str>, path: Option<&str>, end: Option<&str>) -> Explanation
     ensures { (explained_key result, explained_words result)
-        ≡ console_told (borrowed_name text.entry) (borrowed_name path.entry) (borrowed_name end.entry) }
+        ≡ console_explanation (borrowed_name text.entry) (borrowed_name path.entry) (borrowed_name end.entry) }
 {
     match (text, path) {
         (Some(_), Some(_)) => Explanation::Text(BOTH_CONSOLES),
@@ -99,14 +99,14 @@ pub(crate) const BOTH_CONSOLES: &str =
 
 /// Returns the explanation of a job's bad `expect_end`. For `exit`, it names the key to use instead.
 pub(crate) fn end_explanation(table: &Table) -> Explanation
-    ensures { (explained_key result, explained_words result) ≡ end_told (text_at_key (codes "expect_end") (table_view table.now)) }
+    ensures { (explained_key result, explained_words result) ≡ end_explanation (text_at_key (codes "expect_end") (table_view table.now)) }
 {
     end_text_explanation(text_at_key(table, "expect_end"))
 }
 
 // Returns the explanation of a bad `expect_end` with this text.
 fn end_text_explanation(end: Option<&str>) -> Explanation
-    ensures { (explained_key result, explained_words result) ≡ end_told (borrowed_name end.entry) }
+    ensures { (explained_key result, explained_words result) ≡ end_explanation (borrowed_name end.entry) }
 {
     match end {
         Some(end) if end == "exit" => Explanation::Text(EXIT),

@@ -5,7 +5,7 @@ ghost use Rattle.toml.specs.View.{table_view};
 ghost use Rattle.rv_lists.specs.Keys.{text_at_key};
 ghost use Rattle.rv_machine.specs.Faults.{fault_kinds};
 ghost use Rattle.rv_list_errors.specs.FaultHeads.{borrowed_name};
-ghost use Rattle.rv_list_errors.specs.JobFaults.{ExplainsKey, ExplainsExpectedValue, bytes_text, text_length, told_bytes, expected_words};
+ghost use Rattle.rv_list_errors.specs.JobFaults.{ExplainsKey, ExplainsExpectedValue, bytes_text, text_length, shown_byte_count, expected_words};
 ghost use Rattle.rv_list_errors.specs.NearNames.{Adds};
 ghost use Rattle.rv_list_errors.specs.Explanation.{AddsSome, first_kinds_text, kind_text, rest_words};
 
@@ -229,12 +229,12 @@ pub(crate) fn push_explanation(message: &mut Message, table: &Table, told: Expla
 {
     match told {
         Explanation::Text(text) => message.push(text),
-        Explanation::Expected(wanted) => push_wanted(message, table, wanted),
+        Explanation::Expected(wanted) => push_expected(message, table, wanted),
     }
 }
 
 // Appends a key, its value, and what is expected of it.
-fn push_wanted(message: &mut Message, table: &Table, wanted: &Expected)
+fn push_expected(message: &mut Message, table: &Table, wanted: &Expected)
     ensures { AddsSome message.old message.new (ExplainsExpectedValue wanted.now (table_view table.now)) }
 {
     push_key_and_value(message, table, wanted.key);
@@ -297,14 +297,14 @@ fn push_fault_kind(message: &mut Message, place: usize)
 
 // Returns the number of bytes that the text at a key represents, or 0 if it is not to be shown.
 fn reported_byte_count(table: &Table, wanted: &Expected) -> u64
-    ensures { result ≡ told_bytes wanted.now.bytes (text_length (text_at_key wanted.now.key.now (table_view table.now))) }
+    ensures { result ≡ shown_byte_count wanted.now.bytes (text_length (text_at_key wanted.now.key.now (table_view table.now))) }
 {
     shown_byte_count(wanted.bytes, text_at_key(table, wanted.key))
 }
 
 // Returns the number of bytes that a text represents, or 0 if it is not to be shown.
 fn shown_byte_count(bytes: Bytes, text: Option<&str>) -> u64
-    ensures { result ≡ told_bytes bytes (text_length (borrowed_name text.entry)) }
+    ensures { result ≡ shown_byte_count bytes (text_length (borrowed_name text.entry)) }
 {
     let len = match text {
         Some(text) => text.len() as u64,

@@ -5,10 +5,10 @@ ghost use Rattle.std.specs.Char.{is_ascii_hexdigit};
 ghost use Rattle.std.specs.List.{find, list_all};
 ghost use Rattle.toml.specs.View.{items_view, table_view, view};
 ghost use Rattle.rv_lists.specs.declared.error.What.TheVariants.{Expect, Input, Isa};
-ghost use Rattle.rv_list_errors.specs.Expectations.{IsExpectationTold, isa_told, set_words};
+ghost use Rattle.rv_list_errors.specs.Expectations.{IsExpectationTold, isa_explanation, set_words};
 ghost use Rattle.rv_list_errors.specs.FaultHeads.{borrowed_name, borrowed_names};
 ghost use Rattle.rv_list_errors.specs.JobFaults.{TellsFaultOfTable, TellsJobFault, TellsNoTable, ExplainsName, TellsOwnFault, element_at, free_words};
-ghost use Rattle.rv_list_errors.specs.JobFaults.{are_digit_pairs, key_of, script_told, script_explanation_of, explained_key};
+ghost use Rattle.rv_list_errors.specs.JobFaults.{are_digit_pairs, key_of, script_explanation, script_explanation_of, explained_key};
 ghost use Rattle.rv_list_errors.specs.Explanation.{AddsSome, is_unsimulated, key_words, letters_words, explained_words};
 
 use crate::expectation_fault::expectation_explanation;
@@ -116,7 +116,7 @@ fn key_explanation(table: &Table, what: What) -> Explanation
     ensures key { IfSome (key_of what) (λ key. explained_key result ≡ Some key) }
     ensures script { what ≡ Input → (explained_key result, explained_words result) ≡ script_explanation_of (table_view table.now) }
     ensures expectation { what ≡ Expect → IsExpectationTold (table_view table.now) (explained_key result, explained_words result) }
-    ensures isa { what ≡ Isa → (explained_key result, explained_words result) ≡ isa_told (table_view table.now) }
+    ensures isa { what ≡ Isa → (explained_key result, explained_words result) ≡ isa_explanation (table_view table.now) }
 {
     match what {
         What::Name => Explanation::Expected(&NAME),
@@ -134,7 +134,7 @@ fn key_explanation(table: &Table, what: What) -> Explanation
 
 /// Returns the explanation of a job's bad `isa`: which part of the set is not simulated, if it is a common one, and the known sets.
 pub(crate) fn isa_explanation(table: &Table) -> Explanation
-    ensures { (explained_key result, explained_words result) ≡ isa_told (table_view table.now) }
+    ensures { (explained_key result, explained_words result) ≡ isa_explanation (table_view table.now) }
 {
     match text_at_key(table, "isa") {
         Some(isa) => set_explanation(isa.as_bytes()),
@@ -191,7 +191,7 @@ fn input_explanation(table: &Table) -> Explanation
 
 // Returns the explanation of a bad script, given the texts of `input` and `input_hex`.
 fn script_explanation(text: Option<&str>, digits: Option<&str>) -> Explanation
-    ensures { (explained_key result, explained_words result) ≡ script_told (borrowed_name text.entry) (borrowed_name digits.entry) }
+    ensures { (explained_key result, explained_words result) ≡ script_explanation (borrowed_name text.entry) (borrowed_name digits.entry) }
 {
     match (text, digits) {
         (Some(_), Some(_)) => Explanation::Text(BOTH_INPUTS),
@@ -203,7 +203,7 @@ fn script_explanation(text: Option<&str>, digits: Option<&str>) -> Explanation
 
 // Returns the explanation of a bad `input_hex` with these digits.
 fn digits_explanation(digits: &str) -> Explanation
-    ensures { (explained_key result, explained_words result) ≡ script_told None (Some digits.now) }
+    ensures { (explained_key result, explained_words result) ≡ script_explanation None (Some digits.now) }
 {
     if are_hex_digit_pairs(digits) {
         Explanation::Expected(&INPUT_HEX)

@@ -3,7 +3,7 @@
 ghost use Rattle.std.specs.Prelude.{◌≡◌, ◌≤◌, length, min};
 ghost use Rattle.rv_list_locations.specs.LinesAndColumns.{column_at, line_at};
 
-use crate::lines::Place;
+use crate::lines::Location;
 
 /// An index of a text up to which lines and columns have been counted, so that each byte is counted once if indices are looked up in order.
 #[derive(Clone, Copy)]
@@ -32,7 +32,7 @@ impl<'a> Cursor<'a> {
     }
 
     /// Returns the line and column of the byte at an index, or of the end of the text if it is shorter.
-    pub fn location_at(&mut self, place: usize) -> Place
+    pub fn location_at(&mut self, place: usize) -> Location
         ensures text { self.new.text.now ≡ self.old.text.now }
         ensures line { result.line ≡ line_at place self.old.text.now }
         ensures column { result.column ≡ column_at place self.old.text.now }
@@ -41,7 +41,7 @@ impl<'a> Cursor<'a> {
             *self = Cursor::new(self.text);
         }
         *self = self.moved_to(place.min(self.text.len()));
-        Place {
+        Location {
             line: self.line,
             column: self.column,
         }

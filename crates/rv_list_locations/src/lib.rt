@@ -18,7 +18,7 @@ mod values;
 pub use cursor::Cursor;
 pub use keys::{JobKey, job_keys};
 pub use law::job_lines_are_of_headers_and_elements;
-pub use lines::{Place, line_and_column};
+pub use lines::{Location, line_and_column};
 pub use repeats::{RepeatedKey, repeated_key};
 pub use scan::{job_line_numbers, job_texts};
 pub use spans::{ValueSpan, value_spans};

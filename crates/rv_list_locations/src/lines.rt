@@ -65,19 +65,19 @@ impl<'a> Lines<'a> {
 
 /// A location in a text: its line and column, counted from 1.
 #[derive(Clone, Copy)]
-pub struct Place {
+pub struct Location {
     pub line: usize,
     /// In characters.
     pub column: usize,
 }
 
 /// Returns the line and column of the byte at index `count`, or of the end of the text if it is shorter.
-pub fn line_and_column(text: &[u8], count: usize) -> Place
+pub fn line_and_column(text: &[u8], count: usize) -> Location
     ensures line { result.line ≡ line_at count text.now }
     ensures column { result.column ≡ column_at count text.now }
 {
     let before = &text[..count.min(text.len())];
-    Place {
+    Location {
         line: line_feed_count(before) + 1,
         column: character_count_of_last_line(before) + 1,
     }

@@ -174,13 +174,13 @@ exit_from_number z = number_or_fault 0 0xffff_ffff what.Expect z >>= (λ n. Ok (
 unfoldable pub exit_from_table : Members → Result (Option ℕ) What
 exit_from_table ms = reading_or_default exit_from_number None (number_at_key (codes "expect_exit") ms)
 
--- the path of the expected signature, or an error if it is invalid, or if the job has no signature, so that `asked` is false
+-- the path of the expected signature, or an error if it is invalid, or if the job has no signature, so that `has_signature` is false
 abbrev pub reference_from_path : Bool → List ℕ → Result (Option (List ℕ)) What
-reference_from_path asked path = if asked && is_path path then Ok (Some path) else Err what.Expect
+reference_from_path has_signature path = if has_signature && is_path path then Ok (Some path) else Err what.Expect
 
--- the path of the expected signature of a job, or `None` if it expects none; `asked` is whether the job has a signature
+-- the path of the expected signature of a job, or `None` if it expects none; `has_signature` is whether the job has a signature
 unfoldable pub reference_from_table : Bool → Members → Result (Option (List ℕ)) What
-reference_from_table asked ms = reading_or_default (reference_from_path asked) None (text_at_key (codes "expect_signature") ms)
+reference_from_table has_signature ms = reading_or_default (reference_from_path has_signature) None (text_at_key (codes "expect_signature") ms)
 
 -- the expected console with this text, or an error if the console cannot hold so many bytes
 abbrev pub console_from_text : List ℕ → Result (Option ExpectedConsole) What

@@ -133,7 +133,7 @@ fn name_taken_by_element<'a>(earlier: &EarlierJobs, element: &'a Value) -> Optio
         },
         None => return None,
     };
-    match earlier.place_of_name(name) {
+    match earlier.index_of_name(name) {
         Some(_) => None,
         None => Some(name),
     }

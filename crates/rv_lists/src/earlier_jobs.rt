@@ -43,7 +43,7 @@ impl EarlierJobs {
     }
 
     /// Returns the index of the job with this name, or `None` if no job has it.
-    pub(crate) fn place_of_name(&self, name: &str) -> Option<usize>
+    pub(crate) fn index_of_name(&self, name: &str) -> Option<usize>
         ensures value { result ≡ index_in (names_of_jobs self.now) name.now }
         ensures within { IfSome result (λ k. k < length self.now) }
     {

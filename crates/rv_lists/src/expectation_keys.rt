@@ -34,19 +34,19 @@ pub(crate) fn exit_from_table(table: &Table) -> Result<Option<u32>, What>
     }
 }
 
-/// Returns the path of the expected signature of a job, or `None` if it expects none. `asked` is whether the job has a signature, without
+/// Returns the path of the expected signature of a job, or `None` if it expects none. `has_signature` is whether the job has a signature, without
 /// which the key is an error.
 #[tactic(auto, unfolding(crate::specs::JobList::reference_from_table))]
 pub(crate) fn reference_from_table(
     alloc: Global,
-    asked: bool,
+    has_signature: bool,
     table: &Table,
 ) -> Result<Option<Text>, What>
-    ensures { Gives result (reference_from_table asked (table_view table.now)) }
+    ensures { Gives result (reference_from_table has_signature (table_view table.now)) }
 {
     match text_at_key(table, "expect_signature") {
         Some(path) => {
-            if asked && is_path(path) {
+            if has_signature && is_path(path) {
                 Ok(Some(Text::copy(alloc, path)?))
             } else {
                 Err(What::Expect)

@@ -54,7 +54,7 @@ fn job_from_table(alloc: Global, earlier: &EarlierJobs, table: &Table) -> Result
         return Err(What::WrongType);
     }
     let name = name_from_table(table)?;
-    if earlier.place_of_name(name).is_some() {
+    if earlier.index_of_name(name).is_some() {
         return Err(What::Duplicate);
     }
     let image = image_from_table(table)?;

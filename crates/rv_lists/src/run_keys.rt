@@ -52,7 +52,7 @@ fn same_as_from_table(earlier: &EarlierJobs, table: &Table) -> Result<Option<usi
     ensures earlier { IfOk result (λ o. IfSome o (λ k. k < length earlier.now)) }
 {
     match text_at_key(table, "same_as") {
-        Some(name) => match earlier.place_of_name(name) {
+        Some(name) => match earlier.index_of_name(name) {
             Some(place) => Ok(Some(place)),
             None => Err(What::SameAs),
         },

@@ -7,7 +7,7 @@ ghost use Rattle.rv_machine.specs.DecodeCache.{with_range_invalidated};
 ghost use Rattle.rv_machine.specs.State.{at_pc};
 
 use crate::alu::add_offset;
-use crate::ending::Ends;
+use crate::ending::Incomplete;
 use crate::hart::{Hart, set_pc};
 use crate::decode_cache::DecodeCache;
 use rv_isa::{Instr, sign_extend};
@@ -30,7 +30,7 @@ impl Hart {
         width: Width,
         extend: Extend,
         next: u32,
-    ) -> Result<(), Ends>
+    ) -> Result<(), Incomplete>
         requires { IsWellFormed instr }
         ensures behind { self.new.pc ≡ self.old.pc }
         ensures effect { MatchResult result
@@ -42,7 +42,7 @@ impl Hart {
         let address = add_offset(self.registers[instr.rs1 as usize], instr.imm);
         match self.bus.load(address, width) {
             Ok(value) => self.complete(pc, instr.rd, load_value(value, width, extend), next),
-            Err(_) => Err(Ends),
+            Err(_) => Err(Incomplete),
         }
     }
 
@@ -55,7 +55,7 @@ impl Hart {
         instr: Instr,
         width: Width,
         next: u32,
-    ) -> Result<(), Ends>
+    ) -> Result<(), Incomplete>
         requires { IsWellFormed instr }
         ensures behind { self.new.pc ≡ self.old.pc }
         ensures effect { MatchResult result
@@ -71,7 +71,7 @@ impl Hart {
                 table.invalidate_range(address, width);
                 set_pc(pc, next)
             }
-            Err(_) => Err(Ends),
+            Err(_) => Err(Incomplete),
         }
     }
 }

@@ -6,7 +6,7 @@ ghost use Rattle.rv_machine.specs.Effect.{address, after_branch, after_jump};
 ghost use Rattle.rv_machine.specs.State.{at_pc};
 
 use crate::alu::add_offset;
-use crate::ending::Ends;
+use crate::ending::Incomplete;
 use crate::hart::{Hart, set_pc};
 use rv_isa::Instr;
 
@@ -34,7 +34,7 @@ impl Hart {
         pc: &mut u32,
         instr: Instr,
         next: u32,
-    ) -> Result<(), Ends>
+    ) -> Result<(), Incomplete>
         requires { IsWellFormed instr }
         ensures behind { self.new.pc ≡ self.old.pc }
         ensures effect { MatchResult result
@@ -57,7 +57,7 @@ impl Hart {
         instr: Instr,
         next: u32,
         target: u32,
-    ) -> Result<(), Ends>
+    ) -> Result<(), Incomplete>
         requires { IsWellFormed instr }
         ensures behind { self.new.pc ≡ self.old.pc }
         ensures effect { MatchResult result
@@ -67,7 +67,7 @@ impl Hart {
     {
         let refused = self.is_misaligned(target);
         if refused {
-            return Err(Ends);
+            return Err(Incomplete);
         }
         self.complete(pc, instr.rd, next, target)
     }
@@ -81,7 +81,7 @@ impl Hart {
         instr: Instr,
         next: u32,
         here: u32,
-    ) -> Result<(), Ends>
+    ) -> Result<(), Incomplete>
         requires { here ≡ pc.old }
         ensures behind { self.new.pc ≡ self.old.pc }
         ensures effect { MatchResult result
@@ -93,7 +93,7 @@ impl Hart {
         if taken {
             let target = add_offset(here, instr.imm);
             if self.is_misaligned(target) {
-                return Err(Ends);
+                return Err(Incomplete);
             }
             return set_pc(pc, target);
         }

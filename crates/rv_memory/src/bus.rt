@@ -31,7 +31,7 @@ pub struct Bus {
     pub(crate) console: Vec<u8>,
     pub(crate) script: Vec<u8>,
     // The number of script bytes read.
-    pub(crate) taken: usize,
+    pub(crate) script_position: usize,
     pub(crate) misaligned: Misaligned,
 }
 

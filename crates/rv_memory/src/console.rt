@@ -36,7 +36,7 @@ impl Bus {
             return Ok(self.take_script_byte());
         }
         if addr == SCRIPT_LEFT {
-            return Ok((self.script.len() - self.taken) as u32);
+            return Ok((self.script.len() - self.script_position) as u32);
         }
         Err(BusFault::Access)
     }
@@ -47,11 +47,11 @@ impl Bus {
         ensures value { result ≡ next_of self.old.script }
         ensures rest { self.new ≡ record self.old { script = drop 1 self.old.script } }
     {
-        if self.taken == self.script.len() {
+        if self.script_position == self.script.len() {
             return u32::MAX;
         }
-        let byte = self.script[self.taken];
-        self.taken += 1;
+        let byte = self.script[self.script_position];
+        self.script_position += 1;
         u32::from(byte)
     }
 

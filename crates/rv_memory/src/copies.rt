@@ -23,7 +23,7 @@ impl Bus {
             generation: self.generation,
             console,
             script,
-            taken: self.taken,
+            script_position: self.script_position,
             misaligned: self.misaligned,
         })
     }

@@ -33,7 +33,7 @@ impl Bus {
             generation: 1,
             console,
             script,
-            taken: 0,
+            script_position: 0,
             misaligned,
         })
     }
@@ -71,7 +71,7 @@ impl Bus {
             generation,
             console,
             script,
-            taken: 0,
+            script_position: 0,
             misaligned,
         })
     }

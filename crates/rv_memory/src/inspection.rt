@@ -31,6 +31,6 @@ impl Bus {
     pub fn script_remaining(&self) -> usize
         ensures { result ≡ length self.now.script }
     {
-        self.script.len() - self.taken
+        self.script.len() - self.script_position
     }
 }

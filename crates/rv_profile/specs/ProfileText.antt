@@ -18,17 +18,17 @@ abbrev pub head_text : ProfileFormat → List ℕ
 head_text format = if format.csv then csv_head else []
 
 -- the text is the profile of an image by a table's call tree
-pub record IsShownOf (format : ProfileFormat) (table : CountTable) (image : FileImage) (text : List ℕ) : Type 0 where
+pub record IsImageProfileText (format : ProfileFormat) (table : CountTable) (image : FileImage) (text : List ℕ) : Type 0 where
   pub functions : List Profiled
   pub profile : IsProfileOf (spots_of table image.bytes) (names_of table image.bytes) functions
   pub shown : text ≡ image_text format image.path (sums_of (spots_of table image.bytes)) functions
 
 -- the text is the profile of each image by a table's call trees, in order
-abbrev pub AreShown : ProfileFormat → CountTable → List FileImage → List ℕ → Type 0
-AreShown format table [] text = text ≡ []
-AreShown format table (image ∷ images) text = (first : List ℕ) × (IsShownOf format table image first
-    × ((rest : List ℕ) × (AreShown format table images rest × (text ≡ first ++ rest))))
+abbrev pub AreImageProfileTexts : ProfileFormat → CountTable → List FileImage → List ℕ → Type 0
+AreImageProfileTexts format table [] text = text ≡ []
+AreImageProfileTexts format table (image ∷ images) text = (first : List ℕ) × (IsImageProfileText format table image first
+    × ((rest : List ℕ) × (AreImageProfileTexts format table images rest × (text ≡ first ++ rest))))
 
 -- the text is the profiles of all images, in order, after the CSV header if the format is CSV
 abbrev pub IsProfileText : ProfileFormat → CountTable → List FileImage → List ℕ → Type 0
-IsProfileText format table images text = (lines : List ℕ) × (AreShown format table images lines × (text ≡ head_text format ++ lines))
+IsProfileText format table images text = (lines : List ℕ) × (AreImageProfileTexts format table images lines × (text ≡ head_text format ++ lines))

@@ -12,24 +12,24 @@ use Rattle.rv_profile.specs.declared.sums.Sums.{Sums}
 -- ---- columns
 
 -- the width of a column: `least`, or two more than the digits of its greatest number if that is more
-abbrev pub places : ℕ → ℕ → ℕ
-places least greatest = max least (2 + length (decimal greatest))
+abbrev pub width : ℕ → ℕ → ℕ
+width least greatest = max least (2 + length (decimal greatest))
 
 -- the widths of the columns of an image whose steps and calls have these sums
 abbrev pub columns_of : Sums → Columns
 columns_of sums = record {
-  own = places 13 sums.steps;
-  inclusive = places 11 sums.steps;
-  arrivals = places 10 sums.arrivals;
+  own = width 13 sums.steps;
+  inclusive = width 11 sums.steps;
+  arrivals = width 10 sums.arrivals;
 }
 
--- a word with leading spaces up to a width of `places`
+-- a word with leading spaces up to a width of `width`
 unfoldable pub right_word : ℕ → List ℕ → List ℕ
-right_word places word = replicate (places - length word) 32 ++ word
+right_word width word = replicate (width - length word) 32 ++ word
 
 -- the header above a column of numbers and their percentages
 unfoldable pub share_head : ℕ → List ℕ → List ℕ
-share_head places word = right_word places word ++ codes "       %"
+share_head width word = right_word width word ++ codes "       %"
 
 -- the header with the names of the columns
 unfoldable pub columns_head : Columns → List ℕ
@@ -48,7 +48,7 @@ percent count = right 4 (count / 100) ++ codes "." ++ decimal (count / 10 % 10) 
 
 -- a part of a whole, right-aligned, and its percentage
 unfoldable pub share : ℕ → ℕ → ℕ → List ℕ
-share places part whole = right places part ++ percent (hundredths part whole)
+share width part whole = right width part ++ percent (hundredths part whole)
 
 -- ---- lines
 

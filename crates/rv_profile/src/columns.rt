@@ -1,7 +1,7 @@
 //! The columns of a profile.
 
 ghost use Rattle.std.specs.Prelude.{◌≡◌, IfOk};
-ghost use Rattle.rv_profile.specs.Text.{columns_of, places};
+ghost use Rattle.rv_profile.specs.Text.{columns_of, width};
 
 use crate::sums::Sums;
 use rv_text::push_number;
@@ -20,15 +20,15 @@ pub(crate) fn columns_of(alloc: Global, sums: Sums) -> Result<Columns, AllocErro
     ensures { IfOk result (λ columns. columns ≡ columns_of sums) }
 {
     Ok(Columns {
-        own: places(alloc, 13, sums.steps)?,
-        inclusive: places(alloc, 11, sums.steps)?,
-        arrivals: places(alloc, 10, sums.arrivals)?,
+        own: width(alloc, 13, sums.steps)?,
+        inclusive: width(alloc, 11, sums.steps)?,
+        arrivals: width(alloc, 10, sums.arrivals)?,
     })
 }
 
 // Returns the width of a column: `least`, or two more than the digits of its greatest number if that is more.
-fn places(alloc: Global, least: usize, greatest: u64) -> Result<usize, AllocError>
-    ensures { IfOk result (λ count. count ≡ places least greatest) }
+fn width(alloc: Global, least: usize, greatest: u64) -> Result<usize, AllocError>
+    ensures { IfOk result (λ count. count ≡ width least greatest) }
 {
     let mut digits = Vec::new(alloc);
     push_number(&mut digits, greatest)?;

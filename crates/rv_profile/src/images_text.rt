@@ -5,7 +5,7 @@ ghost use Rattle.rv_count_tables.specs.Table.{IsTable};
 ghost use Rattle.rv_cover_view.specs.JobImages.{image_of_file, images_of_files};
 ghost use Rattle.rv_profile.specs.ImageStacks.{image_past_64_bits, is_past_64_bits};
 ghost use Rattle.rv_profile.specs.Profile.{profiles_of};
-ghost use Rattle.rv_profile.specs.ProfileText.{IsProfileText, IsShownOf, head_text, image_text};
+ghost use Rattle.rv_profile.specs.ProfileText.{IsProfileText, IsImageProfileText, head_text, image_text};
 
 use crate::csv::{push_csv_head, push_csv_rows};
 use crate::format::ProfileFormat;
@@ -57,7 +57,7 @@ fn push_image(
 ) -> Result<(), AllocError>
     requires table { IsTable table.now }
     requires few { is_past_64_bits table.now (image_of_file image.now) ≡ false }
-    ensures { OnOk result ((shown : List ℕ) × (IsShownOf format table.now (image_of_file image.now) shown
+    ensures { OnOk result ((shown : List ℕ) × (IsImageProfileText format table.now (image_of_file image.now) shown
         × (text.new.items ≡ text.old.items ++ shown))) }
 {
     let profile = profile_of_image(alloc, stacks_of(table, image.bytes))?;

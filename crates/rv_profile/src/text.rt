@@ -50,19 +50,19 @@ pub(crate) fn push_columns_head(bytes: &mut Vec<u8>, columns: Columns) -> Result
 
 // Appends the header above a column of numbers and their percentages.
 #[tactic(auto, unfolding(crate::specs::Text::share_head))]
-fn push_share_head(bytes: &mut Vec<u8>, places: usize, word: &str) -> Result<(), AllocError>
-    ensures { OnOk result (bytes.new.items ≡ bytes.old.items ++ share_head places word.now) }
+fn push_share_head(bytes: &mut Vec<u8>, width: usize, word: &str) -> Result<(), AllocError>
+    ensures { OnOk result (bytes.new.items ≡ bytes.old.items ++ share_head width word.now) }
 {
-    push_right_word(bytes, places, word)?;
+    push_right_word(bytes, width, word)?;
     push_text(bytes, "       %")
 }
 
-// Appends a word with leading spaces up to a width of `places`.
+// Appends a word with leading spaces up to a width of `width`.
 #[tactic(auto, unfolding(crate::specs::Text::right_word))]
-fn push_right_word(bytes: &mut Vec<u8>, places: usize, word: &str) -> Result<(), AllocError>
-    ensures { OnOk result (bytes.new.items ≡ bytes.old.items ++ right_word places word.now) }
+fn push_right_word(bytes: &mut Vec<u8>, width: usize, word: &str) -> Result<(), AllocError>
+    ensures { OnOk result (bytes.new.items ≡ bytes.old.items ++ right_word width word.now) }
 {
-    push_spaces(bytes, places.saturating_sub(word.len()))?;
+    push_spaces(bytes, width.saturating_sub(word.len()))?;
     push_text(bytes, word)
 }
 
@@ -97,14 +97,14 @@ pub(crate) fn push_function_line(
 fn push_share(
     alloc: Global,
     bytes: &mut Vec<u8>,
-    places: usize,
+    width: usize,
     part: u64,
     whole: u64,
 ) -> Result<(), AllocError>
     requires { part ≤ whole }
-    ensures { OnOk result (bytes.new.items ≡ bytes.old.items ++ share places part whole) }
+    ensures { OnOk result (bytes.new.items ≡ bytes.old.items ++ share width part whole) }
 {
-    push_right(alloc, bytes, places, part)?;
+    push_right(alloc, bytes, width, part)?;
     push_percent(alloc, bytes, hundredths(part, whole))
 }
 

@@ -190,7 +190,7 @@ draft_closed v g h =
 draft_between : (line : List ℕ) (g : Gathered) → IsDraft g → IsDraft (at_job_or_last_line line g)
 unfolding at_job_or_last_line
 draft_between line g h =
-    let job : Gathered = record g { number = job_number_of_line line; name = job_name_of_line line; begun = true; stage = stage.Ending } in
+    let job : Gathered = record g { number = job_number_of_line line; name = job_name_of_line line; is_in_row = true; stage = stage.Ending } in
     let part : Gathered = with_stage_over (record g { extent = part_extent_of_line line }) in
     let other : Gathered = if slice_index line 0 == 112 then part else with_stage_over g in
     pick IsDraft ((slice_index line 0 == 106) && nat_lt (length g.rows) most_jobs) job other
@@ -221,13 +221,13 @@ unfolding at_signature
 draft_signature line g h =
     let count = decimal_number (drop 10 line) in
     let is : Bool = (slice_index line 0 == 115) && (slice_index line 1 == 105) in
-    let begun : Gathered = record g {
+    let is_in_row : Gathered = record g {
       signed = not (slice_index line 10 == 45);
       count = count;
       words = [];
       stage = stage.Words;
     } in
-    pick_if IsDraft (is && nat_le count most_words) begun (with_stage_over g)
+    pick_if IsDraft (is && nat_le count most_words) is_in_row (with_stage_over g)
     (λ t. let few = (and_parts is (nat_le count most_words) t).1 in
     let small : count ≤ most_words = grind (arith, nat_tests) in
     (h.0, h.1, h.2, h.3, h.4, small, omega arith, tt)) h
@@ -283,7 +283,7 @@ draft_finished : (g : Gathered) → IsDraft g → IsDraft (with_unfinished_row g
 unfolding with_unfinished_row
 draft_finished g h =
     let filled : Gathered = record g { words = padded_words g.count g.words } in
-    pick IsDraft g.begun (with_finished_row Unasked filled) g (draft_closed Unasked filled (draft_padded g h)) h
+    pick IsDraft g.is_in_row (with_finished_row Unasked filled) g (draft_closed Unasked filled (draft_padded g h)) h
 
 pub gathered_good : (text : List ℕ) → AreGood (gather_rows text).rows
 unfolding gather_rows

@@ -12,7 +12,7 @@ use Rattle.std.specs.Str.{IsAscii, IsUtf8}
 use Rattle.rv_base.specs.Names.{is_name, is_name_byte}
 use Rattle.rv_base.specs.Limits.{is_within}
 use Rattle.std.specs.Prelude.{Result, Ok, Err, IfOk}
-use Rattle.rv_report.specs.LenientReport.{Gathered, with_line, with_lines, lines, place_of_byte, decimal_number_on, hex_number, with_digit}
+use Rattle.rv_report.specs.LenientReport.{Gathered, with_line, with_lines, lines, index_of_byte, decimal_number_on, hex_number, with_digit}
 use Rattle.rv_report.specs.LenientReport.{hex_digit_value, with_zero_digits, are_hex_digits, is_hex_digit}
 use Rattle.rv_report.specs.declared.row.Row.{Row}
 use Rattle.std.specs.Prelude.{is_some}
@@ -22,13 +22,13 @@ use Rattle.rv_report.specs.LenientReport.{count_before_repeated_name}
 use Rattle.rv_report.specs.Saved.{are_rising, are_evenly_spaced, row_names}
 
 pub place_step : (byte : ℕ) (xs : List ℕ) (i : ℕ) → i < length xs
-    → place_of_byte byte (drop i xs) ≡ cond (get_or xs i 0 == byte) 0 (place_of_byte byte (drop (i + 1) xs) + 1)
-unfolding place_of_byte
-place_step byte xs i h = at_drop_more (place_of_byte byte) xs i 0 h
+    → index_of_byte byte (drop i xs) ≡ cond (get_or xs i 0 == byte) 0 (index_of_byte byte (drop (i + 1) xs) + 1)
+unfolding index_of_byte
+place_step byte xs i h = at_drop_more (index_of_byte byte) xs i 0 h
 
-pub place_end : (byte : ℕ) (xs : List ℕ) (i : ℕ) → length xs ≤ i → place_of_byte byte (drop i xs) ≡ 0
-unfolding place_of_byte
-place_end byte xs i h = at_drop_all (place_of_byte byte) xs i h
+pub place_end : (byte : ℕ) (xs : List ℕ) (i : ℕ) → length xs ≤ i → index_of_byte byte (drop i xs) ≡ 0
+unfolding index_of_byte
+place_end byte xs i h = at_drop_all (index_of_byte byte) xs i h
 
 pub number_step : (value : ℕ) (xs : List ℕ) (i : ℕ) → i < length xs
     → decimal_number_on value (drop i xs) ≡ decimal_number_on (with_digit 10 value (get_or xs i 0 - 48)) (drop (i + 1) xs)
@@ -84,9 +84,9 @@ name_is_text xs h = IsUtf8-from_ascii xs (bytes_are_ascii xs
     (and_parts (is_within 1 64 (length xs)) (list_all is_name_byte xs) h).1)
 
 -- the first line, by the place of its line feed
-pub first_line : (b : ℕ) (bs : List ℕ) (p : ℕ) → p ≡ place_of_byte 10 (b ∷ bs)
+pub first_line : (b : ℕ) (bs : List ℕ) (p : ℕ) → p ≡ index_of_byte 10 (b ∷ bs)
     → lines (b ∷ bs) ≡ take p (b ∷ bs) ∷ lines (drop (suc p) (b ∷ bs))
-unfolding lines place_of_byte
+unfolding lines index_of_byte
 first_line b [] p is =
     elim (cases_Bool (b == 10)) [
       | inl e ↦
@@ -99,32 +99,32 @@ first_line b [] p is =
 first_line b (c ∷ cs) p is =
     elim (cases_Bool (b == 10)) [
       | inl e ↦
-          let z : p ≡ 0 = is ∙ ap (λ (t : Bool). cond t 0 (place_of_byte 10 (c ∷ cs) + 1)) e in
+          let z : p ≡ 0 = is ∙ ap (λ (t : Bool). cond t 0 (index_of_byte 10 (c ∷ cs) + 1)) e in
           rw z (ap (λ (t : Bool). cond t ([] ∷ lines (c ∷ cs)) (onto_first b (lines (c ∷ cs)))) e)
       | inr e ↦
-          let q = place_of_byte 10 (c ∷ cs) in
+          let q = index_of_byte 10 (c ∷ cs) in
           let z : p ≡ suc q = is ∙ ap (λ (t : Bool). cond t 0 (q + 1)) e ∙ add-one q in
           rw z (ap (λ (t : Bool). cond t ([] ∷ lines (c ∷ cs)) (onto_first b (lines (c ∷ cs)))) e
           ∙ ap (onto_first b) (first_line c cs q refl))
     ]
 
-pub first_line_of : (text : List ℕ) (p : ℕ) → 0 < length text → p ≡ place_of_byte 10 text
+pub first_line_of : (text : List ℕ) (p : ℕ) → 0 < length text → p ≡ index_of_byte 10 text
     → lines text ≡ take p text ∷ lines (drop (p + 1) text)
 first_line_of [] p h is = absurd (omega arith)
 first_line_of (b ∷ bs) p h is = rw (add-one p) (first_line b bs p is)
 
 -- ---- steps that a test decides
 
-pub place_here : (byte : ℕ) (xs : List ℕ) (i : ℕ) → i < length xs → get_or xs i 0 ≡ byte → place_of_byte byte (drop i xs) ≡ 0
+pub place_here : (byte : ℕ) (xs : List ℕ) (i : ℕ) → i < length xs → get_or xs i 0 ≡ byte → index_of_byte byte (drop i xs) ≡ 0
 place_here byte xs i h is =
     let e : (get_or xs i 0 == byte) ≡ true = grind arith in
-    place_step byte xs i h ∙ ap (λ (t : Bool). cond t 0 (place_of_byte byte (drop (i + 1) xs) + 1)) e
+    place_step byte xs i h ∙ ap (λ (t : Bool). cond t 0 (index_of_byte byte (drop (i + 1) xs) + 1)) e
 
 pub place_later : (byte : ℕ) (xs : List ℕ) (i : ℕ) → i < length xs → (get_or xs i 0 ≡ byte → ⊥)
-    → place_of_byte byte (drop i xs) ≡ place_of_byte byte (drop (i + 1) xs) + 1
+    → index_of_byte byte (drop i xs) ≡ index_of_byte byte (drop (i + 1) xs) + 1
 place_later byte xs i h other =
     let e : (get_or xs i 0 == byte) ≡ false = grind arith in
-    place_step byte xs i h ∙ ap (λ (t : Bool). cond t 0 (place_of_byte byte (drop (i + 1) xs) + 1)) e
+    place_step byte xs i h ∙ ap (λ (t : Bool). cond t 0 (index_of_byte byte (drop (i + 1) xs) + 1)) e
 
 pub hex_no : (xs : List ℕ) (i : ℕ) → i < length xs → is_hex_digit (get_or xs i 0) ≡ false → are_hex_digits (drop i xs) ≡ false
 hex_no xs i h e = hex_step xs i h ∙ ap (λ (t : Bool). t && are_hex_digits (drop (i + 1) xs)) e
@@ -135,7 +135,7 @@ hex_yes xs i h e = hex_step xs i h ∙ ap (λ (t : Bool). t && are_hex_digits (d
 
 -- ---- lines, taken one by one
 
-pub said_step : (rest front behind : List ℕ) (p : ℕ) (g h : Gathered) → 0 < length rest → p ≡ place_of_byte 10 rest
+pub said_step : (rest front behind : List ℕ) (p : ℕ) (g h : Gathered) → 0 < length rest → p ≡ index_of_byte 10 rest
     → front ≡ take p rest → behind ≡ drop (p + 1) rest
     → h ≡ with_line front g → with_lines (lines behind) h ≡ with_lines (lines rest) g
 unfolding with_lines

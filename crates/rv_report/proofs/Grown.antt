@@ -65,7 +65,7 @@ grown_at : (s : Stage) (l : List ℕ) (g : Gathered) → Extends g.numbers g.row
 unfolding at_job_or_last_line at_ending at_steps at_console at_signature at_words
 grown_at stage.Between l g =
     let P : Gathered → Type 0 = λ f. Extends g.numbers g.rows f in
-    let job : Gathered = record g { number = job_number_of_line l; name = job_name_of_line l; begun = true; stage = stage.Ending } in
+    let job : Gathered = record g { number = job_number_of_line l; name = job_name_of_line l; is_in_row = true; stage = stage.Ending } in
     let part : Gathered = with_stage_over (record g { extent = part_extent_of_line l }) in
     let other : Gathered = if slice_index l 0 == 112 then part else with_stage_over g in
     chosen P ((slice_index l 0 == 106) && nat_lt (length g.rows) most_jobs) job other (unchanged job)
@@ -106,7 +106,7 @@ finished_grown : (g : Gathered) → Extends g.numbers g.rows (with_unfinished_ro
 unfolding with_unfinished_row
 finished_grown g =
     let filled : Gathered = record g { words = padded_words g.count g.words } in
-    chosen (λ f. Extends g.numbers g.rows f) g.begun (with_finished_row Unasked filled) g (one_more Unasked filled)
+    chosen (λ f. Extends g.numbers g.rows f) g.is_in_row (with_finished_row Unasked filled) g (one_more Unasked filled)
     (unchanged g)
 
 pub grown : (ls : List (List ℕ)) (g : Gathered) → Extends g.numbers g.rows (at_end ls g)

@@ -162,7 +162,7 @@ abbrev all_words : ℕ → Row → Gathered → Gathered
 all_words n row g = record g {
   number = n;
   name = row.name;
-  begun = true;
+  is_in_row = true;
   ending = row.ending;
   steps = row.steps;
   console = row.console;
@@ -305,7 +305,7 @@ next_word n row ws i b p q g is small few plain signed within fits begins =
     let K = NextAgrees n row (job_words n row.name ∷ end_words row.ending ∷ steps_words row.steps
     ∷ console_words row.console ∷ ls) (b ∷ p) in
     subst (λ (f : Gathered). HasRow g.numbers g.rows n K (with_unfinished_row f)) (sym read)
-    (with_less g.numbers g.rows n (KnowsWords next) K (with_unfinished_row (record next { begun = true; stage = stage.Words }))
+    (with_less g.numbers g.rows n (KnowsWords next) K (with_unfinished_row (record next { is_in_row = true; stage = stage.Words }))
     (words_keep [] next (omega arith))
     (λ r k. word_lines n count some h row (b ∷ p) g (begun_word (get_or ws i 0) b p q fits begins) r
     (signed_lines count (some ++ h ∷ []) before r k)))

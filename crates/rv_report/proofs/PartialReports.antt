@@ -12,7 +12,7 @@ use Rattle.rv_report.specs.declared.saved.SavedReport.{SavedReport}
 use Rattle.rv_report.specs.Differences.{count_of_line_feeds}
 use Rattle.rv_report.specs.LeastLine.{BeginsReport}
 use Rattle.rv_report.specs.LenientReport.{lenient_report}
-use Rattle.rv_report.specs.Partial.{BeginsWith, HasWholeRows, rows_up_to_failure, first_rows_text, whole_lines}
+use Rattle.rv_report.specs.Partial.{BeginsWith, HasWholeRows, first_rows, first_rows_text, whole_lines}
 use Rattle.rv_report.specs.Report.{row_text}
 use Rattle.rv_report.specs.Saved.{IsRow, IsSaved, are_new, are_rising, matches_job_numbers, numbered_text, row_names}
 use Rattle.rv_report.proofs.Cut.{length-taken, said_can_be}
@@ -61,7 +61,7 @@ rows_first (suc count) [] are = tt
 rows_first (suc count) (row ∷ rows) are = (are.0, rows_first count rows are.1)
 
 pub saved_first : (report : SavedReport) (count : ℕ) → IsSaved report → count ≤ length report.rows
-    → IsSaved (rows_up_to_failure count report)
+    → IsSaved (first_rows count report)
 saved_first report count is within =
     let counted = is.listed.counted in
     let rises = rising_first 0 most_jobs count report.numbers is.listed.rising in
@@ -93,7 +93,7 @@ whole_rows bytes count begins are = record {
   most = are.2;
 }
 
-pub saved_read : (bytes : List ℕ) (count : ℕ) (read : SavedReport) → read ≡ rows_up_to_failure count (lenient_report bytes)
+pub saved_read : (bytes : List ℕ) (count : ℕ) (read : SavedReport) → read ≡ first_rows count (lenient_report bytes)
     → count ≤ length (lenient_report bytes).rows → IsSaved read
 saved_read bytes count read is within =
     subst IsSaved (sym is) (saved_first (lenient_report bytes) count (said_can_be bytes) within)

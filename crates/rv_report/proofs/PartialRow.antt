@@ -19,16 +19,16 @@ use Rattle.rv_report.proofs.PartialSignature.{KnowsLines, signature_part}
 -- ---- the lines before
 
 abbrev after_job : ℕ → Row → Gathered → Gathered
-after_job n row g = record g { number = n; name = row.name; begun = true; stage = stage.Ending }
+after_job n row g = record g { number = n; name = row.name; is_in_row = true; stage = stage.Ending }
 
 abbrev after_ending : ℕ → Row → Gathered → Gathered
-after_ending n row g = record g { number = n; name = row.name; begun = true; ending = row.ending; stage = stage.Steps }
+after_ending n row g = record g { number = n; name = row.name; is_in_row = true; ending = row.ending; stage = stage.Steps }
 
 abbrev after_steps : ℕ → Row → Gathered → Gathered
 after_steps n row g = record g {
   number = n;
   name = row.name;
-  begun = true;
+  is_in_row = true;
   ending = row.ending;
   steps = row.steps;
   stage = stage.Console;
@@ -38,7 +38,7 @@ abbrev pub after_console : ℕ → Row → Gathered → Gathered
 after_console n row g = record g {
   number = n;
   name = row.name;
-  begun = true;
+  is_in_row = true;
   ending = row.ending;
   steps = row.steps;
   console = row.console;

@@ -100,13 +100,13 @@ pub signature_part : (s : Option (List ℕ)) (i : ℕ) (v w : List ℕ) (g : Gat
     → suc i < length (lines_of_signature s ++ v ∷ [])
     → Kept (KnowsLines (take (suc i) (lines_of_signature s ++ v ∷ []))) g
     (with_unfinished_row (says (joined (take (suc i) (lines_of_signature s ++ v ∷ [])) ++ w)
-    (record g { begun = true; stage = stage.Signature })))
+    (record g { is_in_row = true; stage = stage.Signature })))
 signature_part None zero v w g h within =
     let known : Gathered = record g { signed = false; count = 0; words = [] } in
     let K = KnowsLines (codes "signature -" ∷ []) in
-    subst (λ (f : Gathered). Kept K g (with_unfinished_row f)) (sym (unsigned_says w (record g { begun = true })))
+    subst (λ (f : Gathered). Kept K g (with_unfinished_row f)) (sym (unsigned_says w (record g { is_in_row = true })))
     (with_less g.numbers g.rows g.number (KnowsWords known) (K g)
-    (with_unfinished_row (says w (record known { begun = true; stage = stage.Words }))) (words_keep (lines w) known (omega arith))
+    (with_unfinished_row (says w (record known { is_in_row = true; stage = stage.Words }))) (words_keep (lines w) known (omega arith))
     (unsigned_lines g))
 signature_part None (suc i) v w g h within = absurd (omega arith)
 signature_part (Some ws) i v w g h within =
@@ -120,9 +120,9 @@ signature_part (Some ws) i v w g h within =
     let few : length ws ≤ most_words = h.0 in
     let K : List (List ℕ) → Gathered → Row → Type 0 = λ ls. KnowsLines (count_words n ∷ ls) in
     subst (λ (ls : List (List ℕ)). Kept (K ls) g
-    (with_unfinished_row (says (joined (count_words n ∷ ls) ++ w) (record g { begun = true; stage = stage.Signature })))) taken
+    (with_unfinished_row (says (joined (count_words n ∷ ls) ++ w) (record g { is_in_row = true; stage = stage.Signature })))) taken
     (subst (λ (f : Gathered). Kept (K (map word_digits some)) g (with_unfinished_row f))
-    (sym (signed_says n some w (record g { begun = true }) few (taken_within i ws) (all-taken IsWord i ws h.1)))
+    (sym (signed_says n some w (record g { is_in_row = true }) few (taken_within i ws) (all-taken IsWord i ws h.1)))
     (with_less g.numbers g.rows g.number (KnowsWords known) (K (map word_digits some) g)
-    (with_unfinished_row (says w (record known { begun = true; stage = stage.Words })))
+    (with_unfinished_row (says w (record known { is_in_row = true; stage = stage.Words })))
     (words_keep (lines w) known (taken_within i ws)) (signed_lines n some g)))

@@ -15,7 +15,7 @@ use Rattle.rv_report.specs.declared.saved.Extent.TheVariants.{Whole, Choice}
 use Rattle.rv_report.specs.declared.saved.Extent.TheVariants as extent
 use Rattle.rv_report.specs.declared.saved.Shard.{Shard}
 use Rattle.rv_report.specs.LenientReport.{text_before_byte, text_after_byte, decimal_number, name_or_dash, shard_of_text, part_extent_of_line, gathering_between_rows, with_stage_over}
-use Rattle.rv_report.specs.LenientReport.{at_job_or_last_line, with_line, place_of_byte}
+use Rattle.rv_report.specs.LenientReport.{at_job_or_last_line, with_line, index_of_byte}
 use Rattle.rv_report.specs.Saved.{part_words, shard_words, extent_line, is_valid_shard, are_rising, are_evenly_spaced, matches_job_numbers}
 use Rattle.rv_report.proofs.Pieces.{lacks, lacks-append, before_at, after_at}
 use Rattle.rv_report.proofs.Words.{lacks-decimal, number_of-decimal}
@@ -103,13 +103,13 @@ lacks-last (extent.Shard s) count h few =
 -- ---- what it says
 
 -- a byte that is not there
-place_of_none : (byte : ℕ) (xs : List ℕ) → lacks byte xs ≡ true → place_of_byte byte xs ≡ length xs
-unfolding place_of_byte
+place_of_none : (byte : ℕ) (xs : List ℕ) → lacks byte xs ≡ true → index_of_byte byte xs ≡ length xs
+unfolding index_of_byte
 place_of_none byte [] h = refl
 place_of_none byte (b ∷ bs) h =
     let parts = and_parts (not (b == byte)) (lacks byte bs) h in
     let other : (b == byte) ≡ false = grind arith in
-    ap (λ (t : Bool). cond t 0 (place_of_byte byte bs + 1)) other
+    ap (λ (t : Bool). cond t 0 (index_of_byte byte bs + 1)) other
     ∙ ap (λ (n : ℕ). n + 1) (place_of_none byte bs parts.1) ∙ omega arith
 
 take_length : (xs : List ℕ) → take (length xs) xs ≡ xs

@@ -4,7 +4,7 @@ use Rattle.std.proofs.Common.{length, drop, get_or, refl, sym, ap, arith, add-on
 use Rattle.std.proofs.lemmas.Bool.{and_parts, and_from, not-true}
 use Rattle.std.proofs.lemmas.List.{take_at}
 use Rattle.std.specs.List.{onto_first}
-use Rattle.rv_report.specs.LenientReport.{lines, place_of_byte, text_before_byte, text_after_byte}
+use Rattle.rv_report.specs.LenientReport.{lines, index_of_byte, text_before_byte, text_after_byte}
 
 -- whether a byte isn't in a text
 abbrev pub lacks : ℕ → List ℕ → Bool
@@ -31,17 +31,17 @@ lines_at (b ∷ bs) rest h =
     ap (λ (t : Bool). cond t ([] ∷ lines (bs ++ 10 ∷ rest)) (onto_first b (lines (bs ++ 10 ∷ rest)))) other
     ∙ ap (onto_first b) (lines_at bs rest parts.1)
 
-pub place_of_at : (byte : ℕ) (xs rest : List ℕ) → lacks byte xs ≡ true → place_of_byte byte (xs ++ byte ∷ rest) ≡ length xs
-unfolding place_of_byte
-place_of_at byte [] rest h = ap (λ (t : Bool). cond t 0 (place_of_byte byte rest + 1)) (same_byte byte)
+pub place_of_at : (byte : ℕ) (xs rest : List ℕ) → lacks byte xs ≡ true → index_of_byte byte (xs ++ byte ∷ rest) ≡ length xs
+unfolding index_of_byte
+place_of_at byte [] rest h = ap (λ (t : Bool). cond t 0 (index_of_byte byte rest + 1)) (same_byte byte)
 place_of_at byte (b ∷ bs) rest h =
     let parts = and_parts (not (b == byte)) (lacks byte bs) h in
     let other : (b == byte) ≡ false = not-true (b == byte) parts.0 in
-    ap (λ (t : Bool). cond t 0 (place_of_byte byte (bs ++ byte ∷ rest) + 1)) other
+    ap (λ (t : Bool). cond t 0 (index_of_byte byte (bs ++ byte ∷ rest) + 1)) other
     ∙ ap (λ (n : ℕ). n + 1) (place_of_at byte bs rest parts.1) ∙ add-one (length bs)
 
 pub before_at : (byte : ℕ) (xs rest : List ℕ) → lacks byte xs ≡ true → text_before_byte byte (xs ++ byte ∷ rest) ≡ xs
-before_at byte xs rest h = take_at xs (byte ∷ rest) (place_of_byte byte (xs ++ byte ∷ rest))
+before_at byte xs rest h = take_at xs (byte ∷ rest) (index_of_byte byte (xs ++ byte ∷ rest))
     (sym (place_of_at byte xs rest h))
 
 past_one : (xs rest : List ℕ) (byte : ℕ) → drop (suc (length xs)) (xs ++ byte ∷ rest) ≡ rest

@@ -71,7 +71,7 @@ Kept Knows g f = HasRow g.numbers g.rows g.number (Knows g) f
 -- ---- the row that isn't whole
 
 closed_row : (s : Stage) (g : Gathered) → length g.words ≤ g.count
-    → Kept KnowsWords g (with_unfinished_row (record g { begun = true; stage = s }))
+    → Kept KnowsWords g (with_unfinished_row (record g { is_in_row = true; stage = s }))
 unfolding with_unfinished_row with_finished_row gathering_between_rows row_so_far padded_words
 closed_row s g within =
     let missing = g.count - length g.words in
@@ -101,9 +101,9 @@ over_lines [] g = refl
 over_lines (l ∷ ls) g = over_lines ls g
 
 over_row : (ls : List (List ℕ)) (g : Gathered) → length g.words ≤ g.count
-    → Kept KnowsWords g (at_end ls (record g { begun = true; stage = stage.Over }))
+    → Kept KnowsWords g (at_end ls (record g { is_in_row = true; stage = stage.Over }))
 over_row ls g within =
-    subst (λ (f : Gathered). Kept KnowsWords g f) (sym (ap with_unfinished_row (over_lines ls (record g { begun = true }))))
+    subst (λ (f : Gathered). Kept KnowsWords g f) (sym (ap with_unfinished_row (over_lines ls (record g { is_in_row = true }))))
     (closed_row stage.Over g within)
 
 -- ---- stage by stage, from the last on
@@ -120,11 +120,11 @@ word_less g w r k = record {
 }
 
 whole_row : (v : Verdict) (g : Gathered) (f : Gathered) → (length g.words == g.count) ≡ true
-    → Extends (g.numbers ++ g.number ∷ []) (g.rows ++ row_so_far v (record g { begun = true; stage = stage.Words }) ∷ []) f
+    → Extends (g.numbers ++ g.number ∷ []) (g.rows ++ row_so_far v (record g { is_in_row = true; stage = stage.Words }) ∷ []) f
     → Kept KnowsWords g f
 unfolding row_so_far
 whole_row v g f full h =
-    let row : Row = row_so_far v (record g { begun = true; stage = stage.Words }) in
+    let row : Row = row_so_far v (record g { is_in_row = true; stage = stage.Words }) in
     record {
       row = row;
       more_numbers = h.more_numbers;
@@ -148,12 +148,12 @@ unfolding with_finished_row gathering_between_rows
 closed_grown ls v g = grown ls (with_finished_row v g)
 
 pub words_keep : (ls : List (List ℕ)) (g : Gathered) → length g.words ≤ g.count
-    → Kept KnowsWords g (at_end ls (record g { begun = true; stage = stage.Words }))
+    → Kept KnowsWords g (at_end ls (record g { is_in_row = true; stage = stage.Words }))
 unfolding with_lines with_line at_words
 words_keep [] g within = closed_row stage.Words g within
 words_keep (l ∷ ls) g within =
     let P : Gathered → Type 0 = λ f. Kept KnowsWords g (at_end ls f) in
-    let here : Gathered = record g { begun = true; stage = stage.Words } in
+    let here : Gathered = record g { is_in_row = true; stage = stage.Words } in
     let longer_words = g.words ++ hex_word l ∷ [] in
     let word : Gathered = record here { words = longer_words } in
     let row : Gathered = with_finished_row (verdict_of_line l) here in
@@ -174,16 +174,16 @@ words_to_console : (g : Gathered) (r : Row) → KnowsWords g r → KnowsConsole 
 words_to_console g r k = (k.name, k.ending, k.steps, k.console)
 
 pub signature_keep : (ls : List (List ℕ)) (g : Gathered) → length g.words ≤ g.count
-    → Kept KnowsConsole g (at_end ls (record g { begun = true; stage = stage.Signature }))
+    → Kept KnowsConsole g (at_end ls (record g { is_in_row = true; stage = stage.Signature }))
 unfolding with_lines with_line at_signature
 signature_keep [] g within =
-    let here : Gathered = record g { begun = true; stage = stage.Signature } in
+    let here : Gathered = record g { is_in_row = true; stage = stage.Signature } in
     with_less g.numbers g.rows g.number (KnowsWords g) (KnowsConsole g) (with_unfinished_row here)
     (closed_row stage.Signature g within) (words_to_console g)
 signature_keep (l ∷ ls) g within =
-    let here : Gathered = record g { begun = true; stage = stage.Signature } in
+    let here : Gathered = record g { is_in_row = true; stage = stage.Signature } in
     let known : Gathered = record g { signed = not (slice_index l 10 == 45); count = decimal_number (drop 10 l); words = [] } in
-    let next : Gathered = record known { begun = true; stage = stage.Words } in
+    let next : Gathered = record known { is_in_row = true; stage = stage.Words } in
     chosen (λ f. Kept KnowsConsole g (at_end ls f))
     (((slice_index l 0 == 115) && (slice_index l 1 == 105)) && nat_le (decimal_number (drop 10 l)) most_words) next
     (with_stage_over here)
@@ -193,16 +193,16 @@ signature_keep (l ∷ ls) g within =
     (over_row ls g within) (words_to_console g))
 
 pub console_keep : (ls : List (List ℕ)) (g : Gathered) → length g.words ≤ g.count
-    → Kept KnowsSteps g (at_end ls (record g { begun = true; stage = stage.Console }))
+    → Kept KnowsSteps g (at_end ls (record g { is_in_row = true; stage = stage.Console }))
 unfolding with_lines with_line at_console
 console_keep [] g within =
-    let here : Gathered = record g { begun = true; stage = stage.Console } in
+    let here : Gathered = record g { is_in_row = true; stage = stage.Console } in
     with_less g.numbers g.rows g.number (KnowsWords g) (KnowsSteps g) (with_unfinished_row here)
     (closed_row stage.Console g within) (λ r k. (k.name, k.ending, k.steps))
 console_keep (l ∷ ls) g within =
-    let here : Gathered = record g { begun = true; stage = stage.Console } in
+    let here : Gathered = record g { is_in_row = true; stage = stage.Console } in
     let known : Gathered = record g { console = hex_bytes (drop 8 l) } in
-    let next : Gathered = record known { begun = true; stage = stage.Signature } in
+    let next : Gathered = record known { is_in_row = true; stage = stage.Signature } in
     chosen (λ f. Kept KnowsSteps g (at_end ls f)) (slice_index l 0 == 99) next (with_stage_over here)
     (with_less g.numbers g.rows g.number (KnowsConsole known) (KnowsSteps g) (at_end ls next)
     (signature_keep ls known within) (λ r k. (k.0, k.1, k.2)))
@@ -210,16 +210,16 @@ console_keep (l ∷ ls) g within =
     (over_row ls g within) (λ r k. (k.name, k.ending, k.steps)))
 
 pub steps_keep : (ls : List (List ℕ)) (g : Gathered) → length g.words ≤ g.count
-    → Kept KnowsEnding g (at_end ls (record g { begun = true; stage = stage.Steps }))
+    → Kept KnowsEnding g (at_end ls (record g { is_in_row = true; stage = stage.Steps }))
 unfolding with_lines with_line at_steps
 steps_keep [] g within =
-    let here : Gathered = record g { begun = true; stage = stage.Steps } in
+    let here : Gathered = record g { is_in_row = true; stage = stage.Steps } in
     with_less g.numbers g.rows g.number (KnowsWords g) (KnowsEnding g) (with_unfinished_row here)
     (closed_row stage.Steps g within) (λ r k. (k.name, k.ending))
 steps_keep (l ∷ ls) g within =
-    let here : Gathered = record g { begun = true; stage = stage.Steps } in
+    let here : Gathered = record g { is_in_row = true; stage = stage.Steps } in
     let known : Gathered = record g { steps = decimal_number (drop 6 l) } in
-    let next : Gathered = record known { begun = true; stage = stage.Console } in
+    let next : Gathered = record known { is_in_row = true; stage = stage.Console } in
     chosen (λ f. Kept KnowsEnding g (at_end ls f)) ((slice_index l 0 == 115) && (slice_index l 1 == 116)) next
     (with_stage_over here)
     (with_less g.numbers g.rows g.number (KnowsSteps known) (KnowsEnding g) (at_end ls next)
@@ -228,16 +228,16 @@ steps_keep (l ∷ ls) g within =
     (over_row ls g within) (λ r k. (k.name, k.ending)))
 
 pub ending_keep : (ls : List (List ℕ)) (g : Gathered) → length g.words ≤ g.count
-    → Kept KnowsName g (at_end ls (record g { begun = true; stage = stage.Ending }))
+    → Kept KnowsName g (at_end ls (record g { is_in_row = true; stage = stage.Ending }))
 unfolding with_lines with_line at_ending
 ending_keep [] g within =
-    let here : Gathered = record g { begun = true; stage = stage.Ending } in
+    let here : Gathered = record g { is_in_row = true; stage = stage.Ending } in
     with_less g.numbers g.rows g.number (KnowsWords g) (KnowsName g) (with_unfinished_row here)
     (closed_row stage.Ending g within) (λ r k. k.name)
 ending_keep (l ∷ ls) g within =
-    let here : Gathered = record g { begun = true; stage = stage.Ending } in
+    let here : Gathered = record g { is_in_row = true; stage = stage.Ending } in
     let known : Gathered = record g { ending = row_ending_of_line l } in
-    let next : Gathered = record known { begun = true; stage = stage.Steps } in
+    let next : Gathered = record known { is_in_row = true; stage = stage.Steps } in
     chosen (λ f. Kept KnowsName g (at_end ls f)) (slice_index l 0 == 101) next (with_stage_over here)
     (with_less g.numbers g.rows g.number (KnowsEnding known) (KnowsName g) (at_end ls next)
     (steps_keep ls known within) (λ r k. k.0))

@@ -157,20 +157,20 @@ job_number n name h =
 
 pub job_says : (n : ℕ) (name : List ℕ) (g : Gathered) → n < 2 ^ 32 → is_name name ≡ true → length g.rows < most_jobs
     → with_line (codes "job " ++ decimal n ++ codes " " ++ name) (record g { stage = stage.Between })
-    ≡ record g { number = n; name = name; begun = true; stage = stage.Ending }
+    ≡ record g { number = n; name = name; is_in_row = true; stage = stage.Ending }
 unfolding with_line at_job_or_last_line
 job_says n name g h is few =
     let line = codes "job " ++ decimal n ++ codes " " ++ name in
     let room : nat_lt (length g.rows) most_jobs ≡ true = grind (arith, nat_tests) in
     ap (λ (t : Bool). cond t
-    (record g { number = job_number_of_line line; name = job_name_of_line line; begun = true; stage = stage.Ending }) (with_stage_over g)) room
+    (record g { number = job_number_of_line line; name = job_name_of_line line; is_in_row = true; stage = stage.Ending }) (with_stage_over g)) room
     ∙ ap (λ (t : ℕ). record g {
       number = t;
       name = job_name_of_line (codes "job " ++ decimal n ++ codes " " ++ name);
-      begun = true;
+      is_in_row = true;
       stage = stage.Ending;
     }) (job_number n name h)
-    ∙ ap (λ (t : List ℕ). record g { number = n; name = t; begun = true; stage = stage.Ending })
+    ∙ ap (λ (t : List ℕ). record g { number = n; name = t; is_in_row = true; stage = stage.Ending })
     (job_name n name (omega arith) is)
 
 -- ---- the line of the steps
@@ -411,7 +411,7 @@ up_to_verdict n row numbers rows extent = record {
   signed = is_some row.signature;
   count = length (words_or_nil row.signature);
   words = words_or_nil row.signature;
-  begun = true;
+  is_in_row = true;
   stage = stage.Words;
 }
 
@@ -444,7 +444,7 @@ row_says place n row rest numbers rows extent is same small few =
     let t2 = line c ++ t3 in
     let t1 = line s ++ t2 in
     let g0 = gathering_between_rows numbers rows extent in
-    let g1 : Gathered = record g0 { number = n; name = row.name; begun = true; stage = stage.Ending } in
+    let g1 : Gathered = record g0 { number = n; name = row.name; is_in_row = true; stage = stage.Ending } in
     let g2 : Gathered = record g1 { ending = row.ending; stage = stage.Steps } in
     let g3 : Gathered = record g2 { steps = row.steps; stage = stage.Console } in
     let g4 : Gathered = record g3 { console = row.console; stage = stage.Signature } in

@@ -35,17 +35,17 @@ lines [] = []
 lines (b ∷ bs) = if b == 10 then [] ∷ lines bs else onto_first b (lines bs)
 
 -- the index of the first occurrence of a byte in a text, or the length of the text if the byte does not occur
-unfoldable pub place_of_byte : ℕ → List ℕ → ℕ
-place_of_byte byte [] = 0
-place_of_byte byte (b ∷ bs) = if b == byte then 0 else place_of_byte byte bs + 1
+unfoldable pub index_of_byte : ℕ → List ℕ → ℕ
+index_of_byte byte [] = 0
+index_of_byte byte (b ∷ bs) = if b == byte then 0 else index_of_byte byte bs + 1
 
 -- the text before the first occurrence of a byte, or the whole text if the byte does not occur
 abbrev pub text_before_byte : ℕ → List ℕ → List ℕ
-text_before_byte byte text = take (place_of_byte byte text) text
+text_before_byte byte text = take (index_of_byte byte text) text
 
 -- the text after the first occurrence of a byte, or an empty text if the byte does not occur
 abbrev pub text_after_byte : ℕ → List ℕ → List ℕ
-text_after_byte byte text = drop (place_of_byte byte text + 1) text
+text_after_byte byte text = drop (index_of_byte byte text + 1) text
 
 -- ---- numbers and words; numbers saturate at 2^32 - 1
 
@@ -192,7 +192,7 @@ pub record Gathered : Type 0 where
   pub count : ℕ
   pub words : List ℕ
   -- whether a row is unfinished
-  pub begun : Bool
+  pub is_in_row : Bool
   -- which line comes next
   pub stage : Stage
 
@@ -210,7 +210,7 @@ gathering_between_rows numbers rows extent = record {
   signed = false;
   count = 0;
   words = [];
-  begun = false;
+  is_in_row = false;
   stage = stage.Between;
 }
 
@@ -243,7 +243,7 @@ with_stage_over g = record g { stage = stage.Over }
 unfoldable pub at_job_or_last_line : List ℕ → Gathered → Gathered
 at_job_or_last_line line g =
     if (slice_index line 0 == 106) && nat_lt (length g.rows) most_jobs then
-    record g { number = job_number_of_line line; name = job_name_of_line line; begun = true; stage = stage.Ending }
+    record g { number = job_number_of_line line; name = job_name_of_line line; is_in_row = true; stage = stage.Ending }
     else if slice_index line 0 == 112 then with_stage_over (record g { extent = part_extent_of_line line })
     else with_stage_over g
 
@@ -311,7 +311,7 @@ with_lines (line ∷ lines) g = with_lines lines (with_line line g)
 -- the state after an unfinished row is finished, if there is one
 unfoldable pub with_unfinished_row : Gathered → Gathered
 with_unfinished_row g =
-    if g.begun then with_finished_row verdict.Unasked (record g { words = padded_words g.count g.words }) else g
+    if g.is_in_row then with_finished_row verdict.Unasked (record g { words = padded_words g.count g.words }) else g
 
 -- the state after all lines of a text, with an unfinished row finished
 unfoldable pub gather_rows : List ℕ → Gathered

@@ -17,8 +17,8 @@ whole_lines bytes = first_lines (count_of_line_feeds bytes) bytes
 
 -- the report of chosen jobs with the first `count` rows; since a truncated report may not say how many jobs its list has, this is taken to
 -- be `most_jobs`
-abbrev pub rows_up_to_failure : ℕ → SavedReport → SavedReport
-rows_up_to_failure count report = record {
+abbrev pub first_rows : ℕ → SavedReport → SavedReport
+first_rows count report = record {
   extent = extent.Choice most_jobs;
   numbers = take count report.numbers;
   rows = take count report.rows;
@@ -45,4 +45,4 @@ IsNotAReport bytes = (report : SavedReport) → IsSaved report → saved_text re
 abbrev pub IsReadAs : List ℕ → Bool → SavedReport → Type 0
 IsReadAs bytes false read = IsSaved read × (saved_text read ≡ bytes)
 IsReadAs bytes true read = IsNotAReport bytes
-    × ((report : SavedReport) × (count : ℕ) × HasWholeRows bytes report count × (read ≡ rows_up_to_failure count report))
+    × ((report : SavedReport) × (count : ℕ) × HasWholeRows bytes report count × (read ≡ first_rows count report))

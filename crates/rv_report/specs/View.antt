@@ -17,6 +17,6 @@ gathering_view g = record {
   signed = g.signed;
   count = g.count;
   words = g.words.items;
-  begun = g.begun;
+  is_in_row = g.is_in_row;
   stage = g.stage;
 }

@@ -1,7 +1,7 @@
 //! Parts of a line.
 
 ghost use Rattle.std.specs.Prelude.{◌≡◌, ◌≤◌, IfOk, take, string_bytes, length};
-ghost use Rattle.rv_report.specs.LenientReport.{are_hex_digits, hex_number, place_of_byte, text_before_byte, text_after_byte, decimal_number, hex_digit_value, hex_word};
+ghost use Rattle.rv_report.specs.LenientReport.{are_hex_digits, hex_number, index_of_byte, text_before_byte, text_after_byte, decimal_number, hex_digit_value, hex_word};
 ghost use Rattle.rv_report.specs.LenientReport.{is_hex_digit, is_hex_word, hex_bytes, name_or_dash};
 
 use hex::FromHexError;
@@ -21,8 +21,8 @@ pub fn leading_bytes(text: &[u8], count: usize) -> &[u8]
 }
 
 /// Returns the index of the first occurrence of a byte, or the length of the text if it does not occur.
-pub(crate) fn place_of_byte(byte: u8, text: &[u8]) -> usize
-    ensures place { result ≡ place_of_byte byte text.now }
+pub(crate) fn index_of_byte(byte: u8, text: &[u8]) -> usize
+    ensures place { result ≡ index_of_byte byte text.now }
     ensures within { result ≤ length text.now }
 {
     for (place, b) in text.iter().enumerate() {
@@ -37,14 +37,14 @@ pub(crate) fn place_of_byte(byte: u8, text: &[u8]) -> usize
 pub(crate) fn text_before_byte(byte: u8, text: &[u8]) -> &[u8]
     ensures { result.now ≡ text_before_byte byte text.now }
 {
-    leading_bytes(text, place_of_byte(byte, text))
+    leading_bytes(text, index_of_byte(byte, text))
 }
 
 /// Returns the text after the first occurrence of a byte, or an empty text if it does not occur.
 pub(crate) fn text_after_byte(byte: u8, text: &[u8]) -> &[u8]
     ensures { result.now ≡ text_after_byte byte text.now }
 {
-    tail_from(text, place_of_byte(byte, text) + 1)
+    tail_from(text, index_of_byte(byte, text) + 1)
 }
 
 /// Returns the number that a text of decimal digits is read as. A number that is too large is read as `u32::MAX`.

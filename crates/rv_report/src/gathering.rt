@@ -7,7 +7,7 @@ ghost use Rattle.rv_report.specs.LenientReport.{at_words, with_line, with_lines,
 ghost use Rattle.rv_report.specs.View.{gathering_view};
 
 use crate::fields::{
-    decimal_number, hex_bytes, hex_word, is_hex_word, leading_bytes, place_of_byte,
+    decimal_number, hex_bytes, hex_word, is_hex_word, leading_bytes, index_of_byte,
 };
 use crate::lines::{
     job_name_of_line, job_number_of_line, part_extent_of_line, row_ending_of_line, verdict_of_line,
@@ -34,7 +34,7 @@ pub struct Gathering {
     signed: bool,
     count: u32,
     words: Vec<u32>,
-    begun: bool,
+    is_in_row: bool,
     stage: Stage,
 }
 
@@ -64,7 +64,7 @@ pub fn gather_rows(alloc: Global, text: &[u8]) -> Result<Gathering, AllocError>
     let mut gathering = empty_gathering(alloc)?;
     let mut rest = text;
     while !rest.is_empty() {
-        let end = place_of_byte(b'\n', rest);
+        let end = index_of_byte(b'\n', rest);
         add_line(alloc, &mut gathering, leading_bytes(rest, end))?;
         rest = tail_from(rest, end + 1);
     }
@@ -90,7 +90,7 @@ fn empty_gathering(alloc: Global) -> Result<Gathering, AllocError>
         signed: false,
         count: 0,
         words: Vec::new(alloc),
-        begun: false,
+        is_in_row: false,
         stage: Stage::Between,
     })
 }
@@ -124,7 +124,7 @@ fn add_job_or_last_line(
         b'j' if gathering.rows.len() < MOST_JOBS => {
             gathering.name = job_name_of_line(alloc, line)?;
             gathering.number = job_number_of_line(line);
-            gathering.begun = true;
+            gathering.is_in_row = true;
             gathering.stage = Stage::Ending;
         }
         b'p' => {
@@ -217,7 +217,7 @@ fn add_word_or_verdict_line(
 fn close_unfinished_row(alloc: Global, gathering: &mut Gathering) -> Result<(), AllocError>
     ensures { OnOk result (gathering_view gathering.new ≡ with_unfinished_row (gathering_view gathering.old)) }
 {
-    if !gathering.begun {
+    if !gathering.is_in_row {
         return Ok(());
     }
     pad_signature_words(&mut gathering.words, gathering.count)?;
@@ -275,7 +275,7 @@ fn take_row(alloc: Global, gathering: &mut Gathering, verdict: Verdict) -> Resul
     gathering.steps = 0;
     gathering.signed = false;
     gathering.count = 0;
-    gathering.begun = false;
+    gathering.is_in_row = false;
     gathering.stage = Stage::Between;
     Ok(row)
 }

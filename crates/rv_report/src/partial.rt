@@ -4,7 +4,7 @@ ghost use Rattle.std.specs.Prelude.{◌≡◌, ◌⊎◌, ◌<◌, ◌≤◌, �
 ghost use Rattle.rv_base.specs.Limits.{most_jobs};
 ghost use Rattle.rv_report.specs.LeastLine.{BeginsReport, IsLeastRefusedLine};
 ghost use Rattle.rv_report.specs.LenientReport.{lenient_report};
-ghost use Rattle.rv_report.specs.Partial.{BeginsWith, IsReadAs, rows_up_to_failure, first_rows_text};
+ghost use Rattle.rv_report.specs.Partial.{BeginsWith, IsReadAs, first_rows, first_rows_text};
 ghost use Rattle.rv_report.specs.Saved.{IsListed, IsSaved};
 ghost use Rattle.rv_report.specs.declared.read.ReadError.TheVariants.{Line, OutOfMemory};
 
@@ -51,7 +51,7 @@ pub fn read_partial_report(alloc: Global, bytes: &[u8]) -> Result<PartialReport,
 
 // Returns the complete rows of a truncated text, as a report of chosen jobs.
 fn read_whole_rows(alloc: Global, bytes: &[u8]) -> Result<SavedReport, AllocError>
-    ensures rows { IfOk result (λ report. (count : ℕ) × (report ≡ rows_up_to_failure count (lenient_report bytes.now))
+    ensures rows { IfOk result (λ report. (count : ℕ) × (report ≡ first_rows count (lenient_report bytes.now))
         × (count ≤ length (lenient_report bytes.now).rows)
         × BeginsWith bytes.now (first_rows_text count (lenient_report bytes.now))
         × (count < length (lenient_report bytes.now).rows
@@ -59,7 +59,7 @@ fn read_whole_rows(alloc: Global, bytes: &[u8]) -> Result<SavedReport, AllocErro
 {
     let said = lenient_report(alloc, bytes)?;
     let count = whole_row_count(alloc, &said, bytes)?;
-    Ok(rows_up_to_failure(said, count))
+    Ok(first_rows(said, count))
 }
 
 // Returns with how many whole rows of a report the bytes begin.
@@ -86,8 +86,8 @@ fn whole_row_count(alloc: Global, report: &SavedReport, bytes: &[u8]) -> Result<
 
 // Returns the report of chosen jobs with the first `count` rows of a report. Its list is taken to have the maximum number of jobs, since a
 // truncated report may not say how many.
-fn rows_up_to_failure(report: SavedReport, count: usize) -> SavedReport
-    ensures { result ≡ rows_up_to_failure count report }
+fn first_rows(report: SavedReport, count: usize) -> SavedReport
+    ensures { result ≡ first_rows count report }
 {
     let mut numbers = report.numbers.into_vec();
     let mut rows = report.rows.into_vec();

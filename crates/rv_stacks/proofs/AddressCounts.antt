@@ -4,8 +4,8 @@ use Rattle.std.proofs.lemmas.Bool.{and_parts, cases_eq, cases_Bool}
 use Rattle.std.proofs.lemmas.Bool.Decides.{nat_tests}
 use Rattle.std.specs.Prelude.{nat_le}
 use Rattle.rv_count_tables.specs.declared.table.AddressCounts.{AddressCounts}
-use Rattle.rv_count_tables.specs.Table.{begun_at, rise_from}
-use Rattle.rv_counting.specs.Coverage.{behind, executed_in_run, fetch_at, is_begun, once_if, AreCountsOf}
+use Rattle.rv_count_tables.specs.Table.{executed_at, rise_from}
+use Rattle.rv_counting.specs.Coverage.{behind, executed_in_run, fetch_at, is_executed, once_if, AreCountsOf}
 use Rattle.rv_machine.specs.declared.ending.Ending.{Ending}
 use Rattle.rv_machine.specs.Run.{step_of}
 use Rattle.rv_machine.specs.State.{State}
@@ -78,7 +78,7 @@ module _ (function : ℕ → ℕ) (f : ℕ) where
   equal : (x : ℕ) → (x == x) ≡ true
   equal x = grind (arith, nat_tests)
 
-  none_below : (a lowest : ℕ) (cs : List AddressCounts) → a < lowest → rise_from lowest cs ≡ true → begun_at a cs ≡ 0
+  none_below : (a lowest : ℕ) (cs : List AddressCounts) → a < lowest → rise_from lowest cs ≡ true → executed_at a cs ≡ 0
   none_below a lowest [] h rising = refl
   none_below a lowest (c ∷ cs) h rising =
       let p = low lowest c cs rising in
@@ -90,16 +90,16 @@ module _ (function : ℕ → ℕ) (f : ℕ) where
 
   -- each count is that at its address
   counts_are_over : (lowest : ℕ) (cs : List AddressCounts) → rise_from lowest cs ≡ true
-      → counts_of_function function f cs ≡ over (λ a. begun_at a cs) cs
+      → counts_of_function function f cs ≡ over (λ a. executed_at a cs) cs
   counts_are_over lowest [] h = refl
   counts_are_over lowest (c ∷ cs) h =
       let p = low lowest c cs h in
-      let own : begun_at c.address (c ∷ cs) ≡ c.begun =
+      let own : executed_at c.address (c ∷ cs) ≡ c.begun =
       let first = ap (λ (b : Bool). cond b c.begun 0) (equal c.address) in
       let others = none_below c.address (c.address + 1) cs (omega arith) p.1 in
       omega (arith, first, others) in
       let here = ap (λ (n : ℕ). cond (function c.address == f) n 0) own in
-      let split = over_sum (λ a. cond (c.address == a) c.begun 0) (λ a. begun_at a cs) cs in
+      let split = over_sum (λ a. cond (c.address == a) c.begun 0) (λ a. executed_at a cs) cs in
       let none = none_from (λ a. cond (c.address == a) c.begun 0) (c.address + 1) cs p.1
       (λ a above. ap (λ (b : Bool). cond b c.begun 0) (unequal c.address a (omega (arith, above)))) in
       let rest = counts_are_over (c.address + 1) cs p.1 in
@@ -118,7 +118,7 @@ module _ (function : ℕ → ℕ) (f : ℕ) where
   if_once false = refl
 
   -- an address that has a count stands once among the addresses
-  once_there : (a lowest : ℕ) (cs : List AddressCounts) → rise_from lowest cs ≡ true → 0 < begun_at a cs
+  once_there : (a lowest : ℕ) (cs : List AddressCounts) → rise_from lowest cs ≡ true → 0 < executed_at a cs
       → over (λ b. once_if (a == b)) cs ≡ once_if (function a == f)
   once_there a lowest [] h some = absurd (omega (arith, some))
   once_there a lowest (c ∷ cs) h some =
@@ -143,7 +143,7 @@ module _ (function : ℕ → ℕ) (f : ℕ) where
 
   -- an instruction that begins or not
   one_begun : (begun : Bool) (pc : ℕ) (cs : List AddressCounts) → rise_from 0 cs ≡ true
-      → (begun ≡ true → 0 < begun_at pc cs)
+      → (begun ≡ true → 0 < executed_at pc cs)
       → over (λ a. once_if (begun && (pc == a))) cs ≡ once_if (begun && (function pc == f))
   one_begun true pc cs h some = once_there pc 0 cs h (some refl)
   one_begun false pc cs h some = over_none cs
@@ -156,12 +156,12 @@ module _ (function : ℕ → ℕ) (f : ℕ) where
   behind_more address n r t is = ap (λ (q : Result State Ending). behind q (λ u. executed_in_run address n u)) is
 
   first_begun : (address n : ℕ) (s : State) → executed_in_run address (suc n) s
-      ≡ once_if (is_begun (fetch_at s) && (s.pc == address)) + behind (step_of s) (λ t. executed_in_run address n t)
+      ≡ once_if (is_executed (fetch_at s) && (s.pc == address)) + behind (step_of s) (λ t. executed_in_run address n t)
   unfolding executed_in_run
   first_begun address n s = refl
 
   first_in_function : (n : ℕ) (s : State) → executed_in_function function f (suc n) s
-      ≡ once_if (is_begun (fetch_at s) && (function s.pc == f)) + behind (step_of s) (λ t. executed_in_function function f n t)
+      ≡ once_if (is_executed (fetch_at s) && (function s.pc == f)) + behind (step_of s) (λ t. executed_in_function function f n t)
   unfolding executed_in_function
   first_in_function n s = refl
 
@@ -174,23 +174,23 @@ module _ (function : ℕ → ℕ) (f : ℕ) where
   none_in_function s = refl
 
   over_behind : (cs : List AddressCounts) (n : ℕ) (r : Result State Ending)
-      → ((t : State) → ((a : ℕ) → 0 < executed_in_run a n t → 0 < begun_at a cs)
+      → ((t : State) → ((a : ℕ) → 0 < executed_in_run a n t → 0 < executed_at a cs)
       → over (λ a. executed_in_run a n t) cs ≡ executed_in_function function f n t)
-      → ((a : ℕ) → 0 < behind r (λ t. executed_in_run a n t) → 0 < begun_at a cs)
+      → ((a : ℕ) → 0 < behind r (λ t. executed_in_run a n t) → 0 < executed_at a cs)
       → over (λ a. behind r (λ t. executed_in_run a n t)) cs ≡ behind r (λ t. executed_in_function function f n t)
   over_behind cs n (Ok t) rest some = rest t some
   over_behind cs n (Err e) rest some = over_none cs
 
   over_run : (cs : List AddressCounts) → rise_from 0 cs ≡ true → (n : ℕ) (s : State)
-      → ((a : ℕ) → 0 < executed_in_run a n s → 0 < begun_at a cs)
+      → ((a : ℕ) → 0 < executed_in_run a n s → 0 < executed_at a cs)
       → over (λ a. executed_in_run a n s) cs ≡ executed_in_function function f n s
   over_run cs h zero s some = over_same (λ a. executed_in_run a 0 s) (λ a. 0) (λ a. none_in_run a s) cs
       ∙ over_none cs ∙ sym (none_in_function s)
   over_run cs h (suc n) s some =
       let split = over_same (λ a. executed_in_run a (suc n) s)
-      (λ a. once_if (is_begun (fetch_at s) && (s.pc == a)) + behind (step_of s) (λ t. executed_in_run a n t)) (λ a. first_begun a n s) cs
-      ∙ over_sum (λ a. once_if (is_begun (fetch_at s) && (s.pc == a))) (λ a. behind (step_of s) (λ t. executed_in_run a n t)) cs in
-      let here = one_begun (is_begun (fetch_at s)) s.pc cs h (λ begun.
+      (λ a. once_if (is_executed (fetch_at s) && (s.pc == a)) + behind (step_of s) (λ t. executed_in_run a n t)) (λ a. first_begun a n s) cs
+      ∙ over_sum (λ a. once_if (is_executed (fetch_at s) && (s.pc == a))) (λ a. behind (step_of s) (λ t. executed_in_run a n t)) cs in
+      let here = one_begun (is_executed (fetch_at s)) s.pc cs h (λ begun.
       let one = ap (λ (b : Bool). once_if (b && (s.pc == s.pc))) begun ∙ ap once_if (equal s.pc) in
       let first = first_begun s.pc n s in
       some s.pc (omega (arith, one, first))) in
@@ -204,5 +204,5 @@ pub own_counts : (function : ℕ → ℕ) (f n : ℕ) (s : State) (cs : List Add
 own_counts function f n s cs spots counts stacks =
     stacks.own f
     ∙ sym (counts_are_over function f 0 cs counts.tallied.rising
-    ∙ over_same function f (λ a. begun_at a cs) (λ a. executed_in_run a n s) counts.begun cs
+    ∙ over_same function f (λ a. executed_at a cs) (λ a. executed_in_run a n s) counts.begun cs
     ∙ over_run function f cs counts.tallied.rising n s (λ a there. let is = counts.begun a in omega (arith, is, there)))

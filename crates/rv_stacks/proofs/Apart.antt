@@ -6,7 +6,7 @@ use Rattle.std.specs.Str.{bytes_eq}
 use Rattle.rv_count_tables.specs.declared.table.CountTable.{CountTable}
 use Rattle.rv_count_tables.specs.declared.table.ImageCounts.{ImageCounts}
 use Rattle.rv_count_tables.specs.Sum.{Agree, IsSum}
-use Rattle.rv_count_tables.specs.Table.{begun_at, taken_at, executed_in, taken_in, path_in, name_at, name_in, arrivals_in, steps_in, digests_rise, is_greater_than_last, least_path_of, IsImage, IsTable}
+use Rattle.rv_count_tables.specs.Table.{executed_at, taken_at, executed_in, taken_in, path_in, name_at, name_in, arrivals_in, steps_in, digests_rise, is_greater_than_last, least_path_of, IsImage, IsTable}
 use Rattle.rv_counting.proofs.Public.{no_names, no_owners, no_spots}
 use Rattle.rv_counting.specs.JobTables.{jobs_at, IsTableOfPlaces}
 use Rattle.rv_jobs.specs.Plans.{Planned}
@@ -65,7 +65,7 @@ module _ (digest : List ℕ) where
   same_begun : (address : ℕ) (is : List ImageCounts) → executed_in digest address (bare is) ≡ executed_in digest address is
   same_begun address [] = refl
   same_begun address (i ∷ is) =
-      ap (λ (n : ℕ). cond (bytes_eq i.digest digest) (begun_at address i.addresses) 0 + n) (same_begun address is)
+      ap (λ (n : ℕ). cond (bytes_eq i.digest digest) (executed_at address i.addresses) 0 + n) (same_begun address is)
 
   same_taken : (address : ℕ) (is : List ImageCounts) → taken_in digest address (bare is) ≡ taken_in digest address is
   same_taken address [] = refl

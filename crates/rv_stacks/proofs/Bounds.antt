@@ -5,7 +5,7 @@ use Rattle.rv_calls.specs.declared.frames.Frame.{Frame}
 use Rattle.rv_calls.specs.declared.transfer.Transfer.{Transfer}
 use Rattle.rv_calls.specs.Calls.{transfer_of}
 use Rattle.rv_calls.specs.Stack.{after_transfer}
-use Rattle.rv_counting.specs.Coverage.{behind, executed_in_run, fetch_at, is_begun, once_if}
+use Rattle.rv_counting.specs.Coverage.{behind, executed_in_run, fetch_at, is_executed, once_if}
 use Rattle.rv_counting.specs.JobTables.{begun_from}
 use Rattle.rv_machine.specs.declared.ending.Ending.{Ending}
 use Rattle.rv_machine.specs.Run.{step_of}
@@ -44,7 +44,7 @@ module _ (function : ℕ → ℕ) (path : List ℕ) where
   unfolding steps_in
   few_steps zero frames s = omega arith
   few_steps (suc n) frames s =
-      let a = once_at_most (is_begun (fetch_at s) && bytes_eq (path_at function frames s.pc) path) in
+      let a = once_at_most (is_executed (fetch_at s) && bytes_eq (path_at function frames s.pc) path) in
       let b = behind_at_most (step_of s)
       (λ t. steps_in function path n (after_transfer frames (transfer_of s t)) t) n
       (λ t. few_steps n (after_transfer frames (transfer_of s t)) t) in
@@ -65,7 +65,7 @@ few_begun : (address n : ℕ) (s : State) → executed_in_run address n s ≤ n
 unfolding executed_in_run
 few_begun address zero s = omega arith
 few_begun address (suc n) s =
-    let a = once_at_most (is_begun (fetch_at s) && (s.pc == address)) in
+    let a = once_at_most (is_executed (fetch_at s) && (s.pc == address)) in
     let b = behind_at_most (step_of s) (λ t. executed_in_run address n t) n (λ t. few_begun address n t) in
     omega (arith, a, b)
 

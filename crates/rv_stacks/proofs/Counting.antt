@@ -5,7 +5,7 @@ use Rattle.std.specs.Str.{bytes_eq}
 use Rattle.rv_calls.specs.declared.frames.Frame.{Frame}
 use Rattle.rv_calls.specs.Calls.{transfer_of}
 use Rattle.rv_calls.specs.Stack.{after_transfer}
-use Rattle.rv_counting.specs.Coverage.{behind, executed_steps, completes, fetch_at, is_begun, once_if, IsStateAfter}
+use Rattle.rv_counting.specs.Coverage.{behind, executed_steps, completes, fetch_at, is_executed, once_if, IsStateAfter}
 use Rattle.rv_machine.specs.declared.ending.Ending.{Ending}
 use Rattle.rv_machine.specs.Run.{step_of}
 use Rattle.rv_machine.specs.State.{State}
@@ -20,12 +20,12 @@ use Rattle.rv_stacks.specs.StackSteps.{AreNodesOf, BeginsAt, SoFar, StacksStep}
 -- ---- one step ahead
 
 pub all_next : (n i : ℕ) (s : State) → i < n → executed_steps (n - i) s
-    ≡ once_if (is_begun (fetch_at s)) + behind (step_of s) (λ t. executed_steps (n - (i + 1)) t)
+    ≡ once_if (is_executed (fetch_at s)) + behind (step_of s) (λ t. executed_steps (n - (i + 1)) t)
 unfolding executed_steps
 all_next n i s h = let e : n - i ≡ suc (n - (i + 1)) = omega arith in ap (λ (m : ℕ). executed_steps m s) e
 
 pub own_next : (function : ℕ → ℕ) (f n i : ℕ) (s : State) → i < n → executed_in_function function f (n - i) s
-    ≡ once_if (is_begun (fetch_at s) && (function s.pc == f)) + behind (step_of s) (λ t. executed_in_function function f (n - (i + 1)) t)
+    ≡ once_if (is_executed (fetch_at s) && (function s.pc == f)) + behind (step_of s) (λ t. executed_in_function function f (n - (i + 1)) t)
 unfolding executed_in_function
 own_next function f n i s h =
     let e : n - i ≡ suc (n - (i + 1)) = omega arith in ap (λ (m : ℕ). executed_in_function function f m s) e
@@ -36,7 +36,7 @@ no_own function f n i s h = let e : n - i ≡ 0 = omega arith in ap (λ (m : ℕ
 
 pub steps_next : (function : ℕ → ℕ) (path : List ℕ) (n i : ℕ) (frames : List Frame) (s : State) → i < n
     → steps_in function path (n - i) frames s
-    ≡ once_if (is_begun (fetch_at s) && bytes_eq (path_at function frames s.pc) path)
+    ≡ once_if (is_executed (fetch_at s) && bytes_eq (path_at function frames s.pc) path)
     + behind (step_of s) (λ t. steps_in function path (n - (i + 1)) (after_transfer frames (transfer_of s t)) t)
 unfolding steps_in
 steps_next function path n i frames s h =
@@ -112,7 +112,7 @@ module _ (function : ℕ → ℕ) (n i : ℕ) (start s t : State) (frames after 
   few_more step =
       let f = h.fewer in
       let a = step.all_steps in
-      let o = at_most_once (is_begun (fetch_at s)) in
+      let o = at_most_once (is_executed (fetch_at s)) in
       omega (arith, f, a, o)
 
   pub one_more : StacksStep function s frames old true t after new → SoFar function n (i + 1) start t after new

@@ -8,7 +8,7 @@ use Rattle.rv_count_tables.specs.declared.table.AddressCounts.{AddressCounts}
 use Rattle.rv_count_tables.specs.declared.table.CountTable.{CountTable}
 use Rattle.rv_count_tables.specs.declared.table.FunctionName.{FunctionName}
 use Rattle.rv_count_tables.specs.Sum.{no_counts}
-use Rattle.rv_count_tables.specs.Table.{begun_at, name_at, taken_at, least_path_of, IsTable}
+use Rattle.rv_count_tables.specs.Table.{executed_at, name_at, taken_at, least_path_of, IsTable}
 use Rattle.rv_counting.proofs.Public.{no_counts_is_table, none_if_no_ok, not_ok_if_none, not_over, over, picked_begun, picked_path, picked_taken}
 use Rattle.rv_counting.specs.Coverage.{once_if, AreCountsOf}
 use Rattle.rv_counting.specs.JobTables.{begun_from, taken_from}
@@ -108,7 +108,7 @@ module _ (answers : List Answer) (job : Job) where
         table = table;
         begun = λ digest address.
             let here = bytes_eq (sha256 file) digest in
-            let e = picked_begun here (begun_at address addresses) address job.budget s (counts.begun address) in
+            let e = picked_begun here (executed_at address addresses) address job.budget s (counts.begun address) in
             let k = ap (begun_from address job.budget) (over answers job digest file s bytes start) in
             omega (arith, e, k);
         taken = λ digest address.

@@ -7,9 +7,9 @@ use Rattle.rv_calls.specs.declared.frames.Frame.{Frame}
 use Rattle.rv_calls.specs.declared.transfer.Transfer.{Transfer}
 use Rattle.rv_calls.specs.Calls.{transfer_of}
 use Rattle.rv_calls.specs.Stack.{after_transfer}
-use Rattle.rv_counting.specs.Coverage.{completes, fetch_at, is_begun, once_if, IsStateAfter}
+use Rattle.rv_counting.specs.Coverage.{completes, fetch_at, is_executed, once_if, IsStateAfter}
 use Rattle.rv_machine.specs.declared.ending.Ending.{Ending}
-use Rattle.rv_machine.specs.Run.{Ran, go_on, run_of, step_of}
+use Rattle.rv_machine.specs.Run.{Ran, run_rest, run_of, step_of}
 use Rattle.rv_machine.specs.State.{State}
 use Rattle.rv_stacks.specs.declared.walk.Walk.{Walk}
 use Rattle.rv_call_tree.specs.Trees.{ends_with}
@@ -59,7 +59,7 @@ still_at function frames pc begun old mid h counts = record { walk = counts.walk
 abbrev EndsAs : State → Result State Ending → Ran → Type 0
 EndsAs s r ran = is_ok r ≡ false → (r ≡ Err ran.ending) × (ran.state ≡ s)
 
-ends_as : (s : State) (r : Result State Ending) → EndsAs s r (go_on r s (λ t. run_of 0 t))
+ends_as : (s : State) (r : Result State Ending) → EndsAs s r (run_rest r s (λ t. run_of 0 t))
 ends_as s (Ok t) h = absurd (false≢true (sym h))
 ends_as s (Err e) h = (refl, refl)
 
@@ -80,7 +80,7 @@ stays (Ok u) s t h same = cc
 stays (Err e) s t h same = same
 
 pub ended_step : (function : ℕ → ℕ) (s t : State) (frames after : List Frame) (begun : Bool) (old new : Walk)
-    → IsAt function frames s.pc old → is_ok (step_of s) ≡ false → begun ≡ is_begun (fetch_at s) → t ≡ s
+    → IsAt function frames s.pc old → is_ok (step_of s) ≡ false → begun ≡ is_executed (fetch_at s) → t ≡ s
     → CountsHere begun old new → StacksStep function s frames old false t after new
 ended_step function s t frames after begun old new at over is same counts = record {
   walk = counts.walk;
@@ -98,7 +98,7 @@ ended_step function s t frames after begun old new at over is same counts = reco
 -- ---- one that completes
 
 pub whole_step : (function : ℕ → ℕ) (s t : State) (tr : Transfer) (frames after : List Frame) (old mid new : Walk)
-    → IsAt function frames s.pc old → step_of s ≡ Ok t → tr ≡ transfer_of s t → is_begun (fetch_at s) ≡ true
+    → IsAt function frames s.pc old → step_of s ≡ Ok t → tr ≡ transfer_of s t → is_executed (fetch_at s) ≡ true
     → CountsHere true old mid → after ≡ after_transfer frames tr → Follows function frames tr mid new
     → StacksStep function s frames old true t after new
 whole_step function s t tr frames after old mid new at steps is begun counts frames_are follows =

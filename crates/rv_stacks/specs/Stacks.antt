@@ -6,7 +6,7 @@ use Rattle.rv_calls.specs.declared.transfer.Transfer.{Transfer}
 use Rattle.rv_calls.specs.Calls.{transfer_of}
 use Rattle.rv_calls.specs.Stack.{after_transfer, frame_of, is_pushed, popped}
 use Rattle.rv_count_tables.specs.declared.table.AddressCounts.{AddressCounts}
-use Rattle.rv_counting.specs.Coverage.{behind, executed_steps, fetch_at, is_begun, once_if, AreCountsOf}
+use Rattle.rv_counting.specs.Coverage.{behind, executed_steps, fetch_at, is_executed, once_if, AreCountsOf}
 use Rattle.rv_elf.specs.declared.image.Image.{Image}
 use Rattle.rv_elf.specs.SymbolSearch.{symbol_at}
 use Rattle.rv_machine.specs.Run.{step_of}
@@ -70,7 +70,7 @@ arrivals_by function path frames t = once_if (jumps_to function path frames t) +
 unfoldable pub steps_in : (ℕ → ℕ) → List ℕ → ℕ → List Frame → State → ℕ
 steps_in function path zero frames s = 0
 steps_in function path (suc n) frames s =
-    once_if (is_begun (fetch_at s) && bytes_eq (path_at function frames s.pc) path)
+    once_if (is_executed (fetch_at s) && bytes_eq (path_at function frames s.pc) path)
     + behind (step_of s) (λ t. steps_in function path n (after_transfer frames (transfer_of s t)) t)
 
 -- how often a path is entered within a budget of n steps from a state on, starting with some frames
@@ -84,7 +84,7 @@ arrivals_in function path (suc n) frames s = behind (step_of s)
 unfoldable pub executed_in_function : (ℕ → ℕ) → ℕ → ℕ → State → ℕ
 executed_in_function function f zero s = 0
 executed_in_function function f (suc n) s =
-    once_if (is_begun (fetch_at s) && (function s.pc == f)) + behind (step_of s) (λ t. executed_in_function function f n t)
+    once_if (is_executed (fetch_at s) && (function s.pc == f)) + behind (step_of s) (λ t. executed_in_function function f n t)
 
 -- `spots` are the call-tree nodes of a run of at most n steps from a state on, which begins without frames and so enters its first function
 pub record AreStacksOf (function : ℕ → ℕ) (n : ℕ) (s : State) (spots : List Spot) : Type 0 where

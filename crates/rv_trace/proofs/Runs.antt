@@ -7,21 +7,21 @@ use Rattle.std.specs.Prelude.{◌⊎◌, ◌==◌, MatchBool, is_ok, not}
 use Rattle.rv_machine.specs.declared.ending.Ending.{Ending}
 use Rattle.rv_machine.specs.declared.ending.Ending.TheVariants.{Budget}
 use Rattle.rv_machine.specs.State.{State}
-use Rattle.rv_machine.specs.Run.{go_on, step_of, run_of}
+use Rattle.rv_machine.specs.Run.{run_rest, step_of, run_of}
 use Rattle.rv_trace.specs.declared.step.TracedStep.{TracedStep}
 use Rattle.rv_trace.specs.Steps.{steps_from, traced_step, step_and_more}
 use Rattle.rv_trace.specs.Trace.{state_after}
 
 -- ---- one step more in front
 
-run_goes_on : (n : ℕ) (s t : State) → step_of s ≡ Ok t → run_of (suc n) s ≡ go_on (Ok t) s (λ u. run_of n u)
+run_goes_on : (n : ℕ) (s t : State) → step_of s ≡ Ok t → run_of (suc n) s ≡ run_rest (Ok t) s (λ u. run_of n u)
 unfolding run_of
-run_goes_on n s t e = ap (λ r. go_on r s (λ u. run_of n u)) e
+run_goes_on n s t e = ap (λ r. run_rest r s (λ u. run_of n u)) e
 
 run_ends : (n : ℕ) (s : State) (e : Ending) → step_of s ≡ Err e
     → run_of (suc n) s ≡ record { ending = e; steps = 0; state = s }
 unfolding run_of
-run_ends n s e is = ap (λ r. go_on r s (λ u. run_of n u)) is
+run_ends n s e is = ap (λ r. run_rest r s (λ u. run_of n u)) is
 
 pub after_first : (n : ℕ) (s t : State) → step_of s ≡ Ok t → state_after (suc n) s ≡ state_after n t
 after_first n s t e = ap (λ r. r.state) (run_goes_on n s t e)

@@ -88,21 +88,21 @@ wrote_text image file (wrote.Loaded number value address) =
 wrote_text image file (wrote.Stored address width value) =
     address_text image file address ++ codes " <- " ++ stored_value_text width value
 
--- the assembly text, and the text `told` in the next column, unless it is empty
+-- the assembly text, and the text `effect_text` in the next column, unless it is empty
 abbrev pub text_columns : List ℕ → List ℕ → List ℕ
-text_columns text told = if length told == 0 then text else padded_text 24 text ++ gap ++ told
+text_columns text effect_text = if length effect_text == 0 then text else padded_text 24 text ++ gap ++ effect_text
 
--- the encoding, its assembly text, and the text `told`, in columns; only `told` if there is no encoding
+-- the encoding, its assembly text, and the text `effect_text`, in columns; only `effect_text` if there is no encoding
 unfoldable pub code_columns : Option Code → List ℕ → List ℕ → List ℕ
-code_columns None text told = told
-code_columns (Some code) text told = padded_text 8 (code_text code) ++ gap ++ text_columns text told
+code_columns None text effect_text = effect_text
+code_columns (Some code) text effect_text = padded_text 8 (code_text code) ++ gap ++ text_columns text effect_text
 
--- the line of an instruction at `pc`, with its symbol, its encoding, its assembly text, and the text `told`
+-- the line of an instruction at `pc`, with its symbol, its encoding, its assembly text, and the text `effect_text`
 unfoldable pub instruction_line :
     Option (List ℕ × ℕ) → ℕ → Option Code → List ℕ → List ℕ → List ℕ
-instruction_line symbol pc code text told =
+instruction_line symbol pc code text effect_text =
     line (margin ++ word_digits pc ++ gap ++ padded_text 20 (symbol_or_none symbol) ++ gap
-    ++ code_columns code text told)
+    ++ code_columns code text effect_text)
 
 -- the assembly text of an encoding at `pc`, or an empty text if there is none
 abbrev pub assembly_or_none : ℕ → Option Code → List ℕ

@@ -24,7 +24,7 @@ pub(crate) struct Instruction<'a> {
     /// Its assembly text.
     pub text: &'a [u8],
     /// Its effect.
-    pub told: &'a [u8],
+    pub effect_text: &'a [u8],
 }
 
 /// Appends the line of an instruction.
@@ -36,7 +36,7 @@ pub(crate) fn push_instruction_line(
 ) -> Result<(), AllocError>
     ensures { OnOk result (bytes.new.items ≡ bytes.old.items
         ++ instruction_line (option_map (λ s. (s.name.now, s.offset)) shown.now.symbol)
-        shown.now.pc shown.now.code shown.now.text.now shown.now.told.now) }
+        shown.now.pc shown.now.code shown.now.text.now shown.now.effect_text.now) }
 {
     push_spans(
         bytes,
@@ -44,7 +44,7 @@ pub(crate) fn push_instruction_line(
     )?;
     push_symbol_column(alloc, bytes, shown.symbol)?;
     push_text(bytes, GAP)?;
-    push_code_columns(alloc, bytes, shown.code, shown.text, shown.told)?;
+    push_code_columns(alloc, bytes, shown.code, shown.text, shown.effect_text)?;
     push_text(bytes, "\n")
 }
 
@@ -71,28 +71,28 @@ fn push_code_columns(
     bytes: &mut Vec<u8>,
     code: Option<Code>,
     text: &[u8],
-    told: &[u8],
+    effect_text: &[u8],
 ) -> Result<(), AllocError>
-    ensures { OnOk result (bytes.new.items ≡ bytes.old.items ++ code_columns code text.now told.now) }
+    ensures { OnOk result (bytes.new.items ≡ bytes.old.items ++ code_columns code text.now effect_text.now) }
 {
     let Some(code) = code else {
-        return bytes.extend_from_slice(told);
+        return bytes.extend_from_slice(effect_text);
     };
     push_code_column(alloc, bytes, code)?;
     push_text(bytes, GAP)?;
-    push_text_columns(bytes, text, told)
+    push_text_columns(bytes, text, effect_text)
 }
 
 // Appends the columns of the assembly text and the effect. The last column is not padded.
-fn push_text_columns(bytes: &mut Vec<u8>, text: &[u8], told: &[u8]) -> Result<(), AllocError>
-    ensures { OnOk result (bytes.new.items ≡ bytes.old.items ++ text_columns text.now told.now) }
+fn push_text_columns(bytes: &mut Vec<u8>, text: &[u8], effect_text: &[u8]) -> Result<(), AllocError>
+    ensures { OnOk result (bytes.new.items ≡ bytes.old.items ++ text_columns text.now effect_text.now) }
 {
-    if told.is_empty() {
+    if effect_text.is_empty() {
         return bytes.extend_from_slice(text);
     }
     push_padded_text(bytes, 24, text)?;
     push_text(bytes, GAP)?;
-    bytes.extend_from_slice(told)
+    bytes.extend_from_slice(effect_text)
 }
 
 // Appends the column of the encoding.

@@ -165,14 +165,14 @@ fn push_step_line(
 {
     let mut text = Vec::new(alloc);
     push_assembly(alloc, &mut text, step.pc, step.code)?;
-    let mut told = Vec::new(alloc);
-    push_wrote_text(alloc, &mut told, elf, step.wrote)?;
+    let mut effect_text = Vec::new(alloc);
+    push_wrote_text(alloc, &mut effect_text, elf, step.wrote)?;
     let shown = Instruction {
         symbol: elf.symbol_at(step.pc),
         pc: step.pc,
         code: step.code,
         text: &text,
-        told: &told,
+        effect_text: &effect_text,
     };
     push_instruction_line(alloc, bytes, &shown)
 }
@@ -191,14 +191,14 @@ fn push_end_instruction_line(
 {
     let mut text = Vec::new(alloc);
     push_end_assembly(alloc, &mut text, trace.pc, trace.code, end)?;
-    let mut told = Vec::new(alloc);
-    push_end_reason(&mut told, end)?;
+    let mut effect_text = Vec::new(alloc);
+    push_end_reason(&mut effect_text, end)?;
     let shown = Instruction {
         symbol: elf.symbol_at(trace.pc),
         pc: trace.pc,
         code: trace.code,
         text: &text,
-        told: &told,
+        effect_text: &effect_text,
     };
     push_instruction_line(alloc, bytes, &shown)
 }

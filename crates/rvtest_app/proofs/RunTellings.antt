@@ -6,7 +6,7 @@ use Rattle.rvtest_cli.specs.declared.run.RunArgs.{RunArgs}
 use Rattle.rv_expect.specs.Judgement.{Judging}
 use Rattle.rv_expect.specs.declared.passing.Rule.{Rule}
 use Rattle.rv_files.specs.CommittedFiles.{CommittedFile}
-use Rattle.rv_files.specs.declared.recording_store.UnreadPath.{UnreadPath}
+use Rattle.rv_files.specs.declared.recording_store.UnreadablePath.{UnreadablePath}
 use Rattle.rv_job_text.specs.RowReporter.{RowReporter}
 use Rattle.rv_job_text.specs.declared.verbosity.Verbosity.{Verbosity}
 use Rattle.rv_jobs.specs.Plans.{Planned}
@@ -17,7 +17,7 @@ use Rattle.rvtest_app.specs.Commands.{failure_rule, requested_verbosity}
 use Rattle.rvtest_app.specs.Runs.{AreRunFilesPlacedInPart, run_rows, run_reporter}
 
 -- how rows are told, by a rule, of a plan
-abbrev pub told_by : RunArgs → Option KnownJobs → Planned → List UnreadPath → Rule → Verbosity → RowReporter
+abbrev pub told_by : RunArgs → Option KnownJobs → Planned → List UnreadablePath → Rule → Verbosity → RowReporter
 told_by words known plan unread rule verbosity = record {
   plan = plan;
   unread = unread;
@@ -34,7 +34,7 @@ known_behind (Some jobs) = refl
 -- ---- what is left of a run, told in equal words
 
 -- how a run is told is what words ask for
-pub reported_as_requested : (words : RunArgs) (failures known : Option KnownJobs) (plan : Planned) (unread : List UnreadPath) (rule : Rule)
+pub reported_as_requested : (words : RunArgs) (failures known : Option KnownJobs) (plan : Planned) (unread : List UnreadablePath) (rule : Rule)
     (verbosity : Verbosity) → rule ≡ failure_rule words.lenient → known ≡ failures
     → verbosity ≡ requested_verbosity words.verbose words.quiet
     → told_by words known plan unread rule verbosity ≡ run_reporter words failures plan unread

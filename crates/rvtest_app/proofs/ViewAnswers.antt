@@ -13,7 +13,7 @@ use Rattle.rv_count_tables.specs.declared.table.CountTable.{CountTable}
 use Rattle.rv_cover_view.specs.JobImages.{AreSmall}
 use Rattle.rv_counting.specs.JobTables.{jobs_at}
 use Rattle.rv_expect.specs.Judgement.{Judging}
-use Rattle.rv_files.specs.declared.recording_store.UnreadPath.{UnreadPath}
+use Rattle.rv_files.specs.declared.recording_store.UnreadablePath.{UnreadablePath}
 use Rattle.rv_jobs.specs.Jobs.{single_job}
 use Rattle.rv_jobs.specs.Kept.{IsKeptOf}
 use Rattle.rv_jobs.specs.Plans.{AgreeWithContents, Planned, result_for_path}
@@ -35,7 +35,7 @@ jobs_more plan places i place lt is =
     ∙ map-append _ (take i places) (get_or places i place ∷ [])
     ∙ ap (λ (k : ℕ). jobs_at plan (take i places) ++ jobs_at plan (k ∷ [])) (sym is)
 
-pub refused_more : (judging : Judging) (plan : Planned) (unread : List UnreadPath) (places : List ℕ) (i place : ℕ) → i < length places
+pub refused_more : (judging : Judging) (plan : Planned) (unread : List UnreadablePath) (places : List ℕ) (i place : ℕ) → i < length places
     → place ≡ get_or places i place
     → refused_lines judging plan unread (take (i + 1) places)
     ≡ refused_lines judging plan unread (take i places) ++ refused_line judging plan unread (slice_index_or plan.jobs place (single_job [] 0 []))

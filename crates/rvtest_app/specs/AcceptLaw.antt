@@ -11,7 +11,7 @@ use Rattle.rvtest_cli.specs.declared.run.RunArgs.{RunArgs}
 use Rattle.rv_command.specs.Texts.{IsTextAt, optional_text}
 use Rattle.rv_files.specs.CommittedFiles.{CommittedFile}
 use Rattle.rv_files.specs.UnreadPaths.{contents_below}
-use Rattle.rv_files.specs.declared.recording_store.UnreadPath.{UnreadPath}
+use Rattle.rv_files.specs.declared.recording_store.UnreadablePath.{UnreadablePath}
 use Rattle.rv_jobs.specs.Jobs.{console_path}
 use Rattle.rv_jobs.specs.Plans.{Planned, result_for_path}
 use Rattle.rv_jobs.specs.declared.answers.Answer.{Answer}
@@ -78,7 +78,7 @@ pub record IsRowIn (store : FileContents) (words : RunArgs) (place : ℕ) (row :
   pub at_index : slice_get jobs place ≡ Some job
   pub places : List ℕ
   pub plan : Planned
-  pub unread : List UnreadPath
+  pub unread : List UnreadablePath
   pub planned : IsPlanFor (contents_below (optional_text words.root) (Some store)) jobs places plan unread
   pub files : AreFilesRead plan.answers job
   pub is : row ≡ row_of plan job

@@ -29,7 +29,7 @@ use Rattle.rvtest_cli.specs.declared.accept.AcceptArgs.{AcceptArgs}
 use Rattle.rv_command.specs.Texts.{IsTextAt, optional_text}
 use Rattle.rv_files.specs.CommittedFiles.{CommittedFile, committed_file}
 use Rattle.rv_files.specs.UnreadPaths.{contents_below, resolved_path}
-use Rattle.rv_files.specs.declared.recording_store.UnreadPath.{UnreadPath}
+use Rattle.rv_files.specs.declared.recording_store.UnreadablePath.{UnreadablePath}
 use Rattle.rv_jobs.specs.Plans.{Planned}
 use Rattle.rv_lists.specs.JobList.{job_list_of}
 use Rattle.rv_lists.specs.Jobs.{without_expectations}
@@ -55,7 +55,7 @@ acceptance_of false = acceptance.Expected
 pub record AreRowsOfSelected (known : Option FileContents) (root : Option (List ℕ)) (bare : List Job) (marks : List Bool)
     (rows : List (Option Row)) (note : List ℕ) : Type 0 where
   pub plan : Planned
-  pub unread : List UnreadPath
+  pub unread : List UnreadablePath
   pub planned : IsPlanFor (contents_below root known) bare (selected_job_indices marks) plan unread
   pub are : rows ≡ indexed_rows marks (rows_at plan (selected_job_indices marks))
   pub noted : note ≡ missing_images_note plan.jobs unread (length (selected_job_indices marks)) root

@@ -6,7 +6,7 @@ use Rattle.std.specs.Fmt.{decimal}
 use Rattle.std.specs.List.{enumerate_from, flat_map}
 use Rattle.std.specs.Str.{is_utf8}
 use Rattle.rv_expect.specs.TwoEnds.{expects_two_ends}
-use Rattle.rv_files.specs.declared.recording_store.UnreadPath.{UnreadPath}
+use Rattle.rv_files.specs.declared.recording_store.UnreadablePath.{UnreadablePath}
 use Rattle.rv_job_text.specs.RefusalReasons.{refusal_reason}
 use Rattle.rv_job_text.specs.ResultLine.{optional_reason_text}
 use Rattle.rv_job_text.specs.TotalsLine.{job_word}
@@ -56,17 +56,17 @@ unfoldable pub refused_file_line : List ℕ → List ℕ → ℕ → Job → Ref
 refused_file_line path lines place job why reason = line (job_prefix (codes ": error:") path lines place job ++ refusal_text why reason)
 
 -- the error line for a job whose image is the reason why it is refused
-abbrev pub refused_image_line : List ℕ → List ℕ → Planned → List UnreadPath → ℕ → Job → Refusal → List ℕ
+abbrev pub refused_image_line : List ℕ → List ℕ → Planned → List UnreadablePath → ℕ → Job → Refusal → List ℕ
 refused_image_line path lines plan unread place job why =
     refused_file_line path lines place job why (refusal_reason plan.answers unread job why)
 
 -- the error line for a job whose image alone makes it refused; empty if the image does not
-abbrev pub refused_image_text : List ℕ → List ℕ → Planned → List UnreadPath → ℕ → Job → List ℕ
+abbrev pub refused_image_text : List ℕ → List ℕ → Planned → List UnreadablePath → ℕ → Job → List ℕ
 refused_image_text path lines plan unread place job =
     unwrap_or (option_map (refused_image_line path lines plan unread place job) (image_refusal_in plan.answers job)) []
 
 -- the error line for the expectation file `file`, given what was kept of its path; empty if the file was read
-abbrev pub unread_reference_text : List ℕ → List ℕ → List UnreadPath → ℕ → Job → Option Kept → Option (List ℕ) → List ℕ
+abbrev pub unread_reference_text : List ℕ → List ℕ → List UnreadablePath → ℕ → Job → Option Kept → Option (List ℕ) → List ℕ
 unread_reference_text path lines unread place job (Some kept.Unreadable) (Some file) =
     refused_file_line path lines place job refusal.ReferenceUnreadable (Some (unread_file_text unread file))
 unread_reference_text path lines unread place job (Some kept.TooLong) (Some file) =
@@ -74,18 +74,18 @@ unread_reference_text path lines unread place job (Some kept.TooLong) (Some file
 unread_reference_text path lines unread place job _ _ = []
 
 -- the error line for a job's expectation file; empty if it was read or none is named
-abbrev pub reference_text : List ℕ → List ℕ → Planned → List UnreadPath → ℕ → Job → Option (List ℕ) → List ℕ
+abbrev pub reference_text : List ℕ → List ℕ → Planned → List UnreadablePath → ℕ → Job → Option (List ℕ) → List ℕ
 reference_text path lines plan unread place job file =
     unread_reference_text path lines unread place job (option_map (result_for_path plan.answers) file) file
 
 -- the error lines for a job's image and for the files with its expected signature and console
-unfoldable pub refused_files_text : List ℕ → List ℕ → Planned → List UnreadPath → ℕ → Job → List ℕ
+unfoldable pub refused_files_text : List ℕ → List ℕ → Planned → List UnreadablePath → ℕ → Job → List ℕ
 refused_files_text path lines plan unread place job = refused_image_text path lines plan unread place job
     ++ (reference_text path lines plan unread place job job.expect_signature
     ++ reference_text path lines plan unread place job (console_path job.expect_console))
 
 -- the error lines for a job; empty if the job is not refused
-unfoldable pub refused_job_text : List ℕ → List ℕ → Planned → List UnreadPath → ℕ → Job → List ℕ
+unfoldable pub refused_job_text : List ℕ → List ℕ → Planned → List UnreadablePath → ℕ → Job → List ℕ
 refused_job_text path lines plan unread place job =
     if is_job_refused plan job then refused_files_text path lines plan unread place job else []
 
@@ -135,7 +135,7 @@ texts_of_jobs text jobs = flat_map (λ entry. text entry.0 entry.1) (enumerate_f
 
 -- the output of `check` for a list without errors: `path` and `text` are those of the list, `root` is the directory of `--root`, and
 -- `unread` are the files that could not be read
-unfoldable pub check_text : List ℕ → List ℕ → Option (List ℕ) → Planned → List UnreadPath → List ℕ
+unfoldable pub check_text : List ℕ → List ℕ → Option (List ℕ) → Planned → List UnreadablePath → List ℕ
 check_text path text root plan unread = let lines = job_begin_lines text in
     texts_of_jobs (refused_job_text path lines plan unread) plan.jobs
     ++ texts_of_jobs (warned_job_text path lines) plan.jobs

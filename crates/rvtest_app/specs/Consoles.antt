@@ -7,7 +7,7 @@ use Rattle.rv_expect.specs.Judgement.{judging_by_rule}
 use Rattle.rv_expect.specs.Passing.{has_passed}
 use Rattle.rv_expect.specs.declared.passing.Rule.TheVariants.{Strict}
 use Rattle.rv_files.specs.UnreadPaths.{contents_below}
-use Rattle.rv_files.specs.declared.recording_store.UnreadPath.{UnreadPath}
+use Rattle.rv_files.specs.declared.recording_store.UnreadablePath.{UnreadablePath}
 use Rattle.rv_job_text.specs.RowReporter.{row_line}
 use Rattle.rv_jobs.specs.Plans.{AgreeWithContents, Planned, jobs_needed_for, paths_of, paths_used}
 use Rattle.rv_lists.specs.JobList.{job_list_of}
@@ -24,7 +24,7 @@ pub record IsJobConsole (known : Option FileContents) (jobs : List Job) (place :
   pub listed : plan.jobs ≡ jobs
   pub paths : paths_of plan.answers ≡ paths_used (jobs_needed_for jobs (place ∷ []))
   pub kept : AgreeWithContents known plan.answers
-  pub unread : List UnreadPath
+  pub unread : List UnreadablePath
   pub noted : AreNotesOf plan.answers unread
   pub written : (d : Job) → console ≡ (row_of plan (slice_index_or plan.jobs place d)).console
   pub told : (d : Job) → line ≡ row_line plan unread (judging_by_rule Strict) (slice_index_or plan.jobs place d)

@@ -13,7 +13,7 @@ use Rattle.rv_command.specs.declared.stop.Stop.TheVariants as stop
 use Rattle.rv_expect.specs.Judgement.{judging_by_rule}
 use Rattle.rv_expect.specs.declared.passing.Rule.TheVariants.{Strict}
 use Rattle.rv_files.specs.UnreadPaths.{contents_below, resolved_path}
-use Rattle.rv_files.specs.declared.recording_store.UnreadPath.{UnreadPath}
+use Rattle.rv_files.specs.declared.recording_store.UnreadablePath.{UnreadablePath}
 use Rattle.rv_gdb.specs.Conversing.{IsEnded, IsReadWhileOpen}
 use Rattle.rv_gdb.specs.declared.conversation.SessionError.{SessionError}
 use Rattle.rv_gdb.specs.declared.conversation.SessionError.TheVariants as broken
@@ -31,12 +31,12 @@ use Rattle.rvtest_app.specs.Reports.{AreNotesOf, IsFirstNamed}
 use Rattle.rvtest_app.specs.CommandOutputs.{IsOnlyStandardOutput, CommandOutputs}
 
 -- what `run` reports for the job: its line and its unmet expectations; nothing without a job
-abbrev pub end_text_of_job : Planned → List UnreadPath → Option Job → List ℕ
+abbrev pub end_text_of_job : Planned → List UnreadablePath → Option Job → List ℕ
 end_text_of_job plan unread None = []
 end_text_of_job plan unread (Some job) = outcome_text plan unread (judging_by_rule Strict) job (row_of plan job)
 
 -- what `run` reports for the job at index `place` of the plan
-unfoldable pub job_end_text : Planned → List UnreadPath → ℕ → List ℕ
+unfoldable pub job_end_text : Planned → List UnreadablePath → ℕ → List ℕ
 job_end_text plan unread place = end_text_of_job plan unread (slice_get plan.jobs place)
 
 -- the state in which the run of the job at index `place` starts; if the job is refused, that of an image of 0 bytes
@@ -52,7 +52,7 @@ pub record IsJobOpened (known : Option FileContents) (root : Option (List ℕ)) 
   pub listed : plan.jobs ≡ jobs
   pub paths : paths_of plan.answers ≡ paths_used (jobs_needed_for jobs (place ∷ []))
   pub kept : AgreeWithContents known plan.answers
-  pub unread : List UnreadPath
+  pub unread : List UnreadablePath
   pub noted : AreNotesOf plan.answers unread
   pub over : (d : Job) → IsSessionOf plan.answers (slice_index_or plan.jobs place d)
       (resolved_path root (slice_index_or plan.jobs place d).image) session
@@ -110,7 +110,7 @@ pub record IsRefusedJobStop (known : Option FileContents) (jobs : List Job) (pla
   pub listed : plan.jobs ≡ jobs
   pub paths : paths_of plan.answers ≡ paths_used (jobs_needed_for jobs (place ∷ []))
   pub kept : AgreeWithContents known plan.answers
-  pub unread : List UnreadPath
+  pub unread : List UnreadablePath
   pub noted : AreNotesOf plan.answers unread
   pub refused : (d : Job) → is_ok (start_in plan.answers (slice_index_or plan.jobs place d)) ≡ false
   pub told : (d : Job) → IsStop 2 (row_line plan unread (judging_by_rule Strict) (slice_index_or plan.jobs place d)

@@ -5,7 +5,7 @@ use Rattle.std.specs.List.{list_all, starts_with}
 use Rattle.std.specs.Option.{option_map_or}
 use Rattle.std.specs.declared.io.ErrorKind.{ErrorKind}
 use Rattle.std.specs.declared.io.ErrorKind.TheVariants as kind
-use Rattle.rv_files.specs.declared.recording_store.UnreadPath.{UnreadPath}
+use Rattle.rv_files.specs.declared.recording_store.UnreadablePath.{UnreadablePath}
 use Rattle.rv_job_text.specs.UnreadFiles.{unread_note}
 use Rattle.rv_lists.specs.declared.job.Job.{Job}
 use Rattle.rv_report.specs.Report.{line}
@@ -17,15 +17,15 @@ is_not_found kind.NotFound = true
 is_not_found _ = false
 
 -- whether a path could not be read because there is no file
-abbrev pub is_reported_missing : Option UnreadPath → Bool
+abbrev pub is_reported_missing : Option UnreadablePath → Bool
 is_reported_missing note = option_map_or (λ one. is_not_found one.reason) note false
 
 -- whether the job's image is missing, and its path is relative
-abbrev pub is_image_missing : List UnreadPath → Job → Bool
+abbrev pub is_image_missing : List UnreadablePath → Job → Bool
 is_image_missing unread job = not (starts_with nat_eq job.image (codes "/")) && is_reported_missing (unread_note unread job.image)
 
 -- whether the images of all jobs are missing, and their paths are relative
-abbrev pub are_images_missing : List Job → List UnreadPath → Bool
+abbrev pub are_images_missing : List Job → List UnreadablePath → Bool
 are_images_missing jobs unread = list_all (is_image_missing unread) jobs
 
 -- the note about missing images: against which directory relative paths are resolved, with or without `--root`
@@ -34,10 +34,10 @@ paths_text None = codes "no image was found: relative paths are resolved against
 paths_text (Some folder) = codes "no image was found: relative paths are resolved against " ++ printable_text folder ++ codes " (--root)"
 
 -- the note of `run` if every image is missing and `count`, the number of jobs that run, is that of all jobs; else empty
-abbrev pub missing_images_note : List Job → List UnreadPath → ℕ → Option (List ℕ) → List ℕ
+abbrev pub missing_images_note : List Job → List UnreadablePath → ℕ → Option (List ℕ) → List ℕ
 missing_images_note jobs unread count root =
     if count == length jobs && are_images_missing jobs unread then codes "rvtest: note: " ++ line (paths_text root) else []
 
 -- the line of `check` if every image is missing; else empty
-abbrev pub missing_images_line : List Job → List UnreadPath → Option (List ℕ) → List ℕ
+abbrev pub missing_images_line : List Job → List UnreadablePath → Option (List ℕ) → List ℕ
 missing_images_line jobs unread root = if are_images_missing jobs unread then line (paths_text root) else []

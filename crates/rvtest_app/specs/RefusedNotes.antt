@@ -5,7 +5,7 @@ use Rattle.rvtest_cli.specs.declared.run.RunArgs.{RunArgs}
 use Rattle.rv_command.specs.Texts.{optional_text}
 use Rattle.rv_counting.specs.JobTables.{jobs_at}
 use Rattle.rv_expect.specs.Judgement.{Judging}
-use Rattle.rv_files.specs.declared.recording_store.UnreadPath.{UnreadPath}
+use Rattle.rv_files.specs.declared.recording_store.UnreadablePath.{UnreadablePath}
 use Rattle.rv_job_text.specs.RowReporter.{row_line}
 use Rattle.rv_jobs.specs.Plans.{Planned}
 use Rattle.rv_lists.specs.declared.job.Job.{Job}
@@ -14,15 +14,15 @@ use Rattle.rvtest_app.specs.Commands.{is_job_refused, report_judging}
 use Rattle.rvtest_app.specs.MissingImages.{missing_images_note}
 
 -- the line about a refused job; empty for any other job
-unfoldable pub refused_line : Judging → Planned → List UnreadPath → Job → List ℕ
+unfoldable pub refused_line : Judging → Planned → List UnreadablePath → Job → List ℕ
 refused_line judging plan unread job =
     if is_job_refused plan job then row_line plan unread judging job (row_of plan job) else []
 
 -- the lines about the refused jobs among those at these indices
-abbrev pub refused_lines : Judging → Planned → List UnreadPath → List ℕ → List ℕ
+abbrev pub refused_lines : Judging → Planned → List UnreadablePath → List ℕ → List ℕ
 refused_lines judging plan unread places = flat_map (refused_line judging plan unread) (jobs_at plan places)
 
 -- the note about missing images, and the lines about the refused jobs among those at these indices
-abbrev pub refused_note : RunArgs → Planned → List UnreadPath → List ℕ → List ℕ
+abbrev pub refused_note : RunArgs → Planned → List UnreadablePath → List ℕ → List ℕ
 refused_note words plan unread places = missing_images_note plan.jobs unread (length places) (optional_text words.root)
     ++ refused_lines (report_judging words.lenient) plan unread places

@@ -15,7 +15,7 @@ use Rattle.rv_expect.specs.Judgement.{judging_by_rule}
 use Rattle.rv_expect.specs.Passing.{has_passed}
 use Rattle.rv_expect.specs.declared.passing.Rule.TheVariants.{Strict}
 use Rattle.rv_files.specs.UnreadPaths.{contents_below}
-use Rattle.rv_files.specs.declared.recording_store.UnreadPath.{UnreadPath}
+use Rattle.rv_files.specs.declared.recording_store.UnreadablePath.{UnreadablePath}
 use Rattle.rv_hang.specs.declared.budget_use.BudgetUse.{BudgetUse}
 use Rattle.rv_job_text.specs.BudgetUseLine.{IsUseOfRow}
 use Rattle.rv_job_text.specs.RowReporter.{explanation_text}
@@ -41,7 +41,7 @@ use Rattle.rvtest_app.specs.Commands.{check_status, diff_status, passing_status,
 -- ---- unreadable paths
 
 -- the number of entries in `unread` is the number of unreadable paths in the plan's files
-abbrev pub AreNotesOf : List Answer → List UnreadPath → Type 0
+abbrev pub AreNotesOf : List Answer → List UnreadablePath → Type 0
 AreNotesOf answers unread = length unread ≡ one_more_times 0 (unreadable_count answers)
 
 -- ---- diff
@@ -108,7 +108,7 @@ pub record IsPlanCheckOf (known : Option FileContents) (root : Option (List ℕ)
   pub listed : job_list_of bytes ≡ Ok plan.jobs
   pub paths : paths_of plan.answers ≡ paths_used plan.jobs
   pub kept : AgreeWithContents known plan.answers
-  pub unread : List UnreadPath
+  pub unread : List UnreadablePath
   pub noted : AreNotesOf plan.answers unread
   pub text : output ≡ check_text path bytes root plan unread
   pub judged : status ≡ check_status (refused_job_count plan)
@@ -131,7 +131,7 @@ pub record IsCheckAt (known : Option FileContents) (words : CheckArgs) (output :
 
 -- the text explains the row of the job at index `place` of the plan, with its `last` instructions and with the findings about an exhausted
 -- budget
-pub record IsTextExplaining (plan : Planned) (unread : List UnreadPath) (place last : ℕ) (text : List ℕ) : Type 0 where
+pub record IsTextExplaining (plan : Planned) (unread : List UnreadablePath) (place last : ℕ) (text : List ℕ) : Type 0 where
   pub budget_use : Option BudgetUse
   pub found : (d : Job) → IsUseOfRow plan (slice_index_or plan.jobs place d)
       (row_of plan (slice_index_or plan.jobs place d)) budget_use
@@ -145,7 +145,7 @@ pub record IsJobExplained (known : Option FileContents) (jobs : List Job) (place
   pub listed : plan.jobs ≡ jobs
   pub paths : paths_of plan.answers ≡ paths_used (jobs_needed_for jobs (place ∷ []))
   pub kept : AgreeWithContents known plan.answers
-  pub unread : List UnreadPath
+  pub unread : List UnreadablePath
   pub noted : AreNotesOf plan.answers unread
   pub text : IsTextExplaining plan unread place last output
   pub judged : (d : Job) → status ≡ passing_status

@@ -7,7 +7,7 @@ use Rattle.rvtest_cli.specs.declared.run.RunArgs.{RunArgs}
 use Rattle.rv_command.specs.Texts.{IsTextAt, optional_text}
 use Rattle.rv_files.specs.CommittedFiles.{CommittedFile}
 use Rattle.rv_files.specs.UnreadPaths.{contents_below}
-use Rattle.rv_files.specs.declared.recording_store.UnreadPath.{UnreadPath}
+use Rattle.rv_files.specs.declared.recording_store.UnreadablePath.{UnreadablePath}
 use Rattle.rv_job_text.specs.RowReporter.{RowReporter, row_lines_at}
 use Rattle.rv_job_text.specs.declared.verbosity.Verbosity.TheVariants.{Failures}
 use Rattle.rv_junit.specs.Junit.{junit_text}
@@ -77,7 +77,7 @@ pub record AreJobsToRun (known : Option FileContents) (words : RunArgs) : Type 0
 -- `plan` is a plan of the jobs with the files that the rows at these indices need, read from the store; `unread` has one entry for each
 -- path that could not be read
 pub record IsPlanFor (known : Option FileContents) (jobs : List Job) (places : List ℕ) (plan : Planned)
-    (unread : List UnreadPath) : Type 0 where
+    (unread : List UnreadablePath) : Type 0 where
   pub listed : plan.jobs ≡ jobs
   pub paths : paths_of plan.answers ≡ paths_used (jobs_needed_for jobs places)
   pub kept : AgreeWithContents known plan.answers
@@ -93,7 +93,7 @@ abbrev pub run_judging : RunArgs → Option KnownJobs → Judging
 run_judging words failures = record { rule = failure_rule words.lenient; known = failures }
 
 -- how the rows of a run are shown, by the arguments
-abbrev pub run_reporter : RunArgs → Option KnownJobs → Planned → List UnreadPath → RowReporter
+abbrev pub run_reporter : RunArgs → Option KnownJobs → Planned → List UnreadablePath → RowReporter
 run_reporter words failures plan unread = record {
   plan = plan;
   unread = unread;
@@ -156,7 +156,7 @@ pub record IsCountedRunWritten (words : RunArgs) (reporter : RowReporter) (place
 pub record IsRunOfPlaces (known : Option FileContents) (words : RunArgs) (failures : Option KnownJobs) (jobs : List Job) (places : List ℕ)
     (shard : Option Shard) (old : Option (List Row)) (status : ℕ) (before after : CommandOutputs) : Type 0 where
   pub plan : Planned
-  pub unread : List UnreadPath
+  pub unread : List UnreadablePath
   pub planned : IsPlanFor (contents_below (optional_text words.root) known) (with_budget words.budget jobs) places plan
       unread
   pub rows : List Row
@@ -201,7 +201,7 @@ AreRunFilesPlacedInPart words reporter places shard old rows before after =
 pub record IsRunInPart (known : Option FileContents) (words : RunArgs) (failures : Option KnownJobs) (jobs : List Job) (places : List ℕ)
     (shard : Option Shard) (old : Option (List Row)) (before after : Option (List CommittedFile)) : Type 0 where
   pub plan : Planned
-  pub unread : List UnreadPath
+  pub unread : List UnreadablePath
   pub planned : IsPlanFor (contents_below (optional_text words.root) known) (with_budget words.budget jobs) places plan
       unread
   pub rows : List Row

@@ -13,7 +13,7 @@ use Rattle.rv_cover_view.specs.ImageCounts.{other_image}
 use Rattle.rv_cover_view.specs.JobImages.{FileImage, images_of}
 use Rattle.rv_counting.specs.JobTables.{jobs_at}
 use Rattle.rv_files.specs.UnreadPaths.{contents_below}
-use Rattle.rv_files.specs.declared.recording_store.UnreadPath.{UnreadPath}
+use Rattle.rv_files.specs.declared.recording_store.UnreadablePath.{UnreadablePath}
 use Rattle.rv_jobs.specs.Plans.{Planned}
 use Rattle.rv_lists.specs.declared.job.Job.{Job}
 use Rattle.rv_profile.specs.ImageStacks.{image_past_64_bits}
@@ -117,7 +117,7 @@ IsUnshownStop known words shown plan places why = (why ≡ stop.OutOfMemory)
 pub record IsUnshownOfPlaces (known : Option FileContents) (words : RunArgs) (shown : View) (jobs : List Job) (places : List ℕ)
     (why : Stop) : Type 0 where
   pub plan : Planned
-  pub unread : List UnreadPath
+  pub unread : List UnreadablePath
   pub planned : IsPlanFor (contents_below (optional_text words.root) known) jobs places plan unread
   pub unshown : IsUnshownStop known words shown plan places why
 

@@ -9,7 +9,7 @@ use Rattle.rv_cover_view.specs.ImagesText.{IsCoverText}
 use Rattle.rv_cover_view.specs.JobImages.{FileImage, images_of}
 use Rattle.rv_counting.specs.JobTables.{IsTableOfPlaces, jobs_at}
 use Rattle.rv_files.specs.UnreadPaths.{contents_below}
-use Rattle.rv_files.specs.declared.recording_store.UnreadPath.{UnreadPath}
+use Rattle.rv_files.specs.declared.recording_store.UnreadablePath.{UnreadablePath}
 use Rattle.rv_jobs.specs.Plans.{Planned}
 use Rattle.rv_lists.specs.declared.job.Job.{Job}
 use Rattle.rv_profile.specs.ImageStacks.{has_stacks}
@@ -67,7 +67,7 @@ IsViewOfPlan known words shown plan places text = (table : CountTable)
 pub record IsViewOfPlaces (known : Option FileContents) (words : RunArgs) (shown : View) (jobs : List Job) (places : List ℕ)
     (before after : CommandOutputs) : Type 0 where
   pub plan : Planned
-  pub unread : List UnreadPath
+  pub unread : List UnreadablePath
   pub planned : IsPlanFor (contents_below (optional_text words.root) known) jobs places plan unread
   pub middle : CommandOutputs
   pub told : IsOnlyErrorOutput (refused_note words plan unread places) before middle

@@ -14,7 +14,7 @@ use crate::check_text::{CheckedList, push_job_counts_line};
 use crate::command_output::Found;
 use crate::missing_images::push_missing_images_line;
 use rv_command::{DONE, REFUSED, Stop, all_faults_text, parse_list, read_list_text};
-use rv_files::{Inputs, RecordingStore, UnreadPath};
+use rv_files::{Inputs, RecordingStore, UnreadablePath};
 use rv_jobs::{Plan, gather};
 use rv_list_locations::job_line_numbers;
 use rv_lists::read_faults;
@@ -87,7 +87,7 @@ fn check_plan(
     args: CheckArgs<'_>,
     text: &[u8],
     plan: &Plan,
-    unread: &[UnreadPath],
+    unread: &[UnreadablePath],
 ) -> Result<Found, Stop>
     ensures low { IfOk result (λ found. found.status ≤ 2) }
     ensures text { IfOk result (λ found. found.text.items

@@ -27,7 +27,7 @@ pub(crate) struct CheckedList<'a> {
     pub(crate) path: &'a str,
     pub(crate) lines: &'a [usize],
     pub(crate) plan: &'a Plan,
-    pub(crate) unread: &'a [UnreadPath],
+    pub(crate) unread: &'a [UnreadablePath],
     ghost few: { length plan.now.jobs ≤ most_jobs },
 }
 

@@ -19,7 +19,7 @@ use crate::named_job::{NamedJob, find_named_job};
 use crate::rules::passing_status;
 use rv_command::{Stop, put_message, put_results, read_list_text};
 use rv_expect::{Judge, Rule, has_passed};
-use rv_files::{Inputs, Outputs, RecordingStore, UnreadPath};
+use rv_files::{Inputs, Outputs, RecordingStore, UnreadablePath};
 use rv_job_text::{TextReporter, Verbosity};
 use rv_jobs::{JobList, Plan, gather_jobs};
 use rv_rows::{Row, Sink, row_at};
@@ -111,7 +111,7 @@ fn run_job_at<D: Inputs>(
 fn run_planned_job(
     alloc: Global,
     plan: &Plan,
-    unread: &[UnreadPath],
+    unread: &[UnreadablePath],
     place: usize,
 ) -> Result<ReportedRow, Stop>
     requires { place < length plan.now.jobs }

@@ -17,7 +17,7 @@ use crate::named_job::{NamedJob, find_named_job};
 use crate::rules::passing_status;
 use rv_command::{Stop, read_list_text};
 use rv_expect::{Judge, Rule, has_passed};
-use rv_files::{Inputs, RecordingStore, UnreadPath};
+use rv_files::{Inputs, RecordingStore, UnreadablePath};
 use rv_job_text::{TextReporter, TraceOptions, Verbosity, budget_use_at};
 use rv_jobs::{JobList, Plan, gather_jobs};
 use rv_rows::row_at;
@@ -81,7 +81,7 @@ fn explain_job_at<D: Inputs>(
 fn explain_planned_job(
     alloc: Global,
     plan: &Plan,
-    unread: &[UnreadPath],
+    unread: &[UnreadablePath],
     place: usize,
     last: u32,
 ) -> Result<Found, Stop>

@@ -23,7 +23,7 @@ use crate::named_job::{NamedJob, find_named_job};
 use rv_base::Bytes;
 use rv_command::{DONE, Stop, file_error_stop, path_message, read_list_text};
 use rv_expect::{Judge, Rule};
-use rv_files::{FileError, Inputs, Outputs, RecordingStore, UnreadPath, resolved_path};
+use rv_files::{FileError, Inputs, Outputs, RecordingStore, UnreadablePath, resolved_path};
 use rv_gdb::{SessionContext, SessionError, serve, session_at};
 use rv_job_text::{TextReporter, Verbosity};
 use rv_jobs::{Plan, gather_jobs};
@@ -205,7 +205,7 @@ fn image_path(alloc: Global, root: Option<&str>, image: &str) -> Result<Bytes, A
 }
 
 // Returns the error that the job at index `place` is refused, with the line about it as the message.
-fn refused_job_stop(alloc: Global, plan: &Plan, unread: &[UnreadPath], place: usize) -> Stop
+fn refused_job_stop(alloc: Global, plan: &Plan, unread: &[UnreadablePath], place: usize) -> Stop
     requires { place < length plan.now.jobs }
     ensures { (d : AJob) → IsStop 2 (row_line plan.now unread.now (judging_by_rule Strict)
         (slice_index_or plan.now.jobs place d) (row_of plan.now (slice_index_or plan.now.jobs place d))) result }
@@ -217,7 +217,7 @@ fn refused_job_stop(alloc: Global, plan: &Plan, unread: &[UnreadPath], place: us
 fn row_line(
     alloc: Global,
     plan: &Plan,
-    unread: &[UnreadPath],
+    unread: &[UnreadablePath],
     place: usize,
 ) -> Result<Vec<u8>, AllocError>
     requires { place < length plan.now.jobs }

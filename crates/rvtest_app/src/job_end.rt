@@ -20,7 +20,7 @@ use std::alloc::{AllocError, Global};
 #[derive(Drop)]
 pub(crate) struct JobEnd {
     pub(crate) plan: Plan,
-    pub(crate) unread: Vec<UnreadPath>,
+    pub(crate) unread: Vec<UnreadablePath>,
     pub(crate) place: usize,
     ghost within: { place < length plan.jobs },
     ghost runs: { (d : AJob) → is_ok (start_in plan.answers (slice_index_or plan.jobs place d)) ≡ true },

@@ -18,7 +18,7 @@ use std::io::ErrorKind;
 pub(crate) fn missing_images_note(
     alloc: Global,
     plan: &Plan,
-    unread: &[UnreadPath],
+    unread: &[UnreadablePath],
     count: usize,
     root: Option<&str>,
 ) -> Result<Vec<u8>, AllocError>
@@ -37,7 +37,7 @@ pub(crate) fn missing_images_note(
 pub(crate) fn push_missing_images_line(
     told: &mut Vec<u8>,
     plan: &Plan,
-    unread: &[UnreadPath],
+    unread: &[UnreadablePath],
     root: Option<&str>,
 ) -> Result<(), AllocError>
     ensures { OnOk result (told.new.items
@@ -70,7 +70,7 @@ fn push_paths_line(told: &mut Vec<u8>, root: Option<&str>) -> Result<(), AllocEr
 }
 
 // Whether the images of all jobs are missing, and their paths are relative.
-fn are_images_missing(plan: &Plan, unread: &[UnreadPath]) -> bool
+fn are_images_missing(plan: &Plan, unread: &[UnreadablePath]) -> bool
     ensures { result ≡ are_images_missing plan.now.jobs unread.now }
 {
     let mut all = true;
@@ -82,7 +82,7 @@ fn are_images_missing(plan: &Plan, unread: &[UnreadPath]) -> bool
 }
 
 // Whether the job's image is missing, and its path is relative.
-fn is_image_missing(job: &Job, unread: &[UnreadPath]) -> bool
+fn is_image_missing(job: &Job, unread: &[UnreadablePath]) -> bool
     ensures { result ≡ is_image_missing unread.now job.now }
 {
     let path = job.image.as_str();
@@ -90,14 +90,14 @@ fn is_image_missing(job: &Job, unread: &[UnreadPath]) -> bool
 }
 
 // Returns the first entry for this path in the list of paths that could not be read.
-fn unread_path<'a>(unread: &'a [UnreadPath], path: &str) -> Option<&'a UnreadPath>
+fn unread_path<'a>(unread: &'a [UnreadablePath], path: &str) -> Option<&'a UnreadablePath>
     ensures { option_map (λ one. one.now) result ≡ unread_note unread.now path.now }
 {
     unread.iter().find(|one| path == one.path.as_str())
 }
 
 // Whether a path could not be read because there is no file.
-fn is_reported_missing(note: Option<&UnreadPath>) -> bool
+fn is_reported_missing(note: Option<&UnreadablePath>) -> bool
     ensures { result ≡ is_reported_missing (option_map (λ one. one.now) note.entry) }
 {
     match note {

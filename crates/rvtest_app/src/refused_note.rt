@@ -21,7 +21,7 @@ pub(crate) fn refused_note(
     alloc: Global,
     args: &RunArgs<'_>,
     plan: &Plan,
-    unread: &[UnreadPath],
+    unread: &[UnreadablePath],
     places: &[usize],
 ) -> Result<Vec<u8>, AllocError>
     requires { AreJobIndices plan.now places.now }

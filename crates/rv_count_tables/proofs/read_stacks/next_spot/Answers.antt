@@ -10,7 +10,7 @@ returns-then-branch-clause-spot c text w =
     let read = c.in_ok-read.read in
     let same : c.args.line.now ≡ spot_line read = (bytes_decides c.args.line.now (spot_line read)).0
     (sym c.in_ok-has_spot_line.ensures ∙ c.if-branch.true) in record {
-      spot = (c.can_stand.ensures.0 c.if-can_stand.true).0;
+      spot = (c.can_come_next.ensures.0 c.if-can_come_next.true).0;
       name = plain_name text read (sym w ∙ same);
       text = c.in_ok-read.ensures.text;
     }

@@ -16,22 +16,22 @@ plus-amounts-requires c =
     c.args.code.now c.loop-code.amounts c.amounts_at.result few (sym c.front_code.ensures ∙ c.in-Some.is)
     c.loop-code.invariant c.amounts_at.ensures
 
-pub bytes_behind-rest-requires : goal.bytes_behind-rest-requires
-bytes_behind-rest-requires c = (code_in_front c.loop-code.rest.now c.in-Some.code (sym c.front_code.ensures ∙ c.in-Some.is)).1
+pub bytes_after-rest-requires : goal.bytes_after-rest-requires
+bytes_after-rest-requires c = (code_in_front c.loop-code.rest.now c.in-Some.code (sym c.front_code.ensures ∙ c.in-Some.is)).1
 
 pub loop-code-smaller : goal.loop-code-smaller
 loop-code-smaller c =
     let f = code_in_front c.loop-code.rest.now c.in-Some.code (sym c.front_code.ensures ∙ c.in-Some.is) in
     let a = f.0 in
     let b = f.1 in
-    let l = ap length c.bytes_behind-rest.ensures ∙ length-drop (size_of_code c.in-Some.code) c.loop-code.rest.now in
+    let l = ap length c.bytes_after-rest.ensures ∙ length-drop (size_of_code c.in-Some.code) c.loop-code.rest.now in
     omega (arith, a, b, l)
 
 pub loop-code-preserved : goal.loop-code-preserved
 loop-code-preserved c =
     let more = one_code_more c.args.counts.now c.loop-code.address c.loop-code.rest.now c.in-Some.code c.loop-code.amounts
     c.amounts_at.result _ (sym c.front_code.ensures ∙ c.in-Some.is) c.loop-code.invariant c.amounts_at.ensures in
-    rw c.plus-amounts.ensures (rw c.bytes_behind-rest.ensures (rw c.code_length-address.ensures more))
+    rw c.plus-amounts.ensures (rw c.bytes_after-rest.ensures (rw c.code_length-address.ensures more))
 
 pub returns : goal.returns
 returns c =

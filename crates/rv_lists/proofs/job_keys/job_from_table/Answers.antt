@@ -8,7 +8,7 @@ use Rattle.rv_lists.proofs.job_keys.job_from_table.Goals as goal
 pub returns-clause-value : goal.returns-clause-value
 returns-clause-value c =
     let names = names_of_jobs c.args.earlier.now in
-    let fresh = ap is_some (sym c.place_of_name.ensures.value) ∙ sym c.is_some.ensures ∙ c.if-is_some.false in
+    let fresh = ap is_some (sym c.index_of_name.ensures.value) ∙ sym c.is_some.ensures ∙ c.if-is_some.false in
     let same = job_described names (table_view c.args.table.now) c.in_ok-name.name.now c.in_ok-image.image.now
     c.in_ok-budget.budget (sym c.has_unknown_job_or_region_key.ensures ∙ c.if-has_unknown_job_or_region_key.false)
     (sym c.has_wrong_kind.ensures ∙ c.if-has_wrong_kind.false) c.in_ok-name.ensures fresh c.in_ok-image.ensures

@@ -9,8 +9,8 @@ pub loop-rest-preserved : goal.loop-rest-preserved
 loop-rest-preserved c =
     let rest = c.loop-rest.rest.now in
     let some : 0 < length rest = grind (arith, nat_tests) in
-    said_step rest c.leading_bytes.result.now c.tail_from-rest.result.now c.place_of_byte-end.result (gathering_view c.loop-rest.gathering)
-    (gathering_view c.add_line.new.gathering) some c.place_of_byte-end.ensures.place c.leading_bytes.ensures c.tail_from-rest.ensures
+    said_step rest c.leading_bytes.result.now c.tail_from-rest.result.now c.index_of_byte-end.result (gathering_view c.loop-rest.gathering)
+    (gathering_view c.add_line.new.gathering) some c.index_of_byte-end.ensures.place c.leading_bytes.ensures c.tail_from-rest.ensures
     c.in_ok-add_line.ensures
     ∙ c.loop-rest.invariant
 
@@ -29,4 +29,4 @@ pub loop-rest-smaller : goal.loop-rest-smaller
 loop-rest-smaller c =
     let rest = c.loop-rest.rest.now in
     let some : 0 < length rest = grind (arith, nat_tests) in
-    shorter rest c.tail_from-rest.result.now c.place_of_byte-end.result c.tail_from-rest.ensures some
+    shorter rest c.tail_from-rest.result.now c.index_of_byte-end.result c.tail_from-rest.ensures some

@@ -1,7 +1,7 @@
 use Rattle.std.proofs.Common.{ap}
 use Rattle.rv_rows.specs.Rows.{rows_at}
 use Rattle.std.proofs.lemmas.List.Elements.{All-push, All-rest, All-same}
-use Rattle.rv_fleet.specs.declared.worker_promise.Works.{Works}
+use Rattle.rv_fleet.specs.declared.worker_promise.WorkerPromise.{WorkerPromise}
 use Rattle.rv_fleet.specs.Promised.{IsFresh}
 use Rattle.rv_fleet.specs.Started.{IsStarted}
 use Rattle.rv_fleet.proofs.threads.fn.run_workers.scope.Goals as goal
@@ -13,8 +13,8 @@ loop-pass-preserved g c =
     in (
       All-rest (IsFresh c.captures.claims.now) _ _ _ c.in-Some.ensures.steps.0 c.loop-pass.invariant.0,
       All-same started _ _ c.in-Ok-push.ensures.items (All-push started _ _ c.loop-pass.invariant.1 (
-        ap (λ (w : Works). rows_at w.plan.now w.places.now) is,
-        ap (λ (w : Works). w.group) is,
-        ap (λ (w : Works). w.claims.now) is,
+        ap (λ (w : WorkerPromise). rows_at w.plan.now w.places.now) is,
+        ap (λ (w : WorkerPromise). w.group) is,
+        ap (λ (w : WorkerPromise). w.claims.now) is,
       )),
     )

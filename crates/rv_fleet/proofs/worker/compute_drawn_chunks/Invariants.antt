@@ -1,13 +1,13 @@
 use Rattle.std.proofs.Common.{◌≡◌, ◌-◌, map}
-use Rattle.rv_claims.specs.NewPieces.{Grew, new_pieces}
+use Rattle.rv_claims.specs.NewPieces.{HasDrawnMore, new_pieces}
 use Rattle.rv_claims.proofs.Public.{above}
 use Rattle.rv_rows.specs.Recent.{AreOutcomes}
 use Rattle.rv_fleet.specs.Pieces.{numbered_piece}
-use Rattle.rv_fleet.proofs.worker.work_on_pieces.Given as goal
+use Rattle.rv_fleet.proofs.worker.compute_drawn_chunks.Given as goal
 
 abbrev pub invariant-loop-number : goal.invariant-loop-number
 invariant-loop-number g l =
-    (l.pass.draw ≡ l.claims) × Grew l.initial.pass l.pass
+    (l.pass.draw ≡ l.claims) × HasDrawnMore l.initial.pass l.pass
     × (l.drawn.items ≡ map (numbered_piece l.pieces) (new_pieces l.initial.pass l.pass))
     × AreOutcomes l.pieces.batch.plan.now l.worker_state.recent
 

@@ -1,5 +1,5 @@
 use Rattle.rv_claims.proofs.Public.{falls, took_some}
-use Rattle.rv_engine.proofs.worker.WorkerContextWorker.work_on_pieces.Goals as goal
+use Rattle.rv_engine.proofs.worker.WorkerContextWorker.compute_chunks.Goals as goal
 
 pub loop-piece-smaller : goal.loop-piece-smaller
 loop-piece-smaller g c =

@@ -5,7 +5,7 @@ use Rattle.std.specs.Prelude.{IfSome}
 use Rattle.std.specs.Result.{result_ok}
 use Rattle.rv_elf.specs.Image.{image_of}
 use Rattle.rv_count_tables.specs.declared.table.AddressCounts.{AddressCounts}
-use Rattle.rv_count_tables.specs.Table.{IsTable, begun_at}
+use Rattle.rv_count_tables.specs.Table.{IsTable, executed_at}
 use Rattle.rv_jobs.specs.declared_job.Job.{Job}
 use Rattle.rv_rows.specs.Rows.{start_in}
 use Rattle.rv_trace.specs.Trace.{job_at}
@@ -13,7 +13,7 @@ use Rattle.rv_counting.specs.Coverage.{AreCountsOfJob}
 use Rattle.rv_counting.specs.JobTables.{table_of_run, IsTableOfOne}
 use Rattle.rv_counting.proofs.OfJobs.{both_ok, none_if_uncounted, ran, refused}
 use Rattle.rv_counting.proofs.Starts.{no_bytes, no_image}
-use Rattle.rv_counting.proofs.table_of_job.count_place.Goals as goal
+use Rattle.rv_counting.proofs.table_of_job.table_of_job.Goals as goal
 
 pub returns-in_default : goal.returns-in_default
 returns-in_default c = λ d.
@@ -45,7 +45,7 @@ returns-in-Some-3 c =
     let path = c.as_str.ensures ∙ ap (λ (j : Job). j.image) same in
     let counts = subst (λ (o : Option (List AddressCounts)). AreCountsOfJob job.budget (start_in plan.answers job) o)
     c.in-Some-3.is (c.in_ok-addresses.ensures.counts d) in
-    let few = subst (λ (o : Option (List AddressCounts)). IfSome o (λ counts. (address : ℕ) → begun_at address counts < 2 ^ 32))
+    let few = subst (λ (o : Option (List AddressCounts)). IfSome o (λ counts. (address : ℕ) → executed_at address counts < 2 ^ 32))
     c.in-Some-3.is c.in_ok-addresses.ensures.few in
     ran plan.answers job file cs t (sym (c.in-Some.ensures d)) (is ∙ ap (λ (p : List ℕ). table_of_run p file cs) path)
     table counts few)

@@ -5,7 +5,7 @@ use Rattle.toml.specs.View.{table_view}
 use Rattle.rv_list_errors.specs.JobFaults.{ExplainsExpectedValue, bytes_text, expected_words}
 use Rattle.rv_list_errors.specs.Explanation.{IsKeyAndValue}
 use Rattle.rv_list_errors.proofs.Messages.{some_then}
-use Rattle.rv_list_errors.proofs.explanations.push_wanted.Goals as goal
+use Rattle.rv_list_errors.proofs.explanations.push_expected.Goals as goal
 
 pub returns : goal.returns
 returns c =

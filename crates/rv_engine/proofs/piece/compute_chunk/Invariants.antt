@@ -1,6 +1,6 @@
 use Rattle.std.proofs.Common.{◌≡◌, ◌+◌, length}
 use Rattle.rv_engine.specs.Results.{AreResults}
-use Rattle.rv_engine.proofs.piece.make_piece.Given as goal
+use Rattle.rv_engine.proofs.piece.compute_chunk.Given as goal
 
 abbrev pub invariant-loop-number : goal.invariant-loop-number
 invariant-loop-number g l = record {

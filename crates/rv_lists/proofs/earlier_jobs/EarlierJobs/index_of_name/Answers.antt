@@ -1,6 +1,6 @@
 use Rattle.std.proofs.Common.{◌∙◌}
 use Rattle.rv_lists.proofs.JobPlaces.{within_names}
-use Rattle.rv_lists.proofs.earlier_jobs.EarlierJobs.place_of_name.Goals as goal
+use Rattle.rv_lists.proofs.earlier_jobs.EarlierJobs.index_of_name.Goals as goal
 
 pub returns-clause-within : goal.returns-clause-within
 returns-clause-within c =

@@ -1,6 +1,6 @@
 use Rattle.std.proofs.Common.{arith}
 use Rattle.rv_report.proofs.FieldLoops.{place_here, place_later, place_end}
-use Rattle.rv_report.proofs.fields.place_of_byte.Goals as goal
+use Rattle.rv_report.proofs.fields.index_of_byte.Goals as goal
 
 pub returns-then-b-byte-clause-place : goal.returns-then-b-byte-clause-place
 returns-then-b-byte-clause-place c = omega (

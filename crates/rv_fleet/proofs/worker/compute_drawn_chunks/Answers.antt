@@ -1,9 +1,9 @@
 use Rattle.std.proofs.Common.{◌∙◌, sym, ap, subst}
-use Rattle.rv_claims.specs.NewPieces.{Grew}
+use Rattle.rv_claims.specs.NewPieces.{HasDrawnMore}
 use Rattle.rv_claims.specs.Passes.{SharedDraw, PassView}
 use Rattle.rv_claims.proofs.Public.{took_some, made_one, made_all, falls, grew_more}
 use Rattle.rv_fleet.specs.Pieces.{numbered_piece}
-use Rattle.rv_fleet.proofs.worker.work_on_pieces.Goals as goal
+use Rattle.rv_fleet.proofs.worker.compute_drawn_chunks.Goals as goal
 
 pub loop-number-smaller : goal.loop-number-smaller
 loop-number-smaller g c =
@@ -22,7 +22,7 @@ loop-number-preserved g c =
 pub returns-in_err-push-clause-pass : goal.returns-in_err-push-clause-pass
 returns-in_err-push-clause-pass g c =
     let t = took_some _ _ _ _ c.in-Some.number (c.take.ensures.none, c.take.ensures.drawn) c.in-Some.is in
-    subst (Grew c.args.pass.now) (sym t.0) (grew_more _ _ _ c.loop-number.invariant.1)
+    subst (HasDrawnMore c.args.pass.now) (sym t.0) (grew_more _ _ _ c.loop-number.invariant.1)
 
 pub returns-clause-pass : goal.returns-clause-pass
 returns-clause-pass g c =
