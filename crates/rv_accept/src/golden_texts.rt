@@ -100,7 +100,13 @@ fn push_golden_texts_of_run(
     ensures { OnOk result (claims.new.items ≡ claims.old.items ++ golden_texts_of_run place job.now run.now) }
 {
     match run {
-        Some(run) => push_golden_texts(alloc, claims, place, run.skipped.is_none(), (job, &run.row)),
+        Some(run) => push_golden_texts(
+            alloc,
+            claims,
+            place,
+            run.skipped.is_none(),
+            (job, &run.row),
+        ),
         None => Ok(()),
     }
 }

@@ -6,30 +6,32 @@
 #![tactic(auto)]
 
 mod basic_string;
-mod golden_texts;
+mod current_verdict;
 mod edits;
 mod ends;
 mod golden_outcomes;
-mod law;
+mod golden_texts;
 mod intended_jobs;
+mod law;
 mod runs;
 mod sharing;
-mod current_verdict;
 mod targets;
 mod values;
 
 pub use basic_string::push_basic_string;
-pub use golden_texts::{GoldenText, Part, console_path, golden_texts_of_runs};
+pub use current_verdict::{Candidate, CurrentVerdict};
 pub use edits::{Edit, edited_text};
 pub use ends::{Acceptance, is_accepted_end};
-pub use golden_outcomes::{GoldenFileOutcome, first_of_another_text, first_on_file, outcome_of_golden_file};
+pub use golden_outcomes::{
+    GoldenFileOutcome, first_of_another_text, first_on_file, outcome_of_golden_file,
+};
+pub use golden_texts::{GoldenText, Part, console_path, golden_texts_of_runs};
+pub use intended_jobs::are_intended_jobs;
 pub use law::{
     accepted_jobs_meet_their_expectations, accepted_jobs_pass_over_their_files,
     an_agreed_text_is_given_by_each_job,
 };
-pub use intended_jobs::are_intended_jobs;
 pub use runs::{JobRun, SkipReason, indexed_rows, judged_runs};
 pub use sharing::jobs_to_run;
-pub use current_verdict::{Candidate, CurrentVerdict};
 pub use targets::{Target, targets_of};
 pub use values::{ValueKey, is_value_changed, push_new_value};

@@ -5,8 +5,8 @@ ghost use Rattle.std.specs.Vec.Iter.{into_iter_items};
 ghost use Rattle.rv_accept.specs.Runs.{first_row, is_accepted_run, judged_run, judged_runs, indexed_rows, rest_if, row_if, takes_from_run};
 ghost use Rattle.rv_accept.specs.Runs.{chosen_skip_reason, differing_skip_reason, end_skip_reason, skip_reason, sharing_skip_reason};
 
-use crate::ends::{Acceptance, is_accepted_end};
 use crate::current_verdict::{Candidate, CurrentVerdict};
+use crate::ends::{Acceptance, is_accepted_end};
 use crate::values::{ValueKey, is_value_changed};
 use rv_jobs::Job;
 use rv_rows::{Row, RowEnd};

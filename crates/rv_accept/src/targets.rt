@@ -3,8 +3,8 @@
 ghost use Rattle.std.specs.Prelude.{◌≡◌, [], IfOk, OnOk, fold, option_map, slice_get};
 ghost use Rattle.rv_accept.specs.Targets.{is_of_accepted, is_target, target_of, with_target};
 
-use crate::golden_texts::{GoldenText, Part};
 use crate::golden_outcomes::{GoldenFileOutcome, outcome_of_golden_file};
+use crate::golden_texts::{GoldenText, Part};
 use crate::runs::JobRun;
 use rv_jobs::Text;
 use std::alloc::{AllocError, Global};

@@ -163,7 +163,12 @@ impl<'x, D: Inputs> Chooser<'x, D> {
     }
 
     // Returns the selection without the jobs whose names the pattern matches. It must not become empty.
-    fn remaining_marks(&self, marks: &[bool], excluded: &Regex, jobs: &[Job]) -> Result<Vec<bool>, Stop>
+    fn remaining_marks(
+        &self,
+        marks: &[bool],
+        excluded: &Regex,
+        jobs: &[Job],
+    ) -> Result<Vec<bool>, Stop>
         requires counted { length marks.now ≡ length jobs.now }
         ensures left { IfOk result (λ left. left.items ≡ remaining_marks (regex_pattern excluded.now) jobs.now marks.now) }
         ensures some { IfOk result (λ left. are_emptied marks.now left.items ≡ false) }

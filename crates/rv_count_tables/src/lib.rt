@@ -31,7 +31,7 @@ pub use law::{
     one_table_has_this_text, sums_of_counts_associate, sums_of_counts_commute,
     sums_of_tables_are_sums,
 };
-pub use lookup::{counts_at, was_executed_within, index_of_address};
+pub use lookup::{counts_at, index_of_address, was_executed_within};
 pub use names::{add_name, name_of};
 pub use read::{ReadError, read_table};
 pub use sum::{SumError, add_table, sum_of_tables};

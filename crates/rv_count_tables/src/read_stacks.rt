@@ -83,7 +83,10 @@ fn next_spot(
     ensures none { IfOk result (λ read. IfNone read (IsNotANode names.now front.now line.now)) }
 {
     let read = spot_of_line(alloc, line)?;
-    if can_come_next(read.spot, front) && agrees(&read, names) && has_spot_line(alloc, &read, line)? {
+    if can_come_next(read.spot, front)
+        && agrees(&read, names)
+        && has_spot_line(alloc, &read, line)?
+    {
         Ok(Some(read))
     } else {
         Ok(None)

@@ -9,11 +9,11 @@
 
 mod block;
 mod count;
+mod count_batch;
 mod count_work;
 mod counter;
 mod decode_cache;
 mod law;
-mod count_batch;
 mod step;
 mod table_of_job;
 mod table_sum;
@@ -21,6 +21,7 @@ mod tally;
 
 pub use block::{Block, first_of};
 pub use count::{count_job, count_run};
+pub use count_batch::count_batch;
 pub use count_work::JobTable;
 pub use counter::{Counter, Stepped};
 pub use law::{
@@ -28,7 +29,6 @@ pub use law::{
     jobs_have_one_table_over_the_same_files, run_begins_its_end, run_begins_its_steps,
     tables_of_parts_sum_to_that_of_the_list, tables_of_shards_sum_to_that_of_all,
 };
-pub use count_batch::count_batch;
 pub use step::{begins_at_end, is_branch};
 pub use table_of_job::{digest_of, empty_table, images_of_one, shown_text};
 pub use table_sum::{HasTable, TableSum};

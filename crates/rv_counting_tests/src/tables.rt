@@ -8,7 +8,7 @@ use rv_counting::count_batch;
 use rv_engine::Crew;
 use rv_fleet::Batch;
 use rv_jobs::{Plan, ReadError, Store, gather, read_jobs, selected_indices};
-use samples::{agree, cell_of, sample_file, has_lines};
+use samples::{agree, cell_of, has_lines, sample_file};
 use std::alloc::{AllocError, Global};
 use std::sync::Wait;
 use std::test::Fail;

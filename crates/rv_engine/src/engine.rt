@@ -9,7 +9,7 @@ use crate::in_order::{
     End, InOrder, RunSpec, Undelivered, deliver_chunk, no_results, take_pending,
 };
 use crate::listener::{Flow, Listener};
-use crate::piece::{compute_chunk, chunk_count};
+use crate::piece::{chunk_count, compute_chunk};
 use crate::threads::run_workers;
 use crate::work::Work;
 use crate::worker::WorkerContext;

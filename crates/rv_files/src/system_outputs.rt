@@ -84,7 +84,11 @@ where
     }
 
     // Creates a file at its temporary path, and records it as not yet placed.
-    fn create_uncommitted(&mut self, alloc: Global, places: &FilePaths) -> Result<R::File, FileError>
+    fn create_uncommitted(
+        &mut self,
+        alloc: Global,
+        places: &FilePaths,
+    ) -> Result<R::File, FileError>
         ensures first { IfErr result (λ error. error ≡ FileError.SamePlace → 0 < vec_len self.old.unplaced) }
     {
         self.check_not_same_file(alloc, places)?;

@@ -14,7 +14,7 @@ use crate::fleet::FleetError;
 use crate::gate::Gate;
 use crate::pieces::Pieces;
 use crate::worker::work_with_own_pass;
-use crate::worker_promise::{WorkerResult, WorkerPromise};
+use crate::worker_promise::{WorkerPromise, WorkerResult};
 use rv_claims::{Claims, Pass, SplitError};
 use rv_engine::Crew;
 use rv_rows::Rows;

@@ -5,7 +5,7 @@ ghost use Rattle.rv_fleet.specs.Choices.{AreJobIndices};
 
 use rv_fleet::Row;
 use rv_jobs::{Plan, ReadError, Store, gather, read_jobs, selected_indices};
-use samples::{agree, cell_of, sample_file, has_lines};
+use samples::{agree, cell_of, has_lines, sample_file};
 use std::alloc::{AllocError, Global};
 use std::sync::Wait;
 use std::test::Fail;

@@ -3,7 +3,7 @@
 ghost use Rattle.std.specs.Prelude.{◌≡◌};
 ghost use Rattle.rv_gdb_protocol.specs.Requests.{all_registers, break_at, description, refusal_of_address, image_path, kind_at, move_within, other_kind, part_at, plain_move, range_at, read_file, read_memory, read_register, register_at, register_of, register_write, signal_move, move_with_signal, stoppoint_at, stoppoint_range, watch_at, watched, write_register, written};
 
-use crate::number::{text_after, number_of, numbers_at, place_of, value_of};
+use crate::number::{number_of, numbers_at, place_of, text_after, value_of};
 use crate::request::{Move, Part, Range, Refusal, Register, Request, Stoppoint, Watched};
 use rv_base::Bytes;
 

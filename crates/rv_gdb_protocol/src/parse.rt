@@ -7,7 +7,7 @@ ghost use Rattle.rv_gdb_protocol.specs.Requests.{open_file, opened_file, whole_d
 
 use crate::arguments::{all_registers, range_at, written};
 use crate::escapes::push_data;
-use crate::number::{text_after, bytes_of, numbers_at, place_of};
+use crate::number::{bytes_of, numbers_at, place_of, text_after};
 use crate::packets::request_without_bytes;
 use crate::request::{Range, Refusal, Request};
 use rv_base::Bytes;

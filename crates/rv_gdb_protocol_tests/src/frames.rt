@@ -1,5 +1,5 @@
 //! Frames: what is received in bytes, at once and byte by byte, and bodies in their frames.
-use rv_gdb_protocol::{Incoming, Reader, Checksum, push_frame};
+use rv_gdb_protocol::{Checksum, Incoming, Reader, push_frame};
 use samples::{agree, cell_of, has_lines};
 use std::alloc::{AllocError, Global};
 use std::test::Fail;

@@ -10,14 +10,14 @@ ghost use Rattle.rv_history.specs.Stops.{AreUnwatched, is_break};
 ghost use Rattle.rv_history.specs.declared.bounds.Bounds.TheVariants.{All as AllAddresses};
 ghost use Rattle.rv_history.specs.declared.found.Found.TheVariants.{Interrupted};
 
+use crate::checkpoints::Checkpoints;
+use crate::forward_move::{Arrived, ForwardMove};
 use crate::found::Found;
 use crate::interrupt::Interrupt;
-use crate::forward_move::{Arrived, ForwardMove};
 use crate::search_back::{Part, last_stop_after};
 use crate::slices::{fill_a_slice, is_slice_end, slice_end};
 use crate::stepping::{Stepped, step};
 use crate::stops::Stops;
-use crate::checkpoints::Checkpoints;
 use rv_machine::Machine;
 use std::alloc::{AllocError, Global};
 

@@ -177,7 +177,11 @@ impl Checkpoints {
     }
 
     /// Returns the machine at a step that the run reaches. Stores states on the way.
-    pub(crate) fn machine_at_step(&mut self, alloc: Global, place: u32) -> Result<MachineAt, AllocError>
+    pub(crate) fn machine_at_step(
+        &mut self,
+        alloc: Global,
+        place: u32,
+    ) -> Result<MachineAt, AllocError>
         requires { (run_of place self.old).steps ≡ place }
         ensures place { IfOk result (λ at. at.place ≡ place) }
         ensures there { IfOk result (IsAt self.old) }
@@ -188,7 +192,11 @@ impl Checkpoints {
     }
 
     /// Stores the state of a machine if it is at a multiple of the interval and not stored yet.
-    pub(crate) fn keep_if_multiple(&mut self, alloc: Global, at: &MachineAt) -> Result<(), AllocError>
+    pub(crate) fn keep_if_multiple(
+        &mut self,
+        alloc: Global,
+        at: &MachineAt,
+    ) -> Result<(), AllocError>
         requires { IsAt self.old at.now }
         ensures { self.new ≡ self.old }
     {

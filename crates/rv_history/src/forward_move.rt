@@ -7,12 +7,12 @@ ghost use Rattle.rv_history.specs.Moves.{found_at_budget};
 ghost use Rattle.rv_history.specs.Stops.{is_halt};
 
 use crate::bounds::Bounds;
+use crate::checkpoints::Checkpoints;
 use crate::found::Found;
 use crate::interrupt::Interrupt;
 use crate::machine_at::MachineAt;
 use crate::slices::{fill_a_slice, is_slice_end};
 use crate::stops::Stops;
-use crate::checkpoints::Checkpoints;
 use rv_machine::Ending;
 use std::alloc::{AllocError, Global};
 

@@ -8,13 +8,14 @@
 mod access;
 mod bounds;
 mod breaks;
+mod checkpoint_list;
+mod checkpoints;
 mod counts;
+mod forward_move;
 mod found;
 mod history;
 mod interrupt;
-mod checkpoint_list;
 mod law;
-mod forward_move;
 mod machine_at;
 mod search;
 mod search_back;
@@ -22,7 +23,6 @@ mod slices;
 mod start;
 mod stepping;
 mod stops;
-mod checkpoints;
 mod watch_hits;
 
 pub use bounds::Bounds;

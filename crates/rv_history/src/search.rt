@@ -9,13 +9,13 @@ ghost use Rattle.rv_history.specs.declared.found.Found.TheVariants.{Interrupted}
 ghost use Rattle.rv_history.specs.declared.stops.Stops.{Stops};
 
 use crate::breaks::next_break;
+use crate::checkpoints::Checkpoints;
+use crate::forward_move::{Arrived, ForwardMove};
 use crate::found::Found;
 use crate::interrupt::Interrupt;
-use crate::forward_move::{Arrived, ForwardMove};
 use crate::slices::slice_end;
 use crate::stepping::{Stepped, step_with_watched_bytes};
 use crate::stops::Stops;
-use crate::checkpoints::Checkpoints;
 use rv_machine::Ending;
 use std::alloc::{AllocError, Global};
 

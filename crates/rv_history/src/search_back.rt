@@ -7,12 +7,12 @@ ghost use Rattle.rv_history.specs.Moves.{IsStepBefore, IsStopBefore};
 ghost use Rattle.rv_history.specs.declared.found.Found.TheVariants.{Interrupted};
 
 use crate::breaks::search_breaks;
+use crate::checkpoints::Checkpoints;
 use crate::found::{Found, StopInfo};
 use crate::interrupt::Interrupt;
 use crate::slices::{fill_a_slice, is_slice_end};
-use crate::stepping::{Stepped, step_with_watched_bytes, step_watched};
+use crate::stepping::{Stepped, step_watched, step_with_watched_bytes};
 use crate::stops::Stops;
-use crate::checkpoints::Checkpoints;
 use std::alloc::{AllocError, Global};
 
 /// The result of searching one part of a run.

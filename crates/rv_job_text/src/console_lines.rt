@@ -84,7 +84,11 @@ fn push_equal_lines(bytes: &mut Vec<u8>, equal: usize, text: &[u8]) -> Result<()
 }
 
 // Appends the lines that differ at the beginning of two texts: first the expected ones, then the actual ones.
-fn push_differing_lines(bytes: &mut Vec<u8>, actual: &[u8], expected: &[u8]) -> Result<(), AllocError>
+fn push_differing_lines(
+    bytes: &mut Vec<u8>,
+    actual: &[u8],
+    expected: &[u8],
+) -> Result<(), AllocError>
     ensures { OnOk result (bytes.new.items
         ≡ bytes.old.items ++ differing_lines (whole_lines actual.now) (whole_lines expected.now)) }
 {

@@ -12,9 +12,7 @@ ghost use Rattle.rv_jobs.specs.Plans.{AgreeWithContents, unreadable_count, one_m
 
 use crate::answers::Answers;
 use crate::kept::Kept;
-use crate::path_reading::{
-    Found, blank_job_places, console_path, result_indices, reference_path,
-};
+use crate::path_reading::{Found, blank_job_places, console_path, reference_path, result_indices};
 use rv_base::Store;
 use rv_lists::{Job, JobList};
 use std::alloc::{AllocError, Global};

@@ -195,7 +195,12 @@ impl<'a> FaultyJob<'a> {
     }
 
     // Returns the explanation `both` if the other of two keys that exclude each other comes before and has a text.
-    fn both_set_explanation(&self, other: &str, met: &FoundKeys, both: &'static str) -> Option<Explanation> {
+    fn both_set_explanation(
+        &self,
+        other: &str,
+        met: &FoundKeys,
+        both: &'static str,
+    ) -> Option<Explanation> {
         if met.has(other) && text_at_key(self.table, other).is_some() {
             Some(Explanation::Text(both))
         } else {
@@ -215,11 +220,19 @@ impl<'a> FaultyJob<'a> {
             "expect_console" if MOST_CONSOLE < text.len() => Some(Explanation::Expected(
                 &EXPECT_CONSOLE,
             )),
-            "expect_console" => self.both_set_explanation("expect_console_file", met, BOTH_CONSOLES),
+            "expect_console" => self.both_set_explanation(
+                "expect_console_file",
+                met,
+                BOTH_CONSOLES,
+            ),
             "expect_console_file" if !is_path(text) => Some(Explanation::Expected(
                 &EXPECT_CONSOLE_FILE,
             )),
-            "expect_console_file" => self.both_set_explanation("expect_console", met, BOTH_CONSOLES),
+            "expect_console_file" => self.both_set_explanation(
+                "expect_console",
+                met,
+                BOTH_CONSOLES,
+            ),
             "image" if !is_path(text) => Some(Explanation::Expected(&IMAGE)),
             _ => self.choice_fault(key, text),
         }

@@ -34,8 +34,8 @@ pub(crate) fn exit_from_table(table: &Table) -> Result<Option<u32>, What>
     }
 }
 
-/// Returns the path of the expected signature of a job, or `None` if it expects none. `has_signature` is whether the job has a signature, without
-/// which the key is an error.
+/// Returns the path of the expected signature of a job, or `None` if it expects none. `has_signature` is whether the job has a signature,
+/// without which the key is an error.
 #[tactic(auto, unfolding(crate::specs::JobList::reference_from_table))]
 pub(crate) fn reference_from_table(
     alloc: Global,

@@ -7,9 +7,9 @@ ghost use Rattle.rv_machine.specs.DecodeCache.{with_range_invalidated};
 ghost use Rattle.rv_machine.specs.State.{at_pc};
 
 use crate::alu::add_offset;
+use crate::decode_cache::DecodeCache;
 use crate::ending::Incomplete;
 use crate::hart::{Hart, set_pc};
-use crate::decode_cache::DecodeCache;
 use rv_isa::{Instr, sign_extend};
 use rv_memory::Width;
 

@@ -9,11 +9,11 @@
 mod accesses;
 mod alu;
 mod cached_operands;
+mod decode_cache;
 mod ending;
 mod execute;
 mod fetch;
 mod hart;
-mod decode_cache;
 mod kinds;
 mod last_instruction;
 mod limits;

@@ -7,7 +7,7 @@ ghost use Rattle.rv_report.specs.LenientReport.{at_words, with_line, with_lines,
 ghost use Rattle.rv_report.specs.View.{gathering_view};
 
 use crate::fields::{
-    decimal_number, hex_bytes, hex_word, is_hex_word, leading_bytes, index_of_byte,
+    decimal_number, hex_bytes, hex_word, index_of_byte, is_hex_word, leading_bytes,
 };
 use crate::lines::{
     job_name_of_line, job_number_of_line, part_extent_of_line, row_ending_of_line, verdict_of_line,

@@ -93,8 +93,8 @@ end_text_at end_text found.Change = []
 end_text_at end_text found.Begin = []
 end_text_at end_text found.Interrupted = []
 
--- the session made the move `requested`: its reply and the session after it; `end_text` is about the end of the run, and only if `may_break` is
--- true can the move have been interrupted
+-- the session made the move `requested`: its reply and the session after it; `end_text` is about the end of the run, and only if
+-- `may_break` is true can the move have been interrupted
 pub record IsMoved (end_text : List ℕ) (may_break : Bool) (session : Session) (requested : Move) (reply : Reply) (next : Session)
     : Type 0 where
   pub place : ℕ

@@ -5,7 +5,6 @@
 //! interrupted. The text about the run's end comes from an [`EndText`].
 #![tactic(auto)]
 
-mod replies_to_requests;
 mod end_text;
 mod files;
 mod law;
@@ -14,6 +13,7 @@ mod moving;
 mod program;
 mod reading;
 mod receiving;
+mod replies_to_requests;
 mod reply;
 mod seeking;
 mod session;

@@ -39,7 +39,11 @@ pub(crate) fn new_function_cache(
 }
 
 /// Returns the function of a code address, from the cache or by a search, and caches it.
-pub(crate) fn look_up(known: &mut Vec<CachedFunction>, symbols: &CodeSymbols<'_>, address: u32) -> u32
+pub(crate) fn look_up(
+    known: &mut Vec<CachedFunction>,
+    symbols: &CodeSymbols<'_>,
+    address: u32,
+) -> u32
     requires { IsFunctionCache (function_at symbols.now.image.now symbols.now.bytes.now) known.old.items }
     ensures value { result ≡ function_at symbols.now.image.now symbols.now.bytes.now address }
     ensures known { IsFunctionCache (function_at symbols.now.image.now symbols.now.bytes.now) known.new.items }

@@ -7,21 +7,22 @@
 //! pc.
 #![tactic(auto)]
 
+mod batch;
 mod children;
+mod control_flow;
 mod flat;
 mod functions;
 mod job;
 mod law;
 mod names;
 mod node;
-mod batch;
 mod run;
 mod stack_work;
 mod stacks;
 mod table;
-mod control_flow;
 mod walk;
 
+pub use batch::count_batch_with_stacks;
 pub use children::Children;
 pub use flat::Flat;
 pub use functions::{CachedFunction, function_of};
@@ -33,7 +34,6 @@ pub use law::{
     tables_with_stacks_of_shards_sum_to_that_of_all,
 };
 pub use node::Node;
-pub use batch::count_batch_with_stacks;
 pub use run::count_with_stacks;
 pub use stacks::Stacks;
 pub use walk::Walk;

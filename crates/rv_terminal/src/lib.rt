@@ -9,13 +9,13 @@
 
 mod color_sink;
 mod colors;
-mod tally_value;
-mod output_state;
 mod law;
+mod output_state;
 mod place;
 mod progress;
 mod progress_reporter;
 mod tally;
+mod tally_value;
 mod terminal_line;
 mod terminal_sink;
 

@@ -5,8 +5,8 @@ ghost use Rattle.std.specs.Io.KnownBytes.{Appends, Keeps};
 ghost use Rattle.rv_terminal.specs.ProgressLine.{counts_text, is_mid_line, last_byte, text_around_put};
 ghost use Rattle.rv_rows.specs.Counts.{one_more};
 
-use crate::tally_value::Tally;
 use crate::progress::Progress;
+use crate::tally_value::Tally;
 use crate::terminal_line::{Counts, Line};
 use rv_rows::{Sink, SinkFailed, WriteError};
 use std::alloc::Global;
@@ -67,8 +67,7 @@ impl<'a, 'k, R: Wait, S: Sink + Drop, W: Write + Drop> Sink for TerminalSink<'a,
         let mut line = progress.lock_line(self.rt);
         let tally = progress.tally_so_far(self.rt);
         // A failure of the terminal to accept the line is ignored.
-        self.put_around_line(progress, &mut line, bytes, tally)
-            .put
+        self.put_around_line(progress, &mut line, bytes, tally).put
     }
 
     fn failures(&self) -> u64 {

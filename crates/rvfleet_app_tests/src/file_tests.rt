@@ -3,7 +3,7 @@
 use crate::testing::output_with_store;
 use rv_files::FileStore;
 use rv_jobs::{ReadError, Store};
-use samples::{agree, cell_of, sample_file, numbers};
+use samples::{agree, cell_of, numbers, sample_file};
 use std::fs;
 use std::test::Fail;
 

@@ -5,7 +5,7 @@ ghost use Rattle.std.specs.Prelude.{None};
 use crate::forms::part;
 use crate::testing::number;
 use rv_jobs::{ReadError, Store};
-use samples::{SampleError, CHECKSUM, UPPER, sample_file, file_bytes, numbers};
+use samples::{CHECKSUM, SampleError, UPPER, file_bytes, numbers, sample_file};
 use std::alloc::Global;
 
 /// A store that makes each file of a case when it is read. A line of its files, such as `image = one 51`, describes the file at a path;

@@ -28,12 +28,12 @@ use crate::accepted_files::{
     check_unchanged_files, check_written_files, read_golden_files, write_accepted_files,
 };
 use crate::crew::requested_crew;
+use crate::current_verdicts::CurrentFiles;
 use crate::destinations::Destinations;
 use crate::host::Host;
 use crate::missing_images::missing_images_note;
 use crate::rules::failure_rule;
 use crate::run::gather_jobs_at;
-use crate::current_verdicts::CurrentFiles;
 use rv_accept::{
     Acceptance, GoldenText, JobRun, golden_texts_of_runs, indexed_rows, jobs_to_run, judged_runs,
     targets_of,

@@ -33,7 +33,14 @@ pub(crate) fn read_golden_files<D: Inputs>(
     for target in targets {
         let place = golden_file_path(alloc, folder, target.path.as_str())?;
         let old = read_golden_file(inputs, alloc, place.as_str())?;
-        add_file(&mut files, GoldenFile { target, resolved_path: place, old })?;
+        add_file(
+            &mut files,
+            GoldenFile {
+                target,
+                resolved_path: place,
+                old,
+            },
+        )?;
     }
     Ok(files)
 }

@@ -11,8 +11,8 @@ ghost use Rattle.rvtest_app.specs.ReportedStops.{IsDiffStop};
 ghost use Rattle.rv_command.specs.declared.stop.Stop.TheVariants.{OutOfMemory, WriteFailed};
 ghost use Rattle.rv_diff.specs.Diff.{diff_text, counts_of_differing};
 
-use crate::destinations::Destinations;
 use crate::command_output::Found;
+use crate::destinations::Destinations;
 use rv_command::{
     DONE, RequestedReport, SOME_FAIL, Stop, cut_off_note, parse_requested_report, put_message,
     put_results, read_result_file,

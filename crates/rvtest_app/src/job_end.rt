@@ -54,7 +54,12 @@ impl EndText for JobEnd {
 }
 
 // Returns the row of the job, given its machine after `steps` steps of the run.
-fn row_after_steps(alloc: Global, job: &JobEnd, steps: u32, machine: &Machine) -> Result<Row, AllocError>
+fn row_after_steps(
+    alloc: Global,
+    job: &JobEnd,
+    steps: u32,
+    machine: &Machine,
+) -> Result<Row, AllocError>
     requires { IsReached (job_start job.now.plan job.now.place) steps (state_of machine.now) }
     ensures { IfOk result (λ row. (d : AJob) → row
         ≡ row_of job.now.plan (slice_index_or job.now.plan.jobs job.now.place d)) }

@@ -21,8 +21,8 @@ ghost use Rattle.rv_command.specs.Texts.{optional_text};
 use crate::destinations::Destinations;
 use crate::junit_class::suite_name;
 use crate::outlets::{abandon_outlets, open_outlets};
-use crate::overwrites::{look_up_files, read_paths_of_words, refuse_overwrite};
 use crate::output_writes::put_shown;
+use crate::overwrites::{look_up_files, read_paths_of_words, refuse_overwrite};
 use crate::rules::{report_judge, rows_status};
 use crate::whole_files::put_whole_files;
 use rv_command::{

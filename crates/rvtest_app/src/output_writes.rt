@@ -10,10 +10,10 @@ ghost use Rattle.rvtest_app.specs.ReportTexts.{report_rest_of, report_rows, repo
 ghost use Rattle.rv_junit.specs.KnownLines.{AreLinesOf};
 ghost use Rattle.rvtest_app.specs.CommandOutputs.{outputs_of};
 
+use crate::committing::commit_outlets;
 use crate::destinations::Destinations;
 use crate::file_texts::FileTexts;
 use crate::outlets::{Outlets, abandon_outlets};
-use crate::committing::commit_outlets;
 use rv_command::{Stop, put_message, put_results};
 use rv_files::{LastError, Outputs};
 use rv_junit::Cases;

@@ -13,13 +13,13 @@ ghost use Rattle.rvtest_app.specs.ReportedStops.{IsStopReported, unreadable_word
 use crate::accept::accept_runs;
 use crate::check::check_list;
 use crate::colors::requested_colors;
+use crate::command_output::put_findings;
 use crate::console::put_job_console;
 use crate::counts::put_sum_of_tables;
 use crate::cover::cover_requested_jobs;
 use crate::destinations::Destinations;
 use crate::diff::diff_reports;
 use crate::explain::explain_named_job;
-use crate::command_output::put_findings;
 use crate::gdb::show_job_to_gdb;
 use crate::help::respond_to_words_error;
 use crate::help_topic::topic_help;
