@@ -1,6 +1,5 @@
-use Rattle.std.proofs.Common.{◌∙◌, ◌++◌, ap}
+use Rattle.std.proofs.Common.{◌∙◌, ◌++◌, ap, refl}
 use Rattle.rv_expect.specs.Judgement.{judging_of}
-use Rattle.rv_job_text.specs.RowReporter.{row_lines_at, reporter_of}
 use Rattle.rvtest_app.specs.IntoReports.{streamed_rows, run_report_rest, run_report_text}
 use Rattle.rvtest_app.proofs.ChosenTexts.{run_report_split}
 use Rattle.rvtest_app.proofs.PutTexts.{out_same, part_same, placed_same, same_junit}
@@ -15,7 +14,7 @@ returns-clause-put g c = λ report_path junit_path report junit.
     (rw c.framed_report.ensures.rows at (c.in_ok-put_files.ensures.put ahead report_path junit_path report junit))
     (same_junit _ _ (judging_of planned.reporter.now.judge) _ _ planned.places.now c.args.rows
     (c.as_bytes.ensures.value ∙ c.suite_name.ensures)
-    (ap (λ reporter. row_lines_at (reporter_of reporter)) c.new-recalling.ensures))
+    refl)
     (c.framed_report.ensures.text
     ∙ ap (λ jobs. run_report_text c.args.frame.old jobs planned.places.now c.args.frame.shard c.args.rows) c.jobs.ensures.value)
 
@@ -27,7 +26,7 @@ returns-clause-placed g c = λ report_path junit_path report junit.
     (rw c.framed_report.ensures.rows at (c.in_ok-put_files.ensures.placed ahead report_path junit_path report junit))
     (same_junit _ _ (judging_of planned.reporter.now.judge) _ _ planned.places.now c.args.rows
     (c.as_bytes.ensures.value ∙ c.suite_name.ensures)
-    (ap (λ reporter. row_lines_at (reporter_of reporter)) c.new-recalling.ensures))
+    refl)
     (ap (λ rest. ahead ++ rest) (c.framed_report.ensures.rest
     ∙ ap (λ jobs. run_report_rest c.args.frame.old jobs planned.places.now c.args.frame.shard c.args.rows) c.jobs.ensures.value)
     ∙ run_report_split c.args.frame.old _ planned.places.now c.args.frame.shard c.args.rows planned.rising planned.within
@@ -40,4 +39,4 @@ returns-in_err-put_files-clause-part g c = λ junit_path junit.
     (part_same _ _ junit_path _ _ (rw c.framed_report.ensures.rows at (c.in_err-put_files.ensures.part junit_path junit))
     (same_junit _ _ (judging_of planned.reporter.now.judge) _ _ planned.places.now c.args.rows
     (c.as_bytes.ensures.value ∙ c.suite_name.ensures)
-    (ap (λ reporter. row_lines_at (reporter_of reporter)) c.new-recalling.ensures)))
+    refl))
