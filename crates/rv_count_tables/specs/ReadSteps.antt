@@ -104,7 +104,7 @@ abbrev pub place_in : Place → List ImageCounts → Place
 place_in p [] = p
 place_in p (i ∷ is) = place_in (place_behind at_image (entries_of i)) is
 
--- whether an address can come next: not if there is no lowest address, or if it is below it
+-- whether the line of an address can come next: there is a lowest address that can, and this one is not below it
 abbrev pub is_from : Option ℕ → ℕ → Bool
 is_from None address = false
 is_from (Some lowest) address = nat_le lowest address

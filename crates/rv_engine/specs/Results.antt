@@ -75,6 +75,6 @@ abbrev pub IsDelivered : {H : Type 0} → (ℕ → H → Type 0) → ℕ → ℕ
 IsDelivered is_result jobs group has_received stops next GoOn = HasReceivedUpTo is_result jobs group has_received stops next
 IsDelivered is_result jobs group has_received stops next Stop = HasReceivedSome is_result jobs has_received × stops
 
--- each result that the work can compute for a job is a result in the sense of the run
+-- each result that the work can compute for the job with a number is one that the run's `is_result` allows for that job
 abbrev pub AreMade : {H : Type 0} → (ℕ → H → Type 0) → (ℕ → H → Type 0) → Type 0
 AreMade {H} is_made is_result = (number : ℕ) (made : H) → is_made number made → is_result number made

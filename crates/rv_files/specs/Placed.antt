@@ -13,8 +13,8 @@ placed_file path bytes = record {
   bytes = bytes;
 }
 
--- the committed files went from `before` to `after`, which adds a file with this path and these bytes; nothing is said if the files or the
--- bytes are unknown
+-- a file with this path and these bytes was added to the committed files `before`, which are now `after`; true if `before` or the bytes are
+-- unknown
 abbrev pub IsOneMorePlaced : Option (List CommittedFile) → Option (List CommittedFile) → List ℕ → Option (List ℕ) → Type 0
 IsOneMorePlaced before after path bytes =
     IfSome before (λ earlier. IfSome bytes (λ known. after ≡ Some (earlier ++ placed_file path known ∷ [])))

@@ -103,7 +103,7 @@ pub(crate) fn push_unknown_job_key(message: &mut Message, table: &Table)
     }
 }
 
-/// Says that a job has this unknown key. If suggestions are requested, adds the nearest known key, or all known keys if none is near.
+/// Appends that a job has this unknown key, and, if suggestions are requested, the nearest known key, or all known keys if none is near.
 pub(crate) fn push_unknown_job_key_of(message: &mut Message, key: &str, suggestion: Suggestion)
     ensures { AddsSome message.old message.new (BeginsWith (unknown_key_text key.now)) }
 {
