@@ -118,7 +118,7 @@ TellsRegions told = BeginsWith (codes "region") told ⊎ BeginsWith (codes "the 
 abbrev pub are_digit_pairs : List ℕ → Bool
 are_digit_pairs digits = list_all is_ascii_hexdigit digits && length digits % 2 == 0
 
--- what is expected of a script that is too long
+-- the words for the maximum length of a script
 abbrev pub most_script_words : List ℕ
 most_script_words = codes "expected at most " ++ (decimal most_script ++ codes " bytes")
 
@@ -159,7 +159,7 @@ abbrev pub text_length : Option (List ℕ) → ℕ
 text_length None = 0
 text_length (Some text) = length text
 
--- what is expected of the value of a key
+-- the words for the value that a key must have
 abbrev pub wanted_words : Expected → List ℕ
 wanted_words wanted = wanted.before.now ++ (rest_words wanted.rest ++ wanted.behind.now)
 
@@ -260,7 +260,7 @@ abbrev pub TellsName : List (Option (List ℕ)) → List ℕ → List ℕ → Me
 TellsName names key wanted ms told = (met : List ℕ) × IsKeyAndValue key (get_member key ms) met
     × (told ≡ met ++ (codes ": " ++ (wanted ++ job_of_name_text (number_of_name names (text_at_key key ms)))))
 
--- what is expected of a name that an earlier job has
+-- the words for the value that a name must have: one that no earlier job has
 abbrev pub free_words : List ℕ
 free_words = codes "expected a unique name"
 
