@@ -67,34 +67,34 @@ past_count pieces draws = count (is_past_last_piece pieces) draws
 
 -- ---- held numbers
 
--- what a seat holds: the number of chunks, its pass indices, its draws, and the draws of other seats that it has noted
+-- the view of a seat: the number of chunks, its pass indices, its draws, and the draws of other seats that it has noted
 abbrev pub view : ℕ → List ℕ → List Entry → List Entry → View
 view pieces places draws noted =
     record { pieces = pieces; places = places; draws = draws; noted = noted }
 
--- what the first seat of a counter holds: the pass index 0
+-- the view of a counter's first seat: pass index 0 and no draws
 abbrev pub first_view : ℕ → View
 first_view pieces = view pieces (0 ∷ []) [] []
 
--- what a new seat holds: no pass index and no draws
+-- the view of a new seat, split from one with the view `v`: no pass index and no draws
 abbrev pub new_seat_view : View → View
 new_seat_view v = view v.pieces [] [] []
 
--- what a seat holds that carries a copy of another seat's draws: these as noted draws
+-- the view of a seat that carries a copy of the draws in the view `v`: no pass index, and these draws as noted ones
 abbrev pub note_of : View → View
 note_of v = view v.pieces [] [] v.draws
 
--- what two seats hold together, as one seat
+-- the view of the seat that two seats are joined into: the pass indices, draws and noted draws of both
 abbrev pub joined_view : View → View → View
 joined_view v w = view v.pieces (v.places ++ w.places) (v.draws ++ w.draws) (v.noted ++ w.noted)
 
--- what a seat holds after it was joined into another: nothing
+-- the view of a seat that was joined into another: no pass index and no draws
 abbrev pub empty_view : View
 empty_view = view 0 [] [] []
 
 -- ---- the rule
 
--- what a seat holds obeys the rule: its pass indices are below 64, each of its draws was made under one of them, it has at most one draw
+-- the view of a seat obeys the rule: its pass indices are below 64, each of its draws was made under one of them, it has at most one draw
 -- past the last chunk per index, and the draws that it noted are in the history
 pub record Fits (pieces : ℕ) (history : List Entry) (v : View) : Type 0 where
   pub places : (p : ℕ) → IsIn p v.places → p < 64
@@ -102,8 +102,8 @@ pub record Fits (pieces : ℕ) (history : List Entry) (v : View) : Type 0 where
   pub few : past_count pieces v.draws ≤ length v.places
   pub noted : Within v.noted history
 
--- the invariant of a counter's words and of what all seats hold: the seats together hold the draws of one history, which word 0 counts, and
--- each pass index is held by at most one seat, whose word is 1
+-- the invariant of a counter's words and of the views of all seats: the seats together hold the draws of one history, which word 0 counts,
+-- and each pass index is held by at most one seat, whose word is 1
 pub record Runs (pieces : ℕ) (s : State (Unit {0}) View) : Type 0 where
   pub history : List Entry
   pub numbered : IsHistory history
@@ -120,11 +120,11 @@ pub record Runs (pieces : ℕ) (s : State (Unit {0}) View) : Type 0 where
 
 -- ---- what a seat learns from a step
 
--- what a seat knows: what it holds, and the slots that it took
+-- the state of a seat: its view, and the slots that it took
 abbrev pub Sitting : Type 0
 Sitting = Me (Unit {0}) View
 
--- what a seat holds
+-- the view of a seat
 abbrev pub view_of : Sitting → View
 view_of me = me.0
 
@@ -137,11 +137,11 @@ abbrev pub first_place_of : List ℕ → ℕ
 first_place_of [] = 0
 first_place_of (p ∷ ps) = p
 
--- what a seat holds after the draw of the number `n`, under its first pass index
+-- the view `v` after the draw of the number `n` under its first pass index
 abbrev pub view_drawn : View → ℕ → View
 view_drawn v n = view v.pieces v.places (v.draws ++ entry (first_place_of v.places) n ∷ []) v.noted
 
--- what a seat holds after it got one more pass index, added in front
+-- the view `v` after its seat got one more pass index, added in front
 abbrev pub view_seated : View → ℕ → View
 view_seated v place = view v.pieces (place ∷ v.places) v.draws v.noted
 

@@ -51,7 +51,7 @@ NoneInBoth xs ys = (n : ℕ) → IsIn n xs → IsIn n ys → ⊥
 abbrev pub AreAll : List Entry → Type 0
 AreAll draws = (history : List Entry) × IsHistory history × HaveSameDraws draws history
 
--- what always holds for the fields of a pass: a bit is set for each of its pass indices, of which there is at least one, and `ended` is
+-- the invariant of the fields of a pass: a bit is set for each of its pass indices, of which there is at least one, and `ended` is
 -- whether it drew a number past the last chunk
 pub record IsPass (me : Sitting) (bits : ℕ) (ended : Bool) : Type 0 where
   pub no_slot : slots_of me ≡ []

@@ -131,8 +131,8 @@ impl Claims {
         (first, second)
     }
 
-    /// Closes the counter, and returns whether the pass holds every assigned index. If so, its draws are all draws; if it has ended as
-    /// well, it holds each chunk exactly once.
+    /// Closes the counter, and returns whether the pass holds every assigned index. If so, the pass has made all draws of the counter; if
+    /// it has ended as well, it holds each chunk exactly once.
     pub fn finish(self, pass: Pass) -> bool
         requires { pass.draw ≡ self }
         ensures all { result ≡ true → AreAll pass.draws }

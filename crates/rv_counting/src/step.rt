@@ -89,7 +89,7 @@ pub(crate) fn is_straight(op: Op) -> bool
     }
 }
 
-/// Whether the step that ended a run so executed an instruction: not if the fetch faulted or the budget was used up.
+/// Whether the step that ended a run with this ending executed an instruction: not if the fetch faulted or the budget was used up.
 pub fn begins_at_end(ending: Ending) -> bool
     ensures { result ≡ begins_at_end ending }
 {

@@ -5,7 +5,7 @@ use Rattle.std.specs.Str.{bytes_eq}
 use Rattle.rv_diff.specs.declared.by_name.ByName.TheInside.{Inside}
 use Rattle.rv_diff.specs.ByName.{row_named}
 
--- what always holds for the fields of `ByName`: the map has the first row with each name
+-- the invariant of the fields of `ByName`: the map has the first row with each name
 abbrev pub IsByNameInside : Inside → Type 0
 IsByNameInside named = (name : List ℕ)
     → option_map (λ row. row.now) (get_by (λ key. bytes_eq name key.now) named.found)

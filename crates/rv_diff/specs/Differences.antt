@@ -18,7 +18,7 @@ use Rattle.rv_diff.specs.Change.{have_same_console, are_same_endings, agree_in_s
 
 -- ---- the words for a change
 
--- how a job ended, as reports say it
+-- the words for how a job ended, as in a report
 unfoldable pub ending_words : RowEnd → List ℕ
 ending_words (ending.Exit code) = codes "exit " ++ exit_code_text code
 ending_words (ending.Fault kind pc value) = codes "fault " ++ fault_name kind

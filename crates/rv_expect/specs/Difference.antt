@@ -38,7 +38,7 @@ pub record DifferInLength (xs ys : List ℕ) : Type 0 where
   pub before : take (length ys) xs ≡ take (length xs) ys
   pub lengths : length xs ≢ length ys
 
--- the two lists differ first as `Difference` says; neither is absent
+-- the two lists differ, and this is their first difference: an index, or their lengths; `Absent` is never the difference of two lists
 abbrev pub IsDifference : Difference → List ℕ → List ℕ → Type 0
 IsDifference (At place) xs ys = DifferAt place xs ys
 IsDifference Lengths xs ys = DifferInLength xs ys

@@ -57,24 +57,24 @@ judged_by_known (Some file) has_passed name = judged_in_file file.path has_passe
 abbrev pub judgement : Judging → Row → Judged
 judgement judging row = judged_by_known judging.known (has_passed judging.rule row) row.name
 
--- whether a row that counts so is a failure
+-- whether a row with this judgement is a failure
 abbrev pub is_failing : Judged → Bool
 is_failing passed = false
 is_failing failed = true
 is_failing (known reason) = false
 is_failing (now_passes path) = true
 
--- whether a row that counts so passed, and is not listed as a known failure
+-- whether a row with this judgement passed and is not listed as a known failure
 abbrev pub is_passed : Judged → Bool
 is_passed passed = true
 is_passed _ = false
 
--- whether a row that counts so is a known failure
+-- whether a row with this judgement is a known failure
 abbrev pub is_known_failure : Judged → Bool
 is_known_failure (known reason) = true
 is_known_failure _ = false
 
--- whether a row that counts so failed, and is not a known failure
+-- whether a row with this judgement failed and is not a known failure
 abbrev pub is_unknown_failure : Judged → Bool
 is_unknown_failure failed = true
 is_unknown_failure _ = false

@@ -71,7 +71,7 @@ abbrev pub signature_words_or_empty : Option (List ℕ) → List ℕ
 signature_words_or_empty None = []
 signature_words_or_empty (Some words) = words
 
--- the first difference between two lists of words, as one of signatures
+-- the first difference between two lists of words, as a difference of signatures
 abbrev pub word_difference : Difference → SignatureDifference
 word_difference (difference.At place) = Word place
 word_difference difference.Lengths = Count

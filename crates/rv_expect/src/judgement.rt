@@ -64,7 +64,7 @@ impl<'k> Judge<'k> {
 }
 
 impl<'k> Judgement<'k> {
-    /// Whether a row that counts so is a failure.
+    /// Whether a row with this judgement is a failure.
     pub fn is_failing(self) -> bool
         ensures { result ≡ is_failing (judged_of self.entry) }
     {
@@ -74,7 +74,7 @@ impl<'k> Judgement<'k> {
         }
     }
 
-    /// Whether a row that counts so passed, and is not listed as a known failure.
+    /// Whether a row with this judgement passed and is not listed as a known failure.
     pub fn is_passed(self) -> bool
         ensures { result ≡ is_passed (judged_of self.entry) }
     {
@@ -84,7 +84,7 @@ impl<'k> Judgement<'k> {
         }
     }
 
-    /// Whether a row that counts so failed, and is not a known failure.
+    /// Whether a row with this judgement failed and is not a known failure.
     pub fn is_unknown_failure(self) -> bool
         ensures { result ≡ is_unknown_failure (judged_of self.entry) }
     {
@@ -94,7 +94,7 @@ impl<'k> Judgement<'k> {
         }
     }
 
-    /// Whether a row that counts so is a known failure.
+    /// Whether a row with this judgement is a known failure.
     pub fn is_known(self) -> bool
         ensures { result ≡ is_known_failure (judged_of self.entry) }
     {

@@ -70,7 +70,7 @@ pub struct FileStore<'a, R: Files> {
 }
 
 impl<'a, R: Files> FileStore<'a, R> {
-    /// Returns a store over these files in which no file was unreadable.
+    /// Returns a store over these files that has counted no unreadable file.
     pub fn new(files: &'a R) -> FileStore<'a, R> {
         FileStore { files, faults: 0 }
     }

@@ -195,7 +195,7 @@ where
         Ok(path.starts_with(directory.as_str()))
     }
 
-    // The file at the path, and the one at its temporary path. Anything that is not a regular file remains.
+    // Returns the files at the path and at its temporary path. Anything that is not a regular file is written directly and stays.
     fn replaced_files(&self, alloc: Global, path: &str) -> Result<Vec<Text>, FileError> {
         match temporary_and_final_path(self.files, alloc, path)? {
             Some(places) => {

@@ -2,7 +2,7 @@
 
 /// A hook that is called once for each chunk that is run, by the worker that drew it and before its first row.
 pub trait Gate: Sync {
-    /// `piece` is the chunk's number, counted from 0.
+    /// Called before the rows of a chunk are computed. `piece` is the number of the chunk, counted from 0.
     fn enter(&self, piece: u64);
 }
 

@@ -15,7 +15,7 @@ paths_in a = map (λ p. p.now) a.paths.items
 abbrev pub answers_of : Inside → List Answer
 answers_of a = answers_with (paths_in a) a.answers.items
 
--- what always holds for the fields of `Answers`: each path that was read has a result, and the map has the index of each path
+-- the invariant of the fields of `Answers`: each path that was read has a result, and the map has the index of each path
 pub record IsAnswersInside (a : Inside) : Type 0 where
   pub even : length (paths_in a) ≡ length a.answers.items
   pub places : (t : List ℕ)

@@ -14,7 +14,7 @@ paths_read a = paths_used (jobs_needed_for a.jobs a.chosen.items)
 abbrev pub plan_view : Inside → Planned
 plan_view a = record { jobs = a.jobs; answers = answers_with (paths_read a) a.answers.items }
 
--- what always holds for the fields of a plan: the jobs form a valid list, each path that was read has a result, and each job has the
+-- the invariant of the fields of a plan: the jobs form a valid list, each path that was read has a result, and each job has the
 -- indices of its results
 pub record IsPlanInside (a : Inside) : Type 0 where
   pub jobs : AreJobs a.jobs

@@ -12,7 +12,7 @@ use Rattle.rv_list_errors.specs.Explanation.{first_kinds_text, letters_words, se
 
 -- ---- expectations
 
--- what is expected of a path
+-- the words for the value that a path must have
 abbrev pub path_words : List ℕ
 path_words = codes "expected a path of 1 to " ++ (decimal most_path ++ codes " bytes")
 

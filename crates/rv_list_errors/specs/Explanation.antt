@@ -131,7 +131,7 @@ abbrev pub explained_words : Explanation → List ℕ
 explained_words (told.Text text) = text.now
 explained_words (told.Expected wanted) = wanted.now.before.now ++ (rest_words wanted.now.rest ++ wanted.now.behind.now)
 
--- what is expected of the value of a key, given the error, or `None` if it depends on more than the error
+-- the words for the value that a key must have, given the error, or `None` if they depend on more than the error
 abbrev pub key_words : What → Option (List ℕ)
 key_words what.Name =
     Some (codes "expected 1 to " ++ (decimal most_name ++ codes " ASCII letters, digits, \".\", \"_\" or \"-\""))

@@ -118,7 +118,7 @@ ExplainsRegions told = BeginsWith (codes "region") told ⊎ BeginsWith (codes "t
 abbrev pub are_digit_pairs : List ℕ → Bool
 are_digit_pairs digits = list_all is_ascii_hexdigit digits && length digits % 2 == 0
 
--- what is expected of a script that is too long
+-- the words for the maximum length of a script
 abbrev pub most_script_words : List ℕ
 most_script_words = codes "expected at most " ++ (decimal most_script ++ codes " bytes")
 
@@ -260,7 +260,7 @@ abbrev pub ExplainsName : List (Option (List ℕ)) → List ℕ → List ℕ →
 ExplainsName names key wanted ms told = (met : List ℕ) × IsKeyAndValue key (get_member key ms) met
     × (told ≡ met ++ (codes ": " ++ (wanted ++ job_of_name_text (number_of_name names (text_at_key key ms)))))
 
--- what is expected of a name that an earlier job has
+-- the words for the value that a name must have: one that no earlier job has
 abbrev pub free_words : List ℕ
 free_words = codes "expected a unique name"
 

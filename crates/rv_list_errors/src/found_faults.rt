@@ -100,7 +100,7 @@ impl<'a> FaultyJob<'a> {
         Ok(())
     }
 
-    // Records at a key that the keys from it on are not checked.
+    // Records that the job's keys from this one on are not checked, because there are too many errors.
     fn stop_at_key(
         &self,
         alloc: Global,

@@ -94,7 +94,7 @@ abbrev pub is_region : Data → Bool
 is_region (table ms) = has_kinds_of_keys region_keys ms
 is_region _ = false
 
--- whether a value is an array of such tables
+-- whether a value is an array of tables whose values have the types that the keys of a region require
 abbrev pub is_region_array : Data → Bool
 is_region_array (array ds) = all_items is_region ds
 is_region_array _ = false

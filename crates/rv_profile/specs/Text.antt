@@ -79,7 +79,7 @@ more_line left = if left == 0 then [] else decimal left ++ functions_word left
 
 -- ---- an image
 
--- the first elements of a list, as many as given, or all
+-- the first elements of a list, as many as the number says, or all if there is no number
 abbrev pub first_of : {X : Type 0} → Option ℕ → List X → List X
 first_of None xs = xs
 first_of (Some count) xs = take count xs

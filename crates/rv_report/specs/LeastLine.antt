@@ -22,8 +22,8 @@ pub record IsLeastRefusedLine (line : ℕ) (bytes : List ℕ) : Type 0 where
   pub before : BeginsReport (first_lines (line - 1) bytes)
   pub refused : BeginsReport (first_lines line bytes) → ⊥
 
--- the line in the error is the first that no report has there; if the bytes are cut off, some report begins with their lines that end with
--- a line feed
+-- the error names the first line up to which no report begins with the lines of the bytes; if it is `CutOff`, some report begins with all
+-- their lines that end with a line feed
 abbrev pub IsLeast : ReadError → List ℕ → Type 0
 IsLeast OutOfMemory bytes = Unit {0}
 IsLeast (Line line) bytes = IsLeastRefusedLine line bytes

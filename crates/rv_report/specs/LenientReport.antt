@@ -80,8 +80,8 @@ unfoldable pub with_zero_digits : ℕ → ℕ → ℕ
 with_zero_digits zero value = value
 with_zero_digits (suc count) value = with_zero_digits count (with_digit 16 value 0)
 
--- the word that the first eight bytes of a text are read as, which should be hexadecimal digits; missing digits are read as zeros, so that
--- a truncated word differs from its report only after the truncation
+-- the word whose hexadecimal digits are the first eight bytes of a text; missing digits are read as zeros, so that a truncated word differs
+-- from its report only after the truncation
 unfoldable pub hex_word : List ℕ → ℕ
 hex_word text = with_zero_digits (8 - length (take 8 text)) (hex_number 0 (take 8 text))
 
@@ -319,7 +319,7 @@ gather_rows text = with_unfinished_row (with_lines (lines text) (gathering_betwe
 
 -- ---- the rows before the first row that no report has at its index
 
--- the number of leading job numbers that increase from above `text_before_byte`, and are at most `most_jobs`
+-- the number of leading job numbers that increase strictly, are greater than `text_before_byte`, and are at most `most_jobs`
 unfoldable pub rising_count : ℕ → List ℕ → ℕ
 rising_count text_before_byte [] = 0
 rising_count text_before_byte (n ∷ ns) =

@@ -67,7 +67,7 @@ fn hex_digit_value(b: u8) -> u8
     if b < 97 { b.saturating_sub(48) } else { b - 87 }
 }
 
-/// Returns the word that the first eight bytes of a text are read as, which should be hexadecimal digits. Missing digits are read as zeros.
+/// Returns the word whose hexadecimal digits are the first eight bytes of a text. Missing digits are read as zeros.
 #[tactic(auto, unfolding(crate::specs::LenientReport::hex_word))]
 pub(crate) fn hex_word(text: &[u8]) -> u32
     ensures { result ≡ hex_word text.now }

@@ -54,7 +54,8 @@ HasRegister _ = Unit {0}
 
 -- ---- what an instruction wrote
 
--- what was written, given the target and the state `t` after the instruction
+-- the effect of a completed write to this target: a register's new value is that in the state `t` after the instruction; a store's value is
+-- that of the target
 abbrev pub completed_write : WriteTarget → State → WriteEffect
 completed_write aim.Nothing t = wrote.Nothing
 completed_write (aim.Register number) t = wrote.Register number (register t number)

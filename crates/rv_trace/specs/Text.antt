@@ -179,7 +179,7 @@ register_lines image file number (value ∷ values) =
 
 -- ---- the whole text
 
--- the text of a trace of a run that ended so
+-- the text of a trace, given how its run ended
 unfoldable pub trace_text : Image → List ℕ → Trace → RowEnd → List ℕ
 trace_text image file trace end =
     ended_at_line image file trace.pc ++ register_lines image file 0 trace.registers
