@@ -11,7 +11,7 @@ use crate::image_reason::push_image_reason;
 use crate::paths::{console_path, reference_path};
 use crate::unread_files::{too_long_file_text, unread_file_text};
 use rv_elf::ImageError;
-use rv_files::UnreadPath;
+use rv_files::UnreadablePath;
 use rv_jobs::Plan;
 use rv_rows::{Refusal, RowEnd, expected_console_bytes, signature_reference_bytes};
 use rv_trace::image_bytes;

@@ -22,7 +22,7 @@ use crate::unmet_line::push_unmet_lines;
 use crate::verbosity::{Detail, Verbosity};
 use rv_elf::SymbolAt;
 use rv_expect::{Comparison, Judge, Unmet, row_of_same_as_job, unmet_expectations};
-use rv_files::UnreadPath;
+use rv_files::UnreadablePath;
 use rv_jobs::Plan;
 use rv_rows::{
     Row, RowEnd, RowReporter, did_run, expected_console_bytes, signature_reference_bytes,

@@ -12,7 +12,7 @@ ghost use Rattle.rvtest_app.specs.CheckText.{warning_count_text};
 ghost use Rattle.rvtest_app.specs.Commands.{is_job_refused, refused_job_count, warned_job_count};
 
 use rv_expect::expects_two_ends;
-use rv_files::UnreadPath;
+use rv_files::UnreadablePath;
 use rv_job_text::{
     console_path, ending_reason, job_word, reference_path, too_long_file_text, unread_file_text,
 };

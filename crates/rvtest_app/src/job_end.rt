@@ -8,7 +8,7 @@ ghost use Rattle.rv_rows.specs.Rows.{row_of, start_in};
 ghost use Rattle.rvtest_app.specs.Debugging.{job_start};
 
 use rv_expect::{Judge, Rule};
-use rv_files::UnreadPath;
+use rv_files::UnreadablePath;
 use rv_job_text::{TextReporter, Verbosity};
 use rv_jobs::Plan;
 use rv_machine::Machine;

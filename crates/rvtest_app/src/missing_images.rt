@@ -7,7 +7,7 @@ ghost use Rattle.rv_report.specs.Report.{line};
 ghost use Rattle.rvtest_app.specs.MissingImages.{are_images_missing, is_image_missing, is_not_found};
 ghost use Rattle.rvtest_app.specs.MissingImages.{is_reported_missing, missing_images_line, missing_images_note, paths_text};
 
-use rv_files::UnreadPath;
+use rv_files::UnreadablePath;
 use rv_jobs::{Job, Plan};
 use rv_text::{Span, push_spans, push_text};
 use std::alloc::{AllocError, Global};

@@ -9,7 +9,7 @@ ghost use Rattle.rvtest_app.specs.RefusedNotes.{refused_line, refused_lines, ref
 use crate::missing_images::missing_images_note;
 use crate::rules::failure_rule;
 use rv_expect::Judge;
-use rv_files::UnreadPath;
+use rv_files::UnreadablePath;
 use rv_job_text::{TextReporter, Verbosity};
 use rv_jobs::Plan;
 use rv_rows::{refusal_at, row_at};
