@@ -151,7 +151,7 @@ fn answer_byte(
 {
     let told = session.receive(alloc, byte)?;
     sent.extend_from_slice(told.as_slice())?;
-    if !session.is_asked() {
+    if !session.is_move_requested() {
         return Ok(());
     }
     let told = session.work(alloc, end, &mut Never)?;
