@@ -44,6 +44,6 @@ abbrev pub outcome_unless_skipped : List ℕ → List GoldenText → Option Gold
 outcome_unless_skipped path claims (Some claim) = fate.LeftBy claim.job
 outcome_unless_skipped path claims None = outcome_of_first path claims (find (names_file path) claims)
 
--- the outcome for the golden file at the path: the text that all jobs that name it give it, or why it is skipped
+-- the outcome for the golden file at the path: the text on which all jobs that name it agree, or why there is none
 unfoldable pub outcome_of_golden_file : List ℕ → List GoldenText → GoldenFileOutcome
 outcome_of_golden_file path claims = outcome_unless_skipped path claims (find (is_of_skipped_job path) claims)

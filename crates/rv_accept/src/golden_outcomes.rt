@@ -17,11 +17,11 @@ pub enum GoldenFileOutcome {
     LeftBy(usize),
     /// It is skipped, since the jobs at these two indices give it different texts.
     Differ(usize, usize),
-    /// It gets this text, which all jobs that name it give it.
+    /// It gets this text, on which all jobs that name it agree.
     Agreed(Bytes),
 }
 
-/// Returns the outcome for the golden file at the path: the text that all jobs that name it give it, or why it is skipped.
+/// Returns the outcome for the golden file at the path: the text on which all jobs that name it agree, or why there is none.
 #[tactic(auto, unfolding(crate::specs::GoldenOutcomes::outcome_of_golden_file))]
 pub fn outcome_of_golden_file(
     alloc: Global,

@@ -1,4 +1,4 @@
--- Runs of which more are skipped because a value of the list cannot be edited.
+-- The runs after more of them are skipped, because a value of the list cannot be edited.
 use Rattle.std.specs.Prelude.{List, [], ◌∷◌, Option, Some, None, drop, if◌then◌else◌, option_map, slice_get}
 use Rattle.rv_jobs.specs.declared_job.Job.{Job}
 use Rattle.rv_rows.specs.declared_row.Row.{Row}
@@ -30,19 +30,19 @@ pub data AreLeftFrom (before : List (Option JobRun)) : List (Option JobRun) → 
 
 -- ---- jobs with changed values, if the list is not changed
 
--- the reason to skip a job of which a value changes: the first value that does; none if no value changes
+-- the reason to skip a job whose values change: the first one that does; none if no value changes
 abbrev pub why_changed : Job → Row → Option SkipReason
 why_changed job row =
     if is_value_changed key.Exit job row then Some (why.NoPlace key.Exit)
     else if is_value_changed key.End job row then Some (why.NoPlace key.End)
     else if is_value_changed key.Console job row then Some (why.NoPlace key.Console) else None
 
--- the reason to skip a job of which a value changes; none if it was not run
+-- the reason to skip a job whose values change; none if none does, or if the job was not run
 abbrev pub why_changed_if_run : Job → Option JobRun → Option SkipReason
 why_changed_if_run job None = None
 why_changed_if_run job (Some run) = why_changed job run.row
 
--- for each run, the reason to skip its job because a value changes; none if no value changes
+-- for each run, the reason to skip its job: its first value that changes; none if no value changes
 unfoldable pub whys_changed : List Job → List (Option JobRun) → List (Option SkipReason)
 whys_changed [] runs = []
 whys_changed (job ∷ jobs) [] = []

@@ -91,7 +91,7 @@ pub fn accept_values(
     }
 }
 
-// Skips each accepted job of which a value changes.
+// Skips each accepted job with a value that changes.
 fn skip_changed(
     alloc: Global,
     jobs: &[Job],
@@ -111,7 +111,7 @@ fn skip_changed(
     })
 }
 
-// Appends for each run the reason to skip its job because a value changes; `None` if no value changes.
+// For each run, appends the reason to skip its job: its first value that changes; `None` if no value changes.
 #[tactic(auto, unfolding(crate::specs::NewLists::whys_changed))]
 fn push_whys_changed(
     whys: &mut Vec<Option<SkipReason>>,
@@ -130,7 +130,7 @@ fn push_whys_changed(
     }
 }
 
-// Returns the reason to skip a job of which a value changes; `None` if it was not run.
+// Returns the reason to skip a job whose values change; `None` if none does, or if the job was not run.
 fn why_changed_if_run(job: &Job, run: &Option<JobRun>) -> Option<SkipReason>
     ensures { result ≡ why_changed_if_run job.now run.now }
 {
@@ -140,7 +140,7 @@ fn why_changed_if_run(job: &Job, run: &Option<JobRun>) -> Option<SkipReason>
     }
 }
 
-// Returns the reason to skip a job of which a value changes: the first value that does; `None` if no value changes.
+// Returns the reason to skip a job whose values change: the first one that does; `None` if no value changes.
 fn why_changed(job: &Job, row: &Row) -> Option<SkipReason>
     ensures { result ≡ why_changed job.now row.now }
 {

@@ -32,15 +32,15 @@ Overflows (Count function) a b = (path : List ℕ) × (ends_with function path �
 abbrev pub goes_first : Spot → Spot → Bool
 goes_first s t = nat_lt t.depth s.depth || ((s.depth == t.depth) && nat_lt s.function t.function)
 
--- the first node of a sum, if it is the first node of the first list alone
+-- the first node of the sum of two lists, if only the first list has it
 abbrev pub of_first : Spot → NextSpot
 of_first s = record { spot = s; of_a = 1; of_b = 0 }
 
--- the first node of a sum, if it is the first node of the second list alone
+-- the first node of the sum of two lists, if only the second list has it
 abbrev pub of_second : Spot → NextSpot
 of_second t = record { spot = t; of_a = 0; of_b = 1 }
 
--- the first node of a sum, if it adds up the first nodes of both lists
+-- the first node of the sum of two lists, if both have it: it adds up their counts
 abbrev pub both_of : Spot → Spot → NextSpot
 both_of s t = record {
   spot = record {
@@ -57,7 +57,7 @@ both_of s t = record {
 abbrev pub next_of_both : Spot → Spot → NextSpot
 next_of_both s t = if goes_first s t then of_first s else if goes_first t s then of_second t else both_of s t
 
--- the first node of the sum of two lists, and how many nodes of each list it adds up; of no meaning if both are empty
+-- the first node of the sum of two lists, and how many nodes of each list it adds up; meaningless if both lists are empty
 abbrev pub next_of : List Spot → List Spot → NextSpot
 next_of (s ∷ ss) [] = of_first s
 next_of (s ∷ ss) (t ∷ ts) = next_of_both s t

@@ -60,6 +60,6 @@ frames_of_run n s = after_transfers [] (transfers_from n s)
 abbrev pub calls_of_run : ℕ → State → Calls
 calls_of_run n s = record { pc = (state_after n s).pc; frames = frames_of_run n s }
 
--- the calls at the end of the run of a plan's job within its budget; none if the job is refused
+-- the call stack at the end of the run of a plan's job within its budget; none if the job is refused
 unfoldable pub calls_in : Planned → Job → Option Calls
 calls_in plan job = option_map (calls_of_run job.budget) (result_ok (start_in plan.answers job))

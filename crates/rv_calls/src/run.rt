@@ -1,4 +1,4 @@
-//! The calls at the end of a run.
+//! The call stack at the end of a run.
 
 ghost use Rattle.std.specs.Prelude.{◌≡◌, IfOk, OnOk};
 ghost use Rattle.rv_jobs.specs.declared_job.Job.{Job as AJob};
@@ -13,7 +13,7 @@ use rv_rows::machine_at;
 use rv_trace::JobImage;
 use std::alloc::{AllocError, Global};
 
-/// The calls at the end of a run that have not returned.
+/// The call stack at the end of a run: the calls that have not returned.
 #[derive(Drop)]
 pub struct Calls {
     /// The pc at the end.
@@ -22,8 +22,8 @@ pub struct Calls {
     pub frames: Frames,
 }
 
-/// Returns the calls at the end of a machine's run within a budget of steps, which begins without any. Takes longer than the run alone, and
-/// memory for at most [`MOST_FRAMES`](crate::MOST_FRAMES) frames.
+/// Returns the call stack at the end of a machine's run within a budget of steps. It is empty when the run begins. Takes longer than the
+/// run alone, and memory for at most [`MOST_FRAMES`](crate::MOST_FRAMES) frames.
 pub fn calls_of_run(alloc: Global, machine: Machine, budget: u32) -> Result<Calls, AllocError>
     ensures { IfOk result (λ calls. calls ≡ calls_of_run budget (state_of machine)) }
 {
@@ -54,7 +54,7 @@ fn frames_of_run(
     Ok(frames)
 }
 
-/// Returns the calls at the end of a job's run within its budget; `None` if the job is refused. The job is run once more.
+/// Runs a job again, within its budget, and returns the call stack at the end; `None` if the job is refused.
 #[tactic(auto, unfolding(crate::specs::Calls::calls_in))]
 pub fn calls_at_end(alloc: Global, job: &JobImage<'_>) -> Result<Option<Calls>, AllocError>
     ensures { IfOk result (λ calls. (d : AJob) → calls

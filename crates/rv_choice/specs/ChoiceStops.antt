@@ -38,7 +38,7 @@ abbrev pub unmatched_pattern : List ℕ → List ℕ → List ℕ
 unmatched_pattern list text = codes "rvtest: " ++ printable_text list ++ codes ": no job name matches \""
     ++ printable_value text ++ codes "\"\n"
 
--- memory ran out, or the text of `--match` is not a regular expression, or it matches the name of no job
+-- why a command stopped: memory ran out, or the text of `--match` is not a regular expression, or it matches the name of no job
 abbrev pub IsPatternStop : List ℕ → List ℕ → List Job → Stop → Type 0
 IsPatternStop list text jobs stop = (stop ≡ why.OutOfMemory)
     ⊎ (IsRefusedPattern (codes "--match <REGEX>") text stop
@@ -66,7 +66,7 @@ abbrev pub IsEmptiedStop : List ℕ → List Job → List Bool → Regex → Sto
 IsEmptiedStop list jobs marks pattern stop = (are_emptied marks (remaining_marks (regex_pattern pattern) jobs marks) ≡ true)
     × IsStop 2 (emptied_choice list (regex_source pattern)) stop
 
--- the text of `--exclude` is not a regular expression, or it excludes all of the requested jobs
+-- why a command stopped: the text of `--exclude` is not a regular expression, or it excludes all of the requested jobs
 abbrev pub IsExclusionStop : Option FileContents → RunArgs → Rule → List Job → List ℕ → Stop → Type 0
 IsExclusionStop known words rule jobs text stop = IsRefusedPattern (codes "--exclude <REGEX>") text stop
     ⊎ (LeavesNone known words rule jobs text × IsStop 2 (emptied_choice words.list.now text) stop)

@@ -24,7 +24,7 @@ abbrev pub none_failed_note : List ℕ → ℕ → List ℕ
 none_failed_note path missing =
     path_message path (if missing == 0 then codes "note: no failed jobs" else codes "note: no failed jobs among its rows")
 
--- the end of the note about jobs without a row, by their number
+-- the end of the note that `missing` jobs have no row, in the singular or the plural
 abbrev pub missing_rows_text : ℕ → List ℕ
 missing_rows_text missing =
     if missing == 1 then codes " job of the list has no row\n" else codes " jobs of the list have no row\n"

@@ -64,6 +64,6 @@ abbrev pub IsPartStop : List ℕ → Option (Bor (List ℕ)) → Stop → Type 0
 IsPartStop text stamp stop = ((IsShardText text → ⊥) × IsUsageStop (bad_shard_text text) stop)
     ⊎ IsSomeAnd stamp (λ stamp. (is_name stamp.now ≡ false) × IsUsageStop (bad_stamp_text stamp.now) stop)
 
--- memory ran out, or a shard is requested, and the text of `--shard` or `--stamp` is invalid
+-- why a command stopped: memory ran out, or a shard is requested, and the text of `--shard` or `--stamp` is invalid
 abbrev pub IsShardStop : Option (Bor (List ℕ)) → Option (Bor (List ℕ)) → Stop → Type 0
 IsShardStop shard stamp stop = (stop ≡ why.OutOfMemory) ⊎ IsSomeAnd shard (λ text. IsPartStop text.now stamp stop)

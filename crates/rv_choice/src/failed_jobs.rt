@@ -88,7 +88,7 @@ fn missing_rows_note(alloc: Global, path: &str, missing: usize) -> Result<Vec<u8
     path_number_message(alloc, path, ": note: ", missing, missing_rows_text(missing))
 }
 
-// Returns the end of the note about jobs without a row, by their number.
+// Returns the end of the note that `missing` jobs have no row, in the singular or the plural.
 fn missing_rows_text(missing: usize) -> &'static str
     ensures { result.now ≡ missing_rows_text missing }
 {

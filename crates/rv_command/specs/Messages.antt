@@ -24,7 +24,7 @@ abbrev pub path_number_message : List ℕ → List ℕ → ℕ → List ℕ → 
 path_number_message path place number what =
     codes "rvtest: " ++ printable_text path ++ place ++ decimal number ++ what
 
--- " complete row" or " complete rows", by their number, and a line feed
+-- " complete row" for one row, else " complete rows", and a line feed
 abbrev pub complete_rows_text : ℕ → List ℕ
 complete_rows_text rows = if rows == 1 then codes " complete row\n" else codes " complete rows\n"
 

@@ -90,11 +90,13 @@ abbrev pub kind_text : ResultKind → List ℕ
 kind_text expected.Report = codes "a report"
 kind_text expected.Part = codes "the report of a shard"
 
+-- the message that the line with this number is invalid; `text` is the text of the file at the path
 abbrev pub line_message : ResultKind → List ℕ → List ℕ → ℕ → List ℕ
 line_message wanted path text number =
     codes "rvtest: " ++ printable_text path ++ codes ":" ++ decimal number ++ codes ": invalid " ++ kind_noun wanted ++ codes " line \""
     ++ printable_value (numbered_line text number) ++ codes "\": expected " ++ expected_after (line_before text number) ++ codes "\n"
 
+-- the message that the file at the path is a job list, not a file of the expected kind
 abbrev pub list_message : ResultKind → List ℕ → List ℕ
 list_message wanted path =
     codes "rvtest: " ++ printable_text path ++ codes ": this is a job list, not " ++ kind_text wanted ++ codes "\n"

@@ -89,7 +89,7 @@ IsLongAt known path most = IfSome known (λ files. IsSomeAnd (files path) (λ by
 abbrev pub IsSystemStop : List ℕ → ErrorKind → Stop → Type 0
 IsSystemStop path reason stop = IsStop 3 (path_message path (io_error_text reason)) stop
 
--- memory ran out, or the file at the path could not be read; then none is known to be there
+-- why a command stopped: memory ran out, or the file at the path could not be read; then none is known to be there
 abbrev pub IsUnreadStop : Option FileContents → List ℕ → Stop → Type 0
 IsUnreadStop known path stop = (stop ≡ why.OutOfMemory)
     ⊎ (IsNothingAt known path × ((reason : ErrorKind) × IsSystemStop path reason stop))
@@ -98,7 +98,7 @@ IsUnreadStop known path stop = (stop ≡ why.OutOfMemory)
 abbrev pub most_result_bytes : ℕ
 most_result_bytes = 1073741824
 
--- memory ran out, or the file at the path could not be read or is longer than a report or a table of counts may be
+-- why a command stopped: memory ran out, or the file at the path could not be read or is longer than a report or a table of counts may be
 abbrev pub IsResultUnreadStop : Option FileContents → List ℕ → Stop → Type 0
 IsResultUnreadStop known path stop = IsUnreadStop known path stop
     ⊎ (IsLongAt known path most_result_bytes
@@ -113,7 +113,7 @@ IsFileErrorStop path (file.Failed reason) stop = IsSystemStop path reason stop
 
 -- ---- lists
 
--- memory ran out, or the file at the path could not be read or is longer than a list may be
+-- why a command stopped: memory ran out, or the file at the path could not be read or is longer than a list may be
 abbrev pub IsListUnreadStop : Option FileContents → List ℕ → Stop → Type 0
 IsListUnreadStop known path stop = IsUnreadStop known path stop
     ⊎ (IsLongAt known path most_bytes
@@ -135,8 +135,8 @@ IsCutOffStop path stop = IsStop 2 (path_message path (codes "the report is trunc
 abbrev pub IsLineStop : List ℕ → List ℕ → ℕ → Stop → Type 0
 IsLineStop path bytes line stop = IsStop 2 (refused_line_message expected.Report path bytes line) stop
 
--- the stop reports the first error of a text that is not a report: a line with which no report begins, or that the report is truncated, and
--- then its complete lines are a prefix of some report
+-- the stop reports the first error of a text that is not a report: its first invalid line, or that the report is truncated; then some
+-- report begins with its complete lines
 abbrev pub IsReportFaultReported : List ℕ → List ℕ → Stop → Type 0
 IsReportFaultReported path bytes stop =
     ((line : ℕ) × IsLeastRefusedLine line bytes × IsLineStop path bytes line stop)
@@ -150,25 +150,25 @@ pub record IsReportFaultStop (path bytes : List ℕ) (stop : Stop) : Type 0 wher
   -- a complete report has no error
   pub whole : (report : SavedReport) → IsReportText bytes report → stop ≡ why.OutOfMemory
 
--- the report at the path could not be read, or it has an error
+-- why a command stopped: the report at the path could not be read, or it has an error
 abbrev pub IsReportReadError : Option FileContents → List ℕ → Stop → Type 0
 IsReportReadError known path stop = IsResultUnreadStop known path stop
     ⊎ ((bytes : List ℕ) × IsTextAt known path bytes × IsReportFaultStop path bytes stop)
 
 -- ---- reports that may be truncated
 
--- memory ran out, or the stop reports the first line with which no report begins; a prefix of a report has no error
+-- memory ran out, or the stop reports the first invalid line; a prefix of a report has no error
 pub record IsPartialFaultStop (path bytes : List ℕ) (stop : Stop) : Type 0 where
   pub told : (stop ≡ why.OutOfMemory)
       ⊎ ((line : ℕ) × IsLeastRefusedLine line bytes × IsLineStop path bytes line stop)
   pub beginning : BeginsReport bytes → stop ≡ why.OutOfMemory
 
--- the text is not a report and, if the Bool allows truncated reports, not a truncated one
+-- why a command stopped: the text is not a report and, if the Bool allows truncated reports, not a truncated one
 abbrev pub IsRequestedFaultStop : Bool → List ℕ → List ℕ → Stop → Type 0
 IsRequestedFaultStop false path bytes stop = IsReportFaultStop path bytes stop
 IsRequestedFaultStop true path bytes stop = IsPartialFaultStop path bytes stop
 
--- the report at the path could not be read, or it has an error; `partial` says whether it may be truncated
+-- why a command stopped: the report at the path could not be read, or it has an error; `partial` says whether it may be truncated
 abbrev pub IsRequestedUnreadStop : Option FileContents → Bool → List ℕ → Stop → Type 0
 IsRequestedUnreadStop known partial path stop = IsResultUnreadStop known path stop
     ⊎ ((bytes : List ℕ) × IsTextAt known path bytes × IsRequestedFaultStop partial path bytes stop)

@@ -82,7 +82,7 @@ pub fn cut_off_note(alloc: Global, path: &str, read: &PartialReport) -> Result<V
     path_number_message(alloc, path, what, rows, complete_rows_text(rows))
 }
 
-// Returns " complete row" or " complete rows", by their number, and a line feed.
+// Returns " complete row" for one row, else " complete rows", and a line feed.
 fn complete_rows_text(rows: usize) -> &'static str
     ensures { result.now ≡ complete_rows_text rows }
 {

@@ -25,7 +25,7 @@ fn first_of(names: &[FunctionName], function: u32) -> Option<&FunctionName>
     names.iter().find(|name| name.function == function)
 }
 
-/// Inserts a name after those of lower functions, unless its function has a name already.
+/// Inserts a name after the names of functions at lower addresses, unless its function has a name already.
 pub fn add_name(names: &mut Vec<FunctionName>, name: FunctionName) -> Result<(), AllocError>
     ensures { OnOk result (names.new.items ≡ with_name name names.old.items) }
 {
@@ -37,7 +37,7 @@ pub fn add_name(names: &mut Vec<FunctionName>, name: FunctionName) -> Result<(),
     Ok(())
 }
 
-// Returns how many names are those of lower functions. They come first.
+// Returns how many names at the start of the list belong to functions at addresses below `function`.
 fn lower_functions(names: &[FunctionName], function: u32) -> usize
     ensures { result ≡ prefix_len (λ m. nat_lt m.function function) names.now }
 {

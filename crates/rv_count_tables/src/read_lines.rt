@@ -132,7 +132,7 @@ fn read_addresses(alloc: Global, text: &[u8]) -> Result<AddressLines, AllocError
     }
 }
 
-// Returns the counts of a line, or `None` if it is not that of an address at or above `lowest`.
+// Returns the counts of an address line, or `None` if the line is not one, or its address is below `lowest`.
 fn parse_address_line(
     alloc: Global,
     line: &[u8],
@@ -151,7 +151,7 @@ fn parse_address_line(
     }
 }
 
-// Whether a table can have these counts after those of addresses below `lowest`.
+// Whether these counts are valid, and their address is at or above `lowest`.
 fn can_come_next(counts: AddressCounts, lowest: u64) -> bool
     ensures { IsTrue result ↔ (IsCounted counts × (lowest ≤ counts.address)) }
 {

@@ -1,4 +1,4 @@
-//! Parses the lines of call-tree nodes as far as they are valid, as those of addresses are parsed.
+//! Parses the lines of call-tree nodes as far as they are valid, in the way that `read_lines` parses the lines of addresses.
 
 ghost use Rattle.std.specs.Prelude.{◌≡◌, ◌≤◌, ◌<◌, ◌^◌, ℕ, List, IfOk, IfSome, IfNone, IsTrue, ◌↔◌};
 ghost use Rattle.std.specs.Str.{bytes_eq, IsUtf8};
@@ -68,7 +68,7 @@ fn function_name(named: NamedSpot) -> FunctionName
     }
 }
 
-// Returns the node of a line, or `None` if the line is not that of a node which can follow the path `front` and whose name agrees with
+// Returns the node of a line, or `None` if the line does not describe a node that can follow the path `front` and whose name agrees with
 // `names`.
 fn next_spot(
     alloc: Global,

@@ -263,7 +263,7 @@ rvcounts 1
 image 428abbe1347171d7e00df3badf31776c1ef4445e0516044cf7a638356db5f470 a
 ";
 
-// A hexadecimal address can begin with the first letter of the last line.
+// A table can have the lowest address, the highest one, and one that begins with `d`, as the last line does.
 #[test]
 fn reads_addresses_from_end_to_end(rt: HostRuntime) -> Result<(), Fail> {
     sum_is(rt.alloc(), HIGH, "rvcounts 1\ndone 0 0\n", HIGH)

@@ -30,7 +30,7 @@ abbrev pub gone_line : Option Row → Row → List ℕ
 gone_line None old = line (codes "- " ++ old.name)
 gone_line (Some new) old = []
 
--- the lines for a row of the new report: `+ NAME` if the old report has no row with its name, or a line for each part that differs
+-- the lines for a row of the new report: `+ NAME` if the old report has no row with its name, or a line for each field that differs
 abbrev pub changes_of_row : Compare → Option Row → Row → List ℕ
 changes_of_row compare None new = line (codes "+ " ++ new.name)
 changes_of_row compare (Some old) new = change_lines compare old new

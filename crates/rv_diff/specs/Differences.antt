@@ -94,11 +94,11 @@ verdict_words old new = codes "verdict " ++ becomes (verdict_name old) (verdict_
 abbrev pub change_begin : List ℕ → List ℕ
 change_begin name = codes "! " ++ name ++ codes ": "
 
--- the line for a part of the job with this name, if it is not the same in both rows
+-- the line for a field of the job with this name, if it is not the same in both rows
 abbrev pub change_line : List ℕ → Bool → List ℕ → List ℕ
 change_line name same words = if same then [] else line (change_begin name ++ words)
 
--- a line for each part in which two rows differ: the ending, the steps, the console, the signature, the verdict
+-- a line for each field in which two rows differ: the ending, the steps, the console, the signature, the verdict
 unfoldable pub change_lines : Compare → Row → Row → List ℕ
 change_lines compare old new =
     change_line new.name (are_same_endings compare old.ending new.ending)

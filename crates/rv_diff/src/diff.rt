@@ -53,8 +53,8 @@ pub struct StepSums {
 
 /// Appends the output of `diff` for the rows of two reports, and returns how many jobs differ. First comes `- NAME` for each job that only
 /// the old report has, in its order; then, in the order of the new report, `+ NAME` for each job that only the new one has, and a line `!
-/// NAME: ..` for each part in which the rows of a job differ; and last how many jobs differ, and how many are not compared. Among rows with
-/// one name only the first counts; reports that can be read have no such rows.
+/// NAME: ..` for each field in which the rows of a job differ; and last how many jobs differ, and how many are not compared. Among rows
+/// with one name only the first counts; reports that can be read have no such rows.
 #[tactic(auto, unfolding(crate::specs::Diff::diff_text))]
 pub fn push_diff(
     alloc: Global,
@@ -169,7 +169,8 @@ fn push_added_and_changed_lines(
     Ok((added, changed))
 }
 
-// Appends the lines for a row of the new report: `+ NAME` if the old report has no row with its name, or a line for each part that differs.
+// Appends the lines for a row of the new report: `+ NAME` if the old report has no row with its name, or a line for each field that
+// differs.
 fn push_changes_of_row(
     text: &mut Vec<u8>,
     compare: Compare,

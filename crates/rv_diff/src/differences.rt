@@ -13,7 +13,7 @@ use rv_rows::{Row, RowEnd};
 use rv_text::{Span, push_spans, push_text, tail_from};
 use std::alloc::AllocError;
 
-/// Appends a line for each part in which two rows differ.
+/// Appends a line for each field in which two rows differ.
 #[tactic(auto, unfolding(crate::specs::Differences::change_lines))]
 pub(crate) fn push_change_lines(
     text: &mut Vec<u8>,

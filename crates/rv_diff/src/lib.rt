@@ -1,6 +1,6 @@
 //! The differences between two reports, job by job.
 //!
-//! [`push_diff`] appends a line for each job that only one report has and for each part in which the two rows of a job differ, and returns
+//! [`push_diff`] appends a line for each job that only one report has and for each field in which the two rows of a job differ, and returns
 //! how many jobs are gone, added and changed ([`Differing`]). [`Compare`] selects what is compared. The text is exactly as defined in
 //! `specs/`. Two laws state that there is a line if and only if rows differ: [`rows_agree_where_no_line_is_due`] and
 //! [`jobs_differ_where_a_line_is_due`].

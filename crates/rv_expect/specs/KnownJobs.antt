@@ -43,14 +43,14 @@ job_names jobs = map (λ name. name.now) jobs
 abbrev pub has_job_named : List (List ℕ) → List ℕ → Bool
 has_job_named jobs name = list_any (λ job. bytes_eq job name) jobs
 
--- the error of a name that follows these known failures: it is invalid, repeated, or not the name of a job; `None` if it is good
+-- what is wrong with a name that follows these known failures: it is invalid, repeated, or not the name of a job; `None` if nothing is
 abbrev pub fault_kind : List (List ℕ) → List KnownJob → List ℕ → Option KnownFaultKind
 fault_kind jobs known name = if is_name name
     then (if is_known known name then Some kind.Twice
     else if has_job_named jobs name then None else Some kind.NoJob)
     else Some kind.NoName
 
--- the error in a line that follows the `earlier` lines, or `None` if it is good; lines are counted from 1
+-- the error in a line that follows the `earlier` lines, or `None` if it is valid; lines are counted from 1
 abbrev pub fault_of_line : List (List ℕ) → List (List ℕ) → List ℕ → Option KnownFault
 fault_of_line jobs earlier line = if has_name line
     then option_map (λ kind. record { line = length earlier + 1; name = name_text line; kind = kind })
@@ -62,7 +62,7 @@ abbrev pub first_of : Option KnownFault → Option KnownFault → Option KnownFa
 first_of (Some fault) more = Some fault
 first_of None more = more
 
--- the first error in lines that follow the `earlier` lines, or `None` if all are good
+-- the first error in lines that follow the `earlier` lines, or `None` if all are valid
 unfoldable pub first_fault : List (List ℕ) → List (List ℕ) → List (List ℕ) → Option KnownFault
 first_fault jobs earlier [] = None
 first_fault jobs earlier (line ∷ lines) =

@@ -45,7 +45,7 @@ fn read_lines(
     Ok(Ok(Sequence::new(known)))
 }
 
-// Returns the error in the line with this number, which follows lines with these known failures, or `None` if it is good.
+// Returns the error in the line with this number, which follows lines with these known failures, or `None` if the line is valid.
 fn fault_of_line(
     alloc: Global,
     jobs: &[&str],
@@ -71,7 +71,7 @@ fn fault_of_line(
     }))
 }
 
-// Returns the error of a name that follows these known failures, or `None` if it is good.
+// Returns what is wrong with a name that follows these known failures, or `None` if nothing is.
 fn fault_kind(jobs: &[&str], known: &[KnownJob], name: &[u8]) -> Option<KnownFaultKind>
     ensures { result ≡ fault_kind (job_names jobs.now) known.now name.now }
 {

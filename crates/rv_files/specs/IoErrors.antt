@@ -3,7 +3,8 @@ use Rattle.std.specs.Prelude.{ℕ, Bool, true, false, List, codes}
 use Rattle.std.specs.declared.io.ErrorKind.{ErrorKind}
 use Rattle.std.specs.declared.io.ErrorKind.TheVariants as kind
 
--- the message for a failed open, read or write: that of `strerror`, or `cannot be read` for an error that is not listed
+-- the message for a failed open, read or write: `out of memory` if memory ran out, `cannot be read` for an error that is not listed, and
+-- otherwise that of `strerror`
 unfoldable pub io_error_text : ErrorKind → List ℕ
 io_error_text kind.NotFound = codes "No such file or directory"
 io_error_text kind.IsADirectory = codes "Is a directory"
@@ -26,7 +27,8 @@ io_error_text kind.Unsupported = codes "Operation not supported"
 io_error_text kind.OutOfMemory = codes "out of memory"
 io_error_text _ = codes "cannot be read"
 
--- the message for a failed write: that of `strerror`, or `write failed` for an error that is not listed
+-- the message for a failed write: `out of memory` if memory ran out, `write failed` for an error that is not listed, and otherwise that of
+-- `strerror`
 unfoldable pub write_error_text : ErrorKind → List ℕ
 write_error_text kind.StorageFull = codes "No space left on device"
 write_error_text kind.QuotaExceeded = codes "Disk quota exceeded"

@@ -56,7 +56,7 @@ pub(crate) fn read_ahead<I: Read>(
     read
 }
 
-// Whether bytes that arrive during a move interrupt it: they begin with 0x03, or there are none, which means the end.
+// Whether bytes that arrive during a move interrupt it: they begin with 0x03, or there are none, which means that the input has ended.
 fn is_interrupted(bytes: &[u8]) -> bool
     ensures { result ≡ is_interrupted bytes.now true }
 {

@@ -49,7 +49,7 @@ total_steps rows = sum_by (λ row. row.steps) rows
 
 -- ---- the line
 
--- the number of failures of a kind and its name, as a list; empty if there are none
+-- a list whose only element has the number of failures of a kind and the name of the kind; empty if there are no such failures
 abbrev pub failure_text : (FailureKind → ℕ) → FailureKind → List (List ℕ)
 failure_text count kind =
     if count kind == 0 then [] else (decimal (count kind) ++ codes " " ++ failure_kind_name kind) ∷ []
@@ -68,7 +68,7 @@ open_bracket_text (first ∷ more) = codes " (" ++ first ++ flat_map (λ text. c
 abbrev pub bracket_text : List (List ℕ) → List ℕ
 bracket_text texts = if length texts == 0 then [] else open_bracket_text texts ++ codes ")"
 
--- " job" or " jobs", by their number
+-- " job" for one job, and " jobs" for any other number
 abbrev pub job_word : ℕ → List ℕ
 job_word count = if count == 1 then codes " job" else codes " jobs"
 

@@ -16,11 +16,11 @@ abbrev pub unread_note_text : Option UnreadablePath → List ℕ
 unread_note_text None = codes "cannot be read"
 unread_note_text (Some one) = io_error_text one.reason
 
--- the path of a file, and why it could not be read
+-- the text that says why the file at this path could not be read
 unfoldable pub unread_file_text : List UnreadablePath → List ℕ → List ℕ
 unread_file_text unread path = path ++ codes ": " ++ unread_note_text (unread_note unread path)
 
--- the path of a file, and that the file is too long
+-- the text that the file at this path is too long
 unfoldable pub too_long_file_text : List ℕ → List ℕ
 too_long_file_text path =
     path ++ codes ": the file is larger than " ++ decimal most_bytes ++ codes " bytes"

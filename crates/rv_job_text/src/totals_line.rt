@@ -99,7 +99,7 @@ fn push_passed_counts(
     )
 }
 
-/// Returns ` job` or ` jobs`, by their number.
+/// Returns ` job` for one job, and ` jobs` for any other number.
 pub fn job_word(count: usize) -> &'static str
     ensures { result.now ≡ job_word count }
 {

@@ -8,7 +8,7 @@ use rv_jobs::limits::MOST_BYTES;
 use rv_text::{Span, text_of_spans};
 use std::alloc::{AllocError, Global};
 
-/// Returns the path of a file, and why it could not be read.
+/// Returns the text that says why the file at this path could not be read.
 #[tactic(auto, unfolding(crate::specs::UnreadFiles::unread_file_text))]
 pub fn unread_file_text(
     alloc: Global,
@@ -24,7 +24,7 @@ pub fn unread_file_text(
     )
 }
 
-/// Returns the path of a file, and that the file is too long.
+/// Returns the text that the file at this path is too long.
 #[tactic(auto, unfolding(crate::specs::UnreadFiles::too_long_file_text))]
 pub fn too_long_file_text(alloc: Global, path: &str) -> Result<Vec<u8>, AllocError>
     ensures { IfOk result (λ text. text.items ≡ too_long_file_text path.now) }

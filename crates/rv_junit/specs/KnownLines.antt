@@ -5,7 +5,7 @@ use Rattle.rv_expect.specs.Judgement.{Judging, fails}
 use Rattle.rv_rows.specs.declared_row.Row.{Row}
 use Rattle.rv_stream.specs.declared.reported_row.ReportedRow.{ReportedRow}
 
--- `texts` has, by the number of the row, the lines that `line` makes of the row and its job's index, or none if they are not known
+-- for each row, `texts` has the lines that `line` makes of the row and its job's index, or `None` if they are not known
 abbrev pub AreLinesOf : (ℕ → Row → List ℕ) → List ℕ → List Row → List (Option (Vec ℕ Global)) → Type 0
 AreLinesOf line indices rows texts = (k : ℕ) (any : Row) → k < length rows → IfSome (slice_index_or texts k None)
     (λ text. text.items ≡ line (slice_index_or indices k 0) (slice_index_or rows k any))

@@ -24,7 +24,7 @@ pub struct Cases<'a, T: RowReporter> {
     pub reporter: &'a T,
     pub places: &'a [usize],
     pub rows: &'a [Row],
-    /// The lines about a row by its number, if they are known; then the reporter does not make them again. There may be fewer than rows.
+    /// For each row, the lines about it if they are known, so that the reporter does not make them again. May be shorter than `rows`.
     pub texts: &'a [Option<Vec<u8>>],
     pub ghost placed: { length rows.now ≤ length places.now },
 }
@@ -75,8 +75,8 @@ impl<T: RowReporter> Cases<'_, T> {
     }
 }
 
-/// Appends the test cases to the buffered `text`, which is written in few large writes; the rest stays in `text`. After an error a prefix
-/// of the test cases has been written.
+/// Appends the test cases to the buffer `text`, and writes the buffer to the sink whenever it is large; the rest stays in `text`. After an
+/// error, a prefix of the text has been written.
 pub(crate) fn write_cases<T: RowReporter, W: Sink>(
     alloc: Global,
     text: &mut Vec<u8>,

@@ -63,6 +63,7 @@ IsNotToml text place told = (reason : List ℕ) × (told
 abbrev pub elf_magic : List ℕ
 elf_magic = 0x7f ∷ 0x45 ∷ 0x4c ∷ 0x46 ∷ []
 
+-- whether a text begins like an ELF file
 abbrev pub is_elf_file : List ℕ → Bool
 is_elf_file text = starts_with nat_eq text elf_magic
 
@@ -70,6 +71,7 @@ is_elf_file text = starts_with nat_eq text elf_magic
 abbrev pub elf_file_text : List ℕ
 elf_file_text = codes ": error: this is an ELF file, not a job list"
 
+-- the text that a list with `count` jobs has too many
 abbrev pub too_many_jobs_text : ℕ → List ℕ
 too_many_jobs_text count = (codes "too many jobs: expected at most " ++ (decimal most_jobs ++ codes ", found ")) ++ decimal count
 

@@ -113,7 +113,7 @@ impl<'a> FaultyJob<'a> {
         true
     }
 
-    // Returns the error of a key, or `None` if it is good. `met` are the keys before it.
+    // Returns the error of a key, or `None` if it is valid. `met` are the keys before it.
     fn key_fault(&self, key: &str, met: &FoundKeys<'_>) -> Option<KeyFault> {
         let Some(place) = place_of_key(key) else {
             return Some(KeyFault::Unknown);
@@ -129,7 +129,7 @@ impl<'a> FaultyJob<'a> {
         }
     }
 
-    // Returns the error of a value of the right type, or `None` if it is good.
+    // Returns the error of a value of the right type, or `None` if it is valid.
     fn value_fault(
         &self,
         kind: Kind,
@@ -147,7 +147,7 @@ impl<'a> FaultyJob<'a> {
         }
     }
 
-    // Returns the error of the text at a key, or `None` if it is good.
+    // Returns the error of the text at a key, or `None` if it is valid.
     fn text_fault(&self, key: &str, text: &str, met: &FoundKeys<'_>) -> Option<KeyFault> {
         match key {
             "name" => self.name_fault(text),
@@ -158,7 +158,7 @@ impl<'a> FaultyJob<'a> {
         }
     }
 
-    // Returns the error of the name of a job, or `None` if it is good.
+    // Returns the error of the name of a job, or `None` if it is valid.
     fn name_fault(&self, name: &str) -> Option<KeyFault> {
         if !is_name(name.as_bytes()) {
             Some(KeyFault::Expected(Explanation::Expected(&NAME)))
@@ -177,7 +177,7 @@ impl<'a> FaultyJob<'a> {
         }
     }
 
-    // Returns the explanation of a bad `input` or `input_hex`, or `None` if it is good.
+    // Returns the explanation of an invalid `input` or `input_hex`, or `None` if it is valid.
     fn input_fault(&self, key: &str, text: &str, met: &FoundKeys<'_>) -> Option<Explanation> {
         if key == "input" {
             if MOST_SCRIPT < text.len() {
@@ -208,7 +208,7 @@ impl<'a> FaultyJob<'a> {
         }
     }
 
-    // Returns the explanation of a bad expectation, image, or other text at a key, or `None` if it is good.
+    // Returns the explanation of an invalid expectation, image, or other text at a key, or `None` if it is valid.
     fn expectation_or_choice_fault(
         &self,
         key: &str,
@@ -238,7 +238,7 @@ impl<'a> FaultyJob<'a> {
         }
     }
 
-    // Returns the explanation of a bad `expect_signature`, or `None` if it is good.
+    // Returns the explanation of an invalid `expect_signature`, or `None` if it is valid.
     fn reference_fault(&self, path: &str) -> Option<Explanation> {
         if value_at_key(self.table, "signature").is_none() {
             Some(Explanation::Expected(&UNASKED))
@@ -249,7 +249,7 @@ impl<'a> FaultyJob<'a> {
         }
     }
 
-    // Returns the explanation of a bad text at a key that accepts only a few texts, or `None` if it is good.
+    // Returns the explanation of an invalid text at a key that accepts only a few texts, or `None` if it is valid.
     fn choice_fault(&self, key: &str, text: &str) -> Option<Explanation> {
         match key {
             "load" if text != "physical" && text != "virtual" => Some(Explanation::Expected(&LOAD)),
@@ -271,7 +271,7 @@ fn wanted(told: Option<Explanation>) -> Option<KeyFault> {
     }
 }
 
-// Returns the explanation of a bad number at a key, or `None` if it is good.
+// Returns the explanation of an invalid number at a key, or `None` if it is valid.
 fn number_fault(key: &str, number: i64) -> Option<Explanation> {
     if key == "budget" && (number < 1 || i64::from(MOST_BUDGET) < number) {
         Some(Explanation::Expected(&BUDGET))
@@ -282,7 +282,7 @@ fn number_fault(key: &str, number: i64) -> Option<Explanation> {
     }
 }
 
-// Returns the explanation of a bad `signature` with these elements, or `None` if it is good.
+// Returns the explanation of an invalid `signature` with these elements, or `None` if it is valid.
 fn signature_fault(names: &[Value]) -> Option<Explanation> {
     let is_good = names.len() == 2 && is_symbol(&names[0]) && is_symbol(&names[1]);
     if is_good {

@@ -1,4 +1,4 @@
-//! Regions that do not form a map.
+//! Regions that do not form a memory map.
 
 ghost use Rattle.std.specs.Prelude.{◌+◌, ◌^◌, ◌<◌, IfSome, length};
 ghost use Rattle.rv_list_errors.specs.JobFaults.{ExplainsRegions};
@@ -44,7 +44,7 @@ fn first_regions(elements: &[Value]) -> [Region; 4] {
     ]
 }
 
-/// Appends why the regions of a job do not form a map.
+/// Appends why the regions of a job do not form a memory map.
 pub(crate) fn push_region_fault(message: &mut Message, table: &Table)
     ensures { AddsSome message.old message.new ExplainsRegions }
 {
@@ -64,7 +64,7 @@ fn place_of_unreadable_region(elements: &[Value]) -> Option<usize>
         .position(|element| region_of_element(element).is_none())
 }
 
-// Appends why elements, each of which is a region, do not form a map.
+// Appends why elements, each of which is a region, do not form a memory map.
 fn push_fault_of_regions(message: &mut Message, elements: &[Value])
     ensures { AddsSome message.old message.new ExplainsRegions }
 {
@@ -104,7 +104,7 @@ fn region_of_element(element: &Value) -> Option<Region> {
     }
 }
 
-// Appends the base of the region at an index, or its size if the base is good, which is not a 32-bit number.
+// Appends what is wrong with the region at an index: its base if that is not a 32-bit number, else its size; or that it is not a table.
 fn push_bad_base_or_size(message: &mut Message, at: usize, element: &Value)
     ensures { at + 1 < 2 ^ 64 → AddsSome message.old message.new ExplainsRegions }
 {
@@ -119,7 +119,7 @@ fn push_bad_base_or_size(message: &mut Message, at: usize, element: &Value)
     }
 }
 
-// Appends why these regions do not form a map.
+// Appends why these regions do not form a memory map.
 fn push_map_error(message: &mut Message, regions: &[Region])
     ensures { AddsSome message.old message.new ExplainsRegions }
 {

@@ -117,12 +117,12 @@ regions_from_elements (item d ds) = do
   regions ← regions_from_elements ds
   Ok (region ∷ regions)
 
--- these regions, or an error if they do not form a map, since `map_error` gives some error
+-- these regions, or an error if they do not form a memory map, since `map_error` gives some error
 abbrev pub regions_if_map : List Region → Option MapError → Result (List Region) What
 regions_if_map regions None = Ok regions
 regions_if_map regions (Some e) = Err what.Region
 
--- the regions of the elements of `region`, if they form a map, or else an error
+-- the regions of the elements of `region`, if they form a memory map, or else an error
 unfoldable pub map_from_elements : Items → Result (List Region) What
 map_from_elements ds = regions_from_elements ds >>= (λ regions. regions_if_map regions (map_error regions))
 

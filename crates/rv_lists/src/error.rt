@@ -30,7 +30,7 @@ pub enum What {
     Budget,
     /// `input` and `input_hex` are both set, the digits are invalid, or the script has more than 65,536 bytes.
     Input,
-    /// A region has no base or no size, one of them is not a 32-bit number, or the regions do not form a map.
+    /// A region has no base or no size, one of them is not a 32-bit number, or the regions do not form a memory map.
     Region,
     /// `load` is neither `physical` nor `virtual`.
     Load,

@@ -24,7 +24,7 @@ pub(crate) fn map_from_table(alloc: Global, table: &Table) -> Result<Map, What>
     }
 }
 
-// Returns the regions of the elements of `region`, or an error if one is invalid or they do not form a map.
+// Returns the regions of the elements of `region`, or an error if one is invalid or they do not form a memory map.
 #[tactic(auto, unfolding(crate::specs::JobList::map_from_elements))]
 fn map_from_elements(alloc: Global, elements: &[Value]) -> Result<Map, What>
     ensures { Gives result (map_from_elements (items_view elements.now)) }

@@ -26,7 +26,7 @@ pub enum MergeError {
 /// What is wrong with a text.
 #[derive(Clone, Copy, Debug, Error)]
 pub enum Flaw {
-    /// It is not a report: the first line, counted from 1, that no report has there.
+    /// It is not a report: this is the first invalid line, counted from 1.
     #[error("invalid line {0}")]
     Line(usize),
     /// It is a truncated report.

@@ -69,7 +69,7 @@ function_line c steps p = share c.own p.own steps ++ share c.inclusive p.inclusi
 abbrev pub function_lines : Columns → ℕ → List Profiled → List ℕ
 function_lines c steps ps = flat_map (function_line c steps) ps
 
--- the words for further functions after their number, with a line feed
+-- " more function" for one function, else " more functions", and a line feed
 abbrev pub functions_word : ℕ → List ℕ
 functions_word count = if count == 1 then codes " more function\n" else codes " more functions\n"
 
@@ -84,8 +84,8 @@ abbrev pub first_of : {X : Type 0} → Option ℕ → List X → List X
 first_of None xs = xs
 first_of (Some count) xs = take count xs
 
--- the lines after that of the image: a header, the first `top` functions, or all, and how many more there are; nothing if there are no
--- functions
+-- the lines below the image's own line: a header, the functions (only the first `top` if that is set), and how many more there are; nothing
+-- if there are no functions
 abbrev pub functions_text : Option ℕ → Sums → List Profiled → List ℕ
 functions_text top sums [] = []
 functions_text top sums (p ∷ ps) = columns_head (columns_of sums) ++ function_lines (columns_of sums) sums.steps (first_of top (p ∷ ps))

@@ -148,7 +148,7 @@ pub(crate) fn push_more_line(bytes: &mut Vec<u8>, left: usize) -> Result<(), All
     push_text(bytes, functions_word(left))
 }
 
-// Returns the words for further functions after their number, with a line feed.
+// Returns " more function" for one function, else " more functions", and a line feed.
 fn functions_word(count: usize) -> &'static str
     ensures { result.now ≡ functions_word count }
 {

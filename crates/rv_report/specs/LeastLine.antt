@@ -1,5 +1,4 @@
--- Which line of a text is the first that no report has there: some report begins with the lines before it, and none with these lines and
--- this line.
+-- The first invalid line of a text: some report begins with the lines before it, but no report begins with these lines and this one.
 use Rattle.std.specs.Prelude.{◌≡◌, ◌==◌, ◌-◌, ℕ, if◌then◌else◌, List, [], ◌∷◌, ◌++◌}
 use Rattle.rv_report.specs.declared.read.ReadError.{ReadError}
 use Rattle.rv_report.specs.declared.read.ReadError.TheVariants.{OutOfMemory, Line, CutOff}
@@ -17,13 +16,12 @@ first_lines count (b ∷ bs) =
 abbrev pub BeginsReport : List ℕ → Type 0
 BeginsReport bytes = (report : SavedReport) × (rest : List ℕ) × IsSaved report × (saved_text report ≡ bytes ++ rest)
 
--- some report begins with the lines of the bytes before this one, and no report begins with these lines and this line
+-- the line is the first invalid one: some report begins with the lines before it, but no report begins with these lines and this one
 pub record IsLeastRefusedLine (line : ℕ) (bytes : List ℕ) : Type 0 where
   pub before : BeginsReport (first_lines (line - 1) bytes)
   pub refused : BeginsReport (first_lines line bytes) → ⊥
 
--- the error names the first line up to which no report begins with the lines of the bytes; if it is `CutOff`, some report begins with all
--- their lines that end with a line feed
+-- the error names the first invalid line of the bytes; if it is `CutOff`, some report begins with all their lines that end with a line feed
 abbrev pub IsLeast : ReadError → List ℕ → Type 0
 IsLeast OutOfMemory bytes = Unit {0}
 IsLeast (Line line) bytes = IsLeastRefusedLine line bytes

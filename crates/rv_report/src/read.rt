@@ -23,7 +23,7 @@ pub enum ReadError {
     /// An allocation failed.
     #[error("out of memory")]
     OutOfMemory,
-    /// The first line, counted from 1, that no report has there.
+    /// The first invalid line, counted from 1: some report begins with the lines before it, but none with these lines and this one.
     #[error("invalid line {0}")]
     Line(usize),
     /// The text ends before its report does: its complete lines are those of some report, and the incomplete line after them may begin a

@@ -80,7 +80,7 @@ stop_of session requested place found.Interrupted = stop.Interrupt
 abbrev pub printed_on : Session → Move → State → List ℕ
 printed_on session requested s = if is_forward requested then drop session.shown s.bus.output else []
 
--- how many console bytes were sent once a move has stopped in state `s`
+-- the number of console bytes that have been sent when a move has stopped in the state `s`
 abbrev pub shown_on : Session → Move → State → ℕ
 shown_on session requested s = if is_forward requested then max session.shown (length s.bus.output) else session.shown
 

@@ -10,7 +10,7 @@ use rv_expect::Judge;
 use rv_rows::Row;
 
 impl Tally {
-    /// Creates a tally of no rows.
+    /// Creates an empty tally.
     pub(crate) fn new() -> Tally
         ensures { (judging : Judging) → IsTallyOf judging [] result }
     {

@@ -35,7 +35,7 @@ fn main(rt: HostRuntime) -> ExitCode {
     ExitCode::from(status)
 }
 
-// Whether a variable of the process is set and not empty.
+// Whether an environment variable is set and not empty.
 fn is_set(rt: &(impl Env + AllocGlobal), name: &str) -> bool {
     match env::var(rt, name) {
         Ok(text) => !text.is_empty(),

@@ -45,12 +45,13 @@ IsFileNotWrittenStop known path why = IsFileNotCreatedStop path why ⊎ IsUnchec
 abbrev pub IsStopOfFiles : (List ℕ → Stop → Type 0) → List ℕ → List GoldenFile → Stop → Type 0
 IsStopOfFiles happened list files why = happened list why ⊎ Any (λ file. happened file.resolved_path why) files
 
--- memory ran out, or the golden file of one of the targets could not be read; its path is resolved against `root`
+-- why a command stopped: memory ran out, or the golden file of one of the targets could not be read; its path is resolved against `root`
 abbrev pub AreTargetsUnread : Option FileContents → Option (List ℕ) → List Target → Stop → Type 0
 AreTargetsUnread known root targets why = (why ≡ stop.OutOfMemory)
     ⊎ Any (λ target. IsListUnreadStop known (resolved_path root target.path) why) targets
 
--- memory ran out, a write to standard output failed, or, unless `check` is set, the list or a golden file was not written
+-- why a command stopped: memory ran out, a write to standard output failed, or, unless `check` is set, the list or a golden file was not
+-- written
 abbrev pub IsAcceptanceWriteStop : Option FileContents → Bool → List ℕ → List GoldenFile → Stop → Type 0
 IsAcceptanceWriteStop known check list files why = (why ≡ stop.OutOfMemory) ⊎ ((why ≡ stop.WriteFailed)
     ⊎ ((check ≡ false) × IsStopOfFiles (IsFileNotWrittenStop known) list files why))
@@ -66,17 +67,17 @@ abbrev pub IsFileOfList : AcceptArgs → List Job → List ℕ → Type 0
 IsFileOfList words jobs place = (place ≡ words.run.list.now)
     ⊎ ((path : List ℕ) × (IsGoldenPath jobs path × (place ≡ resolved_path (optional_text words.run.root) path)))
 
--- memory ran out, or the list or a golden file of its jobs could not be read
+-- why a command stopped: memory ran out, or the list or a golden file of its jobs could not be read
 abbrev pub IsGoldenUnreadStop : Option FileContents → AcceptArgs → List Job → Stop → Type 0
 IsGoldenUnreadStop known words jobs why = (why ≡ stop.OutOfMemory)
     ⊎ ((path : List ℕ) × (IsFileOfList words jobs path × IsListUnreadStop known path why))
 
--- the file at the path could not be read or, unless `check` is set, could not be written
+-- why a command stopped: the file at the path could not be read or, unless `check` is set, could not be written
 abbrev pub IsFileOfListStop : Option FileContents → Bool → List ℕ → Stop → Type 0
 IsFileOfListStop known check path why = IsListUnreadStop known path why ⊎ ((check ≡ false) × IsFileNotWrittenStop known path why)
 
--- memory ran out, no thread could be started, a write to standard output failed, or the list or a golden file of its jobs could not be read
--- or written
+-- why a command stopped: memory ran out, no thread could be started, a write to standard output failed, or the list or a golden file of its
+-- jobs could not be read or written
 abbrev pub IsAcceptingStop : Option FileContents → AcceptArgs → List Job → Stop → Type 0
 IsAcceptingStop known words jobs why = (why ≡ stop.OutOfMemory) ⊎ ((why ≡ stop.NoWorker) ⊎ ((why ≡ stop.WriteFailed)
     ⊎ ((path : List ℕ) × (IsFileOfList words jobs path × IsFileOfListStop known words.check path why))))

@@ -44,7 +44,7 @@ abbrev pub IsCheckStop : Option FileContents → CheckArgs → Stop → Type 0
 IsCheckStop known words why = IsListUnreadStop known words.list.now why
     ⊎ ((text : List ℕ) × (IsTextAt known words.list.now text × IsListFaultStop words.list.now text why))
 
--- the text at the path is not a list, or none of its jobs has this name
+-- why a command stopped: the text at the path is not a list, or none of its jobs has this name
 abbrev pub IsNoJobStop : List ℕ → List ℕ → List ℕ → Stop → Type 0
 IsNoJobStop path text name why = IsListFaultStop path text why
     ⊎ ((jobs : List Job) × ((job_list_of text ≡ Ok jobs) × IsUnknownNameStop path jobs name why))

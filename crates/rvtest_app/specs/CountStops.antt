@@ -54,22 +54,22 @@ pub record IsTableFaultStop (path text : List ℕ) (why : Stop) : Type 0 where
   pub told : (error : ReadError) × (IsLeast error text × IsReadErrorStop path error why)
   pub whole : (table : CountTable) → IsTable table → table_text table ≡ text → why ≡ stop.OutOfMemory
 
--- the table at the path cannot be added to `before`, the sum of the earlier tables
+-- why a command stopped: the table at the path cannot be added to `before`, the sum of the earlier tables
 abbrev pub IsSumOverflowStop : Option FileContents → List ℕ → CountTable → Stop → Type 0
 IsSumOverflowStop known path before why = (table : CountTable) × (IsTableAt known path table
     × ((error : SumError) × (HaveNoSum error before table × IsSumErrorStop path error why)))
 
--- the table at the path could not be read, is invalid, or cannot be added to `before`, the sum of the earlier tables
+-- why a command stopped: the table at the path could not be read, is invalid, or cannot be added to `before`, the sum of the earlier tables
 abbrev pub IsUnaddedStop : Option FileContents → List ℕ → CountTable → Stop → Type 0
 IsUnaddedStop known path before why = IsResultUnreadStop known path why
     ⊎ (((text : List ℕ) × (IsTextAt known path text × IsTableFaultStop path text why))
     ⊎ IsSumOverflowStop known path before why)
 
--- the tables before one of the paths were added up, and then the table at this path could not be added
+-- why a command stopped: the tables before one of the paths were added up, and then the table at this path could not be added
 pub record IsSumStop (known : Option FileContents) (paths : List (Bor (List ℕ))) (why : Stop) : Type 0 where
   pub before : List (Bor (List ℕ))
   pub path : Bor (List ℕ)
-  -- the paths after that of the table
+  -- the paths after `path`
   pub later_tables : List (Bor (List ℕ))
   pub sum : CountTable
   pub listed : paths ≡ before ++ path ∷ later_tables

@@ -46,11 +46,11 @@ most_number = 2 ^ 64 - 1
 abbrev pub shown_number : ℕ → ℕ
 shown_number number = min number most_number
 
--- " run of " or " runs of ", by the number of runs
+-- " run of " for one run, and " runs of " for any other number
 abbrev pub run_word : ℕ → List ℕ
 run_word count = if count == 1 then codes " run of " else codes " runs of "
 
--- " image, " or " images, ", by the number of images
+-- " image, " for one image, and " images, " for any other number
 abbrev pub image_word : ℕ → List ℕ
 image_word count = if count == 1 then codes " image, " else codes " images, "
 
@@ -58,7 +58,7 @@ image_word count = if count == 1 then codes " image, " else codes " images, "
 abbrev pub number_head : ℕ → List ℕ
 number_head number = if number == most_number then codes "at least " else []
 
--- " instruction" or " instructions", by their number, and a line feed
+-- " instruction" for one instruction, else " instructions", and a line feed
 abbrev pub instruction_word : ℕ → List ℕ
 instruction_word count = if count == 1 then codes " instruction\n" else codes " instructions\n"
 

@@ -116,11 +116,11 @@ pub record IsRefusedJobStop (known : Option FileContents) (jobs : List Job) (pla
   pub told : (d : Job) → IsStop 2 (row_line plan unread (judging_by_rule Strict) (slice_index_or plan.jobs place d)
       (row_of plan (slice_index_or plan.jobs place d))) why
 
--- memory ran out, or the job at index `place` is refused
+-- why a command stopped: memory ran out, or the job at index `place` is refused
 abbrev pub IsUnopenedStop : Option FileContents → List Job → ℕ → Stop → Type 0
 IsUnopenedStop known jobs place why = (why ≡ stop.OutOfMemory) ⊎ IsRefusedJobStop known jobs place why
 
--- the first job of the requested name in the list whose text is `bytes` is refused
+-- why a command stopped: the first job of the requested name in the list whose text is `bytes` is refused
 pub record IsUnopenedOfStop (known : Option FileContents) (words : GdbArgs) (bytes : List ℕ) (why : Stop) : Type 0 where
   pub jobs : List Job
   pub listed : job_list_of bytes ≡ Ok jobs

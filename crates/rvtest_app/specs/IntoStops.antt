@@ -74,7 +74,7 @@ IsNotWhole jobs report (other.Count rows count) = (report.extent ≡ extent.Whol
 IsNotWhole jobs report (other.Name name) = (report.extent ≡ extent.Whole)
     × ((length report.rows ≡ length jobs) × IsFirstOtherName (row_names report.rows) (job_names jobs) name)
 
--- the report at `path` could not be read, or it is not a report of all jobs of the list at `list`
+-- why a command stopped: the report at `path` could not be read, or it is not a report of all jobs of the list at `list`
 abbrev pub IsNotWholeReportStop : Option FileContents → List ℕ → List ℕ → List Job → Stop → Type 0
 IsNotWholeReportStop known path list jobs why = IsReportReadError known path why
     ⊎ ((report : SavedReport) × (IsReportAt known path report

@@ -18,7 +18,7 @@ IsKnownFaultStop path list jobs bytes why = (why ≡ stop.OutOfMemory)
     ⊎ ((fault : KnownFault) × ((known_jobs_of (names_of_jobs jobs) bytes ≡ Err fault)
     × IsStop 2 (known_fault_message path list fault) why))
 
--- the file of known failures at `path` could not be read, or it has an error
+-- why a command stopped: the file of known failures at `path` could not be read, or it has an error
 abbrev pub IsNoKnownFileStop : Option FileContents → List ℕ → List ℕ → List Job → Stop → Type 0
 IsNoKnownFileStop known path list jobs why = IsListUnreadStop known path why
     ⊎ ((bytes : List ℕ) × (IsTextAt known path bytes × IsKnownFaultStop path list jobs bytes why))

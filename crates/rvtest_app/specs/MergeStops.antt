@@ -14,27 +14,27 @@ use Rattle.rvtest_app.specs.Merges.{AreTextsAt, merged_report_path}
 use Rattle.rvtest_app.specs.Overwrites.{IsMergeOverwriteStop}
 use Rattle.rvtest_app.specs.WriteStops.{IsOutputStop}
 
--- the parts before one of the paths were read, but the part at this path could not be read
+-- why a command stopped: the parts before one of the paths were read, but the part at this path could not be read
 pub record IsPartUnreadStop (known : Option FileContents) (paths : List (Bor (List ℕ))) (why : Stop) : Type 0 where
   pub before : List (Bor (List ℕ))
   pub path : Bor (List ℕ)
-  -- the paths after that of the part
+  -- the paths after `path`
   pub later_parts : List (Bor (List ℕ))
   pub texts : List (List ℕ)
   pub listed : paths ≡ before ++ path ∷ later_parts
   pub read : AreTextsAt known before texts
   pub unread : IsResultUnreadStop known path.now why
 
--- memory ran out, or one of the parts could not be read
+-- why a command stopped: memory ran out, or one of the parts could not be read
 abbrev pub ArePartsUnread : Option FileContents → List (Bor (List ℕ)) → Stop → Type 0
 ArePartsUnread known paths why = (why ≡ stop.OutOfMemory) ⊎ IsPartUnreadStop known paths why
 
--- the report, the JUnit XML or the summary line could not be written
+-- why a command stopped: the report, the JUnit XML or the summary line could not be written
 abbrev pub IsMergeWriteStop : MergeArgs → Stop → Type 0
 IsMergeWriteStop words why = IsOutputStop
     (merged_report_path (optional_text words.report) (optional_text words.junit)) (optional_text words.junit) why
 
--- the texts are not the parts of one run, or they are, and the merged report was not written
+-- why a command stopped: the texts are not the parts of one run, or they are, and the merged report was not written
 abbrev pub IsMergeOfStop : MergeArgs → List (List ℕ) → Stop → Type 0
 IsMergeOfStop words texts why = ArePartsRefused words.parts.items texts why
     ⊎ ((rows : List Row) × (AreParts rows texts × IsMergeWriteStop words why))

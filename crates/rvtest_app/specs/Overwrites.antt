@@ -84,11 +84,11 @@ overwrite_message option path role read = overwrite_head option path ++ role ++ 
 abbrev pub IsOverwriteReported : List ℕ → List ℕ → Stop → Type 0
 IsOverwriteReported option path why = (role : List ℕ) × (read : List ℕ) × IsStop 2 (overwrite_message option path role read) why
 
--- the file of this option would overwrite an input, or the system does not say which file its path leads to
+-- why a command stopped: the file of this option would overwrite an input, or the system does not say which file its path leads to
 abbrev pub IsOverwriteStop : List ℕ → List ℕ → Stop → Type 0
 IsOverwriteStop option path why = IsUnopenedStop path why ⊎ IsOverwriteReported option path why
 
--- if an option names a file, this file would overwrite an input, or the system does not say where its path leads
+-- why a command stopped: the option names a file, and this file would overwrite an input, or the system does not say where its path leads
 abbrev pub IsOptionStop : List ℕ → Option (List ℕ) → Stop → Type 0
 IsOptionStop option path why = IsSomeAnd (file_path_at path) (λ path. IsOverwriteStop option path why)
 
@@ -130,7 +130,7 @@ pub record AreRunFilesApart (words : RunArgs) (jobs : List Job) : Type 0 where
   pub into : IsApart (inputs_of_run words jobs) (optional_text words.into)
   pub reports : AreReportsKept words
 
--- memory ran out, or an output file of a run would overwrite an input
+-- why a command stopped: memory ran out, or an output file of a run would overwrite an input
 abbrev pub IsRunOverwriteStop : RunArgs → Stop → Type 0
 IsRunOverwriteStop words why = (why ≡ stop.OutOfMemory)
     ⊎ (IsOptionStop (codes "--report") (optional_text words.report) why
@@ -183,7 +183,7 @@ pub record AreAcceptFilesApart (words : AcceptArgs) (jobs : List Job) (marks : L
 abbrev pub outside_head : List ℕ → List ℕ → List ℕ
 outside_head head role = head ++ role
 
--- the path of a golden file, and that it is outside of the directory
+-- the middle of the message: the path of the golden file, and the words that it is outside the directory
 abbrev pub outside_path : List ℕ → List ℕ
 outside_path path = codes " \"" ++ printable_text path ++ codes "\" is outside the directory "
 
@@ -204,17 +204,17 @@ outside_message role path directory = outside_text (codes "rvtest: ") role path 
 abbrev pub IsOutsideStop : List ℕ → Stop → Type 0
 IsOutsideStop path why = (role : List ℕ) × (directory : List ℕ) × IsStop 2 (outside_message role path directory) why
 
--- memory ran out; or the file at the path, which `accept` writes, would overwrite an input, leads to a file that the system does not name,
--- or is outside of the directory
+-- why a command stopped: memory ran out; or the file at the path, which `accept` writes, would overwrite an input, leads to a file that the
+-- system does not name, or is outside of the directory
 abbrev pub IsUnwritableStop : List ℕ → Stop → Type 0
 IsUnwritableStop path why = (why ≡ stop.OutOfMemory)
     ⊎ (((role : List ℕ) × IsOverwriteStop role path why) ⊎ IsOutsideStop path why)
 
--- some file that `accept` writes would overwrite an input, or is outside of the directory
+-- why a command stopped: some file that `accept` writes would overwrite an input, or is outside of the directory
 abbrev pub IsAnyUnwritableStop : Stop → Type 0
 IsAnyUnwritableStop why = (path : List ℕ) × IsUnwritableStop path why
 
--- memory ran out, or a file that `accept` writes would overwrite an input or is outside of the directory
+-- why a command stopped: memory ran out, or a file that `accept` writes would overwrite an input or is outside of the directory
 abbrev pub IsAcceptOverwriteStop : Stop → Type 0
 IsAcceptOverwriteStop why = (why ≡ stop.OutOfMemory) ⊎ IsAnyUnwritableStop why
 
@@ -235,7 +235,7 @@ abbrev pub AreMergeFilesApart : MergeArgs → Type 0
 AreMergeFilesApart words = IsApart (paths_of_words words.parts.items) (optional_text words.report)
     × IsApart (paths_of_words words.parts.items) (optional_text words.junit)
 
--- memory ran out, or an output file of `merge` would overwrite a part
+-- why a command stopped: memory ran out, or an output file of `merge` would overwrite a part
 abbrev pub IsMergeOverwriteStop : MergeArgs → Stop → Type 0
 IsMergeOverwriteStop words why = (why ≡ stop.OutOfMemory)
     ⊎ (IsOptionStop (codes "--report") (optional_text words.report) why
@@ -245,7 +245,7 @@ IsMergeOverwriteStop words why = (why ≡ stop.OutOfMemory)
 abbrev pub IsShowFileApart : ShowArgs → Type 0
 IsShowFileApart words = IsApart (words.report.now ∷ []) (optional_text words.junit)
 
--- memory ran out, or the JUnit file of `show` would overwrite the report
+-- why a command stopped: memory ran out, or the JUnit file of `show` would overwrite the report
 abbrev pub IsShowOverwriteStop : ShowArgs → Stop → Type 0
 IsShowOverwriteStop words why = (why ≡ stop.OutOfMemory) ⊎ IsOptionStop (codes "--junit") (optional_text words.junit) why
 
@@ -253,6 +253,6 @@ IsShowOverwriteStop words why = (why ≡ stop.OutOfMemory) ⊎ IsOptionStop (cod
 abbrev pub IsSumFileApart : CountsArgs → Type 0
 IsSumFileApart words = IsApart (paths_of_words words.tables.items) (optional_text words.out)
 
--- memory ran out, or the output file of `counts` would overwrite a table
+-- why a command stopped: memory ran out, or the output file of `counts` would overwrite a table
 abbrev pub IsSumOverwriteStop : CountsArgs → Stop → Type 0
 IsSumOverwriteStop words why = (why ≡ stop.OutOfMemory) ⊎ IsOptionStop (codes "--out") (optional_text words.out) why

@@ -42,7 +42,7 @@ unreadable_words_message _ = codes "rvtest: an argument is not valid UTF-8\n"
 abbrev pub IsHelpRequested : WordsFault → Type 0
 IsHelpRequested fault = (fault ≡ words.DisplayHelp) ⊎ (fault ≡ words.DisplayVersion)
 
--- memory ran out, or writing the help failed, which raised the number of failed writes by one
+-- why a command stopped: memory ran out, or writing the help failed, which raised the number of failed writes by one
 abbrev pub IsHelpStop : ℕ → ℕ → Stop → Type 0
 IsHelpStop failures_before failures_after why = (why ≡ stop.OutOfMemory)
     ⊎ ((why ≡ stop.WriteFailed) × (failures_after ≡ one_more failures_before))

@@ -16,6 +16,7 @@ module _ {V : Type 0} where
   sink_taken taken None = None
   sink_taken taken (Some sink) = taken sink
 
+  -- the number of failed writes to the sink; 0 if there is none
   abbrev pub sink_failures : (V → ℕ) → Option V → ℕ
   sink_failures failed None = 0
   sink_failures failed (Some sink) = failed sink

@@ -29,18 +29,18 @@ abbrev pub IsUnmarkedStop : Option FileContents → RunArgs → List Job → Sto
 IsUnmarkedStop known words jobs why = IsShardStop words.shard words.stamp why
     ⊎ ((is_some words.shard ≡ false) × IsChoiceStop known words (failure_rule words.lenient) jobs why)
 
--- the text is not a list, the report of `--into` cannot be updated, or the requested jobs could not be found
+-- why a command stopped: the text is not a list, the report of `--into` cannot be updated, or the requested jobs could not be found
 abbrev pub IsUnlistedStop : Option FileContents → RunArgs → List ℕ → Stop → Type 0
 IsUnlistedStop known words text why = IsListFaultStop words.list.now text why
     ⊎ ((jobs : List Job) × ((job_list_of text ≡ Ok jobs)
     × (IsIntoStop known words jobs why ⊎ IsUnmarkedStop known words jobs why)))
 
--- the list could not be read, or the requested jobs could not be found in it
+-- why a command stopped: the list could not be read, or the requested jobs could not be found in it
 abbrev pub IsUnrequestedStop : Option FileContents → RunArgs → Stop → Type 0
 IsUnrequestedStop known words why = IsListUnreadStop known words.list.now why
     ⊎ ((text : List ℕ) × (IsTextAt known words.list.now text × IsUnlistedStop known words text why))
 
--- the requested jobs were found, but the file of `--known` could not be used
+-- why a command stopped: the requested jobs were found, but the file of `--known` could not be used
 pub record IsUnknownStop (known : Option FileContents) (words : RunArgs) (why : Stop) : Type 0 where
   pub jobs : List Job
   pub marks : Option (List Bool)
@@ -57,12 +57,12 @@ IsShowStop path show.NoWorker why = why ≡ stop.NoWorker
 IsShowStop path show.StreamFailed why = why ≡ stop.WriteFailed
 IsShowStop path show.ReportFailed why = IsSomeAnd path (λ path. IsUnwrittenStop path why)
 
--- no thread could be started, or the results, the report or the JUnit XML could not be written
+-- why a command stopped: no thread could be started, or the results, the report or the JUnit XML could not be written
 abbrev pub IsRowsWriteStop : RunArgs → Stop → Type 0
 IsRowsWriteStop words why = (why ≡ stop.NoWorker)
     ⊎ IsOutputStop (run_report_path words) (optional_text words.junit) why
 
--- the rows or the table of counts could not be written, or the requested call stacks have no sum
+-- why a command stopped: the rows or the table of counts could not be written, or the requested call stacks have no sum
 abbrev pub IsRunWriteStop : RunArgs → Stop → Type 0
 IsRunWriteStop words why = IsRowsWriteStop words why
     ⊎ (IsFileStop (file_path_at (optional_text words.counts)) why ⊎ IsUnstackedStop words why)

@@ -9,16 +9,17 @@ use Rattle.rvtest_app.specs.CountStops.{IsSumErrorStop}
 use Rattle.rvtest_app.specs.WriteStops.{IsFileStop}
 use Rattle.rvtest_app.specs.WrittenTexts.{written_path}
 
--- the requested call stacks cannot be summed up, which is reported for the path of the table
+-- why a command stopped: the requested call stacks cannot be summed up, which is reported for the path of the table
 abbrev pub IsUnstackedStop : RunArgs → Stop → Type 0
 IsUnstackedStop words why = (words.stacks ≡ true)
     × ((error : SumError) × IsSumErrorStop (written_path (optional_text words.counts)) error why)
 
--- the run has no table of counts: memory ran out, or its call stacks cannot be summed up
+-- why a command stopped: the run has no table of counts: memory ran out, or its call stacks cannot be summed up
 abbrev pub IsUncountedRunStop : RunArgs → Stop → Type 0
 IsUncountedRunStop words why = (why ≡ stop.OutOfMemory) ⊎ IsUnstackedStop words why
 
--- memory ran out, a write to standard output failed, the file at the path could not be created, or the call stacks cannot be summed up
+-- why a command stopped: memory ran out, a write to standard output failed, the file at the path could not be created, or the call stacks
+-- cannot be summed up
 abbrev pub IsCountsWriteStop : RunArgs → Option (List ℕ) → Stop → Type 0
 IsCountsWriteStop words path why =
     (why ≡ stop.OutOfMemory) ⊎ ((why ≡ stop.WriteFailed) ⊎ (IsFileStop path why ⊎ IsUnstackedStop words why))

@@ -41,7 +41,7 @@ abbrev pub IsOtherImageStop : Option FileContents → List ℕ → List FileImag
 IsOtherImageStop known path images why = (table : CountTable) × (IsTableAt known path table
     × ((other : List ℕ) × ((other_image table images ≡ Some other) × IsStop 2 (other_image_message path other) why)))
 
--- the table at the path could not be read, is invalid, or has counts of an image other than these
+-- why a command stopped: the table at the path could not be read, is invalid, or has counts of an image other than these
 abbrev pub IsNoTableStop : Option FileContents → List ℕ → List FileImage → Stop → Type 0
 IsNoTableStop known path images why = IsResultUnreadStop known path why
     ⊎ (((text : List ℕ) × (IsTextAt known path text × IsTableFaultStop path text why))
@@ -56,23 +56,25 @@ abbrev pub IsStacklessStop : Option FileContents → View → List ℕ → Stop 
 IsStacklessStop known shown path why = (table : CountTable) × (IsTableAt known path table
     × ((has_counts_for shown table ≡ false) × IsStop 2 (no_stacks_message path) why))
 
--- the table at the path cannot be used for these images, or it has no call stacks, which the view needs
+-- why a command stopped: the table at the path cannot be used for these images, or it has no call stacks, which the view needs
 abbrev pub IsUnfitTableStop : Option FileContents → View → List ℕ → List FileImage → Stop → Type 0
 IsUnfitTableStop known shown path images why = IsNoTableStop known path images why ⊎ IsStacklessStop known shown path why
 
 -- ---- runs that cannot be counted
 
--- the call stacks of the jobs at these indices cannot be summed up, which is reported for the path
+-- why a command stopped: the call stacks of the jobs at these indices cannot be summed up, which is reported for the path
 abbrev pub IsUnstackedJobsStop : Planned → List ℕ → List ℕ → Stop → Type 0
 IsUnstackedJobsStop plan places path why =
     (error : SumError) × (HaveNoTableWithStacks plan places error × IsSumErrorStop path error why)
 
--- the runs of the jobs at these indices could not be counted: memory ran out, or the call stacks of a profile cannot be summed up
+-- why a command stopped: the runs of the jobs at these indices could not be counted: memory ran out, or the call stacks of a profile cannot
+-- be summed up
 abbrev pub IsUncountedStop : View → Planned → List ℕ → List ℕ → Stop → Type 0
 IsUncountedStop (view.Cover csv) plan places path why = why ≡ stop.OutOfMemory
 IsUncountedStop (view.Profile format) plan places path why = IsUnstackedJobsStop plan places path why
 
--- there is no table for the view: the one at the path cannot be used, or without a path, the runs could not be counted
+-- why a command stopped: there is no table for the view: the one at the path cannot be used, or without a path, the runs could not be
+-- counted
 abbrev pub IsUntabledStop : Option FileContents → RunArgs → View → Option (List ℕ) → Planned → List ℕ → Stop → Type 0
 IsUntabledStop known words shown None plan places why = IsUncountedStop shown plan places words.list.now why
 IsUntabledStop known words shown (Some path) plan places why =
@@ -94,12 +96,13 @@ abbrev pub IsPast64BitsStop : CountTable → List FileImage → List ℕ → Sto
 IsPast64BitsStop table images source why = (path : List ℕ)
     × ((image_past_64_bits table images ≡ Some path) × IsStop 2 (past_64_bits_message source path) why)
 
--- the view of this table cannot be written: memory ran out, or a profile has too many steps or calls
+-- why a command stopped: the view of this table cannot be written: memory ran out, or a profile has too many steps or calls
 abbrev pub IsTableTextStop : View → CountTable → List FileImage → List ℕ → Stop → Type 0
 IsTableTextStop (view.Cover csv) table images source why = why ≡ stop.OutOfMemory
 IsTableTextStop (view.Profile format) table images source why = (why ≡ stop.OutOfMemory) ⊎ IsPast64BitsStop table images source why
 
--- there is a table for the jobs at these indices, but its view cannot be written: memory ran out, or a profile has too many steps or calls
+-- why a command stopped: there is a table for the jobs at these indices, but its view cannot be written: memory ran out, or a profile has
+-- too many steps or calls
 abbrev pub IsViewTextStop : Option FileContents → RunArgs → View → Planned → List ℕ → Stop → Type 0
 IsViewTextStop known words shown plan places why = (table : CountTable)
     × (IsTableFor known shown (optional_text words.counts) plan places table
@@ -107,7 +110,7 @@ IsViewTextStop known words shown plan places why = (table : CountTable)
 
 -- ---- the command
 
--- memory ran out, there is no table for the view, or there is one, but its view cannot be written
+-- why a command stopped: memory ran out, there is no table for the view, or there is one, but its view cannot be written
 abbrev pub IsUnshownStop : Option FileContents → RunArgs → View → Planned → List ℕ → Stop → Type 0
 IsUnshownStop known words shown plan places why = (why ≡ stop.OutOfMemory)
     ⊎ (IsUntabledStop known words shown (optional_text words.counts) plan places why
@@ -121,12 +124,12 @@ pub record IsUnshownOfPlaces (known : Option FileContents) (words : RunArgs) (sh
   pub planned : IsPlanFor (contents_below (optional_text words.root) known) jobs places plan unread
   pub unshown : IsUnshownStop known words shown plan places why
 
--- memory ran out, a write to standard output failed, or the view of the jobs at these indices could not be made
+-- why a command stopped: memory ran out, a write to standard output failed, or the view of the jobs at these indices could not be made
 abbrev pub IsUnviewedStop : Option FileContents → RunArgs → View → List Job → List ℕ → Stop → Type 0
 IsUnviewedStop known words shown jobs places why = (why ≡ stop.OutOfMemory)
     ⊎ ((why ≡ stop.WriteFailed) ⊎ IsUnshownOfPlaces known words shown jobs places why)
 
--- the requested jobs were found, but their view was not written
+-- why a command stopped: the requested jobs were found, but their view was not written
 pub record IsUnviewedAtStop (known : Option FileContents) (words : RunArgs) (shown : View) (why : Stop) : Type 0 where
   pub jobs : List Job
   pub marks : List Bool
@@ -136,6 +139,6 @@ pub record IsUnviewedAtStop (known : Option FileContents) (words : RunArgs) (sho
   pub args : AreRequestedJobs known words jobs (Some marks) shard old notes
   pub unviewed : IsUnviewedStop known words shown jobs (selected_job_indices marks) why
 
--- the requested jobs could not be found, or their view was not written
+-- why a command stopped: the requested jobs could not be found, or their view was not written
 abbrev pub IsViewStop : Option FileContents → RunArgs → View → Stop → Type 0
 IsViewStop known words shown why = IsUnrequestedStop known words why ⊎ IsUnviewedAtStop known words shown why

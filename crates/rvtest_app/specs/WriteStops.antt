@@ -31,7 +31,7 @@ abbrev pub IsWriteErrorStop : List ℕ → WriteError → Stop → Type 0
 IsWriteErrorStop path write.OutOfMemory why = why ≡ stop.OutOfMemory
 IsWriteErrorStop path write.Failed why = IsUnwrittenStop path why
 
--- the text could not be written to the file for the path, or to standard output if there is no path
+-- why a command stopped: the text could not be written to the file for the path, or to standard output if there is no path
 abbrev pub IsTextStop : Option (List ℕ) → Stop → Type 0
 IsTextStop None why = (why ≡ stop.OutOfMemory) ⊎ (why ≡ stop.WriteFailed)
 IsTextStop (Some path) why = IsUnwrittenStop path why
@@ -42,23 +42,23 @@ IsTextStop (Some path) why = IsUnwrittenStop path why
 abbrev pub IsUnopenedStop : List ℕ → Stop → Type 0
 IsUnopenedStop path why = (error : FileError) × IsFileErrorStop path error why
 
--- there is a path, and its file could not be synced to disk or not be moved to the path
+-- why a command stopped: there is a path, and its file could not be synced to disk or not be moved to the path
 abbrev pub IsUnplacedStop : Option (List ℕ) → Stop → Type 0
 IsUnplacedStop path why = IsSomeAnd path (λ path. (reason : ErrorKind) × IsSystemStop path reason why)
 
--- there is a path, and its file could not be opened, written, or moved to the path
+-- why a command stopped: there is a path, and its file could not be opened, written, or moved to the path
 abbrev pub IsFileStop : Option (List ℕ) → Stop → Type 0
 IsFileStop path why = IsSomeAnd path (λ path. IsUnopenedStop path why ⊎ IsUnwrittenStop path why)
 
--- one of the two files could not be opened, written, or moved to its path
+-- why a command stopped: one of the two files could not be opened, written, or moved to its path
 abbrev pub IsEitherFileStop : Option (List ℕ) → Option (List ℕ) → Stop → Type 0
 IsEitherFileStop report junit why = IsFileStop report why ⊎ IsFileStop junit why
 
--- memory ran out, a write to a standard stream failed, or one of the two files could not be created
+-- why a command stopped: memory ran out, a write to a standard stream failed, or one of the two files could not be created
 abbrev pub IsOutputWriteStop : Option (List ℕ) → Option (List ℕ) → Stop → Type 0
 IsOutputWriteStop report junit why = (why ≡ stop.OutOfMemory) ⊎ ((why ≡ stop.WriteFailed) ⊎ IsEitherFileStop report junit why)
 
--- memory ran out, a write to a standard stream failed, or the file of one of the two paths could not be created; a path may be standard
--- output
+-- why a command stopped: memory ran out, a write to a standard stream failed, or the file of one of the two paths could not be created; a
+-- path may be standard output
 abbrev pub IsOutputStop : Option (List ℕ) → Option (List ℕ) → Stop → Type 0
 IsOutputStop report_path junit_path why = IsOutputWriteStop (file_path_at report_path) (file_path_at junit_path) why

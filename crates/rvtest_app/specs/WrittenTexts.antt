@@ -19,11 +19,11 @@ pub record IsWrittenAt (path : Option (List ℕ)) (text : List ℕ) (before afte
   pub failures : after.failures ≡ before.failures
   pub placed : AreFilesCommitted before.placed after.placed (Some (file_at path text))
 
--- a write to standard output failed if the Bool is true; otherwise the file for the path could not be created
+-- why a command stopped: a write to standard output failed, if the Bool is true; otherwise the file for the path could not be created
 abbrev pub IsUnwrittenBy : Bool → List ℕ → Stop → Type 0
 IsUnwrittenBy true path why = why ≡ stop.WriteFailed
 IsUnwrittenBy false path why = IsFileNotCreatedStop path why
 
--- the text could not be written to the file at the path, or to standard output if the path is `-`
+-- why a command stopped: the text could not be written to the file at the path, or to standard output if the path is `-`
 abbrev pub IsUnwrittenAtStop : List ℕ → Stop → Type 0
 IsUnwrittenAtStop path why = IsUnwrittenBy (is_stdout path) path why

@@ -372,7 +372,7 @@ fn push_outside_head(text: &mut Vec<u8>, head: &str, role: &str) -> Result<(), A
     push_spans(text, &[Span::Text(head), Span::Text(role)])
 }
 
-// Appends the path of a golden file, and that it is outside of the directory.
+// Appends the middle of the message: the path of the golden file, and the words that it is outside the directory.
 fn push_outside_path(text: &mut Vec<u8>, path: &str) -> Result<(), AllocError>
     ensures { OnOk result (text.new.items ≡ text.old.items ++ outside_path path.now) }
 {

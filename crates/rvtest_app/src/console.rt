@@ -107,7 +107,7 @@ fn run_job_at<D: Inputs>(
     run_planned_job(alloc, &plan, store.unreadable_paths(), place)
 }
 
-// Runs the job at index `place` of a plan.
+// Runs the job at index `place` of a plan, and returns its row, the lines about it and the exit status.
 fn run_planned_job(
     alloc: Global,
     plan: &Plan,

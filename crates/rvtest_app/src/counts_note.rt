@@ -28,21 +28,21 @@ pub(crate) fn sum_note(alloc: Global, table: &CountTable) -> Result<Vec<u8>, All
     )
 }
 
-// Returns " run of " or " runs of ", by the number of runs.
+// Returns " run of " for one run, and " runs of " for any other number.
 fn run_word(count: u64) -> &'static str
     ensures { result.now ≡ run_word count }
 {
     if count == 1 { " run of " } else { " runs of " }
 }
 
-// Returns " image, " or " images, ", by the number of images.
+// Returns " image, " for one image, and " images, " for any other number.
 fn image_word(count: u64) -> &'static str
     ensures { result.now ≡ image_word count }
 {
     if count == 1 { " image, " } else { " images, " }
 }
 
-// Returns " instruction" or " instructions", by their number, and a line feed.
+// Returns " instruction" for one instruction, else " instructions", and a line feed.
 fn instruction_word(count: u64) -> &'static str
     ensures { result.now ≡ instruction_word count }
 {

@@ -103,7 +103,7 @@ fn keeps_named(alloc: Global, plan: &Plan, place: usize) -> Result<bool, Fail>
     Ok(recent.find(place.saturating_sub(1)).is_some())
 }
 
-// Whether the outcome of the job before this index is cached after the row at the index is made, in the plan of `NAMING`.
+// Makes the row of the job at this index of `NAMING`, and returns whether the outcome of the job before it is cached then.
 fn is_named_kept(alloc: Global, place: usize) -> Result<bool, Fail> {
     let plan = plan_in(alloc, NAMING)?;
     if plan.jobs() <= place {
