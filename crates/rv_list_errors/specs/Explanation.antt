@@ -63,6 +63,7 @@ IsNotToml text place told = (reason : List ℕ) × (told
 abbrev pub elf_magic : List ℕ
 elf_magic = 0x7f ∷ 0x45 ∷ 0x4c ∷ 0x46 ∷ []
 
+-- whether a text begins like an ELF file
 abbrev pub is_elf_file : List ℕ → Bool
 is_elf_file text = starts_with nat_eq text elf_magic
 
@@ -70,6 +71,7 @@ is_elf_file text = starts_with nat_eq text elf_magic
 abbrev pub elf_file_text : List ℕ
 elf_file_text = codes ": error: this is an ELF file, not a job list"
 
+-- the explanation that a list has too many jobs: the limit, and how many it has
 abbrev pub too_many_jobs_text : ℕ → List ℕ
 too_many_jobs_text count = (codes "too many jobs: expected at most " ++ (decimal most_jobs ++ codes ", found ")) ++ decimal count
 
@@ -149,7 +151,7 @@ key_words _ = None
 abbrev pub sets_words : List ℕ
 sets_words = codes "expected \"rv32i\", \"rv32im\", \"rv32ic\" or \"rv32imc\""
 
--- whether a letter of an instruction set names none of the base and the extensions M and C
+-- whether a letter of an instruction set is neither `i`, the base, nor `m` or `c`, the simulated extensions
 abbrev pub is_unsimulated : ℕ → Bool
 is_unsimulated letter = not (letter == 105 || letter == 109 || letter == 99)
 
