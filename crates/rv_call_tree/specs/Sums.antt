@@ -68,12 +68,12 @@ next_of [] [] = record { spot = record { depth = 0; function = 0; arrivals = 0; 
 abbrev pub IsTooGreatOf : Spot → Spot → Type 0
 IsTooGreatOf s t = (2 ^ 64 ≤ s.arrivals + t.arrivals) ⊎ (2 ^ 64 ≤ s.steps + t.steps)
 
--- the error of adding two nodes is true: a sum of their counts is 2^64 or more, and the reported function is that of `s`
+-- the error of adding two nodes is true: a sum of their counts is 2^64 or more, and it reports the function of `s`
 abbrev pub IsTooGreatOfBoth : SpotSumError → Spot → Spot → Type 0
 IsTooGreatOfBoth OutOfMemory s t = ⊥
 IsTooGreatOfBoth (Count function) s t = (function ≡ s.function) × IsTooGreatOf s t
 
--- the error is true of the first nodes of both lists, which have one depth and function: a sum of their counts is 2^64 or more
+-- the error is true of the first nodes of both lists, which have the same depth and function: a sum of their counts is 2^64 or more
 abbrev pub IsTooGreatHere : SpotSumError → List Spot → List Spot → Type 0
 IsTooGreatHere OutOfMemory a b = ⊥
 IsTooGreatHere (Count function) (s ∷ ss) (t ∷ ts) = (goes_first s t ≡ false) × (goes_first t s ≡ false)

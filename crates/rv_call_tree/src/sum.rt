@@ -117,7 +117,7 @@ fn of_second(spot: Spot) -> NextSpot
     }
 }
 
-// Returns the first node of a sum, if it adds up two nodes with one depth and function.
+// Returns the first node of a sum, if it adds up two nodes with the same depth and function.
 fn both_of(spot: Spot, other: Spot) -> Result<NextSpot, SpotSumError>
     ensures value { IfOk result (λ next. next ≡ both_of spot other) }
     ensures fits { IfOk result (λ next. FitsSpot next.spot) }

@@ -25,8 +25,8 @@ jalr_action true false same = action.Push
 jalr_action true true false = action.PopThenPush
 jalr_action true true true = action.Push
 
--- the effect of an instruction, by its operation and registers: JAL pushes if rd is a link register, and JALR has that of table 2.1; any
--- other one has none
+-- the effect of an instruction, by its operation and registers: JAL pushes if rd is a link register, JALR has the effect in table 2.1, and
+-- any other instruction has none
 abbrev pub op_action : Op → ℕ → ℕ → StackAction
 op_action op.Jal rd rs1 = if is_link rd then action.Push else action.Keep
 op_action op.Jalr rd rs1 = jalr_action (is_link rd) (is_link rs1) (rd == rs1)

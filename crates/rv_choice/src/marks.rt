@@ -1,4 +1,4 @@
-//! The selection of the chosen jobs.
+//! Which jobs of a list are chosen by their names: one flag for each job.
 
 ghost use Rattle.std.specs.Prelude.{◌≡◌, IfOk, length, option_map};
 ghost use Rattle.regex.specs.Strings.{matcher_pattern, regex_pattern};

@@ -33,11 +33,11 @@ Within {A} xs ys = (x : A) → IsIn x xs → IsIn x ys
 
 -- ---- draws
 
--- the draw of a number under the pass index `place`
+-- the draw of a number by the pass with the index `place`
 abbrev pub entry : ℕ → ℕ → Entry
 entry place number = record { place = place; number = number }
 
--- whether two draws have one pass index and one number
+-- whether two draws have the same pass index and the same number
 abbrev pub is_entry : Entry → Entry → Bool
 is_entry e x = (x.place == e.place) && (x.number == e.number)
 

@@ -34,7 +34,7 @@ with_draw p n = pass_of p.draw p.places (p.draws ++ entry (first_place_of p.plac
 abbrev pub AllBelow : ℕ → List Entry → Type 0
 AllBelow n draws = (e : Entry) → IsIn e draws → e.number < n
 
--- the number if it is that of one of `pieces` chunks, else `None`
+-- the number if it is the number of one of `pieces` chunks, else `None`
 abbrev pub piece_of : ℕ → ℕ → Option ℕ
 piece_of pieces n = cond (nat_lt n pieces) (Some n) None
 

@@ -59,8 +59,8 @@ impl Claims {
         Ok((Claims { table, pieces }, pass))
     }
 
-    /// Draws a number, and returns it if it is that of a chunk. A number past the last chunk ends the pass; a pass that has ended draws no
-    /// more.
+    /// Draws a number, and returns it if it is the number of a chunk. A number past the last chunk ends the pass; a pass that has ended
+    /// draws no more.
     pub fn take(&self, pass: &mut Pass) -> Option<u64>
         requires { pass.old.draw ≡ self.now }
         ensures none { has_ended pass.old ≡ true → (result ≡ None) × (pass.new ≡ pass.old) }

@@ -80,7 +80,7 @@ expected_after line =
     else if begins line (codes "done ") || begins line (codes "part ") then codes "the end of the file"
     else codes "eight hexadecimal digits or \"verdict\""
 
--- the noun that names an invalid line of the expected file
+-- the word for the lines of the expected file, as in `invalid report line`
 abbrev pub kind_noun : ResultKind → List ℕ
 kind_noun expected.Report = codes "report"
 kind_noun expected.Part = codes "part"
@@ -90,18 +90,18 @@ abbrev pub kind_text : ResultKind → List ℕ
 kind_text expected.Report = codes "a report"
 kind_text expected.Part = codes "the report of a shard"
 
--- the message that the line with this number is invalid; `text` is the text of the file at the path
+-- the message about an invalid line: its number, the line itself, and what was expected instead
 abbrev pub line_message : ResultKind → List ℕ → List ℕ → ℕ → List ℕ
 line_message wanted path text number =
     codes "rvtest: " ++ printable_text path ++ codes ":" ++ decimal number ++ codes ": invalid " ++ kind_noun wanted ++ codes " line \""
     ++ printable_value (numbered_line text number) ++ codes "\": expected " ++ expected_after (line_before text number) ++ codes "\n"
 
--- the message that the file at the path is a job list, not a file of the expected kind
+-- the message that the text at a path is a job list, and not the expected file
 abbrev pub list_message : ResultKind → List ℕ → List ℕ
 list_message wanted path =
     codes "rvtest: " ++ printable_text path ++ codes ": this is a job list, not " ++ kind_text wanted ++ codes "\n"
 
--- the message for the line with a number in the text at a path, which should be a file of the expected kind
+-- the message that the text at a path is not of the expected kind: it is a job list, or its line with this number is invalid
 abbrev pub refused_line_message : ResultKind → List ℕ → List ℕ → ℕ → List ℕ
 refused_line_message wanted path text number =
     if is_job_list text then list_message wanted path else line_message wanted path text number

@@ -119,7 +119,7 @@ IsListUnreadStop known path stop = IsUnreadStop known path stop
     ⊎ (IsLongAt known path most_bytes
     × IsStop 3 (path_message path (codes "the file is larger than 16777216 bytes")) stop)
 
--- memory ran out, or the text at the path is not a list, and the stop reports its first error
+-- memory ran out, or the text at the path is an invalid list, and the stop reports its first error
 abbrev pub IsListFaultStop : List ℕ → List ℕ → Stop → Type 0
 IsListFaultStop path text stop = (stop ≡ why.OutOfMemory)
     ⊎ ((fault : JobError) × (job_list_of text ≡ Err fault)

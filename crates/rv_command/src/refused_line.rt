@@ -19,8 +19,8 @@ pub enum ResultKind {
     Part,
 }
 
-/// Returns the message that the text at a path is not of the expected kind, because of the numbered line, which is invalid there: it shows
-/// the line and what was expected instead. If the text is a job list, the message says so.
+/// Returns the message that the text at a path is not of the expected kind: it shows the invalid line, which has this number, and what was
+/// expected instead. If the text is a job list, the message only says so.
 pub fn refused_line_message<'a>(
     alloc: Global,
     kind: ResultKind,

@@ -22,7 +22,7 @@ pub struct RequestedReport<'a> {
     pub partial: bool,
 }
 
-/// Reads a report. If it is truncated and may be, returns its complete rows.
+/// Reads a report. A truncated one is an error, unless `requested.partial` is true: then its complete rows are returned.
 pub fn read_requested_report<D: Inputs>(
     inputs: &D,
     alloc: Global,
@@ -37,7 +37,7 @@ pub fn read_requested_report<D: Inputs>(
     parse_requested_report(alloc, requested, text.as_slice())
 }
 
-/// Parses the text of a report. If it is truncated and may be, returns its complete rows.
+/// Parses the text of a report. A truncated one is an error, unless `requested.partial` is true: then its complete rows are returned.
 pub fn parse_requested_report(
     alloc: Global,
     requested: RequestedReport<'_>,

@@ -119,7 +119,7 @@ abbrev pub CanComeNext : NextLines → Entry → Type 0
 CanComeNext p (OfAddress c) = can_be_next_address p.address c.address ≡ true
 CanComeNext p (OfSpot n) = CanComeNextIn p.front n.spot × AgreesWith n.name (name_of n.spot.function p.names)
 
--- the line does not describe an address or a node that can come next
+-- the line is not the line of an address or a node that can come next
 abbrev pub IsNotAnEntry : NextLines → List ℕ → Type 0
 IsNotAnEntry p line = (e : Entry) → IsEntry e → CanComeNext p e → line ≡ entry_line e → ⊥
 
@@ -135,20 +135,20 @@ abbrev pub last_digest : Option (List ℕ) → List ImageCounts → Option (List
 last_digest last [] = last
 last_digest last (i ∷ is) = last_digest (Some i.digest) is
 
--- the line does not describe an address at or above `lowest`
+-- the line is not the line of an address at or above `lowest`
 abbrev pub IsNotAnAddress : ℕ → List ℕ → Type 0
 IsNotAnAddress lowest line = (c : AddressCounts) → IsCounted c → nat_le lowest c.address ≡ true → line ≡ address_line c → ⊥
 
--- the line does not describe a node that may follow the path `front` and whose name agrees with `names`
+-- the line is not the line of a node that can follow the path `front` and whose name agrees with `names`
 abbrev pub IsNotANode : List FunctionName → List ℕ → List ℕ → Type 0
 IsNotANode names front line = (n : NamedSpot) → IsNamedSpot n → FollowsInPreorder front n.spot
     → AgreesWith n.name (name_of n.spot.function names) → line ≡ spot_line n → ⊥
 
--- the line does not describe an image whose digest is greater than `last`
+-- the line is not the line of an image whose digest is greater than `last`
 abbrev pub IsNotAnImage : Option (List ℕ) → List ℕ → Type 0
 IsNotAnImage last line = (i : ImageCounts) → IsImage i → is_greater_than_last last i.digest ≡ true → line ≡ image_line i → ⊥
 
--- `read` has the addresses of the first lines of the text, and the length of these lines in bytes; the next line does not describe an
+-- `read` has the addresses of the first lines of the text, and the length of these lines in bytes; the next line is not the line of an
 -- address that can follow
 pub record AreAddressLines (text : List ℕ) (read : AddressLines) : Type 0 where
   pub within : read.length ≤ length text
@@ -157,7 +157,7 @@ pub record AreAddressLines (text : List ℕ) (read : AddressLines) : Type 0 wher
   pub behind : IsNotAnAddress (lowest_after 0 read.addresses) (whole_line (drop read.length text))
 
 -- `read` has the nodes of the first lines of the text, the names of their functions, and the length of these lines in bytes; the next line
--- does not describe a node that can follow
+-- is not the line of a node that can follow
 pub record AreSpotLines (text : List ℕ) (read : SpotLines) : Type 0 where
   pub within : read.length ≤ length text
   pub lines : text ≡ flat_map (line_of_spot read.functions) read.spots ++ drop read.length text

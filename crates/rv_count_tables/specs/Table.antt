@@ -92,7 +92,7 @@ pub record IsCounted (c : AddressCounts) : Type 0 where
   pub fits : c.begun < 2 ^ 64
   pub taken : c.taken ≤ c.begun
 
--- whether the addresses increase strictly, from `lowest` on
+-- whether the addresses increase strictly, and the first is at or above `lowest`
 unfoldable pub rise_from : ℕ → List AddressCounts → Bool
 rise_from lowest [] = true
 rise_from lowest (c ∷ cs) = nat_le lowest c.address && rise_from (c.address + 1) cs
@@ -108,7 +108,7 @@ pub record IsName (n : FunctionName) : Type 0 where
   pub name : lacks 10 n.name ≡ true
   pub text : IsUtf8 n.name
 
--- whether the functions increase strictly, from `lowest` on
+-- whether the functions increase strictly, and the first is at or above `lowest`
 unfoldable pub names_rise : ℕ → List FunctionName → Bool
 names_rise lowest [] = true
 names_rise lowest (n ∷ ns) = nat_le lowest n.function && names_rise (n.function + 1) ns

@@ -23,7 +23,7 @@ pub fn counts_at(counts: &[AddressCounts], address: u32) -> AddressCounts
     }
 }
 
-/// Whether an instruction was executed at an address from `from` on and below `behind`.
+/// Whether an instruction was executed at an address in the range `from..behind`.
 pub fn was_executed_within(counts: &[AddressCounts], from: u32, behind: u64) -> bool
     requires { rise_from 0 counts.now ≡ true }
     ensures { result ≡ list_any (λ c. nat_le from c.address && nat_lt c.address behind) counts.now }
@@ -32,7 +32,7 @@ pub fn was_executed_within(counts: &[AddressCounts], from: u32, behind: u64) -> 
     place < counts.len() && u64::from(counts[place].address) < behind
 }
 
-/// Returns how many counts have lower addresses. They come first.
+/// Returns the index of the first count at or above an address, which is how many counts are below it.
 pub fn index_of_address(counts: &[AddressCounts], address: u32) -> usize
     requires { rise_from 0 counts.now ≡ true }
     ensures within { result ≤ length counts.now }

@@ -37,7 +37,7 @@ pub fn add_name(names: &mut Vec<FunctionName>, name: FunctionName) -> Result<(),
     Ok(())
 }
 
-// Returns how many names at the start of the list belong to functions at addresses below `function`.
+// Returns the index of the first name of a function at or above this one, which is how many names are those of lower functions.
 fn lower_functions(names: &[FunctionName], function: u32) -> usize
     ensures { result ≡ prefix_len (λ m. nat_lt m.function function) names.now }
 {

@@ -132,7 +132,7 @@ fn read_addresses(alloc: Global, text: &[u8]) -> Result<AddressLines, AllocError
     }
 }
 
-// Returns the counts of an address line, or `None` if the line is not one, or its address is below `lowest`.
+// Returns the counts of a line, or `None` if it is not the line of an address at or above `lowest`.
 fn parse_address_line(
     alloc: Global,
     line: &[u8],

@@ -68,7 +68,7 @@ fn function_name(named: NamedSpot) -> FunctionName
     }
 }
 
-// Returns the node of a line, or `None` if the line does not describe a node that can follow the path `front` and whose name agrees with
+// Returns the node of a line, or `None` if it is not the line of a node that can follow the path `front` and whose name agrees with
 // `names`.
 fn next_spot(
     alloc: Global,
@@ -102,7 +102,7 @@ fn can_come_next(spot: Spot, front: &[u32]) -> bool
         && (spot.depth == front.len() || front[spot.depth] < spot.function)
 }
 
-// Whether the node's function has no other name.
+// Whether the node's name is the one that `names` has for its function, if `names` has one.
 fn agrees(read: &NamedSpot, names: &NamesByFunction) -> bool
     ensures { IsTrue result ↔ AgreesWith read.now.name (name_of read.now.spot.function names.now) }
 {

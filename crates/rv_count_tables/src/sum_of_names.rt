@@ -44,7 +44,7 @@ pub(crate) struct NextName {
     pub(crate) of_b: usize,
 }
 
-// Returns the first name of the sum of two lists: that of the lowest function.
+// Returns the first name of the sum of two lists: the name of the lowest function.
 fn next_name(alloc: Global, a: &[FunctionName], b: &[FunctionName]) -> Result<NextName, SumError>
     requires a { AllByRecursion IsName a.now }
     requires b { AllByRecursion IsName b.now }

@@ -27,7 +27,7 @@ abbrev pub with_image : List FileImage → FileImage → List FileImage
 with_image images image =
     if list_any (λ other. bytes_eq image.bytes other.bytes) images then images else images ++ image ∷ []
 
--- the images with that of a job appended, if it has one and no image has the same bytes
+-- the images, with the image of a job appended if it has one and no image has the same bytes
 abbrev pub with_image_of : List Answer → List FileImage → Job → List FileImage
 with_image_of answers images job = option_map_or (with_image images) (image_of_job answers job) images
 

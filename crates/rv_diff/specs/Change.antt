@@ -1,4 +1,4 @@
--- Whether two rows with one name agree, and how a job changed from one report to another.
+-- Whether two rows with the same name agree, and how a job changed from one report to another.
 use Rattle.std.specs.Prelude.{◌==◌, ◌&&◌, ◌*◌, ◌-◌, ℕ, Bool, true, nat_lt, not, Option, Some, None, if◌then◌else◌}
 use Rattle.std.specs.Str.{bytes_eq}
 use Rattle.rv_rows.specs.declared_row.Row.{Row}
@@ -20,7 +20,7 @@ are_same_end_kinds (ending.Refused why) (ending.Refused because) =
     bytes_eq (refusal_name why) (refusal_name because)
 are_same_end_kinds old new = are_alike_endings old new
 
--- whether two endings, if both are faults, have one address and one value; true for other endings
+-- whether two endings, if both are faults, have the same address and the same value; true for other endings
 abbrev pub agree_in_fault_pc_and_value : RowEnd → RowEnd → Bool
 agree_in_fault_pc_and_value (ending.Fault kind pc value) (ending.Fault other at met) = pc == at && value == met
 agree_in_fault_pc_and_value old new = true

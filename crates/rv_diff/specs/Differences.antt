@@ -1,4 +1,4 @@
--- How two rows with one name differ.
+-- How two rows with the same name differ.
 use Rattle.std.specs.Prelude.{◌==◌, ◌*◌, ◌-◌, ◌/◌, ℕ, Bool, not, List, [], ◌++◌, Option, Some, None}
 use Rattle.std.specs.Prelude.{if◌then◌else◌, codes, drop, length, position, slice_index}
 use Rattle.std.specs.Fmt.{decimal}

@@ -76,7 +76,7 @@ fn are_same_end_kinds(old: RowEnd, new: RowEnd) -> bool
     }
 }
 
-// Whether two endings, if both are faults, have one address and one value. True for other endings.
+// Whether two endings, if both are faults, have the same address and the same value. True for other endings.
 fn agree_in_fault_pc_and_value(old: RowEnd, new: RowEnd) -> bool
     ensures { result ≡ agree_in_fault_pc_and_value old new }
 {

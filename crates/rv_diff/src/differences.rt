@@ -1,4 +1,4 @@
-//! The lines that say how two rows with one name differ.
+//! The lines that say how two rows with the same name differ.
 
 ghost use Rattle.std.specs.Prelude.{◌≡◌, ◌++◌, OnOk};
 ghost use Rattle.rv_diff.specs.Change.{have_same_console, are_same_endings, agree_in_steps, are_same_verdicts};

@@ -7,7 +7,7 @@ ghost use Rattle.rv_diff.specs.Change.{rows_agree};
 ghost use Rattle.rv_diff.specs.Diff.{difference_lines, counts_of_differing, differing_count};
 ghost use Rattle.rv_diff.specs.Differences.{change_lines};
 
-/// Proves that there is a line for two rows with one name if and only if they differ.
+/// Proves that there is a line for two rows with the same name if and only if they differ.
 pub fn rows_agree_where_no_line_is_due()
     ensures { (compare : Compare) (old new : Row)
         → (length (change_lines compare old new) == 0) ≡ rows_agree compare old new }

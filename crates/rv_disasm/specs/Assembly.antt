@@ -29,7 +29,7 @@ form_text form f = form.mnemonic ++ operands_text form.operands f
 abbrev pub fetched_instr : Instr → ℕ → ℕ → Fetched
 fetched_instr i code pc = record { instr = i; code = code; pc = pc }
 
--- the text of a word: that of the instruction which it decodes to, or, if it does not decode, the description of an instruction that is not
+-- the text of a word: the instruction that it decodes to, or, if it does not decode, the description of an instruction that is not
 -- simulated
 abbrev pub text_by_name : Option Instr → ℕ → ℕ → List ℕ
 text_by_name None word pc = unsimulated_text (unsimulated32 word)
@@ -39,7 +39,7 @@ text_by_name (Some i) word pc = form_text (form32 i.op) (fetched_instr i word pc
 unfoldable pub assembly32 : ℕ → ℕ → List ℕ
 assembly32 word pc = text_by_name (meaning32 set.Imc word) word pc
 
--- the text of a halfword: that of its form and instruction, or, if one is missing, the description of an instruction that is not simulated
+-- the text of a halfword, by its form and instruction, or, if one is missing, the description of an instruction that is not simulated
 abbrev pub text_by_row : Option Form → Option Instr → ℕ → ℕ → List ℕ
 text_by_row None i half pc = unsimulated_text (unsimulated16 half)
 text_by_row (Some form) None half pc = unsimulated_text (unsimulated16 half)

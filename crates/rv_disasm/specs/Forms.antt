@@ -1,5 +1,5 @@
--- How each row of the listings is written: its name, followed by its operands in order (RISC-V Unprivileged ISA 20191213, chapters 2, 3, 7
--- and 16).
+-- The form of each row of the listings in assembly: its mnemonic, followed by its operands in order (RISC-V Unprivileged ISA 20191213,
+-- chapters 2, 3, 7 and 16).
 use Rattle.std.specs.Prelude.{ℕ, List, [], ◌∷◌, codes, Option, not, ◌==◌, if◌then◌else◌}
 use Rattle.std.specs.List.{zip}
 use Rattle.rv_isa.specs.Halfwords.{fits16, immediate_ci, rd, rows16}

@@ -23,8 +23,8 @@ unsimulated_text (Some r) = name_and_reason r.mnemonic r.extension (codes "not s
 abbrev pub missing_text : List ℕ → List ℕ → List ℕ
 missing_text mnemonic extension = name_and_reason mnemonic extension (codes "not in this job's \"isa\"")
 
--- the description of a word that is not an instruction of the job's set, given the instruction of RV32IMC that it decodes to; as every set
--- has the base, a missing 32-bit instruction belongs to M
+-- the description of a word that is not an instruction of the job's set, given the instruction of RV32IMC that it decodes to; if there is
+-- one, the set lacks M, since every set has the base
 abbrev pub illegal_text_by_name : Option Instr → ℕ → List ℕ
 illegal_text_by_name None word = unsimulated_text (unsimulated32 word)
 illegal_text_by_name (Some i) word = missing_text (form32 i.op).mnemonic (codes "M")
@@ -33,8 +33,7 @@ illegal_text_by_name (Some i) word = missing_text (form32 i.op).mnemonic (codes 
 unfoldable pub illegal_text32 : ℕ → List ℕ
 illegal_text32 word = illegal_text_by_name (meaning32 set.Imc word) word
 
--- the description of a halfword that is not an instruction of the job's set, given its form in RV32IMC; a missing 16-bit instruction
--- belongs to C
+-- the description of a halfword that is not an instruction of the job's set, given its form in RV32IMC; if it has one, the set lacks C
 abbrev pub illegal_text_by_row : Option Form → ℕ → List ℕ
 illegal_text_by_row None half = unsimulated_text (unsimulated16 half)
 illegal_text_by_row (Some form) half = missing_text form.mnemonic (codes "C")

@@ -1,4 +1,4 @@
-//! How a row is written: its name and its operands.
+//! The form of an instruction in assembly: its mnemonic and its operands.
 
 use rv_isa::Instr;
 

@@ -1,4 +1,4 @@
-//! How the 16-bit rows are written.
+//! The forms of 16-bit instructions: the mnemonic and the operands of each row of the listing.
 ghost use Rattle.std.specs.Prelude.{◌≡◌, ◌≢◌, ◌↔◌, IsTrue, option_map};
 ghost use Rattle.rv_isa.specs.Bits.{field as bits_of};
 ghost use Rattle.rv_isa.specs.Halfwords.{immediate_ci};
@@ -10,7 +10,7 @@ use crate::form::{
 };
 use rv_isa::field;
 
-/// Returns how a halfword is written, or `None` if it is not an instruction of RV32IMC.
+/// Returns the form of a halfword, or `None` if it is not an instruction of RV32IMC.
 #[tactic(auto, using(crate::proofs::HalfwordForms::by_quadrant))]
 pub(crate) fn form16(half: u32) -> Option<Form>
     ensures { option_map form_of_code result ≡ form16 half }

@@ -1,4 +1,4 @@
-//! How the 32-bit rows are written.
+//! The forms of 32-bit instructions: the mnemonic and the operands of each row of the listing.
 ghost use Rattle.std.specs.Prelude.{◌≡◌};
 ghost use Rattle.rv_disasm.specs.Forms.{form32, form_of_code};
 

@@ -11,6 +11,6 @@ abbrev pub first_refusal : {X : Type 0} → List RefusalRow → Result X ImageEr
 first_refusal [] next = next
 first_refusal (row ∷ rows) next = if row.0 then Err row.1 else first_refusal rows next
 
--- the result of a check without an error
+-- the result of a check that finds no error
 abbrev pub accepted : Result (Unit {0}) ImageError
 accepted = Ok tt

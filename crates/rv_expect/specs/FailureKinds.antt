@@ -31,7 +31,8 @@ abbrev pub kind_after_faults : ℕ → FailureKind
 kind_after_faults index = if index == 0 then failure.Refused
     else (if index == 1 then failure.Console else (if index == 2 then failure.Signature else failure.SameAs))
 
--- the kind of failure at an index of the kinds that follow the budget: the kinds of faults come first
+-- the kind of failure at an index of the kinds that follow the budget, given the kind of fault at this index, if there is one: the kinds of
+-- faults come first
 abbrev pub kind_after_budget : Option FaultKind → ℕ → FailureKind
 kind_after_budget (Some kind) index = failure.Fault kind
 kind_after_budget None index = kind_after_faults (index - length fault_kinds)

@@ -37,23 +37,24 @@ judged_of counted.Failed = failed
 judged_of (counted.Known reason) = known reason.now
 judged_of (counted.NowPasses path) = now_passes path.now
 
--- how the row of a job that is not known to fail counts, given whether it passed
+-- the judgement of a row whose job is not a known failure, given whether the row passed
 abbrev pub judged_unknown : Bool → Judged
 judged_unknown true = passed
 judged_unknown false = failed
 
--- how a row counts, given the path of the file of known failures, whether the row passed, and the reason in the file, if it lists the job
+-- the judgement of a row, given the path of the file of known failures, whether the row passed, and the reason in the file, if it lists the
+-- job
 abbrev pub judged_in_file : List ℕ → Bool → Option (List ℕ) → Judged
 judged_in_file path has_passed None = judged_unknown has_passed
 judged_in_file path true (Some reason) = now_passes path
 judged_in_file path false (Some reason) = known reason
 
--- how the row of the job with this name counts, given the known failures, if a file lists them, and whether the row passed
+-- the judgement of the row of the job with this name, given the known failures, if a file lists them, and whether the row passed
 abbrev pub judged_by_known : Option KnownJobs → Bool → List ℕ → Judged
 judged_by_known None has_passed name = judged_unknown has_passed
 judged_by_known (Some file) has_passed name = judged_in_file file.path has_passed (reason_of file.jobs name)
 
--- how a row counts
+-- the judgement of a row: whether it passed or failed, and whether its job is a known failure
 abbrev pub judgement : Judging → Row → Judged
 judgement judging row = judged_by_known judging.known (has_passed judging.rule row) row.name
 

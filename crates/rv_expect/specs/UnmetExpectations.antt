@@ -17,27 +17,27 @@ use Rattle.rv_expect.specs.declared.unmet.Unmet.TheVariants.{Same, Nothing}
 
 -- ---- the kind of an unmet expectation
 
--- whether an unmet expectation is that of the exit code
+-- whether an unmet expectation is about the exit code
 abbrev pub is_exit : Unmet → Bool
 is_exit Exit = true
 is_exit _ = false
 
--- whether an unmet expectation is that of the end
+-- whether an unmet expectation is about the end
 abbrev pub is_end : Unmet → Bool
 is_end End = true
 is_end _ = false
 
--- whether an unmet expectation is that of the console
+-- whether an unmet expectation is about the console
 abbrev pub is_console : Unmet → Bool
 is_console (Console difference) = true
 is_console _ = false
 
--- whether an unmet expectation is that of the signature
+-- whether an unmet expectation is about the signature
 abbrev pub is_signature : Unmet → Bool
 is_signature (Signature difference) = true
 is_signature _ = false
 
--- whether an unmet expectation is that of `same_as`
+-- whether an unmet expectation is about `same_as`
 abbrev pub is_same : Unmet → Bool
 is_same (Same difference) = true
 is_same _ = false

@@ -37,7 +37,7 @@ impl<'k> Judge<'k> {
         Judge { rule, known: None }
     }
 
-    /// Returns how a row counts.
+    /// Returns the judgement of a row: whether it passed or failed, and whether its job is a known failure.
     pub fn judgement(&self, row: &Row) -> Judgement<'k>
         ensures { judged_of result ≡ judgement (judging_of self.now) row.now }
     {
@@ -105,7 +105,7 @@ impl<'k> Judgement<'k> {
     }
 }
 
-// Returns how the row of a job that is not known to fail counts, given whether it passed.
+// Returns the judgement of a row whose job is not a known failure, given whether the row passed.
 fn judgement_of_unknown<'k>(passed: bool) -> Judgement<'k>
     ensures { judged_of result ≡ judged_unknown passed }
 {
@@ -116,7 +116,7 @@ fn judgement_of_unknown<'k>(passed: bool) -> Judgement<'k>
     }
 }
 
-// Returns how a row counts, given the known failures and whether it passed.
+// Returns the judgement of a row, given the known failures and whether the row passed.
 fn judgement_in_file<'k>(known: &'k KnownJobs, passed: bool, row: &Row) -> Judgement<'k>
     ensures { judged_of result ≡ judged_in_file known.now.path passed (reason_of known.now.jobs row.now.name) }
 {

@@ -1,4 +1,4 @@
-//! Files in memory, as inputs and outputs. They reveal all bytes, which shows that the contracts of both can be met.
+//! Files in memory, as inputs and outputs. Contracts know all their bytes, which shows that the contracts of both traits can be met.
 
 ghost use Rattle.std.specs.Prelude.{◌≡◌, ◌+◌, ◌++◌, ◌∷◌, [], Some, MatchResult, OnOk, option_map};
 ghost use Rattle.rv_files.specs.MemoryFiles.{memory_contents, committed_memory_files};

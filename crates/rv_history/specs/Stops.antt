@@ -35,11 +35,11 @@ is_outside (bounds.Within low high) pc = nat_lt pc low || nat_le high pc
 abbrev pub is_halt : Stops → Bounds → ℕ → Bool
 is_halt stops bounds pc = is_break stops pc || is_outside bounds pc
 
--- the bytes of a watchpoint's range that are in regions
+-- the bytes of a watchpoint's range; bytes outside the regions are left out
 abbrev pub watch_bytes : Contents → Watch → List ℕ
 watch_bytes bus watch = filter_map (fin.get bus.memory) (range_with_len watch.address watch.count)
 
--- the bytes of all watchpoints for changes that are in regions, in order
+-- the bytes that are watched for changes, in the order of the watchpoints; bytes outside the regions are left out
 unfoldable pub watched_bytes : Stops → Contents → List ℕ
 watched_bytes stops bus = flat_map (watch_bytes bus) stops.watches
 

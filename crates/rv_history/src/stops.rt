@@ -83,7 +83,7 @@ impl Stops {
         self.breaks.as_slice().contains(&pc)
     }
 
-    /// Returns the bytes of all watchpoints for changes that are in regions, in order.
+    /// Returns the bytes that are watched for changes, in the order of the watchpoints; bytes outside the regions are left out.
     #[tactic(auto, unfolding(crate::specs::Stops::watched_bytes))]
     pub(crate) fn watched_bytes(&self, alloc: Global, bus: &Bus) -> Result<Vec<u8>, AllocError>
         ensures { IfOk result (λ bytes. bytes.items ≡ watched_bytes self.now bus.now) }
@@ -95,7 +95,7 @@ impl Stops {
         Ok(bytes)
     }
 
-    /// Whether the bytes of all watchpoints for changes that are in regions equal these. Does not allocate.
+    /// Whether the bytes that are watched for changes equal these; bytes outside the regions are left out. Does not allocate.
     #[tactic(auto, unfolding(crate::specs::Stops::watched_bytes))]
     pub(crate) fn have_bytes(&self, bus: &Bus, bytes: &[u8]) -> bool
         ensures { IsTrue result ↔ (watched_bytes self.now bus.now ≡ bytes.now) }

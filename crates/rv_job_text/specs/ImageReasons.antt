@@ -21,13 +21,13 @@ use Rattle.rv_text.specs.Words.{word_digits}
 
 -- ---- addresses
 
--- the last of `count` addresses from `from` on; `past ffffffff` if it does not fit in 32 bits
+-- the last of `count` addresses that start at `from`; `past ffffffff` if it does not fit in 32 bits
 unfoldable pub last_address_text : ℕ → ℕ → List ℕ
 last_address_text from count =
     if nat_lt (from + (count - 1)) (2 ^ 32) then word_digits (from + (count - 1))
     else codes "past ffffffff"
 
--- the first and the last of `count` addresses from `from` on, in words
+-- the first and the last of `count` addresses that start at `from`, in words
 abbrev pub address_range_text : ℕ → ℕ → List ℕ
 address_range_text from count = word_digits from ++ codes " to " ++ last_address_text from count
 

@@ -87,7 +87,7 @@ run_lines plan job row last =
     expectation_lines detail.Unmet plan job row ++ (console_tail row.console
     ++ end_trace_if_requested plan job row last)
 
--- the lines below that of a failed row; empty if the job did not run
+-- the lines below the result line of a failed row; empty if the job did not run
 abbrev pub lines_below_failure : Planned → Job → Row → Option ℕ → List ℕ
 lines_below_failure plan job row last = if did_run row.ending then run_lines plan job row last else []
 

@@ -97,7 +97,7 @@ word_address_text None place = []
 word_address_text (Some first) place =
     codes " (" ++ word_digits ((first + 4 * place) % 2 ^ 32) ++ codes ")"
 
--- the index of a word, and its address if that of the first word is known
+-- the index of a word, and its address if the address of the first word is known
 unfoldable pub word_place_text : Option ℕ → ℕ → List ℕ
 word_place_text first place = codes " at word " ++ decimal place ++ word_address_text first place ++ codes ": expected "
 
@@ -169,7 +169,7 @@ same_difference_text first row (Some other) difference =
 
 -- ---- the line
 
--- an unmet expectation, in words; `address` is that of the first word of the signature, if it is known
+-- an unmet expectation, in words; `address` is the address of the signature's first word, if it is known
 unfoldable pub unmet_expectation_text : Option ℕ → Sides → Unmet → List ℕ
 unmet_expectation_text address sides unmet.Exit = expected_exit_text sides.job.expect_exit
 unmet_expectation_text address sides unmet.End = expected_end_text sides.job.expect_end

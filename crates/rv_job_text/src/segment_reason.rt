@@ -63,7 +63,7 @@ pub(crate) fn push_regions(bytes: &mut Vec<u8>, regions: &[Region]) -> Result<()
     Ok(())
 }
 
-// Appends the first and the last of `count` addresses from `from` on, between two texts.
+// Appends the first and the last of `count` addresses that start at `from`, between two texts.
 fn push_address_range(
     bytes: &mut Vec<u8>,
     before: &'static str,
@@ -86,7 +86,7 @@ fn push_address_range(
     )
 }
 
-// Returns the last of `count` addresses from `from` on.
+// Returns the last of `count` addresses that start at `from`.
 #[tactic(auto, unfolding(crate::specs::ImageReasons::last_address_text))]
 fn last_address_span(from: u32, count: u32) -> Span<'static>
     ensures { span_text result ≡ last_address_text from count }

@@ -11,7 +11,7 @@ use rv_rows::{LINE, Words};
 use rv_text::{Span, push_spans, push_text};
 use std::alloc::AllocError;
 
-/// Appends the message that a signature differs from the expected one. `address` is that of its first word, if it is known.
+/// Appends the message that a signature differs from the expected one. `address` is the address of its first word, if it is known.
 #[tactic(auto, unfolding(crate::specs::UnmetLines::signature_difference_text))]
 pub(crate) fn push_signature_difference(
     bytes: &mut Vec<u8>,
@@ -138,7 +138,7 @@ fn push_word_difference<'a>(
     push_spans(bytes, &[expected, Span::Text(", found "), actual])
 }
 
-// Appends the index of a word, and its address if that of the first word is known.
+// Appends the index of a word, and its address if the address of the first word is known.
 #[tactic(auto, unfolding(crate::specs::UnmetLines::word_place_text))]
 fn push_word_place(bytes: &mut Vec<u8>, first: Option<u32>, place: usize) -> Result<(), AllocError>
     ensures { OnOk result (bytes.new.items ≡ bytes.old.items ++ word_place_text first place) }

@@ -1,4 +1,4 @@
-//! The text report of rows, for a plan and the notes on its paths.
+//! The text about the rows of a plan, with the reasons why files could not be read.
 
 ghost use Rattle.std.specs.Prelude.{◌≡◌, ◌<◌, ◌++◌, OnOk, length, option_map};
 ghost use Rattle.rv_expect.specs.Comparisons.{sides_of};

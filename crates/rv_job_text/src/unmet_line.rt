@@ -15,7 +15,7 @@ use rv_rows::{Row, RowEnd};
 use rv_text::{Span, push_spans, push_text};
 use std::alloc::AllocError;
 
-/// Appends the lines about the unmet expectations. `address` is that of the first word of the signature, if it is known.
+/// Appends the lines about the unmet expectations. `address` is the address of the signature's first word, if it is known.
 pub(crate) fn push_unmet_lines(
     bytes: &mut Vec<u8>,
     comparison: &Comparison<'_, '_>,
@@ -75,7 +75,7 @@ fn unmet_margin(unmet: Unmet) -> &'static str
     }
 }
 
-// Appends an unmet expectation, in words; `address` is that of the first word of the signature, if it is known.
+// Appends an unmet expectation, in words. `address` is the address of the signature's first word, if it is known.
 #[tactic(auto, unfolding(crate::specs::UnmetLines::unmet_expectation_text))]
 fn push_unmet_expectation(
     bytes: &mut Vec<u8>,

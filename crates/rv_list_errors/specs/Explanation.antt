@@ -71,7 +71,7 @@ is_elf_file text = starts_with nat_eq text elf_magic
 abbrev pub elf_file_text : List ℕ
 elf_file_text = codes ": error: this is an ELF file, not a job list"
 
--- the text that a list with `count` jobs has too many
+-- the explanation that a list has too many jobs: the limit, and how many it has
 abbrev pub too_many_jobs_text : ℕ → List ℕ
 too_many_jobs_text count = (codes "too many jobs: expected at most " ++ (decimal most_jobs ++ codes ", found ")) ++ decimal count
 
@@ -151,7 +151,7 @@ key_words _ = None
 abbrev pub sets_words : List ℕ
 sets_words = codes "expected \"rv32i\", \"rv32im\", \"rv32ic\" or \"rv32imc\""
 
--- whether a letter of an instruction set names none of the base and the extensions M and C
+-- whether a letter of an instruction set is neither `i`, the base, nor `m` or `c`, the simulated extensions
 abbrev pub is_unsimulated : ℕ → Bool
 is_unsimulated letter = not (letter == 105 || letter == 109 || letter == 99)
 

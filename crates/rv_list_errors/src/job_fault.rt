@@ -168,14 +168,14 @@ fn letters_explanation(letters: &[u8]) -> Explanation
     }
 }
 
-// Returns the first letter that names none of the base and the extensions M and C.
+// Returns the first letter that is neither `i`, the base, nor `m` or `c`, the simulated extensions.
 fn unsimulated_letter(letters: &[u8]) -> Option<&u8>
     ensures { option_map (λ letter. letter.now) result ≡ find is_unsimulated letters.now }
 {
     letters.iter().find(|letter| is_unsimulated(**letter))
 }
 
-// Whether a letter names none of the base and the extensions M and C.
+// Whether a letter is neither `i`, the base, nor `m` or `c`, the simulated extensions.
 fn is_unsimulated(letter: u8) -> bool
     ensures { result ≡ is_unsimulated letter }
 {

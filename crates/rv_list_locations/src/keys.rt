@@ -148,7 +148,7 @@ fn scan_name(alloc: Global, here: &str) -> Result<(String, &str), ParseError>
     Ok((name, behind))
 }
 
-// Scans a header after the beginning of a job: that of the next job, which ends the job, or that of a table in it, whose name is the part
+// Scans a header after the beginning of a job: the header of the next job, which ends the job, or of a table in it, whose name is the part
 // after `job`.
 fn scan_inner_header(alloc: Global, here: &str) -> Result<KeyStep<'_>, ParseError>
     requires { slice_index here.now 0 ≡ left_bracket }

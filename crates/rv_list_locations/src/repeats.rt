@@ -61,8 +61,8 @@ fn find_repeated_key<'a>(
     Ok(None)
 }
 
-// Returns the repeated key of a header, an entry or an element: its own key if it begins where `left` bytes remain, or else that of an
-// inline table in it.
+// Returns the repeated key of a header, an entry or an element: its own key if it begins where `left` bytes remain, or else a
+// repeated key of an inline table in it.
 fn repeated_in_step<'a>(
     alloc: Global,
     table: &'a str,

@@ -89,14 +89,14 @@ pub(crate) fn array_at_key<'a>(table: &'a Table, key: &str) -> Option<&'a Array>
     }
 }
 
-/// Whether a job has a key that jobs do not have.
+/// Whether a job's table has an unknown key.
 pub(crate) fn has_unknown_job_key(table: &Table) -> bool
     ensures { result ≡ any_unknown_key is_job_key (table_view table.now) }
 {
     table.keys().any(|key| !is_job_key(key.as_str()))
 }
 
-/// Whether a region has a key that regions do not have.
+/// Whether a region's table has an unknown key.
 pub(crate) fn has_unknown_region_key(table: &Table) -> bool
     ensures { result ≡ any_unknown_key is_region_key (table_view table.now) }
 {

@@ -1,4 +1,4 @@
--- What the code holds in place of regions and contents, and how the prover stores them. No contract of a public function uses any of it.
+-- How private fields represent regions and contents, and how the prover stores them. No contract of a public function uses any of this.
 pub mod Codes
 pub mod Places
 pub mod Map

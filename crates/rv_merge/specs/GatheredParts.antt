@@ -31,7 +31,7 @@ pub record IsTextOf (report : SavedReport) (bytes : List ℕ) : Type 0 where
   pub saved : IsSaved report
   pub text : saved_text report ≡ bytes
 
--- the extent is not that of a shard: it is that of a whole list or of chosen jobs, as the flaw says
+-- the extent is not a shard: it is a whole list or chosen jobs, as the flaw says
 abbrev pub IsOtherKind : Flaw → Extent → Type 0
 IsOtherKind flaw.Whole jobs = jobs ≡ extent.Whole
 IsOtherKind flaw.Choice jobs = (count : ℕ) × (jobs ≡ extent.Choice count)
@@ -69,13 +69,12 @@ pub record IsTaken (run : Run) (sources : List (Option ℕ)) (slots : List (Opti
   pub has :
       map (λ m. slice_index_or slots (m - 1) None) of.report.numbers ≡ map Some of.report.rows
 
--- the text at the index `at` is one of the first `count` texts, and is that of the shard with the index `k` of the run
+-- the text at the index `at` is one of the first `count` texts, and is the report of the shard with the index `k` of the run
 pub record IsSource (run : Run) (texts : List (List ℕ)) (count k at : ℕ) : Type 0 where
   pub within : at < count
   pub of : IsReportOf (extent.Shard (shard_in run (k + 1))) (nth_text texts at)
 
--- the first `count` texts have been added to `sources` and `slots`, and all belong to the run of the shard `shard`, which is that of the
--- first text
+-- the first `count` texts have been added to `sources` and `slots`, and all belong to the run of `shard`, the shard of the first text
 pub record Holds (texts : List (List ℕ)) (count : ℕ) (shard : Shard)
     (sources : List (Option ℕ)) (slots : List (Option Row)) : Type 0 where
   pub first : IsReportOf (extent.Shard shard) (nth_text texts 0)
@@ -98,7 +97,7 @@ abbrev pub HaveSources : List (Option ℕ) → Type 0
 HaveSources sources =
     (k : ℕ) → k < length sources → is_some (slice_index_or sources k None) ≡ true
 
--- each shard has a source, `rows` are the rows in the slots, and no two of them have one name
+-- each shard has a source, `rows` are the rows in the slots, and no two of them have the same name
 pub record IsComplete (sources : List (Option ℕ)) (slots : List (Option Row)) (rows : List Row)
     : Type 0 where
   pub all : HaveSources sources

@@ -55,7 +55,7 @@ pub record ArePartsIn (run : Run) (rows : List Row) (texts : List (List ℕ)) : 
   pub each : All (λ bytes. (n : ℕ) × IsPart rows run n bytes) texts
   pub all : (n : ℕ) → 0 < n → n ≤ run.shards → Any (IsPart rows run n) texts
 
--- the rows may be those of a list: there are at most `most_jobs`, all are valid, and no two have one name
+-- the rows may be those of a list: there are at most `most_jobs`, all are valid, and no two have the same name
 pub record AreListed (rows : List Row) : Type 0 where
   pub few : length rows ≤ most_jobs
   pub good : AllByRecursion IsRow rows

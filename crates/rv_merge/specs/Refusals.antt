@@ -83,7 +83,7 @@ abbrev pub IsOtherPart : Run → ℕ → List ℕ → Type 0
 IsOtherPart run n bytes =
     (other : ℕ) × IsReportOf (extent.Shard (shard_in run other)) bytes × (other ≡ n → ⊥)
 
--- each text is that of a shard of one run, and none is that of the shard with the number `n`
+-- each text is the report of a shard of one run, and none is the report of the shard with the number `n`
 pub record IsMissing (n : ℕ) (texts : List (List ℕ)) : Type 0 where
   pub run : Run
   pub low : 0 < n

@@ -51,7 +51,7 @@ pub record IsTextFrom (list : List Job) (answers : List Answer) (run : Run) (n :
   pub same : All (HaveSameResults kept answers) (jobs_needed_for list (shard_places run.shards n run.jobs))
   pub text : bytes ≡ saved_text (shard_report run n (plan_of_jobs list kept))
 
--- each text is that of a shard which ran as `IsTextFrom` says, and each shard of the run has a text
+-- each text is the report of a shard that ran as `IsTextFrom` says, and each shard of the run has a text
 pub record AreTextsFrom (list : List Job) (answers : List Answer) (run : Run)
     (texts : List (List ℕ)) : Type 0 where
   pub each : All (λ bytes. (n : ℕ) × IsTextFrom list answers run n bytes) texts

@@ -18,7 +18,7 @@ pub enum MergeError {
     /// What is wrong with the text at an index.
     #[error("part {0}: {1}")]
     Text(usize, Flaw),
-    /// No text is that of the shard with this number.
+    /// No text is the report of the shard with this number.
     #[error("shard {0} is missing")]
     Missing(usize),
 }

@@ -9,7 +9,7 @@ ghost use Rattle.rv_report.specs.Differences.{count_of_line_feeds};
 ghost use Rattle.rv_report.specs.LenientReport.{lenient_report};
 ghost use Rattle.rv_report.specs.LeastLine.{first_lines, BeginsReport};
 
-/// Proves that two valid reports with one text are equal.
+/// Proves that two valid reports with the same text are equal.
 pub fn one_text_one_report()
     ensures { (report other : SavedReport) → IsSaved report → IsSaved other
         → saved_text report ≡ saved_text other → report ≡ other }

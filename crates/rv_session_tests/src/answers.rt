@@ -172,8 +172,7 @@ fn answered(alloc: Global, session: &mut Session, end: &End, heard: &[u8]) -> Re
     Ok(String::from_str(alloc, text)?)
 }
 
-// Returns the bus of a run: 4,096 bytes of memory with the code at 80000000, and the console input `hi`. `LOOP` stands for the code of that
-// constant.
+// Returns the bus of a run: the code, or the loop if it is `LOOP`, at 80000000 in memory of 4,096 bytes, and the console input `hi`.
 fn bus_of(alloc: Global, code: &str) -> Result<Bus, Fail> {
     let memory = Region {
         base: 0x8000_0000,

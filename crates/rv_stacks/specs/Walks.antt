@@ -58,7 +58,7 @@ pub record AreSpotsOf (nodes : List Node) (ss : List Spot) : Type 0 where
   pub own : (f : ℕ) → spots.own_in f ss ≡ own_in f nodes
   pub all_steps : spots.all_steps ss ≡ all_steps nodes
 
--- the node with this number is a child of node `parent` that a run entered, and its function is `from` or a later one
+-- the node with this number is a child of node `parent` that a run entered, and its function is at or above `from`
 pub record IsNext (parent from number : ℕ) (nodes : List Node) : Type 0 where
   pub behind : parent < number
   pub within : number < length nodes + 1

@@ -100,7 +100,7 @@ impl Children {
         }
     }
 
-    /// Returns the number of the next child of `parent`, with a function from `from` on, that a run entered; `None` if there is none.
+    /// Returns the number of the next child of `parent` that a run entered and whose function is at or above `from`; `None` if none is.
     pub(crate) fn next(&self, nodes: &[Node], parent: usize, from: u64) -> Option<usize>
         ensures { IfSome result (λ number. IsNext parent from number nodes.now) }
     {
@@ -116,7 +116,7 @@ impl Children {
         next
     }
 
-    // Returns the number of the next child of `parent`, with a function from `from` on, outside the chains.
+    // Returns the number of the next child of `parent` outside the chains whose function is at or above `from`.
     fn next_of_others(&self, nodes: &[Node], parent: usize, from: u64) -> Option<usize>
         ensures { IfSome result (λ number. IsNext parent from number nodes.now) }
     {
@@ -145,7 +145,7 @@ fn is_child(nodes: &[Node], parent: usize, function: u32, number: usize) -> bool
     node.parent == parent && node.function == function
 }
 
-// Whether the node with this number is a child of `parent` that a run entered, with a function from `from` on.
+// Whether the node with this number is a child of `parent` that a run entered, and its function is at or above `from`.
 fn is_next(nodes: &[Node], parent: usize, from: u64, number: usize) -> bool
     ensures { result ≡ true → IsNext parent from number nodes.now }
 {

@@ -65,7 +65,7 @@ margin = 5
 abbrev pub sign_mark : ℕ → Mark
 sign_mark byte = if is_minus byte then mark.Red else if is_plus byte then mark.Green else mark.Nothing
 
--- the mark before the first byte of a line without a margin: red before an F, green before a P, or else that of a sign
+-- the mark before the first byte of a line without a margin: red before an F, green before a P, or else the mark of a sign
 abbrev pub word_mark : ℕ → Mark
 word_mark byte = if is_fail byte then mark.Red else if is_pass byte then mark.Green else sign_mark byte
 

@@ -101,7 +101,7 @@ fn put_piece<S: Sink>(sink: &mut S, place: Place, bytes: &[u8]) -> Result<usize,
     sink.put(&bytes[..marked_len(place, bytes)])
 }
 
-// Returns the number of leading bytes up to the next mark; the first byte can have a mark before it.
+// Returns how many leading bytes have no mark between them. The first byte can have a mark before it.
 fn marked_len(place: Place, bytes: &[u8]) -> usize
     requires { 0 < length bytes.now }
     ensures within { (1 ≤ result) × (result ≤ length bytes.now) }

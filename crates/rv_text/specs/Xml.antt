@@ -47,7 +47,7 @@ abbrev pub xml_front_bytes : List ℕ → List ℕ
 xml_front_bytes [] = []
 xml_front_bytes (byte ∷ rest) = take (continuation_len byte + 1) (byte ∷ rest)
 
--- the character if there is one and XML 1.0 has it, else `None`
+-- the character if there is one and XML 1.0 allows it, else `None`
 abbrev pub filter_xml_character : Option ℕ → Option ℕ
 filter_xml_character None = None
 filter_xml_character (Some c) = if is_xml_character c then Some c else None

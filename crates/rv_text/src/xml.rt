@@ -68,7 +68,7 @@ fn front_xml_character(bytes: &[u8]) -> Option<char>
     }
 }
 
-// Returns the character if there is one and XML 1.0 has it, else `None`.
+// Returns the character if there is one and XML 1.0 allows it, else `None`.
 fn filter_xml_character(character: Option<char>) -> Option<char>
     ensures { result ≡ filter_xml_character character }
 {
@@ -93,7 +93,7 @@ fn xml_front_bytes(bytes: &[u8]) -> &[u8]
     }
 }
 
-// Whether XML 1.0 has a character: it lacks the control characters except three, the surrogates, and the two code points after U+FFFD.
+// Whether XML 1.0 allows a character: tab, line feed, carriage return, and from U+0020 on all but the surrogates, U+FFFE and U+FFFF.
 fn is_xml_character(character: char) -> bool
     ensures { result ≡ is_xml_character character }
 {

@@ -54,8 +54,8 @@ HasRegister _ = Unit {0}
 
 -- ---- what an instruction wrote
 
--- the effect of a completed write to this target: a register's new value is that in the state `t` after the instruction; a store's value is
--- that of the target
+-- the effect of a completed write to this target: a register's new value is read from the state `t` after the instruction; a store's value
+-- is the one in the target
 abbrev pub completed_write : WriteTarget → State → WriteEffect
 completed_write aim.Nothing t = wrote.Nothing
 completed_write (aim.Register number) t = wrote.Register number (register t number)

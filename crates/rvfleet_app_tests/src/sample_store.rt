@@ -48,7 +48,7 @@ impl<'a> SampleStore<'a> {
     }
 }
 
-// Returns the description of the file at a path: that of its line, or else the path itself, up to a `#`.
+// Returns the description of the file at a path: the one on its line, or, if it has no line, the path itself, up to a `#`.
 fn sample_at<'a>(files: &'a str, path: &'a str) -> &'a str {
     for line in files.lines() {
         let (at, sample) = line.split_once(" = ").unwrap_or(("", ""));

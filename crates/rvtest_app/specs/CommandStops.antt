@@ -44,7 +44,7 @@ abbrev pub IsCheckStop : Option FileContents → CheckArgs → Stop → Type 0
 IsCheckStop known words why = IsListUnreadStop known words.list.now why
     ⊎ ((text : List ℕ) × (IsTextAt known words.list.now text × IsListFaultStop words.list.now text why))
 
--- why a command stopped: the text at the path is not a list, or none of its jobs has this name
+-- the text at the path is an invalid list, or none of its jobs has this name
 abbrev pub IsNoJobStop : List ℕ → List ℕ → List ℕ → Stop → Type 0
 IsNoJobStop path text name why = IsListFaultStop path text why
     ⊎ ((jobs : List Job) × ((job_list_of text ≡ Ok jobs) × IsUnknownNameStop path jobs name why))
@@ -82,7 +82,7 @@ IsGdbStopped known is_terminal words why before after failures_before failures_a
     (IsUnshownStop known is_terminal words why × (after ≡ before))
     ⊎ ((is_terminal ≡ false) × ((broken : SessionError) × (IsBrokenStop broken why × IsFailureCounted broken failures_before failures_after)))
 
--- the text is not a list, or choosing its jobs by the arguments stopped
+-- the text is an invalid list, or choosing its jobs by the arguments stopped
 abbrev pub IsNoChoiceStop : Option FileContents → RunArgs → List ℕ → Stop → Type 0
 IsNoChoiceStop known words text why = IsListFaultStop words.list.now text why
     ⊎ ((jobs : List Job) × ((job_list_of text ≡ Ok jobs)

@@ -39,7 +39,7 @@ end_text_of_job plan unread (Some job) = outcome_text plan unread (judging_by_ru
 unfoldable pub job_end_text : Planned → List UnreadablePath → ℕ → List ℕ
 job_end_text plan unread place = end_text_of_job plan unread (slice_get plan.jobs place)
 
--- the state in which the run of the job at index `place` starts; if the job is refused, that of an image of 0 bytes
+-- the state in which the run of the job at index `place` starts; if the job is refused, the start state of an image of 0 bytes
 unfoldable pub job_start : Planned → ℕ → State
 job_start plan place =
     unwrap_or (option_and_then (λ (job : Job). result_ok (start_in plan.answers job)) (slice_get plan.jobs place)) (flat_state [])

@@ -33,7 +33,7 @@ abbrev pub paths_text : Option (List ℕ) → List ℕ
 paths_text None = codes "no image was found: relative paths are resolved against the current directory; use --root DIR to resolve them against DIR"
 paths_text (Some folder) = codes "no image was found: relative paths are resolved against " ++ printable_text folder ++ codes " (--root)"
 
--- the note of `run` if every image is missing and `count`, the number of jobs that run, is that of all jobs; else empty
+-- the note of `run` if all jobs run and every image is missing; else empty; `count` is the number of jobs that run
 abbrev pub missing_images_note : List Job → List UnreadablePath → ℕ → Option (List ℕ) → List ℕ
 missing_images_note jobs unread count root =
     if count == length jobs && are_images_missing jobs unread then codes "rvtest: note: " ++ line (paths_text root) else []

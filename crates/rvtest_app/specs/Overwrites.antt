@@ -50,20 +50,20 @@ IsUnread read path = list_any (is_among (path ∷ [])) read ≡ false
 abbrev pub IsApart : List (List ℕ) → Option (List ℕ) → Type 0
 IsApart read path = IfSome (file_path_at path) (IsUnread read)
 
--- the words for an input that a job names: by its key and the job's name
+-- how a message refers to an input that a job names: by the key and the job
 abbrev pub job_file_text : List ℕ → List ℕ → List ℕ
 job_file_text key job = codes "the \"" ++ key ++ codes "\" of job \"" ++ job ++ codes "\""
 
--- the words for an input: its placeholder in the usage, such as LIST, or the key by which a job names it
+-- how a message refers to an input: by its placeholder in the usage, such as LIST, or by the key and the job that name it
 abbrev pub role_text : ReadRole → List ℕ
 role_text (role.Word word) = word.now
 role_text (role.JobFile key job) = job_file_text key.now job.now
 
--- the words for an output file that a job names: the job's name and its key
+-- how a message refers to an output file that a job names: by the job and the key
 abbrev pub job_writer_text : List ℕ → List ℕ → List ℕ
 job_writer_text key job = codes "job \"" ++ job ++ codes "\": " ++ key
 
--- the words for an output file: its option, or the job and the key that name it
+-- how a message refers to an output file: by its option, or by the job and the key that name it
 abbrev pub writer_text : ReadRole → List ℕ
 writer_text (role.Word word) = word.now
 writer_text (role.JobFile key job) = job_writer_text key.now job.now

@@ -18,11 +18,11 @@ unfoldable pub refused_line : Judging → Planned → List UnreadablePath → Jo
 refused_line judging plan unread job =
     if is_job_refused plan job then row_line plan unread judging job (row_of plan job) else []
 
--- the lines about the refused jobs among those at these indices
+-- a line for each refused job among those at these indices
 abbrev pub refused_lines : Judging → Planned → List UnreadablePath → List ℕ → List ℕ
 refused_lines judging plan unread places = flat_map (refused_line judging plan unread) (jobs_at plan places)
 
--- the note about missing images, and the lines about the refused jobs among those at these indices
+-- the note about missing images, if there is one, and a line for each refused job among those at these indices
 abbrev pub refused_note : RunArgs → Planned → List UnreadablePath → List ℕ → List ℕ
 refused_note words plan unread places = missing_images_note plan.jobs unread (length places) (optional_text words.root)
     ++ refused_lines (report_judging words.lenient) plan unread places

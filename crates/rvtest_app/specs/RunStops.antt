@@ -29,7 +29,7 @@ abbrev pub IsUnmarkedStop : Option FileContents → RunArgs → List Job → Sto
 IsUnmarkedStop known words jobs why = IsShardStop words.shard words.stamp why
     ⊎ ((is_some words.shard ≡ false) × IsChoiceStop known words (failure_rule words.lenient) jobs why)
 
--- why a command stopped: the text is not a list, the report of `--into` cannot be updated, or the requested jobs could not be found
+-- the text is an invalid list, the report of `--into` cannot be updated, or the requested jobs could not be found
 abbrev pub IsUnlistedStop : Option FileContents → RunArgs → List ℕ → Stop → Type 0
 IsUnlistedStop known words text why = IsListFaultStop words.list.now text why
     ⊎ ((jobs : List Job) × ((job_list_of text ≡ Ok jobs)
@@ -50,7 +50,7 @@ pub record IsUnknownStop (known : Option FileContents) (words : RunArgs) (why : 
   pub args : AreRequestedJobs known words jobs marks shard old notes
   pub unknown : IsKnownStop known words jobs why
 
--- the stop for an error while a run is shown; `path` is that of the report
+-- the stop for an error while a run is shown; `path` is the path of the report
 abbrev pub IsShowStop : Option (List ℕ) → ShowError → Stop → Type 0
 IsShowStop path show.OutOfMemory why = why ≡ stop.OutOfMemory
 IsShowStop path show.NoWorker why = why ≡ stop.NoWorker

@@ -133,7 +133,7 @@ abbrev pub IsCountsTable : Bool → Planned → List ℕ → CountTable → Type
 IsCountsTable false plan places table = IsTableOfPlaces plan places table
 IsCountsTable true plan places table = IsTableWithStacks plan places table
 
--- the text is that of the table of counts of the jobs at these indices, with call stacks if `stacks` is true
+-- the text is the table of counts of the jobs at these indices, with call stacks if `stacks` is true
 abbrev pub IsCountsText : Bool → Planned → List ℕ → List ℕ → Type 0
 IsCountsText stacks plan places text =
     (table : CountTable) × (IsCountsTable stacks plan places table × (text ≡ table_text table))

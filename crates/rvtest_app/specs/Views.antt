@@ -26,7 +26,7 @@ use Rattle.rvtest_app.specs.declared.view.View.TheVariants as view
 
 -- ---- the counts and the text of a view
 
--- the table is that of a run of the jobs at these indices: of their counts for coverage, with call stacks for a profile
+-- the table has the counts of a run of the jobs at these indices: without call stacks for coverage, and with them for a profile
 abbrev pub IsCountedFor : View → Planned → List ℕ → CountTable → Type 0
 IsCountedFor (view.Cover csv) plan places table = IsTableOfPlaces plan places table
 IsCountedFor (view.Profile format) plan places table = IsTableWithStacks plan places table
@@ -50,7 +50,7 @@ pub record IsFitTableAt (known : Option FileContents) (shown : View) (path : Lis
   pub of_images : other_image table images ≡ None
   pub fit : has_counts_for shown table ≡ true
 
--- the table for the view: the one at the path, or without a path, that of a run of the jobs at these indices
+-- the table for the view: the one at the path, or, if there is no path, the counts of a run of the jobs at these indices
 abbrev pub IsTableFor : Option FileContents → View → Option (List ℕ) → Planned → List ℕ → CountTable → Type 0
 IsTableFor known shown None plan places table = IsCountedFor shown plan places table
 IsTableFor known shown (Some path) plan places table = IsFitTableAt known shown path (images_of plan.answers (jobs_at plan places)) table

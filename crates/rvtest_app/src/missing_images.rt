@@ -13,8 +13,8 @@ use rv_text::{Span, push_spans, push_text};
 use std::alloc::{AllocError, Global};
 use std::io::ErrorKind;
 
-/// Returns the note of `run` that no image was found, if every image is missing and `count`, the number of jobs that run, is that of all
-/// jobs. Otherwise the result is empty.
+/// Returns the note of `run` that no image was found, if all jobs run and every image is missing. Otherwise the result is empty. `count` is
+/// the number of jobs that run.
 pub(crate) fn missing_images_note(
     alloc: Global,
     plan: &Plan,

@@ -16,7 +16,7 @@ use rv_rows::{refusal_at, row_at};
 use rvtest_cli::RunArgs;
 use std::alloc::{AllocError, Global};
 
-/// Returns the note that no image was found, if every image is missing, and the lines about the refused jobs among those at these indices.
+/// Returns the note about missing images, if there is one, and a line for each refused job among those at these indices.
 pub(crate) fn refused_note(
     alloc: Global,
     args: &RunArgs<'_>,
@@ -39,7 +39,7 @@ pub(crate) fn refused_note(
     Ok(note)
 }
 
-// Appends the lines about the refused jobs among those at these indices.
+// Appends a line for each refused job among those at these indices.
 fn push_refused_lines(
     alloc: Global,
     reporter: &TextReporter<'_>,

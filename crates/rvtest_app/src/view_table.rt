@@ -32,7 +32,8 @@ use std::sync::Wait;
 use std::thread::Threads;
 
 impl<'x, R: Threads + Wait + Sync, D: Inputs> JobsView<'x, R, D> {
-    /// Returns the table of counts for the view: the one in the arguments, or else that of a run of the jobs at these indices.
+    /// Returns the table for the view: the one at the path in the arguments, or, if there is no path, the counts of a run of the jobs at
+    /// these indices.
     pub(crate) fn table_for_images(
         &self,
         plan: &Plan,

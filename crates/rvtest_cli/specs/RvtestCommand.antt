@@ -32,20 +32,20 @@ file_rule name = record (option_rule name) { parser = Some value_parser.NonEmpty
 abbrev pub flag_rule : Text → Rule
 flag_rule name = record (new_rule name) { long = Some name; action = Some SetTrue }
 
--- the rule of an argument, with a short letter if there is one
+-- the rule of an argument, with a short option if a letter is given
 abbrev pub with_letter : Rule → Option ℕ → Rule
 with_letter rule None = rule
 with_letter rule (Some letter) = record rule { short = Some letter }
 
--- the short letter of `--workers`: j
+-- the letter of the short option `-j`, for `--workers`
 abbrev pub letter_of_workers : ℕ
 letter_of_workers = 106
 
--- the short letter of `--quiet`: q
+-- the letter of the short option `-q`, for `--quiet`
 abbrev pub letter_of_quiet : ℕ
 letter_of_quiet = 113
 
--- the short letter of `--verbose`: v
+-- the letter of the short option `-v`, for `--verbose`
 abbrev pub letter_of_verbose : ℕ
 letter_of_verbose = 118
 

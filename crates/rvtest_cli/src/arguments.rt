@@ -34,9 +34,9 @@ pub(crate) enum Argument<'a> {
     File(&'a str, &'a str),
     /// A repeatable option with a value.
     Again(&'a str, &'a str, &'a str),
-    /// An option without a value, its short letter, if it has one, and its help.
+    /// An option without a value: its name, the letter of its short option, if it has one, and its help.
     Flag(&'a str, Option<char>, &'a str),
-    /// An option with a number: its short letter, if it has one, its help, its range, and its default, if it has one.
+    /// An option with a number: its name, the letter of its short option, if it has one, its help, its range, and its default, if any.
     Number(&'a str, Option<char>, &'a str, Bounds, &'a [&'a str]),
     /// The option `--group`: the number of jobs in a chunk, which a thread takes at a time.
     Group,
@@ -86,7 +86,7 @@ pub(crate) fn with_arguments<'a>(
     command
 }
 
-// Returns the argument with a short letter, if there is one.
+// Returns the argument, with a short option if a letter is given.
 fn with_letter<'a>(argument: Arg<'a>, letter: Option<char>) -> Arg<'a>
     ensures rule { rule_of result ≡ with_letter (rule_of argument.entry) letter }
     ensures local { result.global ≡ argument.entry.global }
