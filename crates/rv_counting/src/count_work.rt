@@ -3,7 +3,7 @@
 ghost use Rattle.std.specs.Prelude.{◌≡◌};
 ghost use Rattle.rv_count_tables.specs.Table.{IsTable};
 
-use crate::table_of_job::table_of_job;
+use crate::table_of_job::job_table;
 use crate::table_sum::HasTable;
 use rv_count_tables::CountTable;
 use rv_engine::{Work, WorkerState};
@@ -80,7 +80,7 @@ impl Work<JobTable> for CountWork<'_> {
         worker_state: &mut WorkerState,
     ) -> Result<JobTable, AllocError> {
         let place = self.batch.places[number];
-        let table = table_of_job(alloc, self.batch.plan, place, &mut worker_state.spare)?;
+        let table = job_table(alloc, self.batch.plan, place, &mut worker_state.spare)?;
         Ok(JobTable::new(table))
     }
 }

@@ -24,7 +24,7 @@ use std::alloc::{AllocError, Global};
 
 /// Runs the job at an index once more, and returns the table of the run, or the table of no runs if the job is refused. Takes longer than
 /// one run of the job, and memory for each executed address. Reuses the memory of the last run.
-pub(crate) fn table_of_job(
+pub(crate) fn job_table(
     alloc: Global,
     plan: &Plan,
     place: usize,

@@ -13,7 +13,7 @@ use Rattle.rv_counting.specs.Coverage.{AreCountsOfJob}
 use Rattle.rv_counting.specs.JobTables.{table_of_run, IsTableOfOne}
 use Rattle.rv_counting.proofs.OfJobs.{both_ok, none_if_uncounted, ran, refused}
 use Rattle.rv_counting.proofs.Starts.{no_bytes, no_image}
-use Rattle.rv_counting.proofs.table_of_job.table_of_job.Goals as goal
+use Rattle.rv_counting.proofs.table_of_job.job_table.Goals as goal
 
 pub returns-in_default : goal.returns-in_default
 returns-in_default c = λ d.
