@@ -3,7 +3,7 @@ use Rattle.std.specs.Prelude.{slice_index_or}
 use Rattle.rv_jobs.specs.declared_job.Job.{Job}
 use Rattle.rv_counting.specs.JobTables.{IsTableOfOne}
 use Rattle.rv_trace.specs.Trace.{job_at}
-use Rattle.rv_counting.proofs.count_batch.count_batch.Given as goal
+use Rattle.rv_counting.proofs.batch.count_batch.Given as goal
 
 abbrev pub ghosts-run_jobs : goal.ghosts-run_jobs
 ghosts-run_jobs g a =
