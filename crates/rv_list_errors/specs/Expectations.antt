@@ -12,7 +12,7 @@ use Rattle.rv_list_errors.specs.Explanation.{first_kinds_text, letters_words, se
 
 -- ---- expectations
 
--- the words for the value that a path must have
+-- the text that says what is expected of a path
 abbrev pub path_words : List ℕ
 path_words = codes "expected a path of 1 to " ++ (decimal most_path ++ codes " bytes")
 
@@ -25,12 +25,12 @@ abbrev pub is_negative : Option ℤ → Bool
 is_negative None = false
 is_negative (Some number) = int_lt number (pos 0)
 
--- how to write a negative exit code, which is an unsigned number in a list
+-- how a list must write a negative exit code, which is an unsigned number there; nothing if the code is not negative
 abbrev pub negative_words : Bool → List ℕ
 negative_words false = codes ""
 negative_words true = codes "; write -1 as 4294967295"
 
--- given the number of `expect_exit`
+-- the explanation of a bad `expect_exit`, given its number, if it is one: the key whose value is shown, and the words
 abbrev pub exit_explanation : Option ℤ → Option (List ℕ) × List ℕ
 exit_explanation number = (
   Some (codes "expect_exit"),
