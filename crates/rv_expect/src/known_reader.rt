@@ -25,7 +25,7 @@ pub fn read_known_jobs(
     read_lines(alloc, jobs, lines.as_slice())
 }
 
-// Parses the lines of a list of known failures.
+// Returns the known failures in these lines, or the first error. `jobs` are the names of the list's jobs.
 fn read_lines(
     alloc: Global,
     jobs: &[&str],
@@ -45,7 +45,8 @@ fn read_lines(
     Ok(Ok(Sequence::new(known)))
 }
 
-// Returns the error in the line with this number, which follows lines with these known failures, or `None` if the line is valid.
+// Returns the error in a line, or `None` if it is valid. `number` is its number, counted from 1, and `known` are the known failures in the
+// lines before it.
 fn fault_of_line(
     alloc: Global,
     jobs: &[&str],
@@ -100,7 +101,7 @@ fn has_job_named(jobs: &[&str], name: &[u8]) -> bool
     is_among(jobs, name)
 }
 
-// Whether one of the names is this name.
+// Whether `name` is one of these names.
 fn is_among(names: &[&str], name: &[u8]) -> bool
     ensures { result ≡ list_any (λ one. bytes_eq one.now name.now) names.now }
 {
