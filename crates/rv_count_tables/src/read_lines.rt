@@ -46,7 +46,7 @@ pub(crate) struct ImageLines {
     pub(crate) length: usize,
 }
 
-/// Parses images at the start of a text, as many as there are.
+/// Parses the lines of images at the start of a text, up to the first line that cannot belong to them.
 pub(crate) fn read_images(alloc: Global, text: &[u8]) -> Result<ImageLines, AllocError>
     ensures { IfOk result (λ read. AreImageLines text.now read) }
 {
@@ -68,7 +68,8 @@ pub(crate) fn read_images(alloc: Global, text: &[u8]) -> Result<ImageLines, Allo
     }
 }
 
-// Parses the image at the start of a text, or returns `None` if there is none that can follow the earlier ones.
+// Parses the lines of one image at the start of a text, or returns `None` if the text does not begin with an image whose digest is greater
+// than those in `earlier`.
 fn read_image(
     alloc: Global,
     text: &[u8],
@@ -95,7 +96,7 @@ fn read_image(
     Ok(Some(OneImage { image, length }))
 }
 
-// Whether this is a digest that is greater than the earlier ones.
+// Whether these bytes are a digest that is greater than the digest of the last of the earlier images, if there are any.
 fn can_follow(digest: &[u8], earlier: &[ImageCounts]) -> bool
     ensures value { result ≡ ((length digest.now == 32) && is_greater_than_last (last_digest None earlier.now) digest.now) }
     ensures bytes { AllByRecursion (λ b. b < 256) digest.now }
@@ -107,7 +108,7 @@ fn can_follow(digest: &[u8], earlier: &[ImageCounts]) -> bool
         }
 }
 
-// Parses lines of addresses at the start of a text, as many as there are.
+// Parses the lines of addresses at the start of a text, up to the first line that is not a line of a higher address.
 fn read_addresses(alloc: Global, text: &[u8]) -> Result<AddressLines, AllocError>
     ensures { IfOk result (λ read. AreAddressLines text.now read) }
 {
