@@ -7,12 +7,12 @@ use Rattle.rv_lists.specs.declared.error.JobError.{JobError}
 
 -- the second step, if the first succeeded
 infixl 10 ◌>>=◌
--- the result of the second step for the value of the first, or the error of the first
+-- the result of `f` for the value of the first step, or the error of the first step
 abbrev pub ◌>>=◌ : {F A B : Type 0} → Result A F → (A → Result B F) → Result B F
 (Ok x) >>= f = f x
 (Err e) >>= f = Err e
 
--- the error `fault` if the condition holds
+-- the error `fault` if the condition is true, or else success
 abbrev pub fault_if : Bool → What → Result (Unit {0}) What
 fault_if b fault = if b then Err fault else Ok tt
 
