@@ -133,7 +133,7 @@ fn read_addresses(alloc: Global, text: &[u8]) -> Result<AddressLines, AllocError
     }
 }
 
-// Returns the counts of a line, or `None` if it is not the line of an address at or above `lowest`.
+// Returns the counts in a line, or `None` if it is not the line of valid counts of an address at or above `lowest`.
 fn parse_address_line(
     alloc: Global,
     line: &[u8],
@@ -152,7 +152,7 @@ fn parse_address_line(
     }
 }
 
-// Whether these counts are valid, and their address is at or above `lowest`.
+// Whether these counts are valid and their address is not below `lowest`.
 fn can_come_next(counts: AddressCounts, lowest: u64) -> bool
     ensures { IsTrue result ↔ (IsCounted counts × (lowest ≤ counts.address)) }
 {
@@ -162,7 +162,7 @@ fn can_come_next(counts: AddressCounts, lowest: u64) -> bool
         && lowest <= u64::from(counts.address)
 }
 
-// Returns the counts that a line `ADDRESS BEGUN TAKEN` is read as.
+// Returns the counts in a line `ADDRESS BEGUN TAKEN`. For any other line, the result is arbitrary.
 fn counts_of_line(line: &[u8]) -> AddressCounts
     ensures { (c : Counts) → IsCounted c → line.now ≡ address_line c → result ≡ c }
 {
@@ -174,7 +174,7 @@ fn counts_of_line(line: &[u8]) -> AddressCounts
     }
 }
 
-// Whether the line of these counts is this line.
+// Whether `line` is the text of the line of these counts.
 fn has_address_line(alloc: Global, counts: AddressCounts, line: &[u8]) -> Result<bool, AllocError>
     ensures { IfOk result (λ same. same ≡ bytes_eq line.now (address_line counts)) }
 {
@@ -183,7 +183,7 @@ fn has_address_line(alloc: Global, counts: AddressCounts, line: &[u8]) -> Result
     Ok(line == text.as_bytes())
 }
 
-// Returns the image, without counts, that a line `image DIGEST PATH` is read as.
+// Returns the image, without counts, in a line `image DIGEST PATH`. For any other line, the result is arbitrary.
 fn image_of_line(alloc: Global, line: &[u8]) -> Result<ImageCounts, AllocError>
     ensures digest { (i : Image) → IsImage i → line.now ≡ image_line i
         → IfOk result (λ read. read.digest ≡ i.digest) }
@@ -206,7 +206,7 @@ fn image_of_line(alloc: Global, line: &[u8]) -> Result<ImageCounts, AllocError>
     })
 }
 
-// Whether the line of this image is this line.
+// Whether `line` is the text of this image's line.
 fn has_image_line(alloc: Global, image: &ImageCounts, line: &[u8]) -> Result<bool, AllocError>
     ensures { IfOk result (λ same. same ≡ bytes_eq line.now (image_line image.now)) }
 {
@@ -215,7 +215,7 @@ fn has_image_line(alloc: Global, image: &ImageCounts, line: &[u8]) -> Result<boo
     Ok(line == text.as_bytes())
 }
 
-/// Returns the number of runs in the last line of a table with this many images, or `None` if the line is another one.
+/// Returns the number of runs in the last line of a table with this many images, or `None` if `line` is not such a line.
 pub(crate) fn runs_of_last_line(
     alloc: Global,
     line: &[u8],

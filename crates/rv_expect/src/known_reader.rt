@@ -72,7 +72,8 @@ fn fault_of_line(
     }))
 }
 
-// Returns what is wrong with a name that follows these known failures, or `None` if nothing is.
+// Returns what is wrong with a name, or `None` if it is valid: it must be the name of a job, and must not be among `known`, the known
+// failures before it.
 fn fault_kind(jobs: &[&str], known: &[KnownJob], name: &[u8]) -> Option<KnownFaultKind>
     ensures { result ≡ fault_kind (job_names jobs.now) known.now name.now }
 {
@@ -87,14 +88,14 @@ fn fault_kind(jobs: &[&str], known: &[KnownJob], name: &[u8]) -> Option<KnownFau
     }
 }
 
-// Whether there is a known failure with this name.
+// Whether the job with this name is among the known failures.
 fn is_known(known: &[KnownJob], name: &[u8]) -> bool
     ensures { result ≡ is_known known.now name.now }
 {
     known_job_of(known, name).is_some()
 }
 
-// Whether one of the jobs has this name.
+// Whether at least one job has this name.
 fn has_job_named(jobs: &[&str], name: &[u8]) -> bool
     ensures { result ≡ has_job_named (job_names jobs.now) name.now }
 {
