@@ -66,7 +66,7 @@ row_if marked rows = if marked then slice_get rows 0 else None
 abbrev pub rest_if : Bool → List Row → List Row
 rest_if marked rows = if marked then drop 1 rows else rows
 
--- one entry for each job: its row if it is selected, or else `None`; the rows are those of the selected jobs, in order
+-- one entry for each job: its row if it is selected, or else `None`; the second list has the rows of the selected jobs, in order
 unfoldable pub indexed_rows : List Bool → List Row → List (Option Row)
 indexed_rows [] rows = []
 indexed_rows (marked ∷ marks) rows = row_if marked rows ∷ indexed_rows marks (rest_if marked rows)

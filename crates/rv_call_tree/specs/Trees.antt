@@ -77,8 +77,8 @@ ends_with function (f ∷ g ∷ gs) = ends_with function (g ∷ gs)
 
 -- ---- nodes that form a tree
 
--- the node may follow a node with the path `front`: it is at most one deeper; if it is not deeper, its function address is greater than
--- that of its preceding sibling, which is the function in `front` at its depth
+-- the node may follow a node with the path `front`: it is at most one deeper; if it is not deeper, its function address is greater than the
+-- address of its preceding sibling, which is the function in `front` at its depth
 pub record FollowsInPreorder (front : List ℕ) (s : Spot) : Type 0 where
   pub within : s.depth ≤ length front
   pub rising : s.depth < length front → slice_index_or front s.depth 0 < s.function

@@ -55,8 +55,8 @@ pub fn tables_of_parts_sum_to_that_of_the_list()
         → table_text sum ≡ table_text whole }
 {}
 
-/// Proves that the tables of all shards add up to the table of the whole list, in any order, and that the sum has the same text. A shard
-/// has the jobs whose indices leave the same remainder when divided by the number of shards.
+/// Proves that the tables of all shards, added in any order, give the table of the whole list, and that the sum has the text of that table.
+/// A shard has the jobs whose indices leave one remainder when divided by the number of shards.
 pub fn tables_of_shards_sum_to_that_of_all()
     ensures { (plan : Planned) (shards : ℕ) (places : List ℕ) (ts : List CountTable) (sum whole : CountTable)
         → 0 < shards → AreTablesOfShards plan shards places ts → SumsTo no_counts ts sum

@@ -39,7 +39,7 @@ pub record IsCodeSymbol (table strings : List ℕ) (n : ℕ) (s : CodeSymbol) : 
   pub code : is_named_code strings (symbol_of_index table index) ≡ true
   pub is : s ≡ code_symbol index (symbol_of_index table index)
 
--- `symbols` are the stored forms of those of the first `n` symbols of the table that may name code, and of no others, in some order
+-- `symbols` has the stored form of each of the first `n` symbols of the table that may name code, and nothing else, in any order
 pub record AreCodeSymbols (table strings : List ℕ) (n : ℕ) (symbols : List CodeSymbol) : Type 0 where
   pub sound : All (IsCodeSymbol table strings n) symbols
   pub complete : (k : ℕ) → k < n → is_named_code strings (symbol_of_index table k) ≡ true

@@ -63,7 +63,7 @@ where
         }
     }
 
-    // Opens the file that receives the bytes: a new temporary file, or, if `places` is `None`, the device or pipe at the path.
+    // Opens the file that receives the bytes: a new temporary file, or, if `places` is `None`, whatever is at the path.
     fn open_file(
         &mut self,
         alloc: Global,

@@ -59,7 +59,8 @@ report|missing/report|failed|first
 /dev/null|/dev/null|placed|
 ";
 
-// Writes two files at once and checks the outcomes, as a line `PATH|PATH|OUTCOME|..` specifies.
+// Writes a second file while a first one is not yet placed, and checks the outcome, and the contents of the first file once it is placed,
+// as in the line `FIRST|SECOND|OUTCOME|CONTENTS`.
 fn writes_pair<R: Files + Abort>(rt: &R, alloc: Global, line: &str) -> Result<(), Fail>
 where
     R::File: FileLock,

@@ -35,7 +35,8 @@ bare_query body =
     else if bytes_eq body (codes "vCont?") then Some ask.Actions
     else None
 
--- the request of a packet without arguments that moves or otherwise affects the session, or `None` for any other packet
+-- the request of a packet without arguments that moves backwards, kills the program, is only accepted, or is a call on the image file, or
+-- `None` for any other packet
 unfoldable pub bare_command : List ℕ → Option Request
 bare_command body =
     if bytes_eq body (codes "bs") then Some (ask.Move move.StepBack)

@@ -63,7 +63,8 @@ fn bare_query(body: &[u8]) -> Option<Request>
     }
 }
 
-// Returns the request of a packet without arguments that moves or otherwise affects the session, or `None` for any other packet.
+// Returns the request of a packet without arguments that moves backwards, kills the program, is only accepted, or is a call on the image
+// file, or `None` for any other packet.
 #[tactic(auto, unfolding(crate::specs::Packets::bare_command))]
 fn bare_command(body: &[u8]) -> Option<Request>
     ensures { result ≡ bare_command body.now }

@@ -21,8 +21,8 @@ abbrev pub path_if_unread : Option (List ℕ) → Option (List ℕ) → Option (
 path_if_unread None path = path
 path_if_unread (Some bytes) path = None
 
--- the path of the first expectation file that was not read, which is that of the signature or else of the console, or `None` if both were
--- read
+-- the path of the first of a job's expectation files that was not read: the file of the signature, or else the file of the console; `None`
+-- if there is no such file
 unfoldable pub unread_reference_path : List Answer → Job → Option (List ℕ)
 unread_reference_path answers job =
     option_or (path_if_unread (signature_reference_bytes answers job) job.expect_signature)
@@ -34,8 +34,8 @@ image_refusal_text answers job why =
     option_map (λ file. image_reason job file why)
     (content_if_read (Some (result_for_path answers job.image)))
 
--- the reason why a job is refused, or `None` if no more is known than the refusal; `unread` has the files that could not be read, with the
--- reasons
+-- the reason why a job is refused, or `None` if the file that the refusal concerns is not known; `unread` has the files that could not be
+-- read, with the reasons
 unfoldable pub refusal_reason : List Answer → List UnreadablePath → Job → Refusal → Option (List ℕ)
 refusal_reason answers unread job refusal.ImageUnreadable = Some (unread_file_text unread job.image)
 refusal_reason answers unread job refusal.ImageTooLong = Some (too_long_file_text job.image)

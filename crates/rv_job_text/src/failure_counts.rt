@@ -46,7 +46,7 @@ fn failure_count(failures: &[FailureKind], kind: FailureKind) -> usize
 }
 
 // Appends the number of failures of a kind and the name of the kind, after a comma if the bracket is already open, or else after an opening
-// bracket. Appends nothing if the number is 0.
+// bracket.
 fn push_failure_count(
     bytes: &mut Vec<u8>,
     is_open: bool,

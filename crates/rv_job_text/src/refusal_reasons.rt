@@ -36,8 +36,8 @@ pub fn ending_reason(
     }
 }
 
-// Returns the reason why a job is refused, or `None` if no more is known than the refusal. `unread` has the files that could not be read,
-// with the reasons.
+// Returns the reason why a job is refused, or `None` if the file that the refusal concerns is not known. `unread` has the files that could
+// not be read, with the reasons.
 #[tactic(auto, unfolding(crate::specs::RefusalReasons::refusal_reason))]
 fn refusal_reason(
     alloc: Global,
@@ -110,8 +110,8 @@ fn image_refusal_text(
     Ok(Some(text))
 }
 
-// Returns the path of the job's first expectation file that was not read, which is that of the signature or else of the console, or `None`
-// if both were read.
+// Returns the path of the first of a job's expectation files that was not read: the file of the signature, or else the file of the console.
+// Returns `None` if there is no such file.
 #[tactic(auto, unfolding(crate::specs::RefusalReasons::unread_reference_path))]
 fn unread_reference_path(plan: &Plan, place: usize) -> Option<&str>
     requires { place < length plan.now.jobs }

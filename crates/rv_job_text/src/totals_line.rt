@@ -35,8 +35,8 @@ pub struct RunRows<'a> {
     pub rows: &'a [Row],
 }
 
-/// Appends the last line of a run with these rows, in which `hidden` jobs have no row since a failure stopped it. The line is that of
-/// [`push_totals_line`], but counts failures by the first unmet expectation.
+/// Appends the last line of a run with these rows, in which `hidden` jobs have no row since a failure stopped it. It is the line of
+/// [`push_totals_line`], but it counts failures by their first unmet expectation, and adds how many jobs have no row.
 pub fn push_run_totals_line(
     bytes: &mut Vec<u8>,
     judge: &Judge<'_>,

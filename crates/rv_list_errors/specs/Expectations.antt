@@ -44,8 +44,8 @@ kinds_explanation = (
   codes "expected \"budget\" or a fault kind: " ++ first_kinds_text (length fault_kinds),
 )
 
--- the explanation of a bad `expect_end` with this text: the key whose value is shown, if any, and the words; for `exit`, that `expect_exit`
--- is the key to use
+-- the explanation of a bad `expect_end`, given its text: the key whose value is shown, or `None`, and the words; for `exit`, they say that
+-- `expect_exit` is the key to use
 abbrev pub end_explanation : Option (List ℕ) → Option (List ℕ) × List ℕ
 end_explanation None = kinds_explanation
 end_explanation (Some end) =
@@ -53,7 +53,7 @@ end_explanation (Some end) =
     then (None, codes "expect_end = \"exit\": to expect an exit, set \"expect_exit\" to its code") else kinds_explanation
 
 -- the explanation of a bad `expect_console`, `expect_console_file` or `expect_end`, given the texts at these keys: the key whose value is
--- shown, if any, and the words
+-- shown, or `None`, and the words
 abbrev pub console_explanation : Option (List ℕ) → Option (List ℕ) → Option (List ℕ) → Option (List ℕ) × List ℕ
 console_explanation (Some text) (Some path) end =
     (None, codes "\"expect_console\" and \"expect_console_file\" cannot both be set")
@@ -75,7 +75,7 @@ reference_explanation asked (Some path) rest =
       codes "cannot be used without \"signature\"",
     )
 
--- the explanation of a job's bad `expect_console`, `expect_console_file` or `expect_end`: the key whose value is shown, if any, and the
+-- the explanation of a job's bad `expect_console`, `expect_console_file` or `expect_end`: the key whose value is shown, or `None`, and the
 -- words
 abbrev pub console_explanation_of : Members → Option (List ℕ) × List ℕ
 console_explanation_of ms = console_explanation (text_at_key (codes "expect_console") ms)

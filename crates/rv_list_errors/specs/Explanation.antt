@@ -99,7 +99,7 @@ region_number_text place = codes "region " ++ decimal (place + 1)
 
 -- ---- names
 
--- the suggestion for an unknown job name: the given name, if one is near, or else all the names in the list, which are those of the earlier
+-- the suggestion for an unknown job name: the given name, if one is near, or else all the names in the list, which belong to the earlier
 -- jobs
 abbrev pub nearest_job_text : List (Option (List ℕ)) → Option (List ℕ) → List ℕ
 nearest_job_text names (Some name) = codes "; a similar name exists: " ++ quoted name

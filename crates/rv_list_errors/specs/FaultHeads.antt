@@ -70,11 +70,11 @@ fault_head path text fault = path ++ place_in_document text (document_of text) f
 
 -- ---- values of the code
 
--- the name that a reference points to, if there is one
+-- the name that a reference points to, or `None` if there is no reference
 abbrev pub borrowed_name : Option (Bor (List ℕ)) → Option (List ℕ)
 borrowed_name name = option_map (λ text. text.now) name
 
--- the name that each reference points to, if there is one
+-- for each reference in the list, the name that it points to, or `None` if there is no reference
 abbrev pub borrowed_names : List (Option (Bor (List ℕ))) → List (Option (List ℕ))
 borrowed_names names = map borrowed_name names
 

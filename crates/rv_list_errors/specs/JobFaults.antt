@@ -122,7 +122,7 @@ are_digit_pairs digits = list_all is_ascii_hexdigit digits && length digits % 2 
 abbrev pub most_script_words : List ℕ
 most_script_words = codes "expected at most " ++ (decimal most_script ++ codes " bytes")
 
--- the explanation of a bad script, given the texts of `input` and `input_hex`: the key whose value is shown, if any, and the words
+-- the explanation of a bad script, given the texts of `input` and `input_hex`: the key whose value is shown, or `None`, and the words
 abbrev pub script_explanation : Option (List ℕ) → Option (List ℕ) → Option (List ℕ) × List ℕ
 script_explanation (Some text) (Some digits) = (None, codes "\"input\" and \"input_hex\" cannot both be set")
 script_explanation (Some text) None = (Some (codes "input"), most_script_words)
@@ -132,7 +132,7 @@ script_explanation None (Some digits) = (
 )
 script_explanation None None = (None, codes "input")
 
--- the explanation of a job's bad script: the key whose value is shown, if any, and the words
+-- the explanation of a job's bad script: the key whose value is shown, or `None`, and the words
 abbrev pub script_explanation_of : Members → Option (List ℕ) × List ℕ
 script_explanation_of ms = script_explanation (text_at_key (codes "input") ms) (text_at_key (codes "input_hex") ms)
 

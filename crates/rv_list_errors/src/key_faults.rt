@@ -49,7 +49,7 @@ impl<'k> FoundKeys<'k> {
     }
 }
 
-// Returns the index of a key among those that jobs have, or `None` if jobs do not have it.
+// Returns the index of a key in `JOB_KEYS`, the keys that jobs may have, or `None` if it is not one of them.
 fn place_of_key(name: &str) -> Option<usize>
     ensures { IfSome result (λ place. place < 16) }
 {

@@ -182,7 +182,7 @@ reference_from_path has_signature path = if has_signature && is_path path then O
 unfoldable pub reference_from_table : Bool → Members → Result (Option (List ℕ)) What
 reference_from_table has_signature ms = reading_or_default (reference_from_path has_signature) None (text_at_key (codes "expect_signature") ms)
 
--- the expected console with this text, or an error if the console cannot hold so many bytes
+-- the expected console with this text, or an error if the text is longer than a console can be
 abbrev pub console_from_text : List ℕ → Result (Option ExpectedConsole) What
 console_from_text text =
     if nat_le (length text) most_console then Ok (Some (Text text)) else Err what.Expect

@@ -24,7 +24,7 @@ unfoldable pub name_taken_by_element : List (List ℕ) → Data → Option (List
 name_taken_by_element names (table ms) = unused_name names (name_from_table ms)
 name_taken_by_element names _ = None
 
--- the reserved names with one more name appended, if there is one
+-- the reserved names with one more name appended, or unchanged if there is no name
 abbrev pub names_with_taken : List (List ℕ) → Option (List ℕ) → List (List ℕ)
 names_with_taken names None = names
 names_with_taken names (Some name) = names ++ name ∷ []

@@ -21,7 +21,7 @@ abbrev pub passing_value : {X : Type 0} → (X → Bool) → What → Option X �
 passing_value p fault None = Err fault
 passing_value p fault (Some x) = if p x then Ok x else Err fault
 
--- the result of `f` for a value that may be missing; the default `y` if it is
+-- the result of `f` for the value, or the default `y` if the value is missing
 abbrev pub reading_or_default : {X Y : Type 0} → (X → Result Y What) → Y → Option X → Result Y What
 reading_or_default f y None = Ok y
 reading_or_default f y (Some x) = f x
