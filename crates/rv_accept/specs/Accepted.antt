@@ -23,7 +23,7 @@ abbrev pub actual_console : Option ExpectedConsole → List ℕ → Option Expec
 actual_console (Some (Text bytes)) console = Some (Text console)
 actual_console expected console = expected
 
--- the job that an accepted job becomes: it expects the actual end and console of its run
+-- the job after it was accepted: it expects the actual end and console of its run
 abbrev pub accepted_job : Job → RowEnd → List ℕ → Job
 accepted_job job end console = record job {
   expect_exit = actual_exit job.expect_exit end;

@@ -5,7 +5,7 @@ use Rattle.std.specs.Int.{is_in_range}
 use Rattle.std.specs.List.{flat_map}
 use Rattle.hex.specs.Hex.{encode_lower}
 
--- the two-character escape of a byte in a TOML string, such as `\n`, if it has one
+-- the two-character escape of a byte in a TOML string, such as `\n`, or `None` if it has none
 abbrev pub short_escape : ℕ → Option (List ℕ)
 short_escape byte =
     if byte == 34 then Some (codes "\\\"") else if byte == 92 then Some (codes "\\\\")
@@ -13,17 +13,17 @@ short_escape byte =
     else if byte == 10 then Some (codes "\\n") else if byte == 12 then Some (codes "\\f")
     else if byte == 13 then Some (codes "\\r") else None
 
--- whether a byte is a control character of ASCII
+-- whether a byte is an ASCII control character
 abbrev pub is_other_control : ℕ → Bool
 is_other_control byte = is_in_range 0 31 byte || byte == 127
 
--- a byte in a TOML string: its two-character escape, if it has one; else `\u00` and two digits, or the byte itself
+-- a byte in a TOML string: its escape, if there is one; else `\u00` and two digits for a control character, or the byte itself
 abbrev pub byte_text_unless_short : Option (List ℕ) → ℕ → List ℕ
 byte_text_unless_short (Some escape) byte = escape
 byte_text_unless_short None byte =
     if is_other_control byte then codes "\\u00" ++ encode_lower (byte ∷ []) else byte ∷ []
 
--- a byte as it is written in a TOML string
+-- a byte as it is written in a TOML string: escaped if necessary
 abbrev pub byte_text : ℕ → List ℕ
 byte_text byte = byte_text_unless_short (short_escape byte) byte
 

@@ -2,11 +2,11 @@
 use Rattle.std.specs.Prelude.{ℕ, List, [], ◌∷◌, ◌++◌, ◌-◌, take, drop}
 use Rattle.rv_accept.specs.declared.edits.Edit.{Edit}
 
--- the bytes of a text from the offset `from` to the offset `to`
+-- the bytes of a text from the offset `from` up to the offset `to`
 abbrev pub piece : ℕ → ℕ → List ℕ → List ℕ
 piece from to text = take (to - from) (drop from text)
 
--- the text from the offset `from` on, with the ranges of the edits replaced; the edits are in text order
+-- the text after its first `from` bytes, in which each edit's range is replaced by the edit's text; the edits are in text order
 unfoldable pub edited_from : ℕ → List ℕ → List Edit → List ℕ
 edited_from from text [] = drop from text
 edited_from from text (edit ∷ edits) = piece from edit.begin text ++ edit.text ++ edited_from edit.end text edits

@@ -6,29 +6,30 @@ use Rattle.rv_accept.specs.declared.golden_texts.GoldenText.{GoldenText}
 use Rattle.rv_accept.specs.declared.golden_outcomes.GoldenFileOutcome.{GoldenFileOutcome}
 use Rattle.rv_accept.specs.declared.golden_outcomes.GoldenFileOutcome.TheVariants as fate
 
--- whether the golden text is for the file at the path
+-- whether this golden text is for the file at the path
 abbrev pub names_file : List ℕ → GoldenText → Bool
 names_file path claim = bytes_eq path claim.path
 
--- whether the golden text is for the file at the path, and is missing since its job was skipped
+-- whether this golden text is for the file at the path, and its job was skipped, so that there is no text
 abbrev pub is_of_skipped_job : List ℕ → GoldenText → Bool
 is_of_skipped_job path claim = names_file path claim && not (is_some claim.text)
 
--- whether there is a text and it equals `text`
+-- whether the second text exists and equals `text`
 abbrev pub is_text : List ℕ → Option (List ℕ) → Bool
 is_text text None = false
 is_text text (Some given) = bytes_eq text given
 
--- whether the golden text is for the file at the path, and is not `text`
+-- whether this golden text is for the file at the path, and its text is missing or differs from `text`
 abbrev pub gives_another_text : List ℕ → List ℕ → GoldenText → Bool
 gives_another_text path text claim = names_file path claim && not (is_text text claim.text)
 
--- the outcome for a golden file: `text`, or that the jobs `job` and `other` give it different texts
+-- the outcome for a golden file to which `job` gives this text: the text, or that the job of the other golden text gives it a different one
 abbrev pub outcome_unless_another : ℕ → List ℕ → Option GoldenText → GoldenFileOutcome
 outcome_unless_another job text None = fate.Agreed text
 outcome_unless_another job text (Some other) = fate.Differ job other.job
 
--- the outcome for the golden file at the path, whose first job `job` gives it this text
+-- the outcome for the golden file at the path, to which its first job `job` gives this text: the text, or that two jobs differ, or that
+-- `job` was skipped
 abbrev pub outcome_of_given_text : List ℕ → List GoldenText → ℕ → Option (List ℕ) → GoldenFileOutcome
 outcome_of_given_text path claims job None = fate.LeftBy job
 outcome_of_given_text path claims job (Some text) =
@@ -39,7 +40,7 @@ abbrev pub outcome_of_first : List ℕ → List GoldenText → Option GoldenText
 outcome_of_first path claims None = fate.Unclaimed
 outcome_of_first path claims (Some first) = outcome_of_given_text path claims first.job first.text
 
--- the outcome for the golden file at the path: left as it is if a job that names it was skipped
+-- the outcome for the golden file at the path, given the first golden text of a skipped job; if there is one, the file is left as it is
 abbrev pub outcome_unless_skipped : List ℕ → List GoldenText → Option GoldenText → GoldenFileOutcome
 outcome_unless_skipped path claims (Some claim) = fate.LeftBy claim.job
 outcome_unless_skipped path claims None = outcome_of_first path claims (find (names_file path) claims)

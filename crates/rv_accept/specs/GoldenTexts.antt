@@ -9,27 +9,28 @@ use Rattle.rv_accept.specs.declared.golden_texts.Part.{Part}
 use Rattle.rv_accept.specs.declared.golden_texts.Part.TheVariants as part
 use Rattle.rv_accept.specs.declared.runs.JobRun.{JobRun}
 
--- the text, if the Bool is true
+-- the text if the Bool is true, or else `None`
 abbrev pub text_if : Bool → List ℕ → Option (List ℕ)
 text_if accepted text = if accepted then Some text else None
 
--- the text that the job at index `job` gives the golden file at this path; nothing if no path is named
+-- the golden text of the job at index `job` for the file at this path, as a list; empty if no path is named
 abbrev pub claims_if_named : ℕ → Part → Option (List ℕ) → Option (List ℕ) → List GoldenText
 claims_if_named job part text None = []
 claims_if_named job part text (Some path) = record { job = job; part = part; path = path; text = text } ∷ []
 
--- the texts that a job gives its golden files, first the console's and then the signature's; no texts if it is not accepted
+-- the golden texts of a job, first for its console and then for its signature, if it names golden files for them; they have no text if the
+-- job is not accepted
 abbrev pub golden_texts_of_job : ℕ → Bool → Job → Row → List GoldenText
 golden_texts_of_job place accepted job row =
     claims_if_named place part.Console (text_if accepted row.console) (console_path job.expect_console)
     ++ claims_if_named place part.Signature (text_if accepted (lines_of_signature row.signature)) job.expect_signature
 
--- the texts that a job gives its golden files; nothing if it was not run, and no texts if it was skipped
+-- the golden texts of a job; empty if it was not run, and without texts if it was skipped
 abbrev pub golden_texts_of_run : ℕ → Job → Option JobRun → List GoldenText
 golden_texts_of_run place job None = []
 golden_texts_of_run place job (Some run) = golden_texts_of_job place (not (is_some run.skipped)) job run.row
 
--- the texts that the jobs give their golden files, in list order; `place` is the index of the first of these jobs
+-- the golden texts of these jobs, in list order; `place` is the index of the first of them in the list
 unfoldable pub golden_texts_of_runs : ℕ → List Job → List (Option JobRun) → List GoldenText
 golden_texts_of_runs place [] runs = []
 golden_texts_of_runs place (job ∷ jobs) [] = []

@@ -11,7 +11,7 @@ use Rattle.rv_rows.specs.declared_row.Row.{Row}
 use Rattle.rv_rows.specs.declared_row.Verdict.{Verdict}
 use Rattle.rv_rows.specs.declared_row.Verdict.TheVariants as verdict
 
--- whether the verdict is pass, or none since the job has no expectations
+-- whether the verdict is `pass`, or `none` because the job has no expectations
 abbrev pub is_pass_or_none : Verdict → Bool
 is_pass_or_none verdict.Fail = false
 is_pass_or_none _ = true

@@ -16,40 +16,40 @@ use Rattle.rv_accept.specs.declared.current_verdict.CurrentVerdict.{CurrentVerdi
 use Rattle.rv_accept.specs.declared.current_verdict.CurrentVerdict.TheVariants as standing
 use Rattle.rv_accept.specs.declared.values.ValueKey.TheVariants as key
 
--- the reason to skip a job because of its end; none if the end is accepted
+-- the reason to skip a job because of its end, or `None` if the end is accepted
 abbrev pub end_skip_reason : Acceptance → Job → RowEnd → Option SkipReason
 end_skip_reason asked job end = if is_accepted_end asked job end then None else Some why.End
 
--- the reason to skip a job because of its console: the list contains the expected text, and the actual one is not UTF-8
+-- the reason to skip a job because of its console, or `None`: the list contains the expected text, and the actual console is not UTF-8
 abbrev pub text_skip_reason : Job → Row → Option SkipReason
 text_skip_reason job row =
     if is_value_changed key.Console job row && not (is_utf8 row.console) then Some why.NoText else None
 
--- the reason to skip a job because of its end or its console; none if both are accepted
+-- the reason to skip a job because of its end or its console, or `None` if both can be accepted
 abbrev pub skip_reason : Acceptance → Job → Row → Option SkipReason
 skip_reason asked job row = if is_accepted_end asked job row.ending then text_skip_reason job row else Some why.End
 
--- whether a job has an expectation whose value is taken from its run
+-- whether a job has an expectation whose new value its run provides: an exit, an end, a console or a signature
 abbrev pub takes_from_run : Job → Bool
 takes_from_run job = is_some job.expect_exit || (is_some job.expect_end || (is_some job.expect_console
     || is_some job.expect_signature))
 
--- the reason to skip a job that differs from its `same_as` job: its end, if it is not accepted, or else the difference
+-- the reason to skip a job that differs from its `same_as` job: its end, if that is not accepted, or else the difference
 abbrev pub differing_skip_reason : Acceptance → Job → RowEnd → SkipReason
 differing_skip_reason asked job end = if takes_from_run job && not (is_accepted_end asked job end) then why.End else why.Differs
 
--- the reason to skip a chosen job; none if it currently passes, or if it fails and its run can be accepted
+-- the reason to skip a chosen job, or `None` if it currently passes, or fails and its run can be accepted
 abbrev pub chosen_skip_reason : Acceptance → CurrentVerdict → Job → Row → Option SkipReason
 chosen_skip_reason asked standing.Passes job row = None
 chosen_skip_reason asked standing.Fails job row = if takes_from_run job then skip_reason asked job row else Some why.End
 chosen_skip_reason asked standing.Differs job row = Some (differing_skip_reason asked job row.ending)
 
--- the reason to skip a job that is not chosen; none if it currently passes or ended exactly as expected
+-- the reason to skip a job that is not chosen, or `None` if it currently passes or ended exactly as expected
 abbrev pub sharing_skip_reason : CurrentVerdict → Job → RowEnd → Option SkipReason
 sharing_skip_reason standing.Passes job end = None
 sharing_skip_reason _ job end = end_skip_reason acceptance.Expected job end
 
--- the run of a job with this row: whether the job is chosen, and why it is skipped, if it is
+-- the run of a job with this row: whether the job is chosen, and the reason if it is skipped
 abbrev pub judged_run : Acceptance → Job → Candidate → Row → JobRun
 judged_run asked job candidate row = record {
   row = row;
@@ -58,44 +58,44 @@ judged_run asked job candidate row = record {
       else sharing_skip_reason candidate.standing job row.ending;
 }
 
--- the first of the rows, if the job is selected
+-- the first row if the job is selected, or else `None`
 abbrev pub row_if : Bool → List Row → Option Row
 row_if marked rows = if marked then slice_get rows 0 else None
 
--- the rows after those of the job: without the first one, if the job is selected
+-- the rows of the jobs after this one: all but the first row if the job is selected, or else all
 abbrev pub rest_if : Bool → List Row → List Row
 rest_if marked rows = if marked then drop 1 rows else rows
 
--- the rows of the selected jobs, each at the index of its job
+-- one entry for each job: its row if it is selected, or else `None`; the second list has the rows of the selected jobs, in order
 unfoldable pub indexed_rows : List Bool → List Row → List (Option Row)
 indexed_rows [] rows = []
 indexed_rows (marked ∷ marks) rows = row_if marked rows ∷ indexed_rows marks (rest_if marked rows)
 
--- the row at an index, if there is one
+-- the row at an index, or `None` if the index is past the end or has no row
 abbrev pub row_or_none : Option (Option Row) → Option Row
 row_or_none None = None
 row_or_none (Some row) = row
 
--- the first row, if there is one
+-- the first row, or `None` if the list is empty or begins without a row
 abbrev pub first_row : List (Option Row) → Option Row
 first_row rows = row_or_none (slice_get rows 0)
 
--- the runs of the jobs, each accepted or skipped; none for a job without a row
+-- for each job its run, accepted or skipped, or `None` if it has no row
 unfoldable pub judged_runs : Acceptance → List Job → List Candidate → List (Option Row) → List (Option JobRun)
 judged_runs asked [] candidates rows = []
 judged_runs asked (job ∷ jobs) [] rows = []
 judged_runs asked (job ∷ jobs) (candidate ∷ candidates) rows =
     option_map (judged_run asked job candidate) (first_row rows) ∷ judged_runs asked jobs candidates (drop 1 rows)
 
--- whether the job of a run is chosen and was not skipped
+-- whether a run is accepted: its job is chosen and was not skipped
 abbrev pub is_accepted_run : JobRun → Bool
 is_accepted_run run = run.is_chosen && not (is_some run.skipped)
 
--- the row of a run, if its job is chosen and was not skipped
+-- the row of a run, or `None` if its job is not chosen or was skipped
 abbrev pub row_if_accepted : JobRun → Option Row
 row_if_accepted run = if is_accepted_run run then Some run.row else None
 
--- the row of a run, if there is one and its job is chosen and was not skipped
+-- the row of an accepted run, or `None` if the job was not run, is not chosen or was skipped
 abbrev pub accepted_row : Option JobRun → Option Row
 accepted_row None = None
 accepted_row (Some run) = row_if_accepted run

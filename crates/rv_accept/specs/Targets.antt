@@ -8,16 +8,16 @@ use Rattle.rv_accept.specs.declared.golden_texts.GoldenText.{GoldenText}
 use Rattle.rv_accept.specs.declared.runs.JobRun.{JobRun}
 use Rattle.rv_accept.specs.declared.targets.Target.{Target}
 
--- whether there is a run, and its job is chosen and was not skipped
+-- whether there is a run and it is accepted: its job is chosen and was not skipped
 abbrev pub is_of_accepted : Option (Option JobRun) → Bool
 is_of_accepted (Some (Some run)) = is_accepted_run run
 is_of_accepted _ = false
 
--- whether the golden file at the path is already in the list
+-- whether the list already has the golden file at the path
 abbrev pub is_target : List ℕ → List Target → Bool
 is_target path targets = list_any (λ target. bytes_eq path target.path) targets
 
--- the golden file that a golden text is for, with its outcome
+-- the golden file of a golden text, with the outcome for this file
 abbrev pub target_of : List GoldenText → GoldenText → Target
 target_of claims claim = record {
   path = claim.path;
@@ -26,7 +26,7 @@ target_of claims claim = record {
   fate = outcome_of_golden_file claim.path claims;
 }
 
--- the golden files, and the one that this golden text is for, if its job is accepted and the file is new
+-- the list with the golden file of this golden text added, if the text's job is accepted and the list does not have the file yet
 abbrev pub with_target : List (Option JobRun) → List GoldenText → List Target → GoldenText → List Target
 with_target runs claims targets claim =
     if is_of_accepted (slice_get runs claim.job) && not (is_target claim.path targets)

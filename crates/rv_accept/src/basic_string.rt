@@ -18,7 +18,7 @@ pub fn push_basic_string(alloc: Global, out: &mut Vec<u8>, text: &[u8]) -> Resul
     Ok(())
 }
 
-// Appends a byte as it is written in a TOML string.
+// Appends a byte as it is written in a TOML string: escaped if necessary.
 fn push_byte(alloc: Global, out: &mut Vec<u8>, byte: u8) -> Result<(), AllocError>
     ensures { OnOk result (out.new.items ≡ out.old.items ++ byte_text byte) }
 {
@@ -28,7 +28,7 @@ fn push_byte(alloc: Global, out: &mut Vec<u8>, byte: u8) -> Result<(), AllocErro
     }
 }
 
-// Returns the two-character escape of a byte in a TOML string, such as `\n`, if it has one.
+// Returns the two-character escape of a byte in a TOML string, such as `\n`, or `None` if it has none.
 fn short_escape(byte: u8) -> Option<&'static str>
     ensures { option_map (λ text. text.now) result ≡ short_escape byte }
 {
@@ -44,6 +44,7 @@ fn short_escape(byte: u8) -> Option<&'static str>
     }
 }
 
+// Appends a byte that has no two-character escape: a control character as `\u00` and two digits, and any other byte unchanged.
 fn push_unless_short(alloc: Global, out: &mut Vec<u8>, byte: u8) -> Result<(), AllocError>
     ensures { OnOk result (out.new.items ≡ out.old.items ++ byte_text_unless_short None byte) }
 {
@@ -56,7 +57,7 @@ fn push_unless_short(alloc: Global, out: &mut Vec<u8>, byte: u8) -> Result<(), A
     out.extend_from_slice(digits.as_bytes())
 }
 
-// Whether a byte is a control character of ASCII.
+// Whether a byte is an ASCII control character.
 fn is_other_control(byte: u8) -> bool
     ensures { result ≡ is_other_control byte }
 {

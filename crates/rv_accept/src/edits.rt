@@ -14,7 +14,7 @@ pub struct Edit {
     pub text: Bytes,
 }
 
-/// Returns the text with the ranges of the edits replaced. The edits are in text order.
+/// Returns the text in which each edit's range is replaced by the edit's text. The edits are in text order.
 pub fn edited_text(alloc: Global, text: &[u8], edits: &[Edit]) -> Result<Vec<u8>, AllocError>
     ensures { IfOk result (λ edited. edited.items ≡ edited_from 0 text.now edits.now) }
 {
@@ -29,7 +29,7 @@ pub fn edited_text(alloc: Global, text: &[u8], edits: &[Edit]) -> Result<Vec<u8>
     Ok(edited)
 }
 
-// Returns the bytes of a text from the offset `from` to the offset `to`.
+// Returns the bytes of a text from the offset `from` up to the offset `to`.
 fn piece(text: &[u8], from: usize, to: usize) -> &[u8]
     ensures { result.now ≡ piece from to text.now }
 {
@@ -37,6 +37,7 @@ fn piece(text: &[u8], from: usize, to: usize) -> &[u8]
     &rest[..to.saturating_sub(from).min(rest.len())]
 }
 
+// Returns the bytes of a text after its first `from` bytes.
 fn rest_from(text: &[u8], from: usize) -> &[u8]
     ensures { result.now ≡ drop from text.now }
 {

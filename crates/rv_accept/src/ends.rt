@@ -15,7 +15,8 @@ pub enum Acceptance {
     InExpectedWay,
 }
 
-/// Whether a job that ended this way is accepted. If it specifies no end, exit 0 is expected.
+/// Whether the end of a job's run is accepted: it is as expected, or, if `acceptance` allows that, an exit or a fault where one is
+/// expected. If the job specifies no end, exit 0 is expected.
 pub fn is_accepted_end(acceptance: Acceptance, job: &Job, ending: RowEnd) -> bool
     ensures { result ≡ is_accepted_end acceptance job.now ending }
 {
@@ -38,7 +39,7 @@ fn ended_as_expected(job: &Job, ending: RowEnd) -> bool
             || has_expected_exit(Some(0), ending))
 }
 
-// Whether the job exited and an exit code is expected, or faulted and a fault is, whatever the code or the kind.
+// Whether the job exited and expects only an exit code, or faulted and expects only a fault, whatever the code or the kind.
 fn ended_in_expected_way(job: &Job, ending: RowEnd) -> bool
     ensures { result ≡ ended_in_expected_way job.now.expect_exit job.now.expect_end ending }
 {

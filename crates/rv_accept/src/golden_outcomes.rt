@@ -36,7 +36,7 @@ pub fn outcome_of_golden_file(
     }
 }
 
-// Returns the outcome for the golden file at the path, given its first golden text; `Unclaimed` if there is none.
+// Returns the outcome for the golden file at the path, none of whose jobs was skipped; `Unclaimed` if no job names it.
 fn outcome_of_first(
     alloc: Global,
     path: &str,
@@ -51,7 +51,8 @@ fn outcome_of_first(
     }
 }
 
-// Returns the outcome for the golden file at the path, given its first golden text.
+// Returns the outcome for the golden file at the path, whose first golden text is `first`: that text, or that two jobs give it different
+// texts, or that the first job was skipped.
 fn outcome_of_given_text(
     alloc: Global,
     path: &str,
@@ -71,21 +72,21 @@ fn outcome_of_given_text(
     }
 }
 
-// Returns the first golden text for the file at the path whose job was skipped.
+// Returns the first golden text for the file at the path whose job was skipped, or `None` if there is none.
 fn first_of_skipped_job<'a>(path: &str, claims: &'a [GoldenText]) -> Option<&'a GoldenText>
     ensures { option_map (λ claim. claim.now) result ≡ find (is_of_skipped_job path.now) claims.now }
 {
     claims.iter().find(|claim| is_of_skipped_job(path, claim))
 }
 
-/// Returns the first golden text for the file at the path.
+/// Returns the first golden text for the file at the path, or `None` if there is none.
 pub fn first_on_file<'a>(path: &str, claims: &'a [GoldenText]) -> Option<&'a GoldenText>
     ensures { option_map (λ claim. claim.now) result ≡ find (names_file path.now) claims.now }
 {
     claims.iter().find(|claim| names_file(path, claim))
 }
 
-/// Returns the first golden text for the file at the path that differs from `text`.
+/// Returns the first golden text for the file at the path that differs from `text`, or `None` if there is none.
 pub fn first_of_another_text<'a>(
     path: &str,
     text: &[u8],
@@ -99,28 +100,28 @@ pub fn first_of_another_text<'a>(
         .find(|claim| gives_another_text(path, text, claim))
 }
 
-// Whether the golden text is for the file at the path.
+// Whether this golden text is for the file at the path.
 fn names_file(path: &str, claim: &GoldenText) -> bool
     ensures { result ≡ names_file path.now claim.now }
 {
     path == claim.path.as_str()
 }
 
-// Whether the golden text is for the file at the path, and is missing since its job was skipped.
+// Whether this golden text is for the file at the path, and its job was skipped, so that there is no text.
 fn is_of_skipped_job(path: &str, claim: &GoldenText) -> bool
     ensures { result ≡ is_of_skipped_job path.now claim.now }
 {
     names_file(path, claim) && claim.text.is_none()
 }
 
-// Whether the golden text is for the file at the path, and is not `text`.
+// Whether this golden text is for the file at the path, and its text is missing or differs from `text`.
 fn gives_another_text(path: &str, text: &[u8], claim: &GoldenText) -> bool
     ensures { result ≡ gives_another_text path.now text.now claim.now }
 {
     names_file(path, claim) && !is_text(text, &claim.text)
 }
 
-// Whether there is a text and it equals `text`.
+// Whether `given` is a text and equals `text`.
 fn is_text(text: &[u8], given: &Option<Bytes>) -> bool
     ensures { result ≡ is_text text.now given.now }
 {

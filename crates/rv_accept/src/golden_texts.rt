@@ -32,7 +32,8 @@ pub struct GoldenText {
     pub text: Option<Bytes>,
 }
 
-// Appends the texts that a job gives its golden files, first the console's and then the signature's; no texts if it is not accepted.
+// Appends the golden texts of a job: one for its console and one for its signature, if it names golden files for them. They have no text if
+// the job is not accepted.
 fn push_golden_texts(
     alloc: Global,
     claims: &mut Vec<GoldenText>,
@@ -54,7 +55,7 @@ fn push_golden_texts(
     Ok(())
 }
 
-/// Returns the texts that the jobs give their golden files, in list order.
+/// Returns the golden texts of all jobs that ran, in list order.
 pub fn golden_texts_of_runs(
     alloc: Global,
     jobs: &[Job],
@@ -67,7 +68,7 @@ pub fn golden_texts_of_runs(
     Ok(claims)
 }
 
-// Appends the texts that the jobs give their golden files; `place` is the index of the first of these jobs.
+// Appends the golden texts of these jobs, in list order. `place` is the index of the first of them in the list.
 #[tactic(auto, unfolding(crate::specs::GoldenTexts::golden_texts_of_runs))]
 fn push_golden_texts_of_runs(
     alloc: Global,
@@ -89,7 +90,7 @@ fn push_golden_texts_of_runs(
     }
 }
 
-// Appends the texts that a job gives its golden files; nothing if it was not run, and no texts if it was skipped.
+// Appends the golden texts of a job, or nothing if it was not run. They have no text if the job was skipped.
 fn push_golden_texts_of_run(
     alloc: Global,
     claims: &mut Vec<GoldenText>,
@@ -111,7 +112,7 @@ fn push_golden_texts_of_run(
     }
 }
 
-/// Returns the path of the golden file for a job's console, if one is named.
+/// Returns the path of the golden file for a job's console, or `None` if the job names none.
 pub fn console_path(job: &Job) -> Option<&str>
     ensures { option_map (λ path. path.now) result ≡ console_path job.now.expect_console }
 {
@@ -121,6 +122,7 @@ pub fn console_path(job: &Job) -> Option<&str>
     }
 }
 
+// Appends the golden text for the file at the path: `of` is the index of its job and the kind of result that it contains.
 fn push_claim(
     alloc: Global,
     claims: &mut Vec<GoldenText>,
@@ -141,6 +143,7 @@ fn push_claim(
     Ok(())
 }
 
+// Returns the console of a run, or `None` if it is not accepted.
 fn console_if(alloc: Global, is_accepted: bool, row: &Row) -> Result<Option<Bytes>, AllocError>
     ensures { IfOk result (λ text. text ≡ text_if is_accepted row.now.console) }
 {
@@ -151,6 +154,7 @@ fn console_if(alloc: Global, is_accepted: bool, row: &Row) -> Result<Option<Byte
     Ok(Some(Bytes::new(text)))
 }
 
+// Returns the lines of the signature of a run, or `None` if it is not accepted.
 fn signature_if(alloc: Global, is_accepted: bool, row: &Row) -> Result<Option<Bytes>, AllocError>
     ensures { IfOk result (λ text. text ≡ text_if is_accepted (lines_of_signature row.now.signature)) }
 {
@@ -161,6 +165,7 @@ fn signature_if(alloc: Global, is_accepted: bool, row: &Row) -> Result<Option<By
     Ok(Some(Bytes::new(text)))
 }
 
+// Returns the lines of a signature, as a golden file contains them; empty if there is no signature.
 fn lines_of_signature(alloc: Global, signature: &Option<Words>) -> Result<Vec<u8>, AllocError>
     ensures { IfOk result (λ text. text.items ≡ lines_of_signature signature.now) }
 {
@@ -170,6 +175,7 @@ fn lines_of_signature(alloc: Global, signature: &Option<Words>) -> Result<Vec<u8
     }
 }
 
+// Returns a line for each word, with eight hexadecimal digits.
 fn word_lines(alloc: Global, words: &[u32]) -> Result<Vec<u8>, AllocError>
     ensures { IfOk result (λ text. text.items ≡ flat_map word_line words.now) }
 {

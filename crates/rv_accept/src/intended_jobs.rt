@@ -10,7 +10,8 @@ use rv_jobs::{Bytes, ExpectedConsole, ExpectedEnd, Job, Symbols, Text};
 use rv_memory::Region;
 use rv_rows::{Row, RowEnd};
 
-/// Whether `others` are the jobs of the list after accepting runs: each accepted job has the values of its row.
+/// Whether `others` are the jobs of the list after accepting the runs: each accepted job expects the values of its row, and the other jobs
+/// are unchanged.
 #[tactic(auto, unfolding(crate::specs::IntendedJobs::intended_jobs))]
 pub fn are_intended_jobs(jobs: &[Job], runs: &[Option<JobRun>], others: &[Job]) -> bool
     ensures { IsTrue result → others.now ≡ intended_jobs jobs.now runs.now }
@@ -24,7 +25,7 @@ pub fn are_intended_jobs(jobs: &[Job], runs: &[Option<JobRun>], others: &[Job]) 
     }
 }
 
-// Returns the row of a run, if there is one and its job is chosen and was not skipped.
+// Returns the row of an accepted run, or `None` if the job was not run, is not chosen or was skipped.
 fn accepted_row(run: &Option<JobRun>) -> Option<&Row>
     ensures { option_map (λ row. row.now) result ≡ accepted_row run.now }
 {
@@ -34,7 +35,7 @@ fn accepted_row(run: &Option<JobRun>) -> Option<&Row>
     }
 }
 
-// Returns the row of a run, if its job is chosen and was not skipped.
+// Returns the row of a run, or `None` if its job is not chosen or was skipped.
 fn row_if_accepted(run: &JobRun) -> Option<&Row>
     ensures { option_map (λ row. row.now) result ≡ row_if_accepted run.now }
 {
@@ -45,7 +46,7 @@ fn row_if_accepted(run: &JobRun) -> Option<&Row>
     }
 }
 
-// Whether `other` is `job` with the values of its row, if it is accepted, and otherwise unchanged.
+// Whether `other` is `job` after accepting its run: it expects the values of the row, or is unchanged if there is no row.
 fn is_intended_job(job: &Job, accepted: Option<&Row>, other: &Job) -> bool
     ensures { IsTrue result → other.now ≡ intended_job job.now (option_map (λ row. row.now) accepted.entry) }
 {
@@ -55,7 +56,7 @@ fn is_intended_job(job: &Job, accepted: Option<&Row>, other: &Job) -> bool
         && are_intended_values(job, accepted, other)
 }
 
-// Whether `other` expects the end and the console of the row if there is one, and otherwise those that `job` expects.
+// Whether `other` expects the exit, the end and the console of the row, or the values that `job` expects if there is no row.
 fn are_intended_values(job: &Job, accepted: Option<&Row>, other: &Job) -> bool
     ensures exit { IsTrue result → other.now.expect_exit
         ≡ (intended_job job.now (option_map (λ row. row.now) accepted.entry)).expect_exit }
@@ -118,6 +119,7 @@ fn is_met_console(
     }
 }
 
+// Whether two expected consoles are equal.
 fn is_same_console(console: &Option<ExpectedConsole>, other: &Option<ExpectedConsole>) -> bool
     ensures { IsTrue result → other.now ≡ console.now }
 {
@@ -133,7 +135,7 @@ fn is_same_console(console: &Option<ExpectedConsole>, other: &Option<ExpectedCon
     }
 }
 
-// Whether two jobs run in the same way: they agree in everything except their expectations.
+// Whether two jobs agree in everything except their expectations.
 fn is_same_run(job: &Job, other: &Job) -> bool
     ensures name { IsTrue result → other.now.name ≡ job.now.name }
     ensures image { IsTrue result → other.now.image ≡ job.now.image }
@@ -156,6 +158,7 @@ fn is_same_run(job: &Job, other: &Job) -> bool
         && job.misaligned == other.misaligned
 }
 
+// Whether two lists of regions are equal.
 fn are_same_regions(regions: &[Region], others: &[Region]) -> bool
     ensures { IsTrue result → others.now ≡ regions.now }
 {
@@ -168,12 +171,14 @@ fn are_same_regions(regions: &[Region], others: &[Region]) -> bool
     }
 }
 
+// Whether two regions are equal.
 fn is_same_region(region: &Region, other: &Region) -> bool
     ensures { IsTrue result → other.now ≡ region.now }
 {
     region.base == other.base && region.size == other.size && region.writable == other.writable
 }
 
+// Whether two signatures name equal symbols, or both are missing.
 fn is_same_signature(symbols: &Option<Symbols>, other: &Option<Symbols>) -> bool
     ensures { IsTrue result → other.now ≡ symbols.now }
 {
@@ -186,6 +191,7 @@ fn is_same_signature(symbols: &Option<Symbols>, other: &Option<Symbols>) -> bool
     }
 }
 
+// Whether two texts are equal, or both are missing.
 fn is_same_text_option(text: &Option<Text>, other: &Option<Text>) -> bool
     ensures { IsTrue result → other.now ≡ text.now }
 {
@@ -196,12 +202,14 @@ fn is_same_text_option(text: &Option<Text>, other: &Option<Text>) -> bool
     }
 }
 
+// Whether two texts are equal.
 fn is_same_text(text: &Text, other: &Text) -> bool
     ensures { IsTrue result → other.now ≡ text.now }
 {
     other.as_str() == text.as_str()
 }
 
+// Whether two lists of bytes are equal.
 fn is_same_bytes(bytes: &Bytes, other: &Bytes) -> bool
     ensures { IsTrue result → other.now ≡ bytes.now }
 {

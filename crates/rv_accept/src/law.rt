@@ -20,8 +20,8 @@ ghost use Rattle.rv_accept.specs.GoldenOutcomes.{outcome_of_golden_file, names_f
 ghost use Rattle.rv_accept.specs.Passing.{EndedWell, FindsItsFiles, is_pass_or_none};
 ghost use Rattle.rv_accept.specs.Runs.{chosen_skip_reason};
 
-/// An accepted job without `same_as` meets all its expectations once they are the results of its run: its golden files contain the
-/// console's bytes and the signature's lines, and the list has the actual values.
+/// Proves that an accepted job without `same_as` meets all its expectations once they are the results of its run: its golden files contain
+/// the console's bytes and the signature's lines, and the list has the actual values.
 pub fn accepted_jobs_meet_their_expectations()
     ensures { (acceptance : AnAcceptance) (job : Job) (outcome : Outcome) (other : Option Outcome)
         → IsTrue (is_accepted_end acceptance job outcome.ending)
@@ -30,15 +30,15 @@ pub fn accepted_jobs_meet_their_expectations()
         (Some (lines_of_signature outcome.signature)) (Some outcome.console) other) }
 {}
 
-/// A golden file gets a text only if every job that names it gives it this text; so none of them was skipped.
+/// Proves that a golden file gets a text only if every job that names the file gives it this text; so none of these jobs was skipped.
 pub fn an_agreed_text_is_given_by_each_job()
     ensures { (path text : List ℕ) (claims : List AClaim) → outcome_of_golden_file path claims ≡ fate.Agreed text
         → All (λ claim. IsTrue (names_file path claim) → claim.text ≡ Some text) claims }
 {}
 
-/// A chosen job that is not skipped does not fail in a later run: its verdict is pass, or none if it has no expectations. This holds if it
-/// ran without its expectations, has no `same_as`, and the list now has its actual values, and if the later run reads the same image and
-/// finds the earlier results in its golden files. A job that currently passes must have ended as it expects.
+/// Proves that a chosen job that is not skipped does not fail in a later run: its verdict is pass, or none if it has no expectations. This
+/// holds if it ran without its expectations, has no `same_as`, and the list now has its actual values, and if the later run reads the same
+/// image and finds the earlier results in its golden files. A job that currently passes must have ended as it expects.
 pub fn accepted_jobs_pass_over_their_files()
     ensures { (acceptance : AnAcceptance) (stands : AStanding) (job : Job) (earlier later : Planned) (row : Row)
         → row ≡ row_of earlier (without_expectations job)

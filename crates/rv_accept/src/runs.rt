@@ -41,7 +41,7 @@ pub struct JobRun {
 }
 
 impl JobRun {
-    /// Whether the job is chosen and was not skipped: then its values are replaced, and its golden files are reported.
+    /// Whether a run is accepted: its job is chosen and was not skipped. Then its values are replaced, and its golden files are reported.
     pub fn is_accepted(&self) -> bool
         ensures { result ≡ is_accepted_run self.now }
     {
@@ -49,7 +49,7 @@ impl JobRun {
     }
 }
 
-/// Returns the rows of the selected jobs, each at the index of its job.
+/// Returns one entry for each job: its row if it is selected, or else `None`. `rows` are the rows of the selected jobs, in order.
 pub fn indexed_rows(
     alloc: Global,
     marks: &[bool],
@@ -63,7 +63,7 @@ pub fn indexed_rows(
     Ok(placed)
 }
 
-// Appends the rows of the selected jobs, each at the index of its job.
+// Appends one entry for each job: its row if it is selected, or else `None`. `rows` are the rows of the selected jobs, in order.
 #[tactic(auto, unfolding(crate::specs::Runs::indexed_rows))]
 fn push_placed_rows(
     placed: &mut Vec<Option<Row>>,
@@ -82,7 +82,7 @@ fn push_placed_rows(
     }
 }
 
-// Returns the next row if the job is selected.
+// Returns the next row if the job is selected, or else `None`, and then leaves the rows unchanged.
 fn next_row_if(is_marked: bool, rows: &mut IntoIter<Row>) -> Option<Row>
     ensures row { result ≡ row_if is_marked (into_iter_items rows.old) }
     ensures rest { into_iter_items rows.new ≡ rest_if is_marked (into_iter_items rows.old) }
@@ -90,8 +90,8 @@ fn next_row_if(is_marked: bool, rows: &mut IntoIter<Row>) -> Option<Row>
     if is_marked { rows.next() } else { None }
 }
 
-/// Returns the runs of the jobs, each accepted or skipped; `None` for a job without a row. The candidates say which jobs are chosen, and
-/// what the current verdicts are.
+/// Returns for each job its run, accepted or skipped, or `None` if it has no row. `candidates` says for each job whether it is chosen and
+/// what its current verdict is.
 pub fn judged_runs(
     alloc: Global,
     acceptance: Acceptance,
@@ -107,7 +107,7 @@ pub fn judged_runs(
     Ok(runs)
 }
 
-// Appends the runs of the jobs, each accepted or skipped; none for a job without a row.
+// Appends for each job its run, accepted or skipped, or `None` if it has no row.
 #[tactic(auto, unfolding(crate::specs::Runs::judged_runs))]
 fn push_judged_runs(
     runs: &mut Vec<Option<JobRun>>,
@@ -130,7 +130,7 @@ fn push_judged_runs(
     }
 }
 
-// Returns the next row, if there is one.
+// Returns the next entry of the rows, or `None` if there are no more.
 fn next_row(rows: &mut IntoIter<Option<Row>>) -> Option<Row>
     ensures row { result ≡ first_row (into_iter_items rows.old) }
     ensures rest { into_iter_items rows.new ≡ drop 1 (into_iter_items rows.old) }
@@ -141,7 +141,7 @@ fn next_row(rows: &mut IntoIter<Option<Row>>) -> Option<Row>
     }
 }
 
-// Returns the run of a job; `None` if it has no row.
+// Returns the run of a job, accepted or skipped, or `None` if it has no row.
 fn judged_run_if(
     acceptance: Acceptance,
     job: &Job,
@@ -156,7 +156,7 @@ fn judged_run_if(
     }
 }
 
-// Returns the run of a job with this row: whether the job is chosen, and why it is skipped, if it is.
+// Returns the run of a job with this row: whether the job is chosen, and the reason if it is skipped.
 fn judged_run(acceptance: Acceptance, job: &Job, candidate: Candidate, row: Row) -> JobRun
     ensures { result ≡ judged_run acceptance job.now candidate row }
 {
@@ -176,7 +176,7 @@ fn judged_run(acceptance: Acceptance, job: &Job, candidate: Candidate, row: Row)
     }
 }
 
-// Returns the reason to skip a chosen job; `None` if it currently passes, or if it fails and its run can be accepted.
+// Returns the reason to skip a chosen job, or `None` if it currently passes, or fails and its run can be accepted.
 fn chosen_skip_reason(
     acceptance: Acceptance,
     standing: CurrentVerdict,
@@ -193,7 +193,7 @@ fn chosen_skip_reason(
     }
 }
 
-// Returns the reason to skip a job that differs from its `same_as` job: its end, if it is not accepted, or else the difference.
+// Returns the reason to skip a job that differs from its `same_as` job: its end, if that is not accepted, or else the difference.
 fn differing_skip_reason(acceptance: Acceptance, job: &Job, ending: RowEnd) -> SkipReason
     ensures { result ≡ differing_skip_reason acceptance job.now ending }
 {
@@ -204,7 +204,7 @@ fn differing_skip_reason(acceptance: Acceptance, job: &Job, ending: RowEnd) -> S
     }
 }
 
-// Returns the reason to skip a job that is not chosen; `None` if it currently passes or ended exactly as expected.
+// Returns the reason to skip a job that is not chosen, or `None` if it currently passes or ended exactly as expected.
 fn sharing_skip_reason(standing: CurrentVerdict, job: &Job, ending: RowEnd) -> Option<SkipReason>
     ensures { result ≡ sharing_skip_reason standing job.now ending }
 {
@@ -216,7 +216,7 @@ fn sharing_skip_reason(standing: CurrentVerdict, job: &Job, ending: RowEnd) -> O
     }
 }
 
-// Whether a job has an expectation whose value is taken from its run.
+// Whether a job has an expectation whose new value its run provides: an exit, an end, a console or a signature.
 fn takes_from_run(job: &Job) -> bool
     ensures { result ≡ takes_from_run job.now }
 {
@@ -226,7 +226,7 @@ fn takes_from_run(job: &Job) -> bool
         || job.expect_signature.is_some()
 }
 
-// Returns the reason to skip a job because of its end or its console; `None` if both are accepted.
+// Returns the reason to skip a job because of its end or its console, or `None` if both can be accepted.
 fn skip_reason(acceptance: Acceptance, job: &Job, row: &Row) -> Option<SkipReason>
     ensures { result ≡ skip_reason acceptance job.now row.now }
 {
@@ -239,7 +239,7 @@ fn skip_reason(acceptance: Acceptance, job: &Job, row: &Row) -> Option<SkipReaso
     }
 }
 
-// Returns the reason to skip a job because of its end; `None` if the end is accepted.
+// Returns the reason to skip a job because of its end, or `None` if the end is accepted.
 fn end_skip_reason(acceptance: Acceptance, job: &Job, ending: RowEnd) -> Option<SkipReason>
     ensures { result ≡ end_skip_reason acceptance job.now ending }
 {

@@ -8,7 +8,7 @@ use crate::golden_texts::console_path;
 use rv_jobs::Job;
 use std::alloc::{AllocError, Global};
 
-/// Returns the selection of the jobs to run: the chosen ones, those that share a golden file with one, and those that these name by
+/// Returns for each job whether it must run: it is chosen, it shares a golden file with a chosen job, or one of these jobs names it by
 /// `same_as`.
 pub fn jobs_to_run(alloc: Global, jobs: &[Job], chosen: &[bool]) -> Result<Vec<bool>, AllocError>
     ensures { IfOk result (λ marks. marks.items ≡ jobs_to_run jobs.now chosen.now) }
@@ -20,7 +20,7 @@ pub fn jobs_to_run(alloc: Global, jobs: &[Job], chosen: &[bool]) -> Result<Vec<b
     Ok(marks)
 }
 
-// Appends the selection of these jobs, and of those that later selected jobs name by `same_as`; `place` is the index of the first job.
+// Appends for each job whether it is selected or a later selected job names it by `same_as`. `place` is the index of the first job.
 #[tactic(auto, unfolding(crate::specs::Sharing::marks_with_compared))]
 fn push_marks_with_compared(
     out: &mut Vec<bool>,
@@ -41,7 +41,7 @@ fn push_marks_with_compared(
     }
 }
 
-// Whether a selected job names the job at index `place` by `same_as`.
+// Whether one of the selected jobs names the job at the index `place` by `same_as`.
 #[tactic(auto, unfolding(crate::specs::Sharing::is_compared_with))]
 fn is_compared_with(place: usize, jobs: &[Job], marks: &[bool]) -> bool
     ensures { result ≡ is_compared_with place jobs.now marks.now }
@@ -55,7 +55,7 @@ fn is_compared_with(place: usize, jobs: &[Job], marks: &[bool]) -> bool
     }
 }
 
-// Whether an index is named and equals `place`.
+// Whether `named` is an index and equals `place`.
 fn is_place(place: usize, named: Option<usize>) -> bool
     ensures { result ≡ is_place place named }
 {
@@ -65,8 +65,8 @@ fn is_place(place: usize, named: Option<usize>) -> bool
     }
 }
 
-// Appends the selection of the chosen jobs and of those that share a golden file with a chosen one; `all` has the jobs and the selection of
-// the whole list.
+// Appends for each job whether it is chosen or shares a golden file with a chosen job. `all` has all jobs of the list, and which of them
+// are chosen.
 #[tactic(auto, unfolding(crate::specs::Sharing::sharing_marks))]
 fn push_sharing_marks(
     marks: &mut Vec<bool>,
@@ -87,7 +87,7 @@ fn push_sharing_marks(
     }
 }
 
-// Whether a job names a golden file that a selected job names.
+// Whether a job names a golden file that a selected job also names.
 fn shares_with_selected(jobs: &[Job], marks: &[bool], job: &Job) -> bool
     ensures { result ≡ shares_with_selected jobs.now marks.now job.now }
 {
@@ -95,7 +95,7 @@ fn shares_with_selected(jobs: &[Job], marks: &[bool], job: &Job) -> bool
         || is_file_of_selected(jobs, marks, signature_path(job))
 }
 
-// Whether a path is given, and a selected job names the golden file there.
+// Whether `path` is a path, and a selected job names the golden file there.
 fn is_file_of_selected(jobs: &[Job], marks: &[bool], path: Option<&str>) -> bool
     ensures { result ≡ is_file_of_selected jobs.now marks.now (option_map (λ path. path.now) path.entry) }
 {
@@ -126,7 +126,7 @@ fn names_golden_file(path: &str, job: &Job) -> bool
     is_path(path, console_path(job)) || is_path(path, signature_path(job))
 }
 
-// Whether a path is named and equals `path`.
+// Whether `named` is a path and equals `path`.
 fn is_path(path: &str, named: Option<&str>) -> bool
     ensures { result ≡ is_path path.now (option_map (λ path. path.now) named.entry) }
 {
@@ -136,6 +136,7 @@ fn is_path(path: &str, named: Option<&str>) -> bool
     }
 }
 
+// Returns the path of the golden file for a job's signature, or `None` if the job names none.
 fn signature_path(job: &Job) -> Option<&str>
     ensures { option_map (λ path. path.now) result ≡ job.now.expect_signature }
 {

@@ -36,7 +36,7 @@ pub fn targets_of(
     Ok(targets)
 }
 
-// Adds the golden file that a golden text is for, if its job is accepted and the file is new.
+// Adds the golden file of a golden text to the list, if the text's job is accepted and the list does not have the file yet.
 fn add_target(
     alloc: Global,
     runs: &[Option<JobRun>],
@@ -52,7 +52,7 @@ fn add_target(
     Ok(())
 }
 
-// Returns the golden file that a golden text is for, with its outcome.
+// Returns the golden file of a golden text, with the outcome for this file.
 fn target_of(alloc: Global, claim: &GoldenText, claims: &[GoldenText]) -> Result<Target, AllocError>
     ensures { IfOk result (λ target. target ≡ target_of claims.now claim.now) }
 {
@@ -64,7 +64,7 @@ fn target_of(alloc: Global, claim: &GoldenText, claims: &[GoldenText]) -> Result
     })
 }
 
-// Whether there is a run, and its job is chosen and was not skipped.
+// Whether there is a run and it is accepted: its job is chosen and was not skipped.
 fn is_of_accepted(run: Option<&Option<JobRun>>) -> bool
     ensures { result ≡ is_of_accepted (option_map (λ run. run.now) run.entry) }
 {
@@ -74,7 +74,7 @@ fn is_of_accepted(run: Option<&Option<JobRun>>) -> bool
     }
 }
 
-// Whether the golden file at the path is already in the list.
+// Whether the list already has the golden file at the path.
 fn is_target(path: &str, targets: &[Target]) -> bool
     ensures { result ≡ is_target path.now targets.now }
 {

@@ -33,7 +33,7 @@ impl ValueKey {
     }
 }
 
-/// Whether the value of the key changes if the job is accepted with this row.
+/// Whether the value of this key changes when the job is accepted with this row.
 pub fn is_value_changed(key: ValueKey, job: &Job, row: &Row) -> bool
     ensures { result ≡ is_value_changed key job.now row.now }
 {
@@ -44,7 +44,7 @@ pub fn is_value_changed(key: ValueKey, job: &Job, row: &Row) -> bool
     }
 }
 
-// Whether the console is the text that the list contains, if it contains one.
+// Whether the console equals the text that the list contains; true if the list contains no text.
 fn has_text(expected: &Option<ExpectedConsole>, console: &[u8]) -> bool
     ensures { result ≡ has_text expected.now console.now }
 {
@@ -54,7 +54,7 @@ fn has_text(expected: &Option<ExpectedConsole>, console: &[u8]) -> bool
     }
 }
 
-/// Appends the new value of a key in TOML; nothing if the run has no value for it.
+/// Appends the new value of this key in TOML, or nothing if the run has no value for it.
 #[tactic(auto, unfolding(crate::specs::Values::new_value_text))]
 pub fn push_new_value(
     alloc: Global,

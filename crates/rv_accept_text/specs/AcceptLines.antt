@@ -17,23 +17,23 @@ use Rattle.rv_accept_text.specs.declared.new_list.ChangedValue.{ChangedValue}
 
 -- ---- the lines
 
--- the lines about a changed value of the list; nothing if its job or the job's run is missing
+-- the lines about one changed value of the list; empty if its job or the job's run is missing
 abbrev pub value_line_of : List ℕ → ChangedValue → Option Job → Option (Option JobRun) → List ℕ
 value_line_of path value (Some job) (Some (Some run)) = value_line path value job run.row
 value_line_of path value _ _ = []
 
--- the lines about a changed value of the list
+-- the lines about one changed value of the list
 abbrev pub value_line_in : AcceptSummary → ChangedValue → List ℕ
 value_line_in told value = value_line_of told.list.path.now value (slice_get told.list.jobs.now value.job)
     (slice_get told.runs.now value.job)
 
--- the lines about the skipped jobs; `list` are all jobs of the list
+-- a line for each chosen job that was skipped; `list` has all jobs of the list
 unfoldable pub skipped_job_lines : List Job → List Job → List (Option JobRun) → List ℕ
 skipped_job_lines list [] runs = []
 skipped_job_lines list (job ∷ jobs) [] = []
 skipped_job_lines list (job ∷ jobs) (run ∷ runs) = skipped_job_line list job run ++ skipped_job_lines list jobs runs
 
--- the lines that `accept` prints: changed golden files, changed values of the list, skipped jobs, and skipped golden files
+-- the lines that `accept` prints: about changed golden files, changed values of the list, skipped jobs, and skipped golden files
 abbrev pub accept_lines : AcceptSummary → List ℕ
 accept_lines told = flat_map (file_line told.list) told.files.now
     ++ flat_map (value_line_in told) told.new.now.values.items
@@ -60,15 +60,15 @@ abbrev pub is_skipped_job : Option JobRun → Bool
 is_skipped_job None = false
 is_skipped_job (Some run) = run.is_chosen && is_some run.skipped
 
--- the number of chosen jobs and of golden files that were skipped
+-- the number of chosen jobs that were skipped plus the number of golden files that were skipped
 abbrev pub skipped_count : AcceptSummary → ℕ
 skipped_count told = count_by is_skipped_job told.runs.now + count_by (is_left told.list) told.files.now
 
--- whether files were written or would be, in words
+-- ` written, ` if files were written, or else ` would be written, `
 abbrev pub writing_word : Writing → List ℕ
 writing_word writing.Done = codes " written, "
 writing_word writing.Asked = codes " would be written, "
 
--- the last line of `accept`: how many files were written or would be, and how many jobs and files were skipped
+-- the last line of `accept`: how many files were written, or would be written, and how many jobs and files were skipped
 abbrev pub count_line : Writing → ℕ → ℕ → List ℕ
 count_line how changed left = count_text changed (codes "file") ++ writing_word how ++ decimal left ++ codes " skipped\n"

@@ -6,21 +6,21 @@ use Rattle.std.specs.Str.{is_utf8}
 use Rattle.rv_job_text.specs.ConsoleLines.{console_lines}
 use Rattle.rv_text.specs.Printable.{printable_text, printable_value}
 
--- the line end with the offset `place`, and what the old and the new text have from there on
+-- the rest of a line that shows the offset `place`, and the old and the new text from there
 abbrev pub values_from : ℕ → List ℕ → List ℕ → List ℕ
 values_from place old new = codes ": byte " ++ decimal place ++ codes ": \"" ++ printable_value (drop place old)
     ++ codes "\" -> \"" ++ printable_value (drop place new) ++ codes "\"\n"
 
--- the line end that shows the first byte in which the old and the new text differ
+-- the rest of a line that shows the offset of the first difference between the old and the new text, and the text from there in both
 unfoldable pub byte_change : List ℕ → List ℕ → List ℕ
 byte_change old new = values_from (common_prefix_len nat_eq old new) old new
 
--- the line end with the offset `place`, and what two different texts have from there on
+-- the rest of a line that shows the offset `place`, and the text from there in both
 abbrev pub values_of_both : ℕ → List ℕ → List ℕ → List ℕ
 values_of_both place one other = codes " at byte " ++ decimal place ++ codes ": \"" ++ printable_value (drop place one)
     ++ codes "\" and \"" ++ printable_value (drop place other) ++ codes "\"\n"
 
--- the line end that shows the first byte in which two texts differ
+-- the rest of a line that shows the offset of the first difference between two texts, and the text from there in both
 unfoldable pub byte_difference : List ℕ → List ℕ → List ℕ
 byte_difference one other = values_of_both (common_prefix_len nat_eq one other) one other
 
@@ -29,20 +29,20 @@ unfoldable pub text_change : List ℕ → List ℕ → List ℕ → List ℕ
 text_change source old new =
     if is_utf8 old && is_utf8 new then codes "\n" ++ console_lines source new old else byte_change old new
 
--- the number of bytes of a word in a signature file, including the line feed
+-- the number of bytes in a line of a signature file, with the line feed
 abbrev pub word_len : ℕ
 word_len = 9
 
--- the digits of the word at the beginning of a text; `none` if the text is empty
+-- the digits of the first word of a text, or `none` if the text is empty
 abbrev pub digits_at : List ℕ → List ℕ
 digits_at rest = if length rest == 0 then codes "none" else take 8 rest
 
--- the line end that shows the first different word of two signatures whose first `len` bytes are equal
+-- the rest of a line that shows the first word in which two signatures differ, whose first `len` bytes are equal
 abbrev pub word_change_at : ℕ → List ℕ → List ℕ → List ℕ
 word_change_at len old new = codes ": word " ++ decimal (len / word_len) ++ codes ": "
     ++ printable_text (digits_at (drop (len - len % word_len) old)) ++ codes " -> "
     ++ printable_text (digits_at (drop (len - len % word_len) new)) ++ codes "\n"
 
--- the line end that shows the first different word of the old and the new signature
+-- the rest of a line that shows the first word in which the old and the new signature differ
 unfoldable pub word_change : List ℕ → List ℕ → List ℕ
 word_change old new = word_change_at (common_prefix_len nat_eq old new) old new

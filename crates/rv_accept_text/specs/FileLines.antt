@@ -16,18 +16,18 @@ use Rattle.rv_accept_text.specs.GoldenFiles.{is_left, new_text}
 use Rattle.rv_accept_text.specs.declared.golden_file.GoldenFile.{GoldenFile}
 use Rattle.rv_accept_text.specs.declared.golden_file.ListFile.{ListFile}
 
--- the name of the job at index `place`; empty if there is none
+-- the name of the job at the index `place`, or an empty text if there is no such job
 abbrev pub job_name : List Job → ℕ → List ℕ
 job_name jobs place = unwrap_or (option_map (λ job. job.name) (slice_get jobs place)) []
 
--- which result of a job a golden file contains, in words
+-- `console of ` or `signature of `, by the kind of result that a golden file contains
 abbrev pub part_text : Part → List ℕ
 part_text part.Console = codes "console of "
 part_text part.Signature = codes "signature of "
 
 -- ---- written files
 
--- the beginning of the line about a golden file: the sign, its path, and which result of which job it contains
+-- the beginning of the line about a golden file: the sign, its path, and that it has the console or the signature of a job
 abbrev pub file_head : List ℕ → List Job → Target → List ℕ
 file_head sign jobs target = sign ++ printable_text target.path ++ codes ": " ++ part_text target.part
     ++ printable_text (job_name jobs target.job)
@@ -51,43 +51,43 @@ abbrev pub written_file_line : List Job → Target → Option (List ℕ) → Lis
 written_file_line jobs target None new = created_file_line jobs target new
 written_file_line jobs target (Some old) new = changed_file_line jobs target old new
 
--- the lines about a golden file that gets this new text; nothing without a new text
+-- the lines about a golden file that gets this new text; empty if there is no new text
 abbrev pub file_line_of : List Job → GoldenFile → Option (List ℕ) → List ℕ
 file_line_of jobs file None = []
 file_line_of jobs file (Some new) = written_file_line jobs file.target file.old new
 
--- the lines about a golden file that is written; nothing if it is not
+-- the lines about a golden file that is written; empty if it is not written
 unfoldable pub file_line : ListFile → GoldenFile → List ℕ
 file_line list file = file_line_of list.jobs.now file (new_text list file)
 
 -- ---- skipped files
 
--- the text, or an empty one if there is none
+-- the text, or an empty one if there is no text
 abbrev pub text_or_empty : Option (List ℕ) → List ℕ
 text_or_empty text = unwrap_or text []
 
--- the message that two jobs give a golden file different texts, and where the texts differ
+-- the reason that two jobs give a golden file different texts, and where the texts differ
 abbrev pub two_claims_text : List Job → GoldenText → GoldenText → List ℕ
 two_claims_text jobs first other = part_text first.part ++ printable_text (job_name jobs first.job) ++ codes " and "
     ++ part_text other.part ++ printable_text (job_name jobs other.job) ++ codes " differ"
     ++ byte_difference (text_or_empty first.text) (text_or_empty other.text)
 
--- the message that two jobs give a golden file different texts; an empty line if there is no second job
+-- the reason that two jobs give a golden file different texts, or only a line end if there is no second job
 abbrev pub other_claim_text : List Job → GoldenText → Option GoldenText → List ℕ
 other_claim_text jobs first None = codes "\n"
 other_claim_text jobs first (Some other) = two_claims_text jobs first other
 
--- the message that two jobs give the golden file at the path different texts, given its first golden text
+-- the reason that two jobs give the golden file at the path different texts, given the file's first golden text
 abbrev pub first_claim_text : List Job → List GoldenText → List ℕ → Option GoldenText → List ℕ
 first_claim_text jobs claims path None = codes "\n"
 first_claim_text jobs claims path (Some first) =
     other_claim_text jobs first (find (gives_another_text path (text_or_empty first.text)) claims)
 
--- the message that two jobs give the golden file at the path different texts: the first one, and the first that differs from it
+-- the reason that two jobs give the golden file at the path different texts: its first golden text, and the first one that differs from it
 abbrev pub disagreement_text : List Job → List GoldenText → List ℕ → List ℕ
 disagreement_text jobs claims path = first_claim_text jobs claims path (find (names_file path) claims)
 
--- the reason why a golden file is skipped, given its outcome
+-- the reason why a golden file with this outcome is skipped, with the line end
 abbrev pub file_skip_reason : List Job → List GoldenText → List ℕ → GoldenFileOutcome → List ℕ
 file_skip_reason jobs claims path (fate.LeftBy job) = codes "job \"" ++ printable_text (job_name jobs job)
     ++ codes "\" also names this file and was skipped\n"
@@ -95,7 +95,7 @@ file_skip_reason jobs claims path (fate.Differ job other) = disagreement_text jo
 file_skip_reason jobs claims path (fate.Agreed text) = codes "the list and the images are never overwritten\n"
 file_skip_reason jobs claims path fate.Unclaimed = codes "the list and the images are never overwritten\n"
 
--- the beginning of the line about a skipped job or golden file
+-- `skipped NAME: `, the beginning of the line about a skipped job or golden file
 abbrev pub skipped_head : List ℕ → List ℕ
 skipped_head name = codes "skipped " ++ printable_text name ++ codes ": "
 

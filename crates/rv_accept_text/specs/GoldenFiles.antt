@@ -12,44 +12,45 @@ use Rattle.rv_accept_text.specs.declared.golden_file.ListFile.{ListFile}
 abbrev pub elf_magic : List ℕ
 elf_magic = 0x7f ∷ 0x45 ∷ 0x4c ∷ 0x46 ∷ []
 
--- whether the path is that of a job's image
+-- whether the image of at least one job has this path
 abbrev pub is_image_path : List ℕ → List Job → Bool
 is_image_path path jobs = list_any (λ job. bytes_eq path job.image) jobs
 
--- whether the old contents are those of the list or of an ELF file
+-- whether the old contents exist, and equal the list or begin like an ELF file
 abbrev pub is_kept_text : List ℕ → Option (List ℕ) → Bool
 is_kept_text list None = false
 is_kept_text list (Some old) = bytes_eq old list || starts_with nat_eq old elf_magic
 
--- whether the golden file is the list or an image, by its path or by its contents, and so is never overwritten
+-- whether the golden file is the list or an image, by its path or by its contents: then it is never overwritten
 abbrev pub is_kept : ListFile → GoldenFile → Bool
 is_kept list file = bytes_eq file.resolved_path list.path.now
     || (is_image_path file.target.path list.jobs.now || is_kept_text list.text.now file.old)
 
--- the text that all jobs that name the file give it; none if they disagree or the file is never overwritten
+-- the text on which all jobs that name a golden file agree, or `None` if there is none or the Bool says that the file is never overwritten
 abbrev pub agreed_text_of : Bool → GoldenFileOutcome → Option (List ℕ)
 agreed_text_of kept (fate.Agreed text) = if kept then None else Some text
 agreed_text_of kept _ = None
 
--- the text that all jobs that name the golden file give it; none if they disagree or the file is the list or an image
+-- the text on which all jobs that name the golden file agree, or `None` if there is none, or the file is the list or an image
 abbrev pub agreed_text : ListFile → GoldenFile → Option (List ℕ)
 agreed_text list file = agreed_text_of (is_kept list file) file.target.fate
 
--- the text, unless the file already has it
+-- the text, or `None` if it equals the old contents of the file
 abbrev pub another_text : List ℕ → Option (List ℕ) → Option (List ℕ)
 another_text text None = Some text
 another_text text (Some old) = if bytes_eq text old then None else Some text
 
--- the text that is written to a golden file: the one that all jobs agree on, unless the file already has it or is never overwritten
+-- the text to write to a golden file, on which all jobs agree, or `None` if the file already has it or the Bool says that it is never
+-- overwritten
 abbrev pub new_text_of : Bool → GoldenFileOutcome → Option (List ℕ) → Option (List ℕ)
 new_text_of kept (fate.Agreed text) old = if kept then None else another_text text old
 new_text_of kept _ old = None
 
--- the text that is written to the golden file; none if it is not written
+-- the text to write to the golden file, or `None` if the file is skipped or already has the text
 abbrev pub new_text : ListFile → GoldenFile → Option (List ℕ)
 new_text list file = new_text_of (is_kept list file) file.target.fate file.old
 
--- whether a golden file with this outcome is skipped; `kept` says that it is never overwritten
+-- whether a golden file with this outcome is skipped; the Bool says that it is never overwritten
 abbrev pub is_left_of : Bool → GoldenFileOutcome → Bool
 is_left_of kept (fate.Agreed text) = kept
 is_left_of kept (fate.LeftBy job) = true

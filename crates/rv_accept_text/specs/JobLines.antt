@@ -26,95 +26,95 @@ use Rattle.rv_text.specs.Words.{exit_code_text}
 
 -- ---- changed values
 
--- the beginning of the line about a changed value: the list's path and line, and the job and the key
+-- the beginning of the line about a changed value: the list's path, the line number, the job and the key
 abbrev pub value_head : List ℕ → ChangedValue → Job → List ℕ
 value_head path value job = codes "~ " ++ printable_text path ++ codes ":" ++ decimal value.line ++ codes ": "
     ++ printable_text job.name ++ codes ": " ++ value_key_name value.key
 
--- the exit code of a run; 0 for any other end
+-- the exit code of a run, or 0 if it did not end with an exit
 abbrev pub exit_code : RowEnd → ℕ
 exit_code (ending.Exit code) = code
 exit_code _ = 0
 
--- the line end that shows the old and the new exit code
+-- the rest of a line that shows the old and the new exit code
 abbrev pub exit_change : Option ℕ → RowEnd → List ℕ
 exit_change expected end = codes " " ++ decimal (unwrap_or expected 0) ++ codes " -> " ++ decimal (exit_code end) ++ codes "\n"
 
--- the value of `expect_end`, as the list writes it
+-- the value of `expect_end` as the list writes it; empty if there is none
 abbrev pub expected_end_word : Option ExpectedEnd → List ℕ
 expected_end_word (Some (expected.Fault kind)) = fault_name kind
 expected_end_word (Some expected.Budget) = codes "budget"
 expected_end_word None = []
 
--- the kind of fault that ended a run; empty for any other end
+-- the name of the fault that ended a run; empty if it did not end with a fault
 abbrev pub fault_word : RowEnd → List ℕ
 fault_word (ending.Fault kind pc value) = fault_name kind
 fault_word _ = []
 
--- the line end that shows the old and the new kind of fault
+-- the rest of a line that shows the old and the new kind of fault
 abbrev pub end_change : Option ExpectedEnd → RowEnd → List ℕ
 end_change how end = codes " " ++ expected_end_word how ++ codes " -> " ++ fault_word end ++ codes "\n"
 
--- the expected console that the list contains; empty if it does not contain it
+-- the expected console that the list contains; empty if it contains none
 abbrev pub text_of_list : Option ExpectedConsole → List ℕ
 text_of_list (Some (Text text)) = text
 text_of_list _ = []
 
--- the line end that shows how the value of the key changes
+-- the rest of the line about a changed value, which shows the old and the new value of this key
 abbrev pub value_change : ValueKey → Job → Row → List ℕ
 value_change key.Exit job row = exit_change job.expect_exit row.ending
 value_change key.End job row = end_change job.expect_end row.ending
 value_change key.Console job row = text_change (codes "the expected text") (text_of_list job.expect_console) row.console
 
--- the lines about a changed value of the list
+-- the lines about one changed value of the list
 abbrev pub value_line : List ℕ → ChangedValue → Job → Row → List ℕ
 value_line path value job row = value_head path value job ++ value_change value.key job row
 
 -- ---- skipped jobs
 
--- how a run ended, in words: with its exit code, its kind of fault, or the reason of the refusal
+-- how a run ended: `exit CODE`, `fault KIND`, `budget`, or the reason why the job was refused
 abbrev pub actual_end_text : RowEnd → List ℕ
 actual_end_text (ending.Exit code) = codes "exit " ++ exit_code_text code
 actual_end_text (ending.Fault kind pc value) = codes "fault " ++ fault_name kind
 actual_end_text ending.Budget = codes "budget"
 actual_end_text (ending.Refused refusal) = codes "refused " ++ refusal_name refusal
 
--- the expected end in words, if it is not an exit code: exit 0 if none is specified
+-- `budget` or `fault KIND` for an expected end, or `exit 0` if none is specified
 abbrev pub expected_end_words : Option ExpectedEnd → List ℕ
 expected_end_words (Some expected.Budget) = codes "budget"
 expected_end_words (Some (expected.Fault kind)) = codes "fault " ++ fault_name kind
 expected_end_words None = codes "exit 0"
 
--- the first unmet expectation about the end, in words: exit 0 if the job specifies no end
+-- the end that a job expects, `exit CODE`, `budget` or `fault KIND`; if it expects two ends, the first that this ending does not meet
 abbrev pub expected_text : Option ℕ → Option ExpectedEnd → RowEnd → List ℕ
 expected_text None how end = expected_end_words how
 expected_text (Some code) how end =
     if has_expected_exit (Some code) end then expected_end_words how else codes "exit " ++ exit_code_text code
 
--- the reason to skip a job because of its end: the actual end and, unless the job is refused, the expected one
+-- the reason to skip a job because of its end: the actual end and, unless the job was refused, the expected end
 abbrev pub other_end_text : Job → RowEnd → List ℕ
 other_end_text job (ending.Refused refusal) = actual_end_text (ending.Refused refusal)
 other_end_text job end = actual_end_text end ++ (codes ", expected " ++ expected_text job.expect_exit job.expect_end end)
 
--- a key with its new value, as the list would write it
+-- a key with its new value, `KEY = VALUE`, as the list would have it
 abbrev pub new_entry_text : ValueKey → Row → List ℕ
 new_entry_text key row = value_key_name key ++ codes " = " ++ new_value_text key row.ending row.console
 
--- the name of the job at this index; empty without an index
+-- the name of the job at this index; empty if there is no index
 abbrev pub name_if_named : List Job → Option ℕ → List ℕ
 name_if_named list None = []
 name_if_named list (Some place) = job_name list place
 
--- the name of the job that `same_as` of this job names
+-- the name of the job that `same_as` of this job names; empty if there is none
 abbrev pub name_of_compared : List Job → Job → List ℕ
 name_of_compared list job = name_if_named list job.same_as
 
--- the reason to skip a job because it differs from its `same_as` job
+-- the reason that the result of a job differs from the result of its `same_as` job
 abbrev pub difference_text : List Job → Job → List ℕ
 difference_text list job = codes "the result differs from that of job \"" ++ printable_text (name_of_compared list job)
     ++ codes "\" (same_as)"
 
--- the reason to skip a job, in words
+-- the text of the reason to skip this job
 abbrev pub skip_reason_text : SkipReason → List Job → Job → Row → List ℕ
 skip_reason_text why.End list job row = other_end_text job row.ending
 skip_reason_text why.Differs list job row = difference_text list job
@@ -129,7 +129,7 @@ abbrev pub skipped_line_of : List Job → Job → Row → Option SkipReason → 
 skipped_line_of list job row None = []
 skipped_line_of list job row (Some left) = skipped_head job.name ++ skip_reason_text left list job row ++ codes "\n"
 
--- the line about a chosen job that was skipped; empty for any other job
+-- the line about a job that is chosen and was skipped; empty for any other job
 abbrev pub skipped_job_line : List Job → Job → Option JobRun → List ℕ
 skipped_job_line list job None = []
 skipped_job_line list job (Some run) = if run.is_chosen then skipped_line_of list job run.row run.skipped else []

@@ -48,6 +48,7 @@ impl<'a> AcceptSummary<'a> {
         self.push_skipped_file_lines(out)
     }
 
+    // Appends the lines about the golden files that are written, in order.
     fn push_file_lines(&self, out: &mut Vec<u8>) -> Result<(), AllocError>
         ensures { OnOk result (out.new.items
             ≡ out.old.items ++ flat_map (file_line self.now.list) self.now.files.now) }
@@ -58,6 +59,7 @@ impl<'a> AcceptSummary<'a> {
         Ok(())
     }
 
+    // Appends the lines about the changed values of the list, in order.
     fn push_value_lines(&self, out: &mut Vec<u8>) -> Result<(), AllocError>
         ensures { OnOk result (out.new.items
             ≡ out.old.items ++ flat_map (value_line_in self.now) self.now.new.now.values.items) }
@@ -68,7 +70,7 @@ impl<'a> AcceptSummary<'a> {
         Ok(())
     }
 
-    // Appends the lines about a changed value of the list.
+    // Appends the lines about one changed value of the list.
     fn push_value_line(&self, out: &mut Vec<u8>, value: &ChangedValue) -> Result<(), AllocError>
         ensures { OnOk result (out.new.items ≡ out.old.items ++ value_line_in self.now value.now) }
     {
@@ -81,6 +83,7 @@ impl<'a> AcceptSummary<'a> {
         )
     }
 
+    // Appends the lines about the skipped golden files, in order.
     fn push_skipped_file_lines(&self, out: &mut Vec<u8>) -> Result<(), AllocError>
         ensures { OnOk result (out.new.items ≡ out.old.items
             ++ flat_map (skipped_file_line self.now.list self.now.claims.now) self.now.files.now) }
@@ -104,13 +107,14 @@ impl<'a> AcceptSummary<'a> {
         count + self.new.text.is_some() as usize
     }
 
-    /// Returns the number of chosen jobs and of golden files that were skipped.
+    /// Returns the number of chosen jobs that were skipped plus the number of golden files that were skipped.
     pub fn skipped_count(&self) -> usize
         ensures { result ≡ skipped_count self.now }
     {
         skipped_job_count(self.runs) + self.skipped_file_count()
     }
 
+    // Returns the number of golden files that were skipped.
     fn skipped_file_count(&self) -> usize
         ensures value { result ≡ count_by (is_left self.now.list) self.now.files.now }
         ensures within { result ≤ length self.now.files.now }
@@ -124,7 +128,7 @@ impl<'a> AcceptSummary<'a> {
         count
     }
 
-    /// Appends the last line: how many files were written or would be, and how many jobs and files were skipped.
+    /// Appends the last line: how many files were written, or would be written, and how many jobs and files were skipped.
     pub fn push_count_line(&self, out: &mut Vec<u8>, writing: Writing) -> Result<(), AllocError>
         ensures { OnOk result (out.new.items
             ≡ out.old.items ++ count_line writing (changed_count self.now) (skipped_count self.now)) }
@@ -142,7 +146,7 @@ impl<'a> AcceptSummary<'a> {
     }
 }
 
-// Whether files were written or would be, in words.
+// Returns ` written, ` if files were written, or else ` would be written, `.
 fn writing_word(writing: Writing) -> &'static str
     ensures { result.now ≡ writing_word writing }
 {
@@ -152,7 +156,7 @@ fn writing_word(writing: Writing) -> &'static str
     }
 }
 
-// Appends the lines about a changed value of the list; nothing if its job or the job's run is missing.
+// Appends the lines about one changed value of the list, or nothing if its job or the job's run is missing.
 fn push_value_line_of(
     out: &mut Vec<u8>,
     path: &str,
@@ -169,7 +173,7 @@ fn push_value_line_of(
     }
 }
 
-// Appends the lines about the skipped jobs.
+// Appends a line for each chosen job that was skipped. `list` has all jobs of the list.
 #[tactic(auto, unfolding(crate::specs::AcceptLines::skipped_job_lines))]
 fn push_skipped_job_lines(
     alloc: Global,
@@ -190,6 +194,7 @@ fn push_skipped_job_lines(
     }
 }
 
+// Returns the number of chosen jobs that were skipped.
 fn skipped_job_count(runs: &[Option<JobRun>]) -> usize
     ensures value { result ≡ count_by is_skipped_job runs.now }
     ensures within { result ≤ length runs.now }

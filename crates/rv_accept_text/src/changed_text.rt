@@ -29,7 +29,8 @@ pub(crate) fn push_text_change(
     }
 }
 
-/// Appends the first byte in which the old and the new text differ, and ends the line.
+/// Appends the rest of a line that shows the offset of the first difference between the old and the new text, and the text from there in
+/// both.
 #[tactic(auto, unfolding(crate::specs::ChangedTexts::byte_change))]
 pub(crate) fn push_byte_change(out: &mut Vec<u8>, old: &[u8], new: &[u8]) -> Result<(), AllocError>
     ensures { OnOk result (out.new.items ≡ out.old.items ++ byte_change old.now new.now) }
@@ -37,7 +38,7 @@ pub(crate) fn push_byte_change(out: &mut Vec<u8>, old: &[u8], new: &[u8]) -> Res
     push_values_from(out, equal_len(old, new), old, new)
 }
 
-// Appends the line end with the offset `place`, and what the old and the new text have from there on.
+// Appends the rest of a line that shows the offset `place`, and the old and the new text from there.
 fn push_values_from<'x>(
     out: &mut Vec<u8>,
     place: usize,
@@ -60,7 +61,7 @@ fn push_values_from<'x>(
     )
 }
 
-/// Appends the first byte in which two texts differ, and ends the line.
+/// Appends the rest of a line that shows the offset of the first difference between two texts, and the text from there in both.
 #[tactic(auto, unfolding(crate::specs::ChangedTexts::byte_difference))]
 pub(crate) fn push_byte_difference(
     out: &mut Vec<u8>,
@@ -72,7 +73,7 @@ pub(crate) fn push_byte_difference(
     push_values_of_both(out, equal_len(one, other), one, other)
 }
 
-// Appends the line end with the offset `place`, and what two different texts have from there on.
+// Appends the rest of a line that shows the offset `place`, and the text from there in both.
 fn push_values_of_both<'x>(
     out: &mut Vec<u8>,
     place: usize,
@@ -95,7 +96,7 @@ fn push_values_of_both<'x>(
     )
 }
 
-/// Appends the first different word of the old and the new signature, and ends the line.
+/// Appends the rest of a line that shows the first word in which the old and the new signature differ.
 #[tactic(auto, unfolding(crate::specs::ChangedTexts::word_change))]
 pub(crate) fn push_word_change(out: &mut Vec<u8>, old: &[u8], new: &[u8]) -> Result<(), AllocError>
     ensures { OnOk result (out.new.items ≡ out.old.items ++ word_change old.now new.now) }
@@ -103,7 +104,7 @@ pub(crate) fn push_word_change(out: &mut Vec<u8>, old: &[u8], new: &[u8]) -> Res
     push_word_change_at(out, equal_len(old, new), old, new)
 }
 
-// Appends the first different word of two signatures whose first `len` bytes are equal, and ends the line.
+// Appends the rest of a line that shows the first word in which two signatures differ, whose first `len` bytes are equal.
 fn push_word_change_at<'x>(
     out: &mut Vec<u8>,
     len: usize,
@@ -127,7 +128,7 @@ fn push_word_change_at<'x>(
     )
 }
 
-// Returns the digits of the word at the beginning of a text, or `none` if the text is empty.
+// Returns the digits of the first word of a text, or `none` if the text is empty.
 fn digits_at(rest: &[u8]) -> &[u8]
     ensures { result.now ≡ digits_at rest.now }
 {

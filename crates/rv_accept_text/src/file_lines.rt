@@ -15,7 +15,7 @@ use rv_jobs::{Bytes, Job};
 use rv_text::{Span, push_spans, push_text};
 use std::alloc::AllocError;
 
-/// Appends the lines about a golden file that is written; nothing if it is not.
+/// Appends the lines about a golden file that is written, or nothing if it is not written.
 #[tactic(auto, unfolding(crate::specs::FileLines::file_line))]
 pub(crate) fn push_file_line(
     out: &mut Vec<u8>,
@@ -95,7 +95,7 @@ fn push_created_file_line(
     )
 }
 
-// Appends the beginning of the line about a golden file: the sign, its path, and which result of which job it contains.
+// Appends the beginning of the line about a golden file: the sign, its path, and that it has the console or the signature of a job.
 fn push_file_head<'x>(
     out: &mut Vec<u8>,
     sign: &'static str,
@@ -116,7 +116,7 @@ fn push_file_head<'x>(
     )
 }
 
-// Returns which result of a job a golden file contains, in words.
+// Returns `console of ` or `signature of `, by the kind of result that a golden file contains.
 fn part_text(part: Part) -> &'static str
     ensures { result.now ≡ part_text part }
 {
@@ -126,7 +126,7 @@ fn part_text(part: Part) -> &'static str
     }
 }
 
-/// Appends the line about a skipped golden file; nothing if it is not skipped.
+/// Appends the line about a golden file that is skipped, or nothing if it is not skipped.
 #[tactic(auto, unfolding(crate::specs::FileLines::skipped_file_line))]
 pub(crate) fn push_skipped_file_line(
     out: &mut Vec<u8>,
@@ -143,7 +143,7 @@ pub(crate) fn push_skipped_file_line(
     push_file_skip_reason(out, list.jobs, claims, &file.target)
 }
 
-/// Appends the beginning of the line about a skipped job or golden file.
+/// Appends `skipped NAME: `, the beginning of the line about a skipped job or golden file.
 pub(crate) fn push_skipped_head(out: &mut Vec<u8>, name: &str) -> Result<(), AllocError>
     ensures { OnOk result (out.new.items ≡ out.old.items ++ skipped_head name.now) }
 {
@@ -157,7 +157,7 @@ pub(crate) fn push_skipped_head(out: &mut Vec<u8>, name: &str) -> Result<(), All
     )
 }
 
-// Appends the reason why a golden file is skipped, given its outcome.
+// Appends the reason why a golden file is skipped, with the line end.
 fn push_file_skip_reason(
     out: &mut Vec<u8>,
     jobs: &[Job],
@@ -184,7 +184,7 @@ fn push_file_skip_reason(
     }
 }
 
-// Appends the message that two jobs give the golden file at the path different texts.
+// Appends the reason that two jobs give the golden file at the path different texts.
 fn push_disagreement(
     out: &mut Vec<u8>,
     jobs: &[Job],
@@ -204,7 +204,7 @@ fn push_disagreement(
     }
 }
 
-// Appends the message that two jobs give a golden file different texts; an empty line if there is no second job.
+// Appends the reason that two jobs give a golden file different texts, or only a line end if there is no second job.
 fn push_other_claim(
     out: &mut Vec<u8>,
     jobs: &[Job],
@@ -220,7 +220,7 @@ fn push_other_claim(
     }
 }
 
-// Appends the message that two jobs give a golden file different texts, and where the texts differ.
+// Appends the reason that two jobs give a golden file different texts, and where the texts differ.
 fn push_two_claims(
     out: &mut Vec<u8>,
     jobs: &[Job],
@@ -243,7 +243,7 @@ fn push_two_claims(
     push_byte_difference(out, text_or_empty(&first.text), text_or_empty(&other.text))
 }
 
-// Returns the text, or an empty one if there is none.
+// Returns the text, or an empty one if there is no text.
 fn text_or_empty(text: &Option<Bytes>) -> &[u8]
     ensures { result.now ≡ text_or_empty text.now }
 {

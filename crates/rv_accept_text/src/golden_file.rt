@@ -25,7 +25,7 @@ pub struct GoldenFile {
 }
 
 impl GoldenFile {
-    /// Returns the text to write: the one that all jobs that name the file give it. `None` if the file already has it, or is skipped.
+    /// Returns the text to write, on which all jobs that name the file agree, or `None` if the file is skipped or already has this text.
     pub fn new_text(&self, list: &ListFile<'_>) -> Option<&[u8]>
         ensures { option_map (λ text. text.now) result ≡ new_text list.now self.now }
     {
@@ -38,7 +38,7 @@ impl GoldenFile {
         }
     }
 
-    /// Returns the text that all jobs that name the file give it; `None` if they disagree or the file is the list or an image.
+    /// Returns the text on which all jobs that name the file agree, or `None` if there is none, or the file is the list or an image.
     pub fn agreed_text(&self, list: &ListFile<'_>) -> Option<&[u8]>
         ensures { option_map (λ text. text.now) result ≡ agreed_text list.now self.now }
     {
@@ -59,7 +59,7 @@ impl GoldenFile {
         }
     }
 
-    /// Whether the file is the list or an image, by its path or by its contents, and so is never overwritten.
+    /// Whether the file is the list or an image, by its path or by its contents: then it is never overwritten.
     pub fn is_kept(&self, list: &ListFile<'_>) -> bool
         ensures { result ≡ is_kept list.now self.now }
     {
@@ -69,7 +69,7 @@ impl GoldenFile {
     }
 }
 
-// Returns the text, unless the file already has it.
+// Returns the text, or `None` if it equals the old contents of the file.
 fn another_text<'a>(text: &'a [u8], old: &Option<Bytes>) -> Option<&'a [u8]>
     ensures { option_map (λ text. text.now) result ≡ another_text text.now old.now }
 {
@@ -79,14 +79,14 @@ fn another_text<'a>(text: &'a [u8], old: &Option<Bytes>) -> Option<&'a [u8]>
     }
 }
 
-// Whether the path is that of a job's image.
+// Whether the image of at least one job has this path.
 fn is_image_path(path: &str, jobs: &[Job]) -> bool
     ensures { result ≡ is_image_path path.now jobs.now }
 {
     jobs.iter().any(|job| path == job.image.as_str())
 }
 
-// Whether the old contents are those of the list or of an ELF file.
+// Whether the old contents exist, and equal the list or begin like an ELF file.
 fn is_kept_text(list: &[u8], old: &Option<Bytes>) -> bool
     ensures { result ≡ is_kept_text list.now old.now }
 {

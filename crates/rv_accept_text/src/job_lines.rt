@@ -15,7 +15,7 @@ use rv_rows::{Row, RowEnd, has_expected_exit};
 use rv_text::{Span, push_spans, push_text};
 use std::alloc::{AllocError, Global};
 
-/// Returns the name of the job at index `place`; empty if there is none.
+/// Returns the name of the job at the index `place`, or an empty text if there is no such job.
 pub(crate) fn job_name(jobs: &[Job], place: usize) -> &str
     ensures { result.now ≡ job_name jobs.now place }
 {
@@ -25,7 +25,7 @@ pub(crate) fn job_name(jobs: &[Job], place: usize) -> &str
     }
 }
 
-/// Appends the lines about a changed value of the list.
+/// Appends the lines about one changed value of the list.
 pub(crate) fn push_value_line(
     out: &mut Vec<u8>,
     path: &str,
@@ -39,7 +39,7 @@ pub(crate) fn push_value_line(
     push_value_change(out, value.key, job, row)
 }
 
-// Appends the beginning of the line about a changed value: the list's path and line, and the job and the key.
+// Appends the beginning of the line about a changed value: the list's path, the line number, the job and the key.
 fn push_value_head<'x>(
     out: &mut Vec<u8>,
     path: &'x str,
@@ -63,7 +63,7 @@ fn push_value_head<'x>(
     )
 }
 
-// Appends the line end that shows how the value of the key changes.
+// Appends the rest of the line about a changed value, which shows the old and the new value of this key.
 fn push_value_change(
     out: &mut Vec<u8>,
     key: ValueKey,
@@ -84,7 +84,7 @@ fn push_value_change(
     }
 }
 
-// Appends the line end that shows the old and the new exit code.
+// Appends the rest of a line that shows the old and the new exit code.
 fn push_exit_change(
     out: &mut Vec<u8>,
     expected: Option<u32>,
@@ -104,7 +104,7 @@ fn push_exit_change(
     )
 }
 
-// Returns the exit code of a run; 0 for any other end.
+// Returns the exit code of a run, or 0 if it did not end with an exit.
 fn exit_code(ending: RowEnd) -> u32
     ensures { result ≡ exit_code ending }
 {
@@ -114,7 +114,7 @@ fn exit_code(ending: RowEnd) -> u32
     }
 }
 
-// Appends the line end that shows the old and the new kind of fault.
+// Appends the rest of a line that shows the old and the new kind of fault.
 fn push_end_change(
     out: &mut Vec<u8>,
     expected: Option<ExpectedEnd>,
@@ -134,7 +134,7 @@ fn push_end_change(
     )
 }
 
-// Returns the value of `expect_end`, as the list writes it.
+// Returns the value of `expect_end` as the list writes it, or an empty text if there is none.
 fn expected_end_word(end: Option<ExpectedEnd>) -> &'static str
     ensures { result.now ≡ expected_end_word end }
 {
@@ -145,7 +145,7 @@ fn expected_end_word(end: Option<ExpectedEnd>) -> &'static str
     }
 }
 
-// Returns the kind of fault that ended a run; empty for any other end.
+// Returns the name of the fault that ended a run, or an empty text if it did not end with a fault.
 fn fault_word(ending: RowEnd) -> &'static str
     ensures { result.now ≡ fault_word ending }
 {
@@ -155,7 +155,7 @@ fn fault_word(ending: RowEnd) -> &'static str
     }
 }
 
-// Returns the expected console that the list contains; empty if it does not contain it.
+// Returns the expected console that the list contains, or an empty text if it contains none.
 fn text_of_list(expected: &Option<ExpectedConsole>) -> &[u8]
     ensures { result.now ≡ text_of_list expected.now }
 {
@@ -165,7 +165,7 @@ fn text_of_list(expected: &Option<ExpectedConsole>) -> &[u8]
     }
 }
 
-/// Appends the line about a chosen job that was skipped; nothing for any other job.
+/// Appends the line about a job that is chosen and was skipped, or nothing for any other job.
 pub(crate) fn push_skipped_job_line(
     alloc: Global,
     out: &mut Vec<u8>,
@@ -181,7 +181,7 @@ pub(crate) fn push_skipped_job_line(
     }
 }
 
-// Appends the line about a skipped job; nothing if it is not skipped.
+// Appends the line about a skipped job, or nothing if the job is not skipped.
 fn push_skipped_line(
     alloc: Global,
     out: &mut Vec<u8>,
@@ -199,7 +199,7 @@ fn push_skipped_line(
     push_text(out, "\n")
 }
 
-// Appends the reason to skip a job, in words.
+// Appends the reason to skip a job. `of` has all jobs of the list, and this job.
 fn push_skip_reason(
     alloc: Global,
     out: &mut Vec<u8>,
@@ -232,7 +232,7 @@ fn push_skip_reason(
     }
 }
 
-// Appends that a job differs from its `same_as` job.
+// Appends the reason that the result of a job differs from the result of its `same_as` job.
 fn push_difference(out: &mut Vec<u8>, list: &[Job], job: &Job) -> Result<(), AllocError>
     ensures { OnOk result (out.new.items ≡ out.old.items ++ difference_text list.now job.now) }
 {
@@ -246,7 +246,7 @@ fn push_difference(out: &mut Vec<u8>, list: &[Job], job: &Job) -> Result<(), All
     )
 }
 
-// Returns the name of the job that `same_as` of this job names.
+// Returns the name of the job that `same_as` of this job names, or an empty text if there is none.
 fn name_of_compared<'x>(list: &'x [Job], job: &Job) -> &'x str
     ensures { result.now ≡ name_of_compared list.now job.now }
 {
@@ -256,7 +256,7 @@ fn name_of_compared<'x>(list: &'x [Job], job: &Job) -> &'x str
     }
 }
 
-// Appends a key with its new value, as the list would write it.
+// Appends a key with its new value, `KEY = VALUE`, as the list would have it.
 fn push_new_entry(
     alloc: Global,
     out: &mut Vec<u8>,
@@ -283,7 +283,8 @@ fn push_other_end(out: &mut Vec<u8>, job: &Job, ending: RowEnd) -> Result<(), Al
     }
 }
 
-// Appends the first unmet expectation about the end: exit 0 if the job specifies no end.
+// Appends the end that a job expects, `exit CODE`, `budget` or `fault KIND`; if it expects two ends, the first that this ending does not
+// meet.
 fn push_wanted(
     out: &mut Vec<u8>,
     exit: Option<u32>,
@@ -300,7 +301,7 @@ fn push_wanted(
     }
 }
 
-// Appends the expected end in words, if it is not an exit code: exit 0 if none is specified.
+// Appends `budget` or `fault KIND` for an expected end, or `exit 0` if none is specified.
 fn push_wanted_end(out: &mut Vec<u8>, end: Option<ExpectedEnd>) -> Result<(), AllocError>
     ensures { OnOk result (out.new.items ≡ out.old.items ++ expected_end_words end) }
 {
@@ -313,7 +314,7 @@ fn push_wanted_end(out: &mut Vec<u8>, end: Option<ExpectedEnd>) -> Result<(), Al
     }
 }
 
-// Appends how a run ended: with its exit code, its kind of fault, or the reason of the refusal.
+// Appends how a run ended: `exit CODE`, `fault KIND`, `budget`, or the reason why the job was refused.
 fn push_met_end(out: &mut Vec<u8>, ending: RowEnd) -> Result<(), AllocError>
     ensures { OnOk result (out.new.items ≡ out.old.items ++ actual_end_text ending) }
 {

@@ -55,8 +55,8 @@ struct Changes {
     values: Vec<ChangedValue>,
 }
 
-/// Replaces the values of accepted jobs in the text of a list. A job is skipped if one of its values cannot be edited. If the new text
-/// would not parse as the intended jobs, each job with a changed value is skipped; without a new text, no value changes.
+/// Replaces the values of accepted jobs in the text of a list, and returns the result. A job is skipped if one of its values cannot be
+/// edited. If the new text would not parse as the intended jobs, each job with a changed value is skipped, and there is no new text.
 pub fn accept_values(
     alloc: Global,
     text: &[u8],
@@ -91,7 +91,7 @@ pub fn accept_values(
     }
 }
 
-// Skips each accepted job with a value that changes.
+// Returns a list without a new text, in which each accepted job with a changed value is skipped.
 fn skip_changed(
     alloc: Global,
     jobs: &[Job],
@@ -111,7 +111,7 @@ fn skip_changed(
     })
 }
 
-// For each run, appends the reason to skip its job: its first value that changes; `None` if no value changes.
+// Appends for each run the reason to skip its job, which names its first changed value, or `None` if no value changes.
 #[tactic(auto, unfolding(crate::specs::NewLists::whys_changed))]
 fn push_whys_changed(
     whys: &mut Vec<Option<SkipReason>>,
@@ -130,7 +130,7 @@ fn push_whys_changed(
     }
 }
 
-// Returns the reason to skip a job whose values change; `None` if none does, or if the job was not run.
+// Returns the reason to skip a job, which names its first changed value, or `None` if no value changes or the job was not run.
 fn why_changed_if_run(job: &Job, run: &Option<JobRun>) -> Option<SkipReason>
     ensures { result ≡ why_changed_if_run job.now run.now }
 {
@@ -140,7 +140,7 @@ fn why_changed_if_run(job: &Job, run: &Option<JobRun>) -> Option<SkipReason>
     }
 }
 
-// Returns the reason to skip a job whose values change: the first one that does; `None` if no value changes.
+// Returns the reason to skip a job, which names its first changed value, or `None` if no value changes.
 fn why_changed(job: &Job, row: &Row) -> Option<SkipReason>
     ensures { result ≡ why_changed job.now row.now }
 {
@@ -155,7 +155,7 @@ fn why_changed(job: &Job, row: &Row) -> Option<SkipReason>
     }
 }
 
-// Returns the text with these edits, if it parses as the intended jobs.
+// Returns the text with these edits, or `None` if it does not parse as the intended jobs.
 fn intended_text(
     alloc: Global,
     text: &[u8],
@@ -175,7 +175,7 @@ fn intended_text(
     }
 }
 
-// Returns the runs, in which each accepted run that has a reason is skipped.
+// Returns the runs, each accepted one skipped if it has a reason in `whys`.
 fn skipped_runs(
     alloc: Global,
     whys: &[Option<SkipReason>],
@@ -189,7 +189,7 @@ fn skipped_runs(
     Ok(left)
 }
 
-// Appends the runs, in which each accepted run that has a reason is skipped.
+// Appends the runs, each accepted one skipped if it has a reason in `whys`.
 #[tactic(auto, unfolding(crate::specs::NewLists::skipped_runs))]
 fn push_left_runs(
     left: &mut Vec<Option<JobRun>>,
@@ -208,7 +208,7 @@ fn push_left_runs(
     }
 }
 
-// Returns the next run, if there is one.
+// Returns the next entry of the runs, or `None` if there are no more.
 fn next_run(runs: &mut IntoIter<Option<JobRun>>) -> Option<JobRun>
     ensures run { result ≡ run_or_none (slice_get (into_iter_items runs.old) 0) }
     ensures rest { into_iter_items runs.new ≡ drop 1 (into_iter_items runs.old) }
@@ -219,7 +219,7 @@ fn next_run(runs: &mut IntoIter<Option<JobRun>>) -> Option<JobRun>
     }
 }
 
-// Returns the run of a job, skipped for the reason `why` if it was accepted and a reason is given; `None` if the job was not run.
+// Returns the run of a job, with `why` as its reason to be skipped if it was accepted, or `None` if the job was not run.
 fn left_if_run(why: Option<SkipReason>, run: Option<JobRun>) -> Option<JobRun>
     ensures { result ≡ option_map (skipped_run why) run }
 {
@@ -229,7 +229,7 @@ fn left_if_run(why: Option<SkipReason>, run: Option<JobRun>) -> Option<JobRun>
     }
 }
 
-// Returns the run, skipped for the reason `why` if it was accepted and a reason is given.
+// Returns the run, with `why` as its reason to be skipped if it was accepted, and otherwise unchanged.
 fn skipped_run(why: Option<SkipReason>, run: JobRun) -> JobRun
     ensures { result ≡ skipped_run why run }
 {
@@ -247,7 +247,7 @@ fn skipped_run(why: Option<SkipReason>, run: JobRun) -> JobRun
 // The beginning of a list that mklist generated.
 const MADE: &[u8] = b"# Made by mklist";
 
-// Returns where the values of a list can be edited: nowhere in a list that mklist generated.
+// Returns the places of the values in a list that can be edited; a list that mklist generated has none.
 fn places_in(alloc: Global, text: &[u8]) -> Result<EditableValues, AllocError> {
     let is_made = text.starts_with(MADE);
     let spans = match str::from_utf8(text) {
@@ -257,7 +257,7 @@ fn places_in(alloc: Global, text: &[u8]) -> Result<EditableValues, AllocError> {
     Ok(EditableValues { spans, is_made })
 }
 
-// Returns for each run the reason to skip its job because a changed value cannot be edited; `None` if there is no such value.
+// Returns for each run the reason to skip its job, which names the first changed value that cannot be edited, or `None` if there is none.
 fn whys_unplaced(
     alloc: Global,
     jobs: &[Job],
@@ -275,7 +275,7 @@ fn whys_unplaced(
     Ok(whys)
 }
 
-// Returns the reason to skip a job because a changed value cannot be edited; `None` if there is no such value.
+// Returns the reason to skip a job, which names the first changed value that cannot be edited, or `None` if there is none.
 fn why_unplaced(at: usize, job: &Job, run: &JobRun, places: &EditableValues) -> Option<SkipReason> {
     for key in ValueKey::ALL {
         if is_value_changed(key, job, &run.row) && !has_span(at, key, places.spans.as_slice()) {
@@ -289,7 +289,7 @@ fn why_unplaced(at: usize, job: &Job, run: &JobRun, places: &EditableValues) -> 
     None
 }
 
-// Whether the value of a key can be edited for the job at index `at`.
+// Whether the value of this key can be edited for the job at the index `at`.
 fn has_span(at: usize, key: ValueKey, spans: &[ValueSpan]) -> bool {
     spans
         .iter()
@@ -317,7 +317,7 @@ fn changes_at(
     Ok(changes)
 }
 
-// Adds the edit of a value, if its job is accepted and the value changes.
+// Adds the edit of a value to `changes`, if its job is accepted and the value changes.
 fn push_change(
     alloc: Global,
     text: &[u8],
@@ -347,7 +347,7 @@ fn push_change(
     Ok(())
 }
 
-// Returns the key with this name, if its value is taken from runs.
+// Returns the key with this name, or `None` if it is not a key whose value accepted runs replace.
 fn value_key(name: &str) -> Option<ValueKey> {
     for key in ValueKey::ALL {
         if name == key.name() {
@@ -357,7 +357,7 @@ fn value_key(name: &str) -> Option<ValueKey> {
     None
 }
 
-// Whether a text parses as the intended jobs.
+// Whether a text parses as the jobs that the list must have after accepting the runs.
 fn parses_as_intended(
     alloc: Global,
     text: &[u8],

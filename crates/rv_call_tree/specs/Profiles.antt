@@ -9,12 +9,12 @@ use Rattle.rv_call_tree.specs.Trees.{counted_in_all, once_if, own_in, path_after
 abbrev pub has_function : ℕ → List ℕ → Bool
 has_function function path = list_any (λ f. f == function) path
 
--- the number of calls of a function: the sum over the nodes that end in it
+-- the number of calls of a function: the sum of the calls of the nodes whose paths end in it
 abbrev pub arrivals_in : ℕ → List Spot → ℕ
 arrivals_in function spots = counted_in_all (λ s. steps_if (s.function == function) s.arrivals) spots
 
--- the inclusive steps of a function: the sum over the nodes whose path has the function, each counted once even if the function occurs in
--- its path several times; `front` is the path of the node before these nodes
+-- the inclusive steps of a function: the sum of the steps of the nodes whose paths have it, each node counted once; `front` is the path of
+-- the node before these nodes
 abbrev pub inclusive_after : ℕ → List ℕ → List Spot → ℕ
 inclusive_after function front [] = 0
 inclusive_after function front (s ∷ ss) = steps_if (has_function function (path_after front s)) s.steps
@@ -33,15 +33,15 @@ abbrev pub times : ℕ → List ℕ → ℕ
 times function [] = 0
 times function (f ∷ fs) = once_if (f == function) + times function fs
 
--- whether some node ends in the function
+-- whether the path of at least one node ends in the function
 abbrev pub is_last_of_some : ℕ → List Spot → Bool
 is_last_of_some function spots = list_any (λ s. s.function == function) spots
 
--- the list has each function that a node ends in exactly once, and no other function
+-- the list has exactly the functions in which the nodes' paths end, each once
 pub record AreFunctionsOf (spots : List Spot) (functions : List ℕ) : Type 0 where
   pub once : (function : ℕ) → times function functions ≡ once_if (is_last_of_some function spots)
 
--- the list with the function appended, unless it has the function already
+-- the list with the function appended, or unchanged if it already has the function
 abbrev pub with_function : ℕ → List ℕ → List ℕ
 with_function function functions = if has_function function functions then functions else functions ++ function ∷ []
 

@@ -5,12 +5,12 @@ use Rattle.rv_call_tree.specs.declared.spot.Spot.{Spot}
 use Rattle.rv_call_tree.specs.declared.subtree.Subtree.{Subtree}
 use Rattle.rv_call_tree.specs.Trees.{all_steps}
 
--- the descendants of a node at this depth, given the nodes after it: all up to the first that is not deeper
+-- the descendants of a node at this depth, given the nodes after it: all nodes before the first that is not deeper
 abbrev pub below : ℕ → List Spot → List Spot
 below depth [] = []
 below depth (s ∷ ss) = if nat_lt depth s.depth then s ∷ below depth ss else []
 
--- the subtree of the node `s` at the index `place`, given the nodes `behind` it
+-- the subtree of the node `s` at the index `place`, given the nodes `behind` after it
 abbrev pub subtree : ℕ → Spot → List Spot → Subtree
 subtree place s behind = record {
   function = s.function;
@@ -21,21 +21,21 @@ subtree place s behind = record {
   arrivals = s.arrivals;
 }
 
--- the subtrees of these nodes, of which the first is at the index `place`
+-- the subtrees of these nodes, in order; `place` is the index of the first node
 abbrev pub subtrees_from : ℕ → List Spot → List Subtree
 subtrees_from place [] = []
 subtrees_from place (s ∷ ss) = subtree place s ss ∷ subtrees_from (place + 1) ss
 
 -- ---- by function
 
--- the subtrees whose node ends in the function, in order
+-- the subtrees whose root node ends in the function, in order
 abbrev pub of_function : ℕ → List Subtree → List Subtree
 of_function function subtrees = filter (λ s. s.function == function) subtrees
 
--- the subtrees of a call tree whose node ends in the function, in node order
+-- the subtrees of a call tree whose root node ends in the function, in node order
 abbrev pub subtrees_of_function : ℕ → List Spot → List Subtree
 subtrees_of_function function spots = of_function function (subtrees_from 0 spots)
 
--- for each function, the list has the subtrees of the call tree whose node ends in it, in node order
+-- for each function, the list has the subtrees of the call tree whose root node ends in it, in node order
 abbrev pub AreSubtreesByFunction : List Spot → List Subtree → Type 0
 AreSubtreesByFunction spots subtrees = (function : ℕ) → of_function function subtrees ≡ subtrees_of_function function spots

@@ -6,26 +6,27 @@ use Rattle.rv_call_tree.specs.declared.spot.Spot.{Spot}
 
 -- ---- the path of a node
 
--- the path of the node `s`: the first functions of the preceding node's path `front`, as many as the node is deep, then its own function
+-- the path of the node `s`, which follows a node with the path `front`: as many of the first functions of `front` as the depth of `s` says,
+-- and then its own function
 abbrev pub path_after : List ℕ → Spot → List ℕ
 path_after front s = take s.depth front ++ s.function ∷ []
 
--- the path of the last of these nodes; `front` is the path of the node before them
+-- the path of the last of these nodes, or `front`, the path of the node before them, if there are none
 abbrev pub last_path : List ℕ → List Spot → List ℕ
 last_path front [] = front
 last_path front (s ∷ ss) = last_path (path_after front s) ss
 
--- the path of the last of the first `count` nodes
+-- the path of the last of the first `count` nodes, or an empty path if `count` is 0
 abbrev pub path_of_first : ℕ → List Spot → List ℕ
 path_of_first count spots = last_path [] (take count spots)
 
 -- ---- the counts
 
--- 1 if the condition holds, else 0
+-- 1 if the condition is true, else 0
 abbrev pub once_if : Bool → ℕ
 once_if test = if test then 1 else 0
 
--- the sum of `count` over the nodes with this path; `front` is the path of the node before these nodes
+-- the sum of `count` over the nodes with the path `path`; `front` is the path of the node before these nodes
 abbrev pub counted_after : (Spot → ℕ) → List ℕ → List ℕ → List Spot → ℕ
 counted_after count path front [] = 0
 counted_after count path front (s ∷ ss) =
@@ -52,19 +53,19 @@ abbrev pub counted_in_all : (Spot → ℕ) → List Spot → ℕ
 counted_in_all count [] = 0
 counted_in_all count (s ∷ ss) = count s + counted_in_all count ss
 
--- the number of calls in all nodes
+-- the sum of the calls of all nodes
 abbrev pub all_arrivals : List Spot → ℕ
 all_arrivals spots = counted_in_all arrivals_of spots
 
--- the number of instructions executed in all nodes
+-- the sum of the instructions executed in all nodes
 abbrev pub all_steps : List Spot → ℕ
 all_steps spots = counted_in_all steps_of spots
 
--- the steps if the condition holds, else 0
+-- the steps if the condition is true, else 0
 abbrev pub steps_if : Bool → ℕ → ℕ
 steps_if test steps = if test then steps else 0
 
--- the own steps of a function: those of the nodes that end in it
+-- the own steps of a function: the sum of the steps of the nodes whose paths end in it
 abbrev pub own_in : ℕ → List Spot → ℕ
 own_in function spots = counted_in_all (λ s. steps_if (s.function == function) s.steps) spots
 
@@ -76,13 +77,13 @@ ends_with function (f ∷ g ∷ gs) = ends_with function (g ∷ gs)
 
 -- ---- nodes that form a tree
 
--- a node may follow one whose path is `front`: it is at most one deeper, and if it is not deeper, its function address is greater than that
--- of the path's function at its depth, its preceding sibling
+-- the node may follow a node with the path `front`: it is at most one deeper; if it is not deeper, its function address is greater than the
+-- address of its preceding sibling, which is the function in `front` at its depth
 pub record FollowsInPreorder (front : List ℕ) (s : Spot) : Type 0 where
   pub within : s.depth ≤ length front
   pub rising : s.depth < length front → slice_index_or front s.depth 0 < s.function
 
--- each node may follow the one before it; `front` is the path of the node before the first
+-- each node may follow the node before it; `front` is the path of the node before the first
 abbrev pub FollowInPreorder : List ℕ → List Spot → Type 0
 FollowInPreorder front [] = Unit {0}
 FollowInPreorder front (s ∷ ss) = FollowsInPreorder front s × FollowInPreorder (path_after front s) ss

@@ -25,7 +25,7 @@ pub struct SpotIndex<'s> {
 }
 
 impl<'s> SpotIndex<'s> {
-    /// Returns the index of a call tree. Takes the time of a sort of the nodes, and 48 bytes of memory for each.
+    /// Returns an index of a call tree's nodes by function. Takes the time of a sort of the nodes, and 48 bytes of memory for each.
     pub fn new(alloc: Global, spots: &'s [Spot]) -> Result<SpotIndex<'s>, AllocError>
         requires tree { IsTree spots.now }
         requires steps { all_steps spots.now < 2 ^ 64 }
@@ -37,8 +37,8 @@ impl<'s> SpotIndex<'s> {
         Ok(SpotIndex { spots, subtrees })
     }
 
-    /// Returns the counts of a function. Takes time logarithmic in the number of all nodes and linear in the number of nodes that end in
-    /// the function.
+    /// Returns the own steps, the inclusive steps and the calls of a function. Takes time logarithmic in the number of all nodes and linear
+    /// in the number of nodes that end in the function.
     pub fn steps_of(&self, function: u32) -> FunctionSteps
         ensures { IsStepsOf function self.now.spots.now result }
     {
@@ -60,7 +60,7 @@ impl<'s> SpotIndex<'s> {
         found
     }
 
-    // Returns the subtrees whose node ends in the function, in node order.
+    // Returns the subtrees whose root node ends in the function, in node order.
     fn subtrees_of_function(&self, function: u32) -> &[Subtree]
         ensures { result.now ≡ subtrees_of_function function self.now.spots.now }
     {

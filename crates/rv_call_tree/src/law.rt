@@ -5,7 +5,7 @@ ghost use Rattle.rv_call_tree.specs.declared.spot.Spot.{Spot};
 ghost use Rattle.rv_call_tree.specs.Profiles.{own_of_all, AreFunctionsOf};
 ghost use Rattle.rv_call_tree.specs.Trees.{all_steps, arrivals_at, steps_at, HasArrivals, IsTree};
 
-/// Proves that two call trees which have equal counts for each path are equal, if a run entered each of their nodes.
+/// Proves that two call trees are equal if each path has equal counts in both, and a run entered each of their nodes.
 pub fn one_tree_has_these_counts()
     ensures { (a b : List Spot) → IsTree a → IsTree b → HasArrivals a → HasArrivals b
         → ((path : List ℕ) → arrivals_at path a ≡ arrivals_at path b)

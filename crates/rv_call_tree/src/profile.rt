@@ -18,7 +18,7 @@ pub struct FunctionSteps {
     pub arrivals: u64,
 }
 
-/// Returns the functions that nodes end in, each once, in order of first occurrence.
+/// Returns the functions in which the nodes' paths end, each once, in order of first occurrence.
 pub fn functions_of(alloc: Global, spots: &[Spot]) -> Result<Vec<u32>, AllocError>
     ensures { IfOk result (λ functions. AreFunctionsOf spots.now functions.items) }
 {
@@ -29,7 +29,7 @@ pub fn functions_of(alloc: Global, spots: &[Spot]) -> Result<Vec<u32>, AllocErro
     Ok(functions)
 }
 
-// Appends a function unless the list has it already.
+// Appends a function, unless the list already has it.
 fn add_function(functions: &mut Vec<u32>, function: u32) -> Result<(), AllocError>
     ensures { OnOk result (functions.new.items ≡ with_function function functions.old.items) }
 {

@@ -38,8 +38,8 @@ pub(crate) fn subtrees_of(alloc: Global, spots: &[Spot]) -> Result<Vec<Subtree>,
     Ok(subtrees)
 }
 
-// Returns the subtree of the node at an index, given the subtrees of the nodes after it, last first. It goes from child to child, so that
-// each subtree is read for one node only.
+// Returns the subtree of the node at an index. `behind` has the subtrees of the nodes after it, last first. The search goes from child to
+// child, so that each subtree is read for one node only.
 fn subtree_at(spots: &[Spot], place: usize, behind: &[Subtree]) -> Subtree
     requires within { place < length spots.now }
     requires steps { all_steps spots.now < 2 ^ 64 }

@@ -21,12 +21,14 @@ pub enum SpotSumError {
 impl From<AllocError> for SpotSumError {
     ghost from_gives = { λ _ error. error ≡ OutOfMemory };
 
+    // Returns the error for a failed allocation: out of memory.
     fn from(_: AllocError) -> SpotSumError {
         SpotSumError::OutOfMemory
     }
 }
 
-/// Returns the sum of two call trees, in which each path has the counts of both. Allocates only the sum.
+/// Returns the sum of two call trees, in which the counts of each path are added, or an error if a count would not fit in 64 bits.
+/// Allocates only the sum.
 pub fn sum_of_spots(alloc: Global, a: &[Spot], b: &[Spot]) -> Result<Spots, SpotSumError>
     requires a { IsTree a.now }
     requires b { IsTree b.now }
@@ -63,7 +65,7 @@ fn push_spot(spots: &mut Vec<Spot>, spot: Spot) -> Result<(), AllocError>
 }
 
 // Returns the first node of the sum of two lists of nodes: the deeper of their first nodes, or, if they are equally deep, the one with the
-// lower function address, or the sum of both if these are equal, too.
+// lower function address. If these are equal, too, it is the sum of both.
 fn next_spot(a: &[Spot], b: &[Spot]) -> Result<NextSpot, SpotSumError>
     requires { 0 < length a.now + length b.now }
     ensures value { IfOk result (λ next. next ≡ next_of a.now b.now) }
@@ -86,14 +88,14 @@ fn next_spot(a: &[Spot], b: &[Spot]) -> Result<NextSpot, SpotSumError>
     both_of(first, second)
 }
 
-// Whether a node comes before another in a sum: it is deeper, or as deep and its function address is lower.
+// Whether `spot` comes before `other` in a sum: it is deeper, or equally deep and its function address is lower.
 fn goes_first(spot: Spot, other: Spot) -> bool
     ensures { result ≡ goes_first spot other }
 {
     other.depth < spot.depth || (spot.depth == other.depth && spot.function < other.function)
 }
 
-// Returns the first node of a sum, if it is the first node of the first list alone.
+// Returns a node as the first node of a sum, which only the first list has.
 fn of_first(spot: Spot) -> NextSpot
     ensures value { result ≡ of_first spot }
     ensures fits { FitsSpot result.spot }
@@ -105,7 +107,7 @@ fn of_first(spot: Spot) -> NextSpot
     }
 }
 
-// Returns the first node of a sum, if it is the first node of the second list alone.
+// Returns a node as the first node of a sum, which only the second list has.
 fn of_second(spot: Spot) -> NextSpot
     ensures value { result ≡ of_second spot }
     ensures fits { FitsSpot result.spot }
@@ -117,7 +119,7 @@ fn of_second(spot: Spot) -> NextSpot
     }
 }
 
-// Returns the first node of a sum, if it adds up two nodes with the same depth and function.
+// Returns the sum of two nodes with equal depths and functions as the first node of a sum, or an error if a count would not fit in 64 bits.
 fn both_of(spot: Spot, other: Spot) -> Result<NextSpot, SpotSumError>
     ensures value { IfOk result (λ next. next ≡ both_of spot other) }
     ensures fits { IfOk result (λ next. FitsSpot next.spot) }

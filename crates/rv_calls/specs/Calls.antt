@@ -17,12 +17,13 @@ use Rattle.rv_calls.specs.Stack.{instr_action, after_transfer}
 
 -- ---- one step
 
--- the address after the encoding at a pc; the pc itself if there is no encoding
+-- the address after the encoding at a pc, or the pc itself if there is no encoding
 abbrev pub after_code : ℕ → Option Code → ℕ
 after_code pc None = pc
 after_code pc (Some code) = (pc + size_of_code code) % 0x1_0000_0000
 
--- how the instruction with this encoding, at the pc of state `s`, passed control to the next state `t`; x2 is the stack pointer
+-- the transfer of control of the instruction with this encoding, at the pc of the state `s`, which leads to the state `t`; x2 is the stack
+-- pointer
 abbrev pub transfer_by : Option Code → State → State → Transfer
 transfer_by code s t = record {
   action = instr_action (option_and_then instr_of code);
@@ -32,18 +33,19 @@ transfer_by code s t = record {
   sp = register s 2;
 }
 
--- how the instruction at the pc of state `s` passed control to the next state `t`
+-- the transfer of control of the instruction at the pc of the state `s`, which leads to the state `t`
 abbrev pub transfer_of : State → State → Transfer
 transfer_of s t = transfer_by (code_at s.bus s.pc) s t
 
 -- ---- a run
 
--- the transfer of the step in state `s`, followed by the transfers that `rest` gives for the next state; none if the step does not complete
+-- the transfer of the step in the state `s`, followed by the transfers that `rest` gives for the next state; empty if the step does not
+-- complete
 abbrev pub transfer_and_more : Result State Ending → State → (State → List Transfer) → List Transfer
 transfer_and_more (Ok t) s rest = transfer_of s t ∷ rest t
 transfer_and_more (Err e) s rest = []
 
--- the transfers of the completed steps, of at most n from a state on
+-- the transfers of the completed steps among the first `n` steps from this state
 unfoldable pub transfers_from : ℕ → State → List Transfer
 transfers_from zero s = []
 transfers_from (suc n) s = transfer_and_more (step_of s) s (λ t. transfers_from n t)
@@ -52,14 +54,14 @@ transfers_from (suc n) s = transfer_and_more (step_of s) s (λ t. transfers_from
 abbrev pub after_transfers : List Frame → List Transfer → List Frame
 after_transfers frames ts = fold after_transfer frames ts
 
--- the frames at the end of a run of at most n steps from a state on, which begins without frames
+-- the frames after a run of at most `n` steps from this state, which begins without frames
 unfoldable pub frames_of_run : ℕ → State → List Frame
 frames_of_run n s = after_transfers [] (transfers_from n s)
 
--- the pc and the frames at the end of a run of at most n steps from a state on
+-- the pc and the frames after a run of at most `n` steps from this state
 abbrev pub calls_of_run : ℕ → State → Calls
 calls_of_run n s = record { pc = (state_after n s).pc; frames = frames_of_run n s }
 
--- the call stack at the end of the run of a plan's job within its budget; none if the job is refused
+-- the pc and the call stack at the end of the run of a plan's job within its budget, or `None` if the job is refused
 unfoldable pub calls_in : Planned → Job → Option Calls
 calls_in plan job = option_map (calls_of_run job.budget) (result_ok (start_in plan.answers job))

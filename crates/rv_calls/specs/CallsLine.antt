@@ -10,12 +10,12 @@ use Rattle.rv_text.specs.Words.{word_digits}
 use Rattle.rv_calls.specs.declared.frames.Frame.{Frame}
 use Rattle.rv_calls.specs.declared.run.Calls.{Calls}
 
--- a code address as symbol and offset, or as a number if it has no symbol
+-- a code address as its symbol and offset, or as a number if it has no symbol
 abbrev pub symbol_or_address : Option (List ℕ × ℕ) → ℕ → List ℕ
 symbol_or_address (Some place) address = symbol_text place
 symbol_or_address None address = word_digits address
 
--- a code address as symbol and offset by the symbols of an image with these bytes, or as a number if it has none
+-- a code address as its symbol and offset in an image with these bytes, or as a number if it has no symbol
 abbrev pub place_text : Image → List ℕ → ℕ → List ℕ
 place_text image file address = symbol_or_address (symbol_at image file address) address
 
@@ -23,7 +23,7 @@ place_text image file address = symbol_or_address (symbol_at image file address)
 abbrev pub call_text : Image → List ℕ → Frame → List ℕ
 call_text image file frame = codes " <- " ++ place_text image file frame.call
 
--- the maximum number of calls shown; with the pc there are 32 addresses
+-- the maximum number of calls that are shown; with the pc these are 32 addresses
 abbrev pub most_shown : ℕ
 most_shown = 31
 
@@ -31,20 +31,20 @@ most_shown = 31
 unfoldable pub more_text : ℕ → List ℕ
 more_text count = if count == 0 then [] else codes " <- " ++ decimal count ++ codes " more"
 
--- the number of frames that are not shown; empty if all are shown
+-- the number of calls that are not shown; empty if all are shown
 abbrev pub rest_text : List Frame → List ℕ
 rest_text frames = more_text (length frames - most_shown)
 
--- the pc at the end, then the address of each call, innermost first, up to the maximum, then the number of further calls
+-- the final pc, the address of each call, innermost first, up to the maximum number, and the number of further calls
 unfoldable pub places_text : Image → List ℕ → ℕ → List Frame → List ℕ
 places_text image file pc frames = place_text image file pc
     ++ flat_map (call_text image file) (take most_shown (reverse frames)) ++ rest_text frames
 
--- the line of the calls that have not returned, with the pc at the end of the run
+-- the line that shows the pc at the end of the run and the calls which had not returned
 unfoldable pub calls_line : Image → List ℕ → ℕ → List Frame → List ℕ
 calls_line image file pc frames = line (codes "     calls: " ++ places_text image file pc frames)
 
--- the line of the calls; empty if every call has returned, since the final pc alone shows no call
+-- the line that shows the calls which had not returned; empty if all had returned
 abbrev pub calls_text : Image → List ℕ → Calls → List ℕ
 calls_text image file calls =
     if length calls.frames == 0 then [] else calls_line image file calls.pc calls.frames

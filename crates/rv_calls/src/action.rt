@@ -21,7 +21,7 @@ pub enum StackAction {
 }
 
 impl StackAction {
-    /// Whether the effect includes a push.
+    /// Whether this effect on the call stack includes a push.
     pub(crate) fn pushes_frame(self) -> bool
         ensures { result ≡ pushes_frame self }
     {
@@ -32,7 +32,7 @@ impl StackAction {
     }
 }
 
-/// Returns the effect of the encoding's instruction; `Keep` if there is no encoding or no instruction.
+/// Returns the effect of an encoding's instruction on the call stack, or `Keep` if there is no encoding or it is illegal.
 pub fn action_of_code(code: Option<Code>) -> StackAction
     ensures { result ≡ instr_action (option_and_then instr_of code) }
 {
@@ -45,14 +45,14 @@ pub fn action_of_code(code: Option<Code>) -> StackAction
     }
 }
 
-/// Returns the effect of an instruction.
+/// Returns the effect of an instruction on the call stack: whether it pushes a frame, pops frames, both or neither.
 pub fn action_of(instr: Instr) -> StackAction
     ensures { result ≡ instr_action (Some instr) }
 {
     op_action(instr.op, instr.rd, instr.rs1)
 }
 
-// Returns the effect of an instruction with this operation and these registers.
+// Returns the effect of an instruction on the call stack, given its operation and registers.
 fn op_action(op: Op, rd: u8, rs1: u8) -> StackAction
     ensures { result ≡ op_action op rd rs1 }
 {
@@ -63,7 +63,7 @@ fn op_action(op: Op, rd: u8, rs1: u8) -> StackAction
     }
 }
 
-// Returns the effect of JALR with these registers.
+// Returns the effect of JALR on the call stack, given its registers, by table 2.1 of the ISA manual.
 fn jalr_action(rd: u8, rs1: u8) -> StackAction
     ensures { result ≡ jalr_action (is_link rd) (is_link rs1) (rd == rs1) }
 {

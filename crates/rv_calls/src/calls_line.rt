@@ -16,9 +16,9 @@ use std::alloc::{AllocError, Global};
 /// The maximum number of calls shown; with the final pc there are 32 addresses.
 const MOST_SHOWN: usize = 31;
 
-/// Appends the line of the calls that have not returned when a run ended, or nothing if all have: the final pc and the address of each
-/// call, innermost first, at most 32 addresses, then the number of further calls. Addresses are shown by the symbols of the job's file, or
-/// as numbers if they have none.
+/// Appends the line that shows the calls which had not returned when a run ended, or nothing if all had returned: the final pc and the
+/// address of each call, innermost first, at most 32 addresses, and then the number of further calls. Addresses are shown by the symbols of
+/// the job's file, or as numbers if they have none.
 pub fn push_calls_text(
     alloc: Global,
     bytes: &mut Vec<u8>,
@@ -34,7 +34,7 @@ pub fn push_calls_text(
     push_calls_line(alloc, bytes, elf, calls.pc, &calls.frames)
 }
 
-// Appends the line of these calls, with the final pc.
+// Appends the line that shows the final pc and these calls.
 #[tactic(auto, unfolding(crate::specs::CallsLine::calls_line))]
 fn push_calls_line(
     alloc: Global,
@@ -51,7 +51,7 @@ fn push_calls_line(
     push_text(bytes, "\n")
 }
 
-// Appends the pc, then the addresses of the calls, then the number of further calls.
+// Appends the final pc, the addresses of the innermost calls, and the number of further calls.
 #[tactic(auto, unfolding(crate::specs::CallsLine::places_text))]
 fn push_places(
     alloc: Global,
@@ -68,7 +68,7 @@ fn push_places(
     push_rest(bytes, frames)
 }
 
-// Appends the addresses of the innermost calls, up to the maximum shown.
+// Appends the addresses of the innermost calls, up to the maximum number that is shown.
 fn push_calls(
     alloc: Global,
     bytes: &mut Vec<u8>,
@@ -111,7 +111,7 @@ fn push_place(
     push_symbol_or_address(alloc, bytes, symbol_of(elf, address), address)
 }
 
-// Returns the symbol at a code address, and the offset from it; `None` if there is none.
+// Returns the symbol at a code address with the offset from it, or `None` if there is none.
 fn symbol_of<'a>(elf: &ElfFile<'a>, address: u32) -> Option<SymbolAt<'a>>
     ensures { option_map (λ s. (s.name.now, s.offset)) result
         ≡ symbol_at elf.now.image.now elf.now.bytes.now address }
@@ -119,7 +119,7 @@ fn symbol_of<'a>(elf: &ElfFile<'a>, address: u32) -> Option<SymbolAt<'a>>
     symbol_at(elf.image, elf.bytes, address)
 }
 
-// Appends the symbol and the offset, or the address if there is no symbol.
+// Appends the symbol with the offset, or the address if there is no symbol.
 fn push_symbol_or_address(
     alloc: Global,
     bytes: &mut Vec<u8>,
@@ -135,14 +135,14 @@ fn push_symbol_or_address(
     }
 }
 
-// Appends the number of calls that are not shown; nothing if all are.
+// Appends the number of calls that are not shown, or nothing if all are shown.
 fn push_rest(bytes: &mut Vec<u8>, frames: &[Frame]) -> Result<(), AllocError>
     ensures { OnOk result (bytes.new.items ≡ bytes.old.items ++ rest_text frames.now) }
 {
     push_more(bytes, frames.len().saturating_sub(MOST_SHOWN))
 }
 
-// Appends the number of further calls; nothing if there are none.
+// Appends the number of further calls, or nothing if there are none.
 #[tactic(auto, unfolding(crate::specs::CallsLine::more_text))]
 fn push_more(bytes: &mut Vec<u8>, count: usize) -> Result<(), AllocError>
     ensures { OnOk result (bytes.new.items ≡ bytes.old.items ++ more_text count) }

@@ -25,7 +25,7 @@ pub type Frames = Sequence<Frame>;
 /// The maximum number of frames kept. A call beyond it counts as a jump.
 pub const MOST_FRAMES: usize = 4096;
 
-/// Applies a transfer of control to frames: first the pop, then the push.
+/// Applies a transfer of control to the frames: first its pop, if it has one, and then its push.
 #[tactic(auto, unfolding(crate::specs::Stack::after_transfer))]
 pub fn pass_control(frames: &mut Vec<Frame>, transfer: Transfer) -> Result<(), AllocError>
     ensures { OnOk result (frames.new.items ≡ after_transfer frames.old.items transfer) }
@@ -38,7 +38,7 @@ pub fn pass_control(frames: &mut Vec<Frame>, transfer: Transfer) -> Result<(), A
     Ok(())
 }
 
-// Returns the frame that a call pushes.
+// Returns the frame that a call with this transfer of control pushes.
 fn frame_of(transfer: Transfer) -> Frame
     ensures { result ≡ frame_of transfer }
 {
@@ -49,7 +49,7 @@ fn frame_of(transfer: Transfer) -> Frame
     }
 }
 
-/// Returns how many frames remain after the pop of a transfer; all if it does not pop.
+/// Returns how many frames remain after the pop of a transfer, or all of them if it does not pop.
 pub fn frames_left(frames: &[Frame], transfer: Transfer) -> usize
     ensures { result ≡ depth_left transfer.action transfer.to transfer.sp frames.now }
 {
@@ -61,7 +61,8 @@ pub fn frames_left(frames: &[Frame], transfer: Transfer) -> usize
     }
 }
 
-// Returns how many frames remain after a return to an address, given the stack pointer.
+// Returns how many frames remain after a return to the address `to`: those below the topmost frame that returns there. If none does, frames
+// are popped by the stack pointer.
 fn depth_after_return(frames: &[Frame], to: u32, sp: u32) -> usize
     ensures { result ≡ depth_after_return to sp frames.now }
 {
@@ -73,7 +74,7 @@ fn depth_after_return(frames: &[Frame], to: u32, sp: u32) -> usize
     }
 }
 
-// Returns the number of frames up to and including the topmost one that returns to an address; 0 if none does.
+// Returns the number of frames up to and including the topmost one that returns to an address, or 0 if none does.
 fn depth_up_to_return(frames: &[Frame], to: u32) -> usize
     ensures { result ≡ depth_up_to_return to frames.now }
 {
@@ -84,7 +85,7 @@ fn depth_up_to_return(frames: &[Frame], to: u32) -> usize
     depth
 }
 
-// Returns the number of frames without those at the top whose stack pointer is not above this one.
+// Returns how many frames remain when all at the top are removed whose stack pointer is not above `sp`.
 fn depth_above(frames: &[Frame], sp: u32) -> usize
     ensures { result ≡ depth_above sp frames.now }
 {

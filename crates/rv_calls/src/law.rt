@@ -5,7 +5,7 @@ ghost use Rattle.rv_machine.specs.State.{State};
 ghost use Rattle.rv_calls.specs.Calls.{frames_of_run};
 ghost use Rattle.rv_calls.specs.Stack.{most_frames};
 
-/// A run never has more than [`MOST_FRAMES`](crate::MOST_FRAMES) frames, the maximum kept.
+/// Proves that a run never has more than [`MOST_FRAMES`](crate::MOST_FRAMES) frames.
 pub fn frames_are_few()
     ensures { (n : ℕ) (s : State) → length (frames_of_run n s) ≤ most_frames }
 {}

@@ -22,8 +22,8 @@ pub struct Calls {
     pub frames: Frames,
 }
 
-/// Returns the call stack at the end of a machine's run within a budget of steps. It is empty when the run begins. Takes longer than the
-/// run alone, and memory for at most [`MOST_FRAMES`](crate::MOST_FRAMES) frames.
+/// Returns the pc and the call stack at the end of a machine's run within a budget of steps. The stack is empty when the run begins. Takes
+/// longer than the run alone, and memory for at most [`MOST_FRAMES`](crate::MOST_FRAMES) frames.
 pub fn calls_of_run(alloc: Global, machine: Machine, budget: u32) -> Result<Calls, AllocError>
     ensures { IfOk result (λ calls. calls ≡ calls_of_run budget (state_of machine)) }
 {
@@ -35,7 +35,7 @@ pub fn calls_of_run(alloc: Global, machine: Machine, budget: u32) -> Result<Call
     })
 }
 
-// Runs a machine within a budget of steps, and returns the frames at the end.
+// Runs a machine within a budget of steps, and returns the frames of the call stack at the end.
 fn frames_of_run(
     alloc: Global,
     machine: &mut Machine,
@@ -54,7 +54,7 @@ fn frames_of_run(
     Ok(frames)
 }
 
-/// Runs a job again, within its budget, and returns the call stack at the end; `None` if the job is refused.
+/// Runs a job again within its budget, and returns the pc and the call stack at the end, or `None` if the job is refused.
 #[tactic(auto, unfolding(crate::specs::Calls::calls_in))]
 pub fn calls_at_end(alloc: Global, job: &JobImage<'_>) -> Result<Option<Calls>, AllocError>
     ensures { IfOk result (λ calls. (d : AJob) → calls

@@ -30,7 +30,7 @@ pub struct Transfer {
 /// The register number of the stack pointer.
 const SP: u8 = 2;
 
-/// Executes a machine's next instruction, and returns its transfer of control; `None` if it does not complete.
+/// Executes a machine's next instruction, and returns its transfer of control, or `None` if it does not complete.
 pub fn next_transfer(machine: &mut Machine) -> Option<Transfer>
     ensures { MatchOption result
         ((is_ok (step_of (state_of machine.old)) ≡ false)
@@ -53,7 +53,8 @@ pub fn next_transfer(machine: &mut Machine) -> Option<Transfer>
     })
 }
 
-/// Returns how a completed instruction of `length` bytes passed control from a pc to another, given the stack pointer before it.
+/// Returns the transfer of control of an instruction of `length` bytes that completed: it passed control from one pc to another. `stack` is
+/// the stack pointer before it.
 pub fn transfer_by(instr: Instr, length: u32, from: u32, stack: u32, to: u32) -> Transfer
     ensures { result ≡ record { action = instr_action (Some instr); from = from; return_address = (from + length) % 0x1_0000_0000; to = to; sp = stack } }
 {
@@ -75,7 +76,7 @@ fn step_once(machine: &mut Machine) -> bool
     machine.run(1).steps != 0
 }
 
-// Returns the address after the encoding at a pc; the pc itself if there is no encoding.
+// Returns the address after the encoding at a pc, or the pc itself if there is no encoding.
 fn after_code(pc: u32, code: Option<Code>) -> u32
     ensures { result ≡ after_code pc code }
 {

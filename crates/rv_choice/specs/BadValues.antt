@@ -11,7 +11,7 @@ abbrev pub bad_value_text : List ℕ → List ℕ → List ℕ → List ℕ
 bad_value_text option value reason =
     codes "invalid value '" ++ (value ++ (codes "' for '" ++ (option ++ (codes "': " ++ reason))))
 
--- the message `what` says that the text of the option is not a regular expression, with a reason of the parser
+-- the message `what` says that the text of the option is not a regular expression, with some reason
 abbrev pub IsBadPatternText : List ℕ → List ℕ → List ℕ → Type 0
 IsBadPatternText option text what = (reason : List ℕ) × (what ≡ bad_value_text option text reason)
 
@@ -19,6 +19,6 @@ IsBadPatternText option text what = (reason : List ℕ) × (what ≡ bad_value_t
 abbrev pub IsBadPatternStop : List ℕ → List ℕ → Stop → Type 0
 IsBadPatternStop option text stop = (reason : List ℕ) × IsUsageStop (bad_value_text option text reason) stop
 
--- the stop reports this message with the command's usage, or memory ran out when the message was made
+-- the stop reports the message `what` with the command's usage, or is out of memory if the message could not be made
 abbrev pub IsBadValueStop : Result (String Global) AllocError → Stop → Type 0
 IsBadValueStop what stop = MatchResult what (λ text. IsUsageStop (string_bytes text) stop) (λ _. stop ≡ why.OutOfMemory)

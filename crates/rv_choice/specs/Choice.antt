@@ -16,25 +16,27 @@ use Rattle.rv_expect.specs.Passing.{has_passed}
 abbrev pub ChosenNames : Type 0
 ChosenNames = List (List ℕ)
 
--- whether a name is one of these names
+-- whether `name` is one of these names
 abbrev pub is_among_names : ChosenNames → List ℕ → Bool
 is_among_names names name = list_any (λ other. bytes_eq other name) names
 
--- whether the names contain this name; none without names
+-- whether `name` is one of these names, or `None` if there are no names
 abbrev pub choice_by_names : Option ChosenNames → List ℕ → Option Bool
 choice_by_names names name = option_map (λ names. is_among_names names name) names
 
--- whether the pattern matches anywhere in this name; none without a pattern
+-- whether the pattern matches anywhere in this name, or `None` if there is no pattern
 abbrev pub choice_by_pattern : Option Re → List ℕ → Option Bool
 choice_by_pattern pattern name = option_map (λ pattern. is_some (find_str pattern name 0)) pattern
 
--- whether a job is chosen: one of the given criteria chooses it, or none is given
+-- whether a job is chosen, given the result of each criterion, which is `None` if the criterion is not given: at least one chooses the job,
+-- or none is given
 abbrev pub is_chosen : Option Bool → Option Bool → Option Bool → Bool
 is_chosen None None None = true
 is_chosen by_name by_pattern by_report =
     unwrap_or by_name false || (unwrap_or by_pattern false || unwrap_or by_report false)
 
--- whether a job of this name is chosen: by the names `only`, by the pattern, or by the names `failed` from a report
+-- whether a job with this name is chosen: by the names `only`, by the pattern, or by the names `failed` from a report; every job is, if
+-- none of these is given
 abbrev pub is_chosen_name : Option ChosenNames → Option Re → Option ChosenNames → List ℕ → Bool
 is_chosen_name only pattern failed name =
     is_chosen (choice_by_names only name) (choice_by_pattern pattern name) (choice_by_names failed name)
@@ -47,11 +49,11 @@ chosen_marks only pattern failed jobs = map (λ job. is_chosen_name only pattern
 abbrev pub borrowed_names : List (Bor (List ℕ)) → ChosenNames
 borrowed_names names = map (λ name. name.now) names
 
--- the names that these references point to, if there are any
+-- the names that these references point to, or `None` if there are no references
 abbrev pub optional_names : Option (Bor (List (Bor (List ℕ)))) → Option ChosenNames
 optional_names names = option_map (λ names. borrowed_names names.now) names
 
--- the pattern of a compiled regular expression, if there is one
+-- the pattern of a compiled regular expression, or `None` if there is no expression
 abbrev pub pattern_of : Option (Bor Regex) → Option Re
 pattern_of pattern = option_map (λ regex. regex_pattern regex.now) pattern
 
@@ -64,24 +66,24 @@ abbrev pub failed_job_names : Rule → List Row → List (List ℕ)
 failed_job_names rule rows =
     map (λ (row : Row). row.name) (filter (λ (row : Row). not (has_passed rule row)) rows)
 
--- whether a row has this name
+-- whether at least one row has this name
 abbrev pub has_row_named : List Row → List ℕ → Bool
 has_row_named rows name = list_any (λ (row : Row). bytes_eq row.name name) rows
 
--- the number of jobs without a row
+-- the number of jobs whose names no row has
 abbrev pub jobs_without_row : List Job → List Row → ℕ
 jobs_without_row jobs rows = length (filter (λ (job : Job). not (has_row_named rows job.name)) jobs)
 
--- the names of `--only`; none if the option is not given
+-- the names of `--only`, or `None` if the option is not given
 abbrev pub requested_names : List (Bor (List ℕ)) → Option ChosenNames
 requested_names [] = None
 requested_names (name ∷ more) = Some (borrowed_names (name ∷ more))
 
--- whether the pattern matches the name of some job
+-- whether the pattern matches the name of at least one job
 abbrev pub is_found_in_names : Re → List Job → Bool
 is_found_in_names pattern jobs = list_any (λ job. is_some (find_str pattern job.name 0)) jobs
 
--- whether a selected job stays selected: the pattern of `--exclude` is not found in its name
+-- whether a job stays selected: it is selected, and the pattern of `--exclude` is not found in its name
 abbrev pub stays_selected : Bool → Bool → Bool
 stays_selected mark is_found = mark && not is_found
 
@@ -92,14 +94,14 @@ remaining_marks pattern (job ∷ jobs) [] = []
 remaining_marks pattern (job ∷ jobs) (mark ∷ marks) =
     stays_selected mark (is_some (find_str pattern job.name 0)) ∷ remaining_marks pattern jobs marks
 
--- whether some job is selected
+-- whether at least one job is selected
 abbrev pub is_any_selected : List Bool → Bool
 is_any_selected marks = list_any (λ mark. mark) marks
 
--- whether the selection `marks` is not empty, but the selection `left` is
+-- whether some job is selected in `marks`, but none in `left`
 abbrev pub are_emptied : List Bool → List Bool → Bool
 are_emptied marks left = is_any_selected marks && not (is_any_selected left)
 
--- whether a job has this name
+-- whether at least one job has this name
 abbrev pub has_job_named : List Job → List ℕ → Bool
 has_job_named jobs name = list_any (λ job. bytes_eq job.name name) jobs

@@ -24,7 +24,7 @@ use Rattle.rv_choice.specs.UnknownName.{IsUnknownNameStop, unknown_name}
 abbrev pub IsNotAPattern : List ℕ → Type 0
 IsNotAPattern text = (error : patterns.Error) × (error ≢ refused.OutOfMemory) × IsTextRefusal default_config text error
 
--- the text of the option is not a regular expression, and the stop reports that
+-- the text of the option is not a regular expression, and the stop reports this
 abbrev pub IsRefusedPattern : List ℕ → List ℕ → Stop → Type 0
 IsRefusedPattern option text stop = IsNotAPattern text × IsBadPatternStop option text stop
 
@@ -44,7 +44,7 @@ IsPatternStop list text jobs stop = (stop ≡ why.OutOfMemory)
     ⊎ (IsRefusedPattern (codes "--match <REGEX>") text stop
     ⊎ (IsUnmatched text jobs × IsStop 2 (unmatched_pattern list text) stop))
 
--- the pattern with this text excludes all of the requested jobs
+-- the pattern with this text excludes all requested jobs
 pub record LeavesNone (known : Option FileContents) (words : RunArgs) (rule : Rule) (jobs : List Job) (text : List ℕ)
     : Type 0 where
   -- the selection before any jobs are excluded
@@ -61,17 +61,17 @@ abbrev pub emptied_choice : List ℕ → List ℕ → List ℕ
 emptied_choice list text = codes "rvtest: " ++ printable_text list ++ codes ": no jobs left after --exclude \"" ++ printable_value text
     ++ codes "\"\n"
 
--- the pattern excludes all selected jobs, and the stop reports that
+-- the pattern excludes all selected jobs, and the stop reports this
 abbrev pub IsEmptiedStop : List ℕ → List Job → List Bool → Regex → Stop → Type 0
 IsEmptiedStop list jobs marks pattern stop = (are_emptied marks (remaining_marks (regex_pattern pattern) jobs marks) ≡ true)
     × IsStop 2 (emptied_choice list (regex_source pattern)) stop
 
--- why a command stopped: the text of `--exclude` is not a regular expression, or it excludes all of the requested jobs
+-- why a command stopped: the text of `--exclude` is not a regular expression, or it excludes all requested jobs
 abbrev pub IsExclusionStop : Option FileContents → RunArgs → Rule → List Job → List ℕ → Stop → Type 0
 IsExclusionStop known words rule jobs text stop = IsRefusedPattern (codes "--exclude <REGEX>") text stop
     ⊎ (LeavesNone known words rule jobs text × IsStop 2 (emptied_choice words.list.now text) stop)
 
--- why choosing the jobs of a list stopped
+-- why choosing the jobs of a list stopped: memory ran out, a name or pattern chooses or leaves no job, or a report could not be read
 pub data IsChoiceStop (known : Option FileContents) (words : RunArgs) (rule : Rule) (jobs : List Job) (stop : Stop)
     : Type 0 where
   -- memory ran out

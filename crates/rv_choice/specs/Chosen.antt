@@ -17,8 +17,8 @@ use Rattle.rv_choice.specs.Choice.{jobs_without_row, remaining_marks, requested_
 use Rattle.rv_choice.specs.FailedJobNotes.{failed_job_notes}
 use Rattle.rv_choice.specs.UnknownName.{unknown_name}
 
--- the selection by `--only`, by the pattern, and by the names `failed` from the report at `path`, in which `missing` jobs have no row;
--- there is no selection if only failed jobs are requested, and none failed
+-- `marks` is the selection by `--only`, by the pattern, and by the names `failed` from the report at `path`, in which `missing` jobs have
+-- no row; it may be absent only if nothing but failed jobs is requested, and none failed
 pub record AreChosenFrom (path : List ℕ) (failed : ChosenNames) (missing : ℕ) (pattern : Option Re) (words : RunArgs)
     (jobs : List Job) (marks : Option (List Bool)) (notes : List ℕ) : Type 0 where
   pub told : notes ≡ failed_job_notes path jobs failed missing
@@ -26,8 +26,8 @@ pub record AreChosenFrom (path : List ℕ) (failed : ChosenNames) (missing : ℕ
       ≡ chosen_marks (requested_names words.only.items) pattern (Some failed) jobs)
   pub none : (marks ≡ None) ↔ ((failed ≡ []) × (words.only.items ≡ []) × (pattern ≡ None))
 
--- the selection by `--only`, by the pattern, and by the failed rows of the report at `path`; the notes begin with the number of rows if the
--- report is truncated
+-- `marks` is the selection by `--only`, by the pattern, and by the failed rows of the report at `path`; if the report is truncated, the
+-- notes begin with the number of its rows
 pub record AreChosenFromReport (known : Option FileContents) (path : List ℕ) (pattern : Option Re) (words : RunArgs)
     (rule : Rule) (jobs : List Job) (marks : Option (List Bool)) (notes : List ℕ) : Type 0 where
   pub found : PartialReport
@@ -37,7 +37,7 @@ pub record AreChosenFromReport (known : Option FileContents) (path : List ℕ) (
   pub chosen : AreChosenFrom path (failed_job_names rule found.report.rows)
       (jobs_without_row jobs found.report.rows) pattern words jobs marks failed
 
--- the selection by `--only` and the pattern and, if a report is given, by its failed rows; without a report there are no notes
+-- `marks` is the selection by `--only`, by the pattern and, if a report is given, by its failed rows; without a report there are no notes
 abbrev pub AreChosenBeside : Option FileContents → Option (Bor (List ℕ)) → Option Re → RunArgs → Rule → List Job
     → Option (List Bool) → List ℕ → Type 0
 AreChosenBeside known None pattern words rule jobs marks notes =
@@ -45,14 +45,14 @@ AreChosenBeside known None pattern words rule jobs marks notes =
 AreChosenBeside known (Some path) pattern words rule jobs marks notes =
     AreChosenFromReport known path.now pattern words rule jobs marks notes
 
--- the selection by `--only`, by the pattern and by the report of `--failed`
+-- `marks` is the selection by `--only`, by the pattern, and by the report of `--failed`
 abbrev pub AreChosenBy : Option FileContents → Option Re → RunArgs → Rule → List Job
     → Option (List Bool) → List ℕ → Type 0
 AreChosenBy known pattern words rule jobs marks notes =
     AreChosenBeside known words.failed pattern words rule jobs marks notes
 
--- the selection before any jobs are excluded, and the notes about it: each name of `--only` is the name of a job, and the pattern of
--- `--match` matches the name of some job
+-- `marks` is the selection before any jobs are excluded, and `notes` are the notes about it: each name of `--only` is the name of a job,
+-- and the pattern of `--match` matches the name of at least one job
 pub record AreRequested (known : Option FileContents) (words : RunArgs) (rule : Rule) (jobs : List Job)
     (marks : Option (List Bool)) (notes : List ℕ) : Type 0 where
   pub named : unknown_name jobs words.only.items ≡ None

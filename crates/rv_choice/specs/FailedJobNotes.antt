@@ -11,11 +11,11 @@ abbrev pub removed_job_note : List ℕ → List ℕ → List ℕ
 removed_job_note path name = codes "rvtest: " ++ printable_text path ++ codes ": note: job \"" ++ name
     ++ codes "\" failed, but is no longer in the list\n"
 
--- the note about a failed job that is no longer in the list; empty if a job of the list has its name
+-- the note that the failed job with this name is no longer in the list; empty if a job of the list has the name
 abbrev pub note_of_failed_job : List ℕ → List Job → List ℕ → List ℕ
 note_of_failed_job path jobs name = if has_job_named jobs name then [] else removed_job_note path name
 
--- the notes about the failed jobs that are no longer in the list
+-- a note for each of these names of failed jobs that is no longer in the list, in order
 abbrev pub removed_job_notes : List ℕ → List Job → List (List ℕ) → List ℕ
 removed_job_notes path jobs names = flat_map (note_of_failed_job path jobs) names
 
@@ -24,7 +24,7 @@ abbrev pub none_failed_note : List ℕ → ℕ → List ℕ
 none_failed_note path missing =
     path_message path (if missing == 0 then codes "note: no failed jobs" else codes "note: no failed jobs among its rows")
 
--- the end of the note that `missing` jobs have no row, in the singular or the plural
+-- the end of the note that `missing` jobs of the list have no row, in the singular or the plural
 abbrev pub missing_rows_text : ℕ → List ℕ
 missing_rows_text missing =
     if missing == 1 then codes " job of the list has no row\n" else codes " jobs of the list have no row\n"
@@ -34,7 +34,7 @@ abbrev pub missing_rows_note : List ℕ → ℕ → List ℕ
 missing_rows_note path missing = if missing == 0 then []
     else path_number_message path (codes ": note: ") missing (missing_rows_text missing)
 
--- the note that no job failed, or the notes about failed jobs that are no longer in the list
+-- the note that no job failed, if there are no names, or else the notes about the failed jobs that are no longer in the list
 abbrev pub note_of_failures : List ℕ → List Job → List (List ℕ) → ℕ → List ℕ
 note_of_failures path jobs [] missing = none_failed_note path missing
 note_of_failures path jobs (name ∷ more) missing = removed_job_notes path jobs (name ∷ more)

@@ -38,7 +38,7 @@ pub record IsShardText (text : List ℕ) : Type 0 where
   pub within : number_before_slash text ≤ number_after_slash text
   pub few : number_after_slash text ≤ most_jobs
 
--- `shard` is the shard that the text K/N requests, if there is a text
+-- there is a shard exactly if there is a text, and then the shard has the numbers K and N of the text K/N
 abbrev pub IsShardOf : Option (Bor (List ℕ)) → Option Shard → Type 0
 IsShardOf text shard = (is_some shard ≡ is_some text)
     × IfSome text (λ text. IfSome shard (λ shard. (shard.number ≡ number_before_slash text.now)

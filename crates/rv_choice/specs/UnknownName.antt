@@ -12,7 +12,7 @@ use Rattle.rv_lists.specs.declared.job.Job.{Job}
 use Rattle.rv_text.specs.Printable.{printable_text, printable_value}
 use Rattle.rv_choice.specs.Choice.{has_job_named}
 
--- the first of these names that no job of the list has
+-- the first of these names that no job of the list has, or `None` if each is the name of a job
 abbrev pub unknown_name : List Job → List (Bor (List ℕ)) → Option (List ℕ)
 unknown_name jobs names = option_map (λ name. name.now) (find (λ name. not (has_job_named jobs name.now)) names)
 
@@ -31,15 +31,15 @@ unfoldable pub names_from : ℕ → ℕ → List Job → List ℕ
 names_from place count [] = []
 names_from place count (job ∷ jobs) = (text_before_name place count ++ job.name) ++ names_from (place + 1) count jobs
 
--- how many more names than 20 there are; empty if there are none
+-- how many of `count` names are not among the first 20; empty if there are no more than 20
 abbrev pub names_left : ℕ → List ℕ
 names_left count = if nat_lt 20 count then codes " and " ++ decimal (count - 20) ++ codes " more" else []
 
--- the names of the first 20 jobs, and how many more there are
+-- the names of the first 20 jobs, and how many more jobs there are
 abbrev pub shown_names : List Job → List ℕ
 shown_names jobs = names_from 0 (length jobs) (take 20 jobs) ++ codes "\"" ++ names_left (length jobs)
 
--- the job at index `place` has the nearest name, and it is near enough to be suggested
+-- the job at index `place` is the one whose name is nearest, and its name is near enough to be suggested
 abbrev pub IsMeant : List Job → List ℕ → ℕ → Type 0
 IsMeant jobs name place = IsNearestJob jobs name place × IsNearJob jobs name place
 

@@ -51,7 +51,7 @@ pub struct Choice {
 }
 
 impl Choice {
-    // Returns the choice with a note before its other notes.
+    // Returns the choice with `note` before its other notes.
     fn with_leading_note(self, note: Vec<u8>) -> Result<Choice, AllocError>
         ensures marks { IfOk result (λ choice. choice.marks ≡ self.marks) }
         ensures notes { IfOk result (λ choice. choice.notes.items ≡ note.items ++ self.notes.items) }
@@ -66,7 +66,7 @@ impl Choice {
 }
 
 impl<'x, D: Inputs> Chooser<'x, D> {
-    /// Returns the jobs of the list that the arguments choose.
+    /// Returns the jobs of the list that the arguments choose, with notes about the choice.
     pub fn choose(&self, jobs: &[Job]) -> Result<Choice, Stop>
         ensures chosen { IfOk result (λ choice. IsChoice (D.contents self.now.inputs.now) self.now.args.now
             self.now.rule jobs.now (option_map (λ marks. marks.items) choice.marks) choice.notes.items) }
@@ -91,7 +91,7 @@ impl<'x, D: Inputs> Chooser<'x, D> {
         self.choose_by_pattern(pattern.as_ref(), jobs)
     }
 
-    // Returns an error if no job has a name of `--only`.
+    // Returns an error for the first name of `--only` that no job has.
     fn check_exact_names(&self, jobs: &[Job]) -> Result<(), Stop>
         ensures known { OnOk result (unknown_name jobs.now self.now.args.now.only.items ≡ None) }
         ensures unknown { IfErr result (λ stop. IsSomeAnd (unknown_name jobs.now self.now.args.now.only.items)
@@ -103,7 +103,7 @@ impl<'x, D: Inputs> Chooser<'x, D> {
         }
     }
 
-    // Returns the pattern of `--match`, if the option is given. It must match the name of some job.
+    // Returns the pattern of `--match`, or `None` if the option is not given. A pattern that matches the name of no job is an error.
     fn requested_pattern(&self, jobs: &[Job]) -> Result<Option<Regex>, Stop>
         ensures source { IfOk result (λ pattern.
             option_map regex_source pattern ≡ borrowed_text self.now.args.now.pattern) }
@@ -124,7 +124,7 @@ impl<'x, D: Inputs> Chooser<'x, D> {
         }
     }
 
-    // Returns the pattern of `--exclude`, if the option is given.
+    // Returns the pattern of `--exclude`, or `None` if the option is not given.
     fn requested_exclusion(&self) -> Result<Option<Regex>, Stop>
         ensures source { IfOk result (λ excluded.
             option_map regex_source excluded ≡ borrowed_text self.now.args.now.exclude) }
@@ -138,7 +138,8 @@ impl<'x, D: Inputs> Chooser<'x, D> {
         }
     }
 
-    // Returns the selection without the jobs whose names the pattern matches, if one is given.
+    // Returns the selection without the jobs whose names the pattern matches; unchanged if there is no pattern or no selection. It is an
+    // error if this leaves no jobs.
     fn leave_out(
         &self,
         excluded: Option<&Regex>,
@@ -162,7 +163,7 @@ impl<'x, D: Inputs> Chooser<'x, D> {
         Ok(Some(left))
     }
 
-    // Returns the selection without the jobs whose names the pattern matches. It must not become empty.
+    // Returns the selection without the jobs whose names the pattern matches. It is an error if this leaves no jobs.
     fn remaining_marks(
         &self,
         marks: &[bool],
@@ -228,8 +229,8 @@ impl<'x, D: Inputs> Chooser<'x, D> {
         self.choose_from_failed_names(path, failed.as_slice(), missing, pattern, jobs)
     }
 
-    // Returns the jobs that the pattern, `--only` and the names `failed` from the report at `path` choose; `missing` jobs have no row
-    // there.
+    // Returns the jobs that the pattern, `--only` and the names `failed` from the report at `path` choose. `missing` is the number of jobs
+    // that have no row there.
     fn choose_from_failed_names(
         &self,
         path: &str,
@@ -251,7 +252,7 @@ impl<'x, D: Inputs> Chooser<'x, D> {
         Ok(Choice { marks, notes })
     }
 
-    // Compiles the text of an option as a regular expression.
+    // Compiles the text of an option as a regular expression. If it is not one, returns an error with the usage of the command.
     fn compile_pattern(&self, option: &str, text: &str) -> Result<Regex, Stop>
         ensures source { IfOk result (λ pattern. regex_source pattern ≡ text.now) }
         ensures read { IfOk result IsReadByDefault }
@@ -266,7 +267,7 @@ impl<'x, D: Inputs> Chooser<'x, D> {
         }
     }
 
-    // Returns for each job whether the pattern, `--only` or the names `failed` choose it.
+    // Returns for each job, in list order, whether the pattern, `--only` or the names `failed` choose it.
     fn combined_marks(
         &self,
         pattern: Option<&Regex>,
@@ -313,7 +314,7 @@ fn bad_pattern_text(
     bad_value_text(alloc, option, text, reason.as_str())
 }
 
-// Returns the names of `--only`; `None` if the option is not given.
+// Returns the names of `--only`, or `None` if the option is not given.
 fn requested_names<'a>(args: &'a RunArgs<'_>) -> Option<&'a [&'a str]>
     ensures { optional_names result ≡ requested_names args.now.only.items }
 {
@@ -324,7 +325,7 @@ fn requested_names<'a>(args: &'a RunArgs<'_>) -> Option<&'a [&'a str]>
     }
 }
 
-// Whether the pattern matches the name of some job.
+// Whether the pattern matches the name of at least one job.
 #[tactic(auto, using(crate::proofs::Names::found_marks))]
 fn is_found_in_job_names(alloc: Global, pattern: &Regex, jobs: &[Job]) -> Result<bool, AllocError>
     ensures { IfOk result
@@ -339,19 +340,21 @@ fn is_found_in_job_names(alloc: Global, pattern: &Regex, jobs: &[Job]) -> Result
     Ok(is_any_selected(marks.as_slice()))
 }
 
-// Whether some job is selected.
+// Whether at least one job is selected.
 fn is_any_selected(marks: &[bool]) -> bool
     ensures { result ≡ is_any_selected marks.now }
 {
     marks.iter().any(|mark| *mark)
 }
 
+// Returns the error that the pattern of `--match` matches the name of no job in the list.
 fn unmatched_pattern_stop(alloc: Global, list: &str, pattern: &str) -> Stop
     ensures { IsStop 2 (unmatched_pattern list.now pattern.now) result }
 {
     Stop::of_refusal(unmatched_pattern_message(alloc, list, pattern))
 }
 
+// Returns the message that the pattern of `--match` matches the name of no job in the list.
 fn unmatched_pattern_message<'a>(
     alloc: Global,
     list: &'a str,
@@ -371,12 +374,14 @@ fn unmatched_pattern_message<'a>(
     )
 }
 
+// Returns the error that the pattern of `--exclude` leaves no jobs of the list.
 fn emptied_choice_stop(alloc: Global, list: &str, pattern: &str) -> Stop
     ensures { IsStop 2 (emptied_choice list.now pattern.now) result }
 {
     Stop::of_refusal(emptied_choice_message(alloc, list, pattern))
 }
 
+// Returns the message that the pattern of `--exclude` leaves no jobs of the list.
 fn emptied_choice_message<'a>(
     alloc: Global,
     list: &'a str,

@@ -13,7 +13,7 @@ use rv_rows::Row;
 use rv_text::{Span, push_spans};
 use std::alloc::{AllocError, Global};
 
-/// Returns the names of the failed rows, in order.
+/// Returns the names of the rows that failed by this rule, in order.
 pub(crate) fn failed_job_names(
     alloc: Global,
     rule: Rule,
@@ -30,7 +30,7 @@ pub(crate) fn failed_job_names(
     Ok(names)
 }
 
-/// Returns the number of jobs without a row.
+/// Returns the number of jobs whose names no row has.
 pub(crate) fn jobs_without_row(jobs: &[Job], rows: &[Row]) -> usize
     ensures { result ≡ jobs_without_row jobs.now rows.now }
 {
@@ -39,15 +39,15 @@ pub(crate) fn jobs_without_row(jobs: &[Job], rows: &[Row]) -> usize
         .count()
 }
 
-// Whether a row has this name.
+// Whether at least one row has this name.
 fn has_row_named(rows: &[Row], name: &str) -> bool
     ensures { result ≡ has_row_named rows.now name.now }
 {
     rows.iter().any(|row| row.name.as_str() == name)
 }
 
-/// Returns the notes about the failed jobs of the report at `path`: that there are none, or which are no longer in the list; and that
-/// `missing` jobs of the list have no row there.
+/// Returns the notes about the failed jobs, with these names, of the report at `path`: that there are none, or which are no longer in the
+/// list; and that `missing` jobs of the list have no row there.
 pub(crate) fn failed_job_notes(
     alloc: Global,
     path: &str,
@@ -67,7 +67,8 @@ pub(crate) fn failed_job_notes(
     Ok(notes)
 }
 
-// Returns the note that no job failed. If jobs have no row, it is restricted to the rows of the report.
+// Returns the note that no job of the report at `path` failed. If `missing` jobs of the list have no row, the note says so only of the
+// rows.
 fn none_failed_note(alloc: Global, path: &str, missing: usize) -> Result<Vec<u8>, AllocError>
     ensures { IfOk result (λ note. note.items ≡ none_failed_note path.now missing) }
 {
@@ -88,7 +89,7 @@ fn missing_rows_note(alloc: Global, path: &str, missing: usize) -> Result<Vec<u8
     path_number_message(alloc, path, ": note: ", missing, missing_rows_text(missing))
 }
 
-// Returns the end of the note that `missing` jobs have no row, in the singular or the plural.
+// Returns the end of the note that `missing` jobs of the list have no row, in the singular or the plural.
 fn missing_rows_text(missing: usize) -> &'static str
     ensures { result.now ≡ missing_rows_text missing }
 {
@@ -99,7 +100,7 @@ fn missing_rows_text(missing: usize) -> &'static str
     }
 }
 
-// Returns the notes about the failed jobs that are no longer in the list.
+// Returns a note for each of these names of failed jobs that is no longer in the list, in order.
 fn removed_job_notes(
     alloc: Global,
     path: &str,

@@ -21,7 +21,7 @@ pub(crate) struct Criteria<'a> {
     pub(crate) failed: Option<&'a [&'a str]>,
 }
 
-/// Returns for each job, in list order, whether it is chosen.
+/// Returns for each job, in list order, whether these criteria choose it.
 pub(crate) fn chosen_marks(
     alloc: Global,
     jobs: &[Job],
@@ -38,7 +38,7 @@ pub(crate) fn chosen_marks(
     Ok(marks)
 }
 
-/// Returns the selection without the jobs whose names the pattern matches.
+/// Returns the selection without the jobs whose names the pattern `excluded` matches.
 pub(crate) fn remaining_marks(
     alloc: Global,
     jobs: &[Job],
@@ -57,13 +57,14 @@ pub(crate) fn remaining_marks(
     Ok(left)
 }
 
-// Whether a selected job stays selected, given whether the pattern matches its name.
+// Whether a job stays selected: it is selected, and the pattern is not found in its name.
 fn stays_selected(mark: bool, is_found: bool) -> bool
     ensures { result ≡ stays_selected mark is_found }
 {
     mark && !is_found
 }
 
+// Returns a matcher for the pattern, or `None` if there is no pattern.
 fn matcher_of(alloc: Global, pattern: Option<&Regex>) -> Result<Option<Matcher<'_>>, AllocError>
     ensures { IfOk result
         (λ matcher. option_map matcher_pattern matcher ≡ pattern_of pattern.entry) }
@@ -74,7 +75,8 @@ fn matcher_of(alloc: Global, pattern: Option<&Regex>) -> Result<Option<Matcher<'
     }
 }
 
-// Whether a job of this name is chosen: by the names of `--only`, by the pattern, or by the names of failed jobs.
+// Whether a job with this name is chosen: by the names of `--only`, by the pattern, or by the names of failed jobs; every job is, if none
+// of these is given.
 fn is_chosen_name(wanted: Criteria<'_>, matcher: &mut Option<Matcher<'_>>, name: &str) -> bool
     requires { option_map matcher_pattern matcher.old ≡ pattern_of wanted.pattern }
     ensures chosen { result ≡ is_chosen_name (optional_names wanted.entry.only)
@@ -88,7 +90,8 @@ fn is_chosen_name(wanted: Criteria<'_>, matcher: &mut Option<Matcher<'_>>, name:
     )
 }
 
-// Whether a job is chosen, given what each criterion says: one of them chooses it, or none is given.
+// Whether a job is chosen, given the result of each criterion, which is `None` if the criterion is not given: at least one chooses the job,
+// or none is given.
 fn is_chosen(by_name: Option<bool>, by_pattern: Option<bool>, by_report: Option<bool>) -> bool
     ensures { result ≡ is_chosen by_name by_pattern by_report }
 {
@@ -100,7 +103,7 @@ fn is_chosen(by_name: Option<bool>, by_pattern: Option<bool>, by_report: Option<
     }
 }
 
-// Whether the names contain this name; `None` without names.
+// Whether `name` is one of the names, or `None` if there are no names.
 fn choice_by_names(names: Option<&[&str]>, name: &str) -> Option<bool>
     ensures { result ≡ choice_by_names (optional_names names.entry) name.now }
 {
@@ -110,14 +113,14 @@ fn choice_by_names(names: Option<&[&str]>, name: &str) -> Option<bool>
     }
 }
 
-// Whether a name is one of these names.
+// Whether `name` is one of these names.
 fn is_among_names(names: &[&str], name: &str) -> bool
     ensures { result ≡ is_among_names (borrowed_names names.now) name.now }
 {
     names.contains(&name)
 }
 
-// Whether the pattern matches anywhere in this name; `None` without a pattern.
+// Whether the pattern matches anywhere in this name, or `None` if there is no pattern.
 fn choice_by_pattern(matcher: &mut Option<Matcher<'_>>, name: &str) -> Option<bool>
     ensures found { result ≡ choice_by_pattern (option_map matcher_pattern matcher.old) name.now }
     ensures same { option_map matcher_pattern matcher.new ≡ option_map matcher_pattern matcher.old }
@@ -128,7 +131,7 @@ fn choice_by_pattern(matcher: &mut Option<Matcher<'_>>, name: &str) -> Option<bo
     }
 }
 
-/// Returns the first of these names that no job has.
+/// Returns the first of these names that no job has, or `None` if each is the name of a job.
 pub(crate) fn first_unknown_name<'a>(jobs: &[Job], names: &[&'a str]) -> Option<&'a str>
     ensures { option_map (λ name. name.now) result ≡ unknown_name jobs.now names.now }
 {
@@ -138,7 +141,7 @@ pub(crate) fn first_unknown_name<'a>(jobs: &[Job], names: &[&'a str]) -> Option<
     }
 }
 
-/// Whether a job has this name.
+/// Whether at least one job has this name.
 pub(crate) fn has_job_named(jobs: &[Job], name: &str) -> bool
     ensures { result ≡ has_job_named jobs.now name.now }
 {

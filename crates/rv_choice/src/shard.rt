@@ -20,8 +20,8 @@ use rvtest_cli::{ChoosingCommand, RunArgs};
 use sha2::{Digest, Sha256};
 use std::alloc::{AllocError, Global};
 
-/// Returns the requested shard of a list with `jobs` jobs; `None` without `--shard`. The default stamp is the first 16 hexadecimal digits
-/// of the SHA-256 of the list's text.
+/// Returns the requested shard of a list with `jobs` jobs, or `None` without `--shard`. The default stamp is the first 16 hexadecimal
+/// digits of the SHA-256 of the list's text.
 pub fn requested_shard(
     alloc: Global,
     args: &RunArgs<'_>,
@@ -58,7 +58,7 @@ pub fn requested_shard(
     }))
 }
 
-// Parses `K/N`, where 1 <= K <= N <= 4096, and returns K and N.
+// Parses `K/N`, where 1 <= K <= N <= 4096. Returns K and N, or `None` for any other text.
 fn shard_numbers(words: &str) -> Option<(u32, u32)>
     ensures numbers { IfSome result (λ n. (n.0 ≡ number_before_slash words.now)
         × (n.1 ≡ number_after_slash words.now)) }
@@ -75,7 +75,7 @@ fn shard_numbers(words: &str) -> Option<(u32, u32)>
     }
 }
 
-// Parses a number that consists only of digits.
+// Parses a number that consists only of digits. Returns `None` for any other text, or if the number does not fit in 32 bits.
 fn parse_digits(words: &str) -> Option<u32>
     ensures { MatchOption result (IsNumeral 10 words.now → 2 ^ 32 ≤ digits_value 10 words.now)
         (λ number. IsNumeral 10 words.now × (number ≡ digits_value 10 words.now)) }
@@ -87,12 +87,14 @@ fn parse_digits(words: &str) -> Option<u32>
     }
 }
 
+// Whether a text has only ASCII digits.
 fn has_digits_alone(text: &[u8]) -> bool
     ensures { result ≡ list_all is_ascii_digit text.now }
 {
     text.iter().all(|byte| byte.is_ascii_digit())
 }
 
+// Returns the first 16 hexadecimal digits of the SHA-256 of a list's text.
 fn list_digest(alloc: Global, text: &[u8]) -> Result<String, AllocError>
     ensures { IfOk result (λ digits. string_bytes digits
         ≡ encode_lower (take 8 (sha256 text.now))) }
@@ -101,6 +103,7 @@ fn list_digest(alloc: Global, text: &[u8]) -> Result<String, AllocError>
     hex::encode(alloc, &digest[..8])
 }
 
+// Returns the error that the text of `--shard` is not `K/N`, with the usage of the command.
 fn bad_shard_stop(alloc: Global, command: ChoosingCommand, words: &str) -> Stop
     ensures { IsUsageStop (bad_shard_text words.now) result }
 {
@@ -109,6 +112,7 @@ fn bad_shard_stop(alloc: Global, command: ChoosingCommand, words: &str) -> Stop
     bad_value_stop(alloc, command, what)
 }
 
+// Returns the error that the text of `--stamp` is not a name, with the usage of the command.
 fn bad_stamp_stop(alloc: Global, command: ChoosingCommand, stamp: &str) -> Stop
     ensures { IsUsageStop (bad_stamp_text stamp.now) result }
 {

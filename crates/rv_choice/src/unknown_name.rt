@@ -17,6 +17,7 @@ pub fn unknown_name_stop(alloc: Global, list: &str, jobs: &[Job], name: &str) ->
     Stop::of_refusal(unknown_name_message(alloc, list, jobs, name))
 }
 
+// Returns the message that no job of the list has this name, with the nearest name or, if none is near, the names of the jobs.
 fn unknown_name_message(
     alloc: Global,
     list: &str,
@@ -31,6 +32,7 @@ fn unknown_name_message(
     Ok(message)
 }
 
+// Returns the beginning of the message that no job of the list has this name.
 fn no_such_job_message<'a>(
     alloc: Global,
     list: &'a str,
@@ -65,6 +67,7 @@ fn push_name_hint(
     }
 }
 
+// Appends the hint that a similar name exists, with that name.
 fn push_near_name<'a>(message: &mut Vec<u8>, near: &'a str) -> Result<(), AllocError>
     ensures { OnOk result (message.new.items
         ≡ message.old.items ++ (codes "\"; a similar name exists: \"" ++ near.now ++ codes "\"")) }
@@ -82,7 +85,7 @@ fn push_near_name<'a>(message: &mut Vec<u8>, near: &'a str) -> Result<(), AllocE
 // The maximum number of names that are shown.
 const MOST_SHOWN: usize = 20;
 
-// Appends the names of the first 20 jobs, and how many more there are.
+// Appends the names of the first 20 jobs, and how many more jobs there are.
 fn push_names(message: &mut Vec<u8>, jobs: &[Job]) -> Result<(), AllocError>
     ensures { OnOk result (message.new.items ≡ message.old.items ++ shown_names jobs.now) }
 {
@@ -92,7 +95,7 @@ fn push_names(message: &mut Vec<u8>, jobs: &[Job]) -> Result<(), AllocError>
     push_names_left(message, jobs.len())
 }
 
-// Appends the names of these jobs in a message with `count` names.
+// Appends the names of these jobs, which are the first of `count` names in a message.
 fn push_first_names(message: &mut Vec<u8>, jobs: &[Job], count: usize) -> Result<(), AllocError>
     requires { length jobs.now ≤ count }
     ensures { OnOk result (message.new.items ≡ message.old.items ++ names_from 0 count jobs.now) }
@@ -103,6 +106,7 @@ fn push_first_names(message: &mut Vec<u8>, jobs: &[Job], count: usize) -> Result
     Ok(())
 }
 
+// Appends the name at index `place` in a message with `count` names, with the text before it.
 fn push_name<'a>(
     message: &mut Vec<u8>,
     place: usize,
@@ -129,7 +133,7 @@ fn text_before_name(place: usize, count: usize) -> &'static str
     }
 }
 
-// Appends how many of `count` names were not shown.
+// Appends how many of `count` names are not shown, or nothing if all are shown.
 fn push_names_left(message: &mut Vec<u8>, count: usize) -> Result<(), AllocError>
     ensures { OnOk result (message.new.items ≡ message.old.items ++ names_left count) }
 {

@@ -9,7 +9,7 @@ use Rattle.rv_text.specs.Printable.{printable_text}
 use Rattle.rv_command.specs.declared.stop.Stop.{Stop}
 use Rattle.rv_command.specs.declared.stop.Stop.TheVariants as stop
 
--- the whole message was written and no write failed; or one write failed, and a prefix of the message was written
+-- either the whole message was written and no write failed, or one write failed after a prefix of the message was written
 abbrev pub IsMessageWritten : Option (List ℕ) → Option (List ℕ) → ℕ → ℕ → List ℕ → Type 0
 IsMessageWritten before after failures_before failures_after text =
     (Appends before after text × (failures_after ≡ failures_before))
@@ -24,7 +24,7 @@ abbrev pub path_number_message : List ℕ → List ℕ → ℕ → List ℕ → 
 path_number_message path place number what =
     codes "rvtest: " ++ printable_text path ++ place ++ decimal number ++ what
 
--- " complete row" for one row, else " complete rows", and a line feed
+-- ` complete row` for one row and ` complete rows` for any other number, with a line feed
 abbrev pub complete_rows_text : ℕ → List ℕ
 complete_rows_text rows = if rows == 1 then codes " complete row\n" else codes " complete rows\n"
 
@@ -35,14 +35,14 @@ cut_off_note path read = if read.is_cut_off
     (complete_rows_text (length read.report.rows))
     else []
 
--- the message about a stop
+-- the message that reports this stop
 abbrev pub stop_message : Stop → List ℕ
 stop_message (stop.Told lines text) = text.items
 stop_message stop.OutOfMemory = codes "rvtest: out of memory\n"
 stop_message stop.NoWorker = codes "rvtest: no thread could be started\n"
 stop_message stop.WriteFailed = codes "rvtest: standard output: write failed\n"
 
--- the message about a stop, given whether the reader of the results closed them: then a failed write is not reported
+-- the message that reports this stop; empty for a failed write, if the Bool says that the reader of the results closed them
 abbrev pub end_message : Bool → Stop → List ℕ
 end_message true stop.WriteFailed = []
 end_message _ why = stop_message why

@@ -15,12 +15,12 @@ use Rattle.rv_command.specs.declared.refused_line.ResultKind.TheVariants as expe
 
 -- ---- the lines of a text
 
--- the text before an offset, or the whole text without an offset
+-- the text before this offset, or the whole text if there is no offset
 abbrev pub text_up_to : Option ℕ → List ℕ → List ℕ
 text_up_to (Some place) text = take place text
 text_up_to None text = text
 
--- the text after the byte at an offset; empty without an offset
+-- the text after the byte at this offset, or nothing if there is no offset
 abbrev pub text_after : Option ℕ → List ℕ → List ℕ
 text_after (Some place) text = drop (place + 1) text
 text_after None text = []
@@ -42,7 +42,7 @@ after_lines (suc count) text = after_line (after_lines count text)
 abbrev pub numbered_line : List ℕ → ℕ → List ℕ
 numbered_line text number = first_line (after_lines (number - 1) text)
 
--- the line before the one with this number; empty for the first line
+-- the line before the line with this number, counted from 1; empty for the first line
 abbrev pub line_before : List ℕ → ℕ → List ℕ
 line_before text number = if nat_lt number 2 then [] else numbered_line text (number - 1)
 
@@ -68,7 +68,7 @@ is_job_list text = are_faults_of_list (list_faults text)
 abbrev begins : List ℕ → List ℕ → Bool
 begins line words = starts_with nat_eq line words
 
--- what a report must have after this line, or at its beginning if the line is empty
+-- what is expected in a report after this line, or at the beginning of the report if the line is empty
 unfoldable pub expected_after : List ℕ → List ℕ
 expected_after line =
     if begins line (codes "job ") then codes "\"end\" and how the run ended"
@@ -80,23 +80,23 @@ expected_after line =
     else if begins line (codes "done ") || begins line (codes "part ") then codes "the end of the file"
     else codes "eight hexadecimal digits or \"verdict\""
 
--- the word for the lines of the expected file, as in `invalid report line`
+-- the noun for the expected kind, as in `invalid report line`
 abbrev pub kind_noun : ResultKind → List ℕ
 kind_noun expected.Report = codes "report"
 kind_noun expected.Part = codes "part"
 
--- the expected file, with an article
+-- the expected kind with an article
 abbrev pub kind_text : ResultKind → List ℕ
 kind_text expected.Report = codes "a report"
 kind_text expected.Part = codes "the report of a shard"
 
--- the message about an invalid line: its number, the line itself, and what was expected instead
+-- the message that the line with this number is invalid in the file at the path: it shows the line, and what was expected instead
 abbrev pub line_message : ResultKind → List ℕ → List ℕ → ℕ → List ℕ
 line_message wanted path text number =
     codes "rvtest: " ++ printable_text path ++ codes ":" ++ decimal number ++ codes ": invalid " ++ kind_noun wanted ++ codes " line \""
     ++ printable_value (numbered_line text number) ++ codes "\": expected " ++ expected_after (line_before text number) ++ codes "\n"
 
--- the message that the text at a path is a job list, and not the expected file
+-- the message that the text at the path is a job list, not the expected kind
 abbrev pub list_message : ResultKind → List ℕ → List ℕ
 list_message wanted path =
     codes "rvtest: " ++ printable_text path ++ codes ": this is a job list, not " ++ kind_text wanted ++ codes "\n"

@@ -43,12 +43,12 @@ stop_status why.WriteFailed = 3
 abbrev pub broken_pipe_status : ℕ
 broken_pipe_status = 128 + 13
 
--- the exit status for a stop, given whether the reader of the results closed them: then a failed write is not a system failure
+-- the exit status for a stop; for a failed write it is `broken_pipe_status`, if the Bool says that the reader of the results closed them
 abbrev pub end_status : Bool → Stop → ℕ
 end_status true why.WriteFailed = broken_pipe_status
 end_status _ why = stop_status why
 
--- the stop with these lines, or out of memory if they could not be made
+-- the stop with these lines of this kind, or out of memory if the lines could not be made
 abbrev pub stop_of_lines : Lines → Result (Vec ℕ Global) AllocError → Stop
 stop_of_lines kind (Ok text) = why.Told kind text
 stop_of_lines kind (Err error) = why.OutOfMemory
@@ -58,7 +58,7 @@ abbrev pub IsStop : ℕ → List ℕ → Stop → Type 0
 IsStop status text stop =
     (stop ≡ why.OutOfMemory) ⊎ ((stop_status stop ≡ status) × (stop_message stop ≡ text))
 
--- the stop is out of memory, or it rejects the request with some message
+-- the stop is out of memory, or it rejects the request with any message
 abbrev pub IsRefusal : Stop → Type 0
 IsRefusal stop = (stop ≡ why.OutOfMemory) ⊎ (stop_status stop ≡ 2)
 
@@ -77,19 +77,19 @@ IsUsageStop what stop = (stop ≡ why.OutOfMemory) ⊎ ((stop_status stop ≡ 2)
 
 -- ---- files
 
--- there is no file at the path, as far as contents are known
+-- if the contents of files are known, there is no file at the path
 abbrev pub IsNothingAt : Option FileContents → List ℕ → Type 0
 IsNothingAt known path = IfSome known (λ files. files path ≡ None)
 
--- the file at the path has more than `most` bytes, as far as contents are known
+-- if the contents of files are known, the file at the path has more than `most` bytes
 abbrev pub IsLongAt : Option FileContents → List ℕ → ℕ → Type 0
 IsLongAt known path most = IfSome known (λ files. IsSomeAnd (files path) (λ bytes. most < length bytes))
 
--- the stop reports the reason of the system why the file at the path could not be read or written, or that memory ran out
+-- memory ran out, or the stop reports the system's reason why the file at the path could not be read or written
 abbrev pub IsSystemStop : List ℕ → ErrorKind → Stop → Type 0
 IsSystemStop path reason stop = IsStop 3 (path_message path (io_error_text reason)) stop
 
--- why a command stopped: memory ran out, or the file at the path could not be read; then none is known to be there
+-- why a command stopped: memory ran out, or the file at the path could not be read; in that case the known contents have no file there
 abbrev pub IsUnreadStop : Option FileContents → List ℕ → Stop → Type 0
 IsUnreadStop known path stop = (stop ≡ why.OutOfMemory)
     ⊎ (IsNothingAt known path × ((reason : ErrorKind) × IsSystemStop path reason stop))
@@ -127,22 +127,22 @@ IsListFaultStop path text stop = (stop ≡ why.OutOfMemory)
 
 -- ---- reports
 
--- the stop reports that the report at the path is truncated, or that memory ran out
+-- memory ran out, or the stop reports that the report at the path is truncated
 abbrev pub IsCutOffStop : List ℕ → Stop → Type 0
 IsCutOffStop path stop = IsStop 2 (path_message path (codes "the report is truncated")) stop
 
--- the stop reports the invalid line with this number in a report, or that the file is a job list, or that memory ran out
+-- memory ran out, or the stop reports that the line with this number is invalid in a report, or that the file is a job list
 abbrev pub IsLineStop : List ℕ → List ℕ → ℕ → Stop → Type 0
 IsLineStop path bytes line stop = IsStop 2 (refused_line_message expected.Report path bytes line) stop
 
--- the stop reports the first error of a text that is not a report: its first invalid line, or that the report is truncated; then some
--- report begins with its complete lines
+-- the stop reports the first error of a text that is not a report: its first invalid line; or that it is truncated, if its complete lines
+-- begin some report
 abbrev pub IsReportFaultReported : List ℕ → List ℕ → Stop → Type 0
 IsReportFaultReported path bytes stop =
     ((line : ℕ) × IsLeastRefusedLine line bytes × IsLineStop path bytes line stop)
     ⊎ (BeginsReport (first_lines (count_of_line_feeds bytes) bytes) × IsCutOffStop path stop)
 
--- memory ran out, or the stop reports the first error of a text as a report
+-- memory ran out, or the stop reports the first error of the bytes, which were read as a report from the path
 pub record IsReportFaultStop (path bytes : List ℕ) (stop : Stop) : Type 0 where
   pub told : (stop ≡ why.OutOfMemory) ⊎ IsReportFaultReported path bytes stop
   -- a prefix of a report is reported as truncated
@@ -157,13 +157,13 @@ IsReportReadError known path stop = IsResultUnreadStop known path stop
 
 -- ---- reports that may be truncated
 
--- memory ran out, or the stop reports the first invalid line; a prefix of a report has no error
+-- memory ran out, or the stop reports the first invalid line of the bytes; a prefix of a report has no invalid line
 pub record IsPartialFaultStop (path bytes : List ℕ) (stop : Stop) : Type 0 where
   pub told : (stop ≡ why.OutOfMemory)
       ⊎ ((line : ℕ) × IsLeastRefusedLine line bytes × IsLineStop path bytes line stop)
   pub beginning : BeginsReport bytes → stop ≡ why.OutOfMemory
 
--- why a command stopped: the text is not a report and, if the Bool allows truncated reports, not a truncated one
+-- why a command stopped: the bytes are not a report, nor a truncated report if the Bool allows that
 abbrev pub IsRequestedFaultStop : Bool → List ℕ → List ℕ → Stop → Type 0
 IsRequestedFaultStop false path bytes stop = IsReportFaultStop path bytes stop
 IsRequestedFaultStop true path bytes stop = IsPartialFaultStop path bytes stop

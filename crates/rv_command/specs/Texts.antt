@@ -7,7 +7,7 @@ use Rattle.rv_report.specs.Saved.{IsSaved, saved_text}
 use Rattle.rv_report.specs.declared.partial.PartialReport.{PartialReport}
 use Rattle.rv_report.specs.declared.saved.SavedReport.{SavedReport}
 
--- the text is the contents of the file at the path, as far as contents are known
+-- if the contents of files are known, the text is the contents of the file at the path
 abbrev pub IsTextAt : Option FileContents → List ℕ → List ℕ → Type 0
 IsTextAt known path text = IfSome known (λ files. files path ≡ Some text)
 

@@ -44,6 +44,7 @@ pub fn parse_list(alloc: Global, path: &str, text: &[u8]) -> Result<JobList, Sto
     }
 }
 
+// Returns the stop for an error of a list: out of memory, or the line that reports the error.
 fn list_fault_stop(alloc: Global, path: &str, text: &[u8], fault: JobError) -> Stop
     requires { (fault.what ≡ What.OutOfMemory → ⊥) → job_list_of text.now ≡ Err fault }
     ensures { IsListFaultStop path.now text.now result }
@@ -54,7 +55,7 @@ fn list_fault_stop(alloc: Global, path: &str, text: &[u8], fault: JobError) -> S
     }
 }
 
-/// Returns a line for each of these errors of a list.
+/// Returns a line for each of these errors of the list with this path and text, in order.
 pub fn list_faults_text(
     alloc: Global,
     path: &str,
@@ -70,7 +71,7 @@ pub fn list_faults_text(
     Ok(told)
 }
 
-/// Returns the lines about all errors of a list, given the first error of each invalid job.
+/// Returns the lines that report all errors of a list. `faults` has the first error of each invalid job.
 pub fn all_faults_text(
     alloc: Global,
     path: &str,

@@ -29,7 +29,8 @@ pub fn path_message<'a>(alloc: Global, path: &'a str, what: &'a str) -> Result<V
     )
 }
 
-/// Returns a line that says `what` is wrong with a line or a job in the file at the path. `place` is the text before its number.
+/// Returns a line that says `what` is wrong with a line or a job in the file at the path. `number` is its number, and `place` is the text
+/// before the number.
 pub fn path_number_message<'a>(
     alloc: Global,
     path: &'a str,
@@ -59,7 +60,7 @@ pub fn put_message<E: Sink>(errors: &mut E, text: &[u8])
     let _ = put_all(errors, text);
 }
 
-/// Writes results to standard output.
+/// Writes results to standard output. If a write fails, returns `WriteFailed`, and only a prefix of the results is written.
 pub fn put_results<O: Sink>(out: &mut O, text: &[u8]) -> Result<(), Stop>
     ensures put { OnOk result (Appends (O.taken out.old) (O.taken out.new) text.now) }
     ensures counted { OnOk result (O.failed out.new ≡ O.failed out.old) }
@@ -115,7 +116,7 @@ fn lines_status(lines: Lines) -> u8
     }
 }
 
-/// Reports how the system failed, and returns the exit status.
+/// Writes a message about a system failure to standard error, and returns the exit status 3.
 pub fn put_failure_message<E: Sink>(errors: &mut E, text: &str) -> u8
     ensures status { result ≡ FAILED }
     ensures told { IsMessageWritten (E.taken errors.old) (E.taken errors.new)

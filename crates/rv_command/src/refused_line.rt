@@ -19,8 +19,8 @@ pub enum ResultKind {
     Part,
 }
 
-/// Returns the message that the text at a path is not of the expected kind: it shows the invalid line, which has this number, and what was
-/// expected instead. If the text is a job list, the message only says so.
+/// Returns the message that the text at a path is not of the expected kind: it is a job list, or its line with this number is invalid,
+/// which is shown with what was expected instead.
 pub fn refused_line_message<'a>(
     alloc: Global,
     kind: ResultKind,
@@ -37,6 +37,7 @@ pub fn refused_line_message<'a>(
     }
 }
 
+// Returns the message that the text at the path is a job list, not the expected kind.
 fn list_message<'a>(alloc: Global, kind: ResultKind, path: &'a str) -> Result<Vec<u8>, AllocError>
     ensures { IfOk result (λ told. told.items ≡ list_message kind path.now) }
 {
@@ -52,7 +53,7 @@ fn list_message<'a>(alloc: Global, kind: ResultKind, path: &'a str) -> Result<Ve
     )
 }
 
-// Returns the message about an invalid line in the file at the path: the line, and what was expected instead.
+// Returns the message that the line with this number is invalid in the file at the path: it shows the line, and what was expected instead.
 fn line_message<'a>(
     alloc: Global,
     kind: ResultKind,
@@ -80,6 +81,7 @@ fn line_message<'a>(
     )
 }
 
+// Returns the noun for the expected kind, as in `invalid report line`.
 fn kind_noun(kind: ResultKind) -> &'static str
     ensures { result.now ≡ kind_noun kind }
 {
@@ -89,7 +91,7 @@ fn kind_noun(kind: ResultKind) -> &'static str
     }
 }
 
-// Returns the kind with its article.
+// Returns the expected kind with an article: `a report` or `the report of a shard`.
 fn kind_text(kind: ResultKind) -> &'static str
     ensures { result.now ≡ kind_text kind }
 {
@@ -99,7 +101,7 @@ fn kind_text(kind: ResultKind) -> &'static str
     }
 }
 
-// Whether a text is a document with jobs, valid or not.
+// Whether a text is a TOML document with jobs, valid or not.
 fn is_job_list(alloc: Global, text: &[u8]) -> Result<bool, AllocError>
     ensures { IfOk result (λ is_list. is_list ≡ is_job_list text.now) }
 {
@@ -124,7 +126,7 @@ fn numbered_line(text: &[u8], number: usize) -> &[u8]
     first_line(after_lines(text, number.saturating_sub(1)))
 }
 
-// Returns the line before the one with this number; empty for the first line.
+// Returns the line before the line with this number, counted from 1; empty for the first line.
 fn line_before(text: &[u8], number: usize) -> &[u8]
     ensures { result.now ≡ line_before text.now number }
 {
@@ -167,6 +169,7 @@ fn after_line(text: &[u8]) -> &[u8]
     }
 }
 
+// Returns the offset of the first line feed, or `None` if there is none.
 fn line_feed_place(text: &[u8]) -> Option<usize>
     ensures place { result ≡ position is_feed text.now }
     ensures within { IfSome result (λ place. place < length text.now) }
@@ -174,7 +177,7 @@ fn line_feed_place(text: &[u8]) -> Option<usize>
     text.iter().position(|byte| *byte == b'\n')
 }
 
-// Returns what a report must have after this line, or at its beginning if the line is empty.
+// Returns what is expected in a report after this line, or at the beginning of the report if the line is empty.
 #[tactic(auto, unfolding(crate::specs::RefusedLines::expected_after))]
 fn expected_after(line: &[u8]) -> &'static str
     ensures { result.now ≡ expected_after line.now }

@@ -57,6 +57,7 @@ pub fn parse_requested_report(
     })
 }
 
+// Parses the text of a report that may be truncated: then its complete rows are returned.
 fn parse_partial_report(alloc: Global, path: &str, text: &[u8]) -> Result<PartialReport, Stop>
     ensures read { IfOk result (λ read. IsReadAs text.now read.is_cut_off read.report) }
     ensures few { IfOk result (λ read. length read.report.rows ≤ most_jobs) }
@@ -82,7 +83,7 @@ pub fn cut_off_note(alloc: Global, path: &str, read: &PartialReport) -> Result<V
     path_number_message(alloc, path, what, rows, complete_rows_text(rows))
 }
 
-// Returns " complete row" for one row, else " complete rows", and a line feed.
+// Returns ` complete row` for one row and ` complete rows` for any other number, with a line feed.
 fn complete_rows_text(rows: usize) -> &'static str
     ensures { result.now ≡ complete_rows_text rows }
 {

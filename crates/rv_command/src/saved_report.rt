@@ -44,7 +44,7 @@ pub fn parse_report(alloc: Global, path: &str, text: &[u8]) -> Result<SavedRepor
     }
 }
 
-/// Returns the error that the line with this number is invalid in a report.
+/// Returns the stop that reports the invalid line with this number of a report, or that the file is a job list.
 pub(crate) fn report_line_stop(alloc: Global, path: &str, text: &[u8], line: usize) -> Stop
     ensures { IsLineStop path.now text.now line result }
 {

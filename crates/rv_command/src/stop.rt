@@ -39,21 +39,21 @@ impl Stop {
         }
     }
 
-    /// Returns the stop that rejects the request with these lines, or out of memory if they could not be made.
+    /// Returns the stop that rejects the request with the lines in `told`, or out of memory if `told` is an error.
     pub fn of_refusal(told: Result<Vec<u8>, AllocError>) -> Stop
         ensures { result ≡ stop_of_lines Lines.Refusal told }
     {
         Stop::of_lines(Lines::Refusal, told)
     }
 
-    /// Returns the stop that reports a system failure with these lines, or out of memory if they could not be made.
+    /// Returns the stop that reports a system failure with the lines in `told`, or out of memory if `told` is an error.
     pub fn of_failure(told: Result<Vec<u8>, AllocError>) -> Stop
         ensures { result ≡ stop_of_lines Lines.Failure told }
     {
         Stop::of_lines(Lines::Failure, told)
     }
 
-    // Returns the stop with these lines, or out of memory if they could not be made.
+    // Returns the stop with the lines in `told`, which are of this kind, or out of memory if `told` is an error.
     fn of_lines(lines: Lines, told: Result<Vec<u8>, AllocError>) -> Stop
         ensures { result ≡ stop_of_lines lines told }
     {
@@ -69,6 +69,7 @@ impl From<AllocError> for Stop {
 
     ghost from_gives = { λ _ stop. stop ≡ OutOfMemory };
 
+    // Returns the stop for a failed allocation: out of memory.
     fn from(_: AllocError) -> Stop {
         Stop::OutOfMemory
     }

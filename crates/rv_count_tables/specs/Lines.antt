@@ -40,7 +40,7 @@ first_lines count (b ∷ bs) =
 abbrev pub hex_digit_value : ℕ → ℕ
 hex_digit_value b = if nat_lt b 97 then b - 48 else b - 87
 
--- the decoded bytes, or no bytes if the digits were invalid
+-- the decoded bytes, or no bytes if the digits are invalid
 abbrev pub bytes_if_decoded : Result (List ℕ) FromHexError → List ℕ
 bytes_if_decoded (Ok bytes) = bytes
 bytes_if_decoded (Err error) = []

@@ -11,24 +11,24 @@ use Rattle.rv_count_tables.specs.Text.{table_text}
 abbrev pub BeginsTable : List ℕ → Type 0
 BeginsTable bytes = (table : CountTable) × (rest : List ℕ) × IsTable table × (table_text table ≡ bytes ++ rest)
 
--- some table begins with the lines of the bytes before this one, and no table begins with these lines and this line
+-- some table begins with the first `line - 1` lines of the bytes, and no table begins with the first `line` lines
 pub record IsLeastRefusedLine (line : ℕ) (bytes : List ℕ) : Type 0 where
   pub before : BeginsTable (first_lines (line - 1) bytes)
   pub refused : BeginsTable (first_lines line bytes) → ⊥
 
--- the error names the first line up to which no table begins with the lines of the bytes; if it is `CutOff`, some table begins with all
--- their lines that end with a line feed
+-- `Line` names the first line for which no table begins with the bytes up to its end; `CutOff` says that some table begins with all lines
+-- that end with a line feed; `OutOfMemory` says nothing
 abbrev pub IsLeast : ReadError → List ℕ → Type 0
 IsLeast OutOfMemory bytes = Unit {0}
 IsLeast (Line line) bytes = IsLeastRefusedLine line bytes
 IsLeast CutOff bytes = BeginsTable (first_lines (count_of_line_feeds bytes) bytes)
 
--- the result is `x`, unless memory ran out
+-- the result is `x`, or memory ran out
 abbrev pub AnswersUnlessMemory : {X : Type 0} → X → Result X ReadError → Type 0
 AnswersUnlessMemory x (Ok y) = y ≡ x
 AnswersUnlessMemory x (Err e) = e ≡ OutOfMemory
 
--- the error for the line that begins at the index `place`: `CutOff` if it has no line feed, or its number, counted from 1
+-- the error for the line that begins at the index `place`: `CutOff` if it has no line feed, or else its number, counted from 1
 abbrev pub read_error_at : ℕ → List ℕ → ReadError
 read_error_at place bytes =
     if length (whole_line (drop place bytes)) == 0 then CutOff else Line (count_of_line_feeds (take place bytes) + 1)

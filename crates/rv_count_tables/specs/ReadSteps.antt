@@ -17,31 +17,31 @@ use Rattle.rv_call_tree.specs.Trees.{last_path, path_after, FollowsInPreorder}
 
 -- ---- names
 
--- the name of a node's function
+-- the function of a node, with its name
 abbrev pub function_name : NamedSpot → FunctionName
 function_name n = record { function = n.spot.function; name = n.name }
 
--- the names with `n` inserted after the names of functions at lower addresses
+-- the names with `n` inserted before the names of functions at higher addresses
 abbrev pub inserted : FunctionName → List FunctionName → List FunctionName
 inserted n names = insert names (prefix_len (λ m. nat_lt m.function n.function) names) n
 
--- the names with `n` inserted after the names of functions at lower addresses, unless its function has a name already
+-- the names with `n` inserted before the names of functions at higher addresses, or unchanged if its function already has a name
 abbrev pub with_name : FunctionName → List FunctionName → List FunctionName
 with_name n names = if has_name (name_of n.function names) then names else inserted n names
 
--- the names with those of the nodes' functions added
+-- the names with the names of these nodes' functions added; a function keeps the first name that it gets
 abbrev pub with_names : List FunctionName → List NamedSpot → List FunctionName
 with_names names [] = names
 with_names names (n ∷ ns) = with_names (with_name (function_name n) names) ns
 
--- the name agrees with the function's earlier name, if it has one: they are equal
+-- the two names of a function are equal, or there is no earlier name
 abbrev pub AgreesWith : List ℕ → Option (List ℕ) → Type 0
 AgreesWith name None = Unit {0}
 AgreesWith name (Some other) = name ≡ other
 
 -- ---- the lines of an image after its first line
 
--- the content of a line of an image: the counts of an address, or a call-tree node
+-- the content of a line of an image after its first line: the counts of an address, or a call-tree node
 pub data Entry : Type 0 where
   OfAddress : AddressCounts → Entry
   OfSpot : NamedSpot → Entry
@@ -56,18 +56,17 @@ abbrev pub entry_line : Entry → List ℕ
 entry_line (OfAddress c) = address_line c
 entry_line (OfSpot n) = spot_line n
 
--- a node, with the name that a list gives its function
+-- the entry of a node, with the name that a list gives its function
 abbrev pub entry_of_spot : List FunctionName → Spot → Entry
 entry_of_spot names s = OfSpot (named names s)
 
--- the contents of all lines of an image after its first line, in order
+-- the entries of all lines of an image after its first line, in order
 abbrev pub entries_of : ImageCounts → List Entry
 entries_of i = map OfAddress i.addresses ++ map (entry_of_spot i.functions) i.spots
 
 -- ---- which lines can come next
 
--- which lines can come next: addresses at or above the lowest one, nodes that follow a path and whose names agree with `names`, both, or
--- neither
+-- which lines can come next: the least address, if an address can come next, and the path of the preceding node, if a node can
 pub record NextLines : Type 0 where
   -- the lowest address that can come next, if an address can
   pub address : Option ℕ
@@ -84,37 +83,37 @@ before_first_image = record { address = None; names = []; front = None }
 abbrev pub at_image : NextLines
 at_image = record { address = Some 0; names = []; front = Some [] }
 
--- the path of a node after one with the path `front`, if there is one
+-- the path of a node that follows a node with the path `front`, or `None` if no node can come next
 abbrev pub path_in : Option (List ℕ) → Spot → Option (List ℕ)
 path_in None s = None
 path_in (Some front) s = Some (path_after front s)
 
--- the lines that can come next after the line of an address or a node: nodes come after addresses
+-- the lines that can come next after the line of an address or a node: after a node, only another node
 abbrev pub after_entry : NextLines → Entry → NextLines
 after_entry p (OfAddress c) = record { address = Some (c.address + 1); names = []; front = Some [] }
 after_entry p (OfSpot n) = record { address = None; names = with_name (function_name n) p.names; front = path_in p.front n.spot }
 
--- the lines that can come next after the lines of these addresses and nodes
+-- the lines that can come next after the lines of these entries
 abbrev pub after_entries : NextLines → List Entry → NextLines
 after_entries p [] = p
 after_entries p (e ∷ es) = after_entries (after_entry p e) es
 
--- the lines that can come next after these images
+-- the lines that can come next after the lines of these images
 abbrev pub place_in : NextLines → List ImageCounts → NextLines
 place_in p [] = p
 place_in p (i ∷ is) = place_in (after_entries at_image (entries_of i)) is
 
--- whether an address can come next: not if there is no lowest address, or if it is below it
+-- whether an address can come next: there is a lowest address, and this one is not below it
 abbrev pub can_be_next_address : Option ℕ → ℕ → Bool
 can_be_next_address None address = false
 can_be_next_address (Some lowest) address = nat_le lowest address
 
--- the node can come next: there is a path of the preceding node, and the node may follow it
+-- a node can come next, and this node may follow the path of the preceding one
 abbrev pub CanComeNextIn : Option (List ℕ) → Spot → Type 0
 CanComeNextIn None s = ⊥
 CanComeNextIn (Some front) s = FollowsInPreorder front s
 
--- the address or the node can come next: the address is not too low, or the node may follow the preceding one and its name agrees
+-- the entry can come next: its address is not too low, or its node may follow the preceding one and its name agrees with the earlier ones
 abbrev pub CanComeNext : NextLines → Entry → Type 0
 CanComeNext p (OfAddress c) = can_be_next_address p.address c.address ≡ true
 CanComeNext p (OfSpot n) = CanComeNextIn p.front n.spot × AgreesWith n.name (name_of n.spot.function p.names)
@@ -125,7 +124,7 @@ IsNotAnEntry p line = (e : Entry) → IsEntry e → CanComeNext p e → line ≡
 
 -- ---- lines of one kind
 
--- the lowest address that can follow these counts, or `lowest` if there are none
+-- the lowest address that may follow these counts, or `lowest` if there are no counts
 abbrev pub lowest_after : ℕ → List AddressCounts → ℕ
 lowest_after lowest [] = lowest
 lowest_after lowest (c ∷ cs) = lowest_after (c.address + 1) cs
@@ -139,7 +138,7 @@ last_digest last (i ∷ is) = last_digest (Some i.digest) is
 abbrev pub IsNotAnAddress : ℕ → List ℕ → Type 0
 IsNotAnAddress lowest line = (c : AddressCounts) → IsCounted c → nat_le lowest c.address ≡ true → line ≡ address_line c → ⊥
 
--- the line is not the line of a node that can follow the path `front` and whose name agrees with `names`
+-- no node that may follow the path `front` and whose name agrees with `names` has this line
 abbrev pub IsNotANode : List FunctionName → List ℕ → List ℕ → Type 0
 IsNotANode names front line = (n : NamedSpot) → IsNamedSpot n → FollowsInPreorder front n.spot
     → AgreesWith n.name (name_of n.spot.function names) → line ≡ spot_line n → ⊥
@@ -148,8 +147,8 @@ IsNotANode names front line = (n : NamedSpot) → IsNamedSpot n → FollowsInPre
 abbrev pub IsNotAnImage : Option (List ℕ) → List ℕ → Type 0
 IsNotAnImage last line = (i : ImageCounts) → IsImage i → is_greater_than_last last i.digest ≡ true → line ≡ image_line i → ⊥
 
--- `read` has the addresses of the first lines of the text, and the length of these lines in bytes; the next line is not the line of an
--- address that can follow
+-- `read` has the addresses of the first lines of the text, and the length of these lines in bytes; the next line is not the line of a
+-- higher address
 pub record AreAddressLines (text : List ℕ) (read : AddressLines) : Type 0 where
   pub within : read.length ≤ length text
   pub lines : text ≡ flat_map address_line read.addresses ++ drop read.length text
@@ -157,7 +156,7 @@ pub record AreAddressLines (text : List ℕ) (read : AddressLines) : Type 0 wher
   pub behind : IsNotAnAddress (lowest_after 0 read.addresses) (whole_line (drop read.length text))
 
 -- `read` has the nodes of the first lines of the text, the names of their functions, and the length of these lines in bytes; the next line
--- is not the line of a node that can follow
+-- is not the line of a node that may follow
 pub record AreSpotLines (text : List ℕ) (read : SpotLines) : Type 0 where
   pub within : read.length ≤ length text
   pub lines : text ≡ flat_map (line_of_spot read.functions) read.spots ++ drop read.length text

@@ -14,7 +14,7 @@ use Rattle.rv_call_tree.specs.declared.spot.Spot.{Spot}
 abbrev pub words_of_function : ℕ → List ℕ → FunctionWords
 words_of_function function name = record { digits = word_digits function; name = name }
 
--- the index has each function in the list of names, with the first name that the list gives it
+-- the index maps each function to its words, with the first name that the list gives it, and has no other functions
 abbrev pub IsIndexOf : List FunctionName → BTreeMap ℕ FunctionWords → Type 0
 IsIndexOf names index = (function : ℕ)
     → get nat_cmp index function ≡ option_map (words_of_function function) (name_of function names)
@@ -28,11 +28,11 @@ words_with_digits digits s = codes "spot " ++ decimal s.depth ++ codes " " ++ di
 unfoldable pub line_with_digits : List ℕ → Spot → List ℕ → List ℕ
 line_with_digits digits s name = line (words_with_digits digits s ++ codes " " ++ name)
 
--- the line of a node with the words of its function, or with an empty name if there are none
+-- the line of a node with these words of its function, or with an empty name if there are no words
 abbrev pub line_by_words : Option FunctionWords → Spot → List ℕ
 line_by_words None s = spot_line (record { spot = s; name = [] })
 line_by_words (Some words) s = line_with_digits words.digits s words.name
 
--- the line of a node with the words of its function from the index
+-- the line of a node with the words of its function in the index, or with an empty name if it has none
 unfoldable pub line_by_index : BTreeMap ℕ FunctionWords → Spot → List ℕ
 line_by_index index s = line_by_words (get nat_cmp index s.function) s

@@ -12,7 +12,7 @@ use Rattle.rv_call_tree.specs.Trees.{ends_with}
 use Rattle.rv_call_tree.specs.declared.sum.SpotSumError.{SpotSumError}
 use Rattle.rv_call_tree.specs.declared.sum.SpotSumError.TheVariants as spots
 
--- `sum` are valid counts, and those at each address are the sums of both counts
+-- `sum` has valid counts, and at each address they are the sums of the counts in `a` and `b`
 pub record IsSumOfCounts (a b sum : List AddressCounts) : Type 0 where
   pub counts : AreCounts sum
   pub begun : (address : ℕ) → executed_at address sum ≡ executed_at address a + executed_at address b
@@ -24,14 +24,15 @@ Agree None other = Unit {0}
 Agree (Some name) None = Unit {0}
 Agree (Some name) (Some other) = name ≡ other
 
--- the names `a` and `b` agree, and `sum` has each function with the name that one of them gives it
+-- the lists `a` and `b` never give a function different names, and `sum` has the name of each function of either list
 pub record IsSumOfNames (a b sum : List FunctionName) : Type 0 where
   pub names : AreNames sum
   pub agree : (function : ℕ) → Agree (name_at function a) (name_at function b)
   pub each : (function : ℕ) → name_at function sum ≡ least_path_of (name_at function a) (name_at function b)
 
--- `sum` is a table in which, for the image with each digest, the counts at each address and of each call path are the sums of both counts,
--- the path is the first of both in byte order, and each function has the name on which both tables agree; its runs are those of both tables
+-- `sum` is a valid table: for each image, the counts at each address and of each call path are the sums of the counts in `a` and `b`, the
+-- path is the first of both in byte order, and each function has its name in `a` or `b`, which never differ; the number of runs is the sum
+-- of both
 pub record IsSum (a b sum : CountTable) : Type 0 where
   pub table : IsTable sum
   pub begun : (digest : List ℕ) → (address : ℕ)
@@ -50,7 +51,7 @@ pub record IsSum (a b sum : CountTable) : Type 0 where
       → steps_in digest path sum.images ≡ steps_in digest path a.images + steps_in digest path b.images
   pub runs : sum.runs ≡ a.runs + b.runs
 
--- the error of a sum of tables, given why the call trees could not be added
+-- the error of a sum of tables, given why their call trees have no sum
 abbrev pub sum_error_of : SpotSumError → SumError
 sum_error_of spots.OutOfMemory = OutOfMemory
 sum_error_of (spots.Count function) = Spot function
@@ -66,7 +67,8 @@ HasNameIn digest function name [] = ⊥
 HasNameIn digest function name (i ∷ is) =
     ((i.digest ≡ digest) × HasName function name i.functions) ⊎ HasNameIn digest function name is
 
--- the error is true of the two tables: the reported count is 2^64 or more, or they give the reported function different names
+-- the error is true of the two tables: the counts that it names add up to 2^64 or more, or the tables give the function that it names
+-- different names; `OutOfMemory` is always true
 abbrev pub HaveNoSum : SumError → CountTable → CountTable → Type 0
 HaveNoSum OutOfMemory a b = Unit {0}
 HaveNoSum (Count address) a b = (digest : List ℕ)
@@ -78,7 +80,7 @@ HaveNoSum (Names function) a b = (digest : List ℕ) × (name : List ℕ) × (ot
     × HasNameIn digest function name a.images × HasNameIn digest function other b.images × (name ≡ other → ⊥)
 HaveNoSum Runs a b = 2 ^ 64 ≤ a.runs + b.runs
 
--- the error is true of the counts of one image in the two tables
+-- the error is true of the counts of one image in the two tables; errors about other numbers are false
 abbrev pub CountsHaveNoSum : SumError → List AddressCounts → List AddressCounts → Type 0
 CountsHaveNoSum OutOfMemory a b = Unit {0}
 CountsHaveNoSum (Count address) a b = 2 ^ 64 ≤ executed_at address a + executed_at address b
@@ -86,7 +88,7 @@ CountsHaveNoSum (Spot function) a b = ⊥
 CountsHaveNoSum (Names function) a b = ⊥
 CountsHaveNoSum Runs a b = ⊥
 
--- the error is true of the names of one image in the two tables
+-- the error is true of the function names of one image in the two tables; errors about numbers are false
 abbrev pub NamesHaveNoSum : SumError → List FunctionName → List FunctionName → Type 0
 NamesHaveNoSum OutOfMemory a b = Unit {0}
 NamesHaveNoSum (Count address) a b = ⊥
@@ -95,6 +97,6 @@ NamesHaveNoSum (Names function) a b = (name : List ℕ) × (other : List ℕ)
     × HasName function name a × HasName function other b × (name ≡ other → ⊥)
 NamesHaveNoSum Runs a b = ⊥
 
--- the table of no runs
+-- the empty table: no images and no runs
 abbrev pub no_counts : CountTable
 no_counts = record { images = []; runs = 0 }

@@ -14,15 +14,16 @@ use Rattle.rv_count_tables.specs.Table.{executed_at, taken_at, name_at, executed
 use Rattle.rv_count_tables.specs.Table.{rise_from, names_rise, digests_rise, IsCounted, IsImage, IsName}
 use Rattle.rv_call_tree.specs.Trees.{arrivals_at, ends_with, steps_at}
 
--- the counts at each address in `sum` are the sums of both counts; its addresses increase if those of both lists do
+-- the counts at each address in `sum` are the sums of the counts in `a` and `b`; the addresses in `sum` increase if those in `a` and in `b`
+-- do
 pub record AddsUp (a b sum : List AddressCounts) : Type 0 where
   pub each : AllByRecursion IsCounted sum
   pub rising : (lowest : ℕ) → rise_from lowest a ≡ true → rise_from lowest b ≡ true → rise_from lowest sum ≡ true
   pub begun : (address : ℕ) → executed_at address sum ≡ executed_at address a + executed_at address b
   pub taken : (address : ℕ) → taken_at address sum ≡ taken_at address a + taken_at address b
 
--- `next` has the first counts of a sum, and how many counts of each list they add up: followed by the sum of the rest, they are the sum of
--- both lists
+-- `next` has the counts of the lowest address in a sum, and how many counts of each list they add up; followed by the sum of the remaining
+-- counts, they are the sum of `a` and `b`
 pub record IsNextCount (a b : List AddressCounts) (next : NextCount) : Type 0 where
   pub of_a : next.of_a ≤ length a
   pub of_b : next.of_b ≤ length b
@@ -30,7 +31,8 @@ pub record IsNextCount (a b : List AddressCounts) (next : NextCount) : Type 0 wh
   pub ahead : (others : List AddressCounts) → AddsUp (drop next.of_a a) (drop next.of_b b) others
       → AddsUp a b (next.sum ∷ others)
 
--- each function has the name in `sum` that one of the lists gives it, and the lists agree; its functions increase if those of both lists do
+-- if the functions in `a` and in `b` increase, then those in `sum` do, the lists never give a function different names, and `sum` has the
+-- name of each function of either list
 pub record NamesAddUp (a b sum : List FunctionName) : Type 0 where
   pub each : AllByRecursion IsName sum
   pub rising : (lowest : ℕ) → names_rise lowest a ≡ true → names_rise lowest b ≡ true → names_rise lowest sum ≡ true
@@ -38,8 +40,8 @@ pub record NamesAddUp (a b sum : List FunctionName) : Type 0 where
       → (function : ℕ) → Agree (name_at function a) (name_at function b)
   pub names : (function : ℕ) → name_at function sum ≡ least_path_of (name_at function a) (name_at function b)
 
--- `next` has the first name of a sum, and how many names of each list it is from: followed by the sum of the rest, it is the sum of both
--- lists
+-- `next` has the name of the lowest function in a sum, and how many names of each list it comes from; followed by the sum of the remaining
+-- names, it is the sum of `a` and `b`
 pub record IsNextName (a b : List FunctionName) (next : NextName) : Type 0 where
   pub of_a : next.of_a ≤ length a
   pub of_b : next.of_b ≤ length b
@@ -47,8 +49,8 @@ pub record IsNextName (a b : List FunctionName) (next : NextName) : Type 0 where
   pub ahead : (others : List FunctionName) → NamesAddUp (drop next.of_a a) (drop next.of_b b) others
       → NamesAddUp a b (next.name ∷ others)
 
--- for the image with each digest, the counts in `sum` at each address and of each call path are the sums of both counts, its path is the
--- first of both in byte order, and each function has the name on which both lists agree; its digests increase if those of both lists do
+-- for each image, the counts in `sum` at each address and of each call path are the sums of the counts in `a` and `b`, the path is the
+-- first of both in byte order, and each function has its name in `a` or `b`; the digests in `sum` increase if those in `a` and in `b` do
 pub record ImagesAddUp (a b sum : List ImageCounts) : Type 0 where
   pub each : AllByRecursion IsImage sum
   pub rising : (last : Option (List ℕ)) → digests_rise last a ≡ true → digests_rise last b ≡ true
@@ -66,8 +68,8 @@ pub record ImagesAddUp (a b sum : List ImageCounts) : Type 0 where
       → arrivals_in digest path sum ≡ arrivals_in digest path a + arrivals_in digest path b
   pub steps : (digest path : List ℕ) → steps_in digest path sum ≡ steps_in digest path a + steps_in digest path b
 
--- `next` has the first image of a sum, and how many images of each list it adds up: followed by the sum of the rest, it is the sum of both
--- lists
+-- `next` has the image with the lowest digest in a sum, and how many images of each list it adds up; followed by the sum of the remaining
+-- images, it is the sum of `a` and `b`
 pub record IsNextImage (a b : List ImageCounts) (next : NextImage) : Type 0 where
   pub of_a : next.of_a ≤ length a
   pub of_b : next.of_b ≤ length b
@@ -75,7 +77,7 @@ pub record IsNextImage (a b : List ImageCounts) (next : NextImage) : Type 0 wher
   pub ahead : (others : List ImageCounts) → ImagesAddUp (drop next.of_a a) (drop next.of_b b) others
       → ImagesAddUp a b (next.image ∷ others)
 
--- the error is true of the image with some digest in the two lists
+-- the error is true of the image with some digest in the two lists; `OutOfMemory` is always true
 abbrev pub ImagesHaveNoSum : SumError → List ImageCounts → List ImageCounts → Type 0
 ImagesHaveNoSum OutOfMemory a b = Unit {0}
 ImagesHaveNoSum (Count address) a b = (digest : List ℕ)
@@ -87,7 +89,7 @@ ImagesHaveNoSum (Names function) a b = (digest : List ℕ) × (name : List ℕ) 
     × HasNameIn digest function name a × HasNameIn digest function other b × (name ≡ other → ⊥)
 ImagesHaveNoSum Runs a b = ⊥
 
--- the error is true of the two images
+-- the error is true of these two images, which are added
 abbrev pub ImageHasNoSum : SumError → ImageCounts → ImageCounts → Type 0
 ImageHasNoSum OutOfMemory a b = Unit {0}
 ImageHasNoSum (Count address) a b = CountsHaveNoSum (Count address) a.addresses b.addresses

@@ -25,58 +25,58 @@ abbrev pub taken_at : ℕ → List AddressCounts → ℕ
 taken_at address [] = 0
 taken_at address (c ∷ cs) = (if c.address == address then c.taken else 0) + taken_at address cs
 
--- how often the instruction at an address was executed, in the image with a digest
+-- how often the instruction at an address was executed in the image with this digest
 abbrev pub executed_in : List ℕ → ℕ → List ImageCounts → ℕ
 executed_in digest address [] = 0
 executed_in digest address (i ∷ is) =
     (if bytes_eq i.digest digest then executed_at address i.addresses else 0) + executed_in digest address is
 
--- how often the instruction at an address was a taken conditional branch, in the image with a digest
+-- how often the instruction at an address was a taken conditional branch in the image with this digest
 abbrev pub taken_in : List ℕ → ℕ → List ImageCounts → ℕ
 taken_in digest address [] = 0
 taken_in digest address (i ∷ is) =
     (if bytes_eq i.digest digest then taken_at address i.addresses else 0) + taken_in digest address is
 
--- whether the first bytes precede the second in lexicographic order
+-- whether the first list of bytes comes before the second one in lexicographic order
 unfoldable pub is_before : List ℕ → List ℕ → Bool
 is_before xs [] = false
 is_before [] (y ∷ ys) = true
 is_before (x ∷ xs) (y ∷ ys) = nat_lt x y || ((x == y) && is_before xs ys)
 
--- the one of two paths that comes first in byte order
+-- whichever of two paths comes first in byte order
 abbrev pub least_path : List ℕ → List ℕ → List ℕ
 least_path path other = if is_before other path then other else path
 
--- the one of two paths that comes first in byte order, or the only one if one is missing
+-- whichever of two paths comes first in byte order, or the only path there is, or `None` without paths
 abbrev pub least_path_of : Option (List ℕ) → Option (List ℕ) → Option (List ℕ)
 least_path_of None other = other
 least_path_of (Some path) None = Some path
 least_path_of (Some path) (Some other) = Some (least_path path other)
 
--- the path of the image with a digest, or `None` if there is none
+-- the path of the image with this digest, or `None` if there is none
 abbrev pub path_in : List ℕ → List ImageCounts → Option (List ℕ)
 path_in digest [] = None
 path_in digest (i ∷ is) =
     least_path_of (if bytes_eq i.digest digest then Some i.path else None) (path_in digest is)
 
--- the name of a function, or `None` if it has none
+-- the name of a function, or `None` if it has none; if it has several, the first in byte order
 abbrev pub name_at : ℕ → List FunctionName → Option (List ℕ)
 name_at function [] = None
 name_at function (n ∷ ns) = least_path_of (if n.function == function then Some n.name else None) (name_at function ns)
 
--- the name of a function in the image with a digest, or `None` if it has none
+-- the name of a function in the image with this digest, or `None` if it has none; if it has several, the first in byte order
 abbrev pub name_in : List ℕ → ℕ → List ImageCounts → Option (List ℕ)
 name_in digest function [] = None
 name_in digest function (i ∷ is) =
     least_path_of (if bytes_eq i.digest digest then name_at function i.functions else None) (name_in digest function is)
 
--- how often runs entered a call path, in the image with a digest
+-- how often runs entered a call path in the image with this digest
 abbrev pub arrivals_in : List ℕ → List ℕ → List ImageCounts → ℕ
 arrivals_in digest path [] = 0
 arrivals_in digest path (i ∷ is) =
     (if bytes_eq i.digest digest then arrivals_at path i.spots else 0) + arrivals_in digest path is
 
--- how many instructions runs executed in a call path, in the image with a digest
+-- how many instructions runs executed in a call path in the image with this digest
 abbrev pub steps_in : List ℕ → List ℕ → List ImageCounts → ℕ
 steps_in digest path [] = 0
 steps_in digest path (i ∷ is) =
@@ -84,7 +84,8 @@ steps_in digest path (i ∷ is) =
 
 -- ---- valid tables
 
--- the counts of an address are valid: it is even, its instruction was executed at least once, and was taken at most as often
+-- the counts of an address are valid: the address is even, its instruction was executed at least once, and it was a taken branch at most as
+-- often
 pub record IsCounted (c : AddressCounts) : Type 0 where
   pub address : c.address < 2 ^ 32
   pub even : c.address % 2 ≡ 0
@@ -92,7 +93,7 @@ pub record IsCounted (c : AddressCounts) : Type 0 where
   pub fits : c.begun < 2 ^ 64
   pub taken : c.taken ≤ c.begun
 
--- whether the addresses increase strictly, and the first is at or above `lowest`
+-- whether the addresses increase strictly and none is below `lowest`
 unfoldable pub rise_from : ℕ → List AddressCounts → Bool
 rise_from lowest [] = true
 rise_from lowest (c ∷ cs) = nat_le lowest c.address && rise_from (c.address + 1) cs
@@ -108,7 +109,7 @@ pub record IsName (n : FunctionName) : Type 0 where
   pub name : lacks 10 n.name ≡ true
   pub text : IsUtf8 n.name
 
--- whether the functions increase strictly, and the first is at or above `lowest`
+-- whether the addresses of the functions increase strictly and none is below `lowest`
 unfoldable pub names_rise : ℕ → List FunctionName → Bool
 names_rise lowest [] = true
 names_rise lowest (n ∷ ns) = nat_le lowest n.function && names_rise (n.function + 1) ns
@@ -142,11 +143,11 @@ abbrev pub name_of : ℕ → List FunctionName → Option (List ℕ)
 name_of function [] = None
 name_of function (n ∷ ns) = if n.function == function then Some n.name else name_of function ns
 
--- exactly the functions that the nodes end in have names
+-- the functions that have names are exactly those in which a node's path ends
 abbrev pub AreNamesOf : List Spot → List FunctionName → Type 0
 AreNamesOf spots names = (function : ℕ) → has_name (name_of function names) ≡ is_last_of_some function spots
 
--- the nodes are valid and a call tree in preorder
+-- the nodes are valid and form a call tree in preorder
 pub record AreSpots (ss : List Spot) : Type 0 where
   pub each : AllByRecursion IsSpot ss
   pub tree : IsTree ss
@@ -162,17 +163,17 @@ pub record IsImage (i : ImageCounts) : Type 0 where
   pub spots : AreSpots i.spots
   pub of_spots : AreNamesOf i.spots i.functions
 
--- whether a digest is greater than the last one, if there is one
+-- whether a digest is greater than the last one; true if there is no last one
 abbrev pub is_greater_than_last : Option (List ℕ) → List ℕ → Bool
 is_greater_than_last None digest = true
 is_greater_than_last (Some last) digest = is_before last digest
 
--- whether the digests of images increase strictly and are greater than the last one, if there is one
+-- whether the digests of images increase strictly and, if there is a last digest, are greater than it
 unfoldable pub digests_rise : Option (List ℕ) → List ImageCounts → Bool
 digests_rise last [] = true
 digests_rise last (i ∷ is) = is_greater_than_last last i.digest && digests_rise (Some i.digest) is
 
--- the table is valid: its images are valid and sorted by digest, and its numbers have 64 bits
+-- the table is valid: its images are valid and sorted by digest, and its numbers fit in 64 bits
 pub record IsTable (t : CountTable) : Type 0 where
   pub images : AllByRecursion IsImage t.images
   pub rising : digests_rise None t.images ≡ true

@@ -33,16 +33,16 @@ words_of_spot s = codes "spot " ++ decimal s.depth ++ codes " " ++ word_digits s
 unfoldable pub spot_line : NamedSpot → List ℕ
 spot_line n = line (words_of_spot n.spot ++ codes " " ++ n.name)
 
--- the name, or an empty text if there is none
+-- the name, or an empty text if there is no name
 abbrev pub name_or_nothing : Option (List ℕ) → List ℕ
 name_or_nothing None = []
 name_or_nothing (Some name) = name
 
--- a node with the name that a list gives its function
+-- a node with the name that the list gives its function, or with an empty name if it gives none
 abbrev pub named : List FunctionName → Spot → NamedSpot
 named names s = record { spot = s; name = name_or_nothing (name_of s.function names) }
 
--- the line of a node, whose function has its name from the list
+-- the line of a node, with the name that the list gives its function
 abbrev pub line_of_spot : List FunctionName → Spot → List ℕ
 line_of_spot names s = spot_line (named names s)
 
@@ -50,7 +50,7 @@ line_of_spot names s = spot_line (named names s)
 unfoldable pub image_line : ImageCounts → List ℕ
 image_line i = line (codes "image " ++ encode_lower i.digest ++ codes " " ++ i.path)
 
--- the lines of an image: its own line, those of its addresses, and those of its nodes
+-- the lines of an image: first its own line, then the lines of its addresses, then the lines of its nodes
 unfoldable pub image_text : ImageCounts → List ℕ
 image_text i = image_line i ++ flat_map address_line i.addresses ++ flat_map (line_of_spot i.functions) i.spots
 

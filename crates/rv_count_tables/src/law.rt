@@ -7,7 +7,7 @@ ghost use Rattle.rv_count_tables.specs.Table.{AreCounts, IsTable, executed_at, t
 ghost use Rattle.rv_count_tables.specs.Text.{table_text};
 ghost use Rattle.rv_count_tables.specs.Sum.{IsSumOfCounts, IsSum, no_counts};
 
-/// Proves that two lists of counts which have equal counts at each address are equal.
+/// Proves that two lists of counts are equal if each address has equal counts in both.
 pub fn one_list_has_these_counts()
     ensures { (a b : List AddressCounts) → AreCounts a → AreCounts b
         → ((address : ℕ) → executed_at address a ≡ executed_at address b)
@@ -25,8 +25,8 @@ pub fn sums_of_counts_associate()
         → IsSumOfCounts b c bc → IsSumOfCounts a bc last → first ≡ last }
 {}
 
-/// Proves that two tables are equal if they have equal counts at each address and of each call path of each image, equal paths and names,
-/// and equally many runs.
+/// Proves that two tables are equal if they have equally many runs and the same images, and each image has the same path and function
+/// names, and equal counts at each address and of each call path.
 pub fn one_table_has_these_counts()
     ensures { (t u : CountTable) → IsTable t → IsTable u
         → ((digest : List ℕ) (address : ℕ) → executed_in digest address t.images ≡ executed_in digest address u.images)

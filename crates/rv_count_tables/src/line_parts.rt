@@ -47,7 +47,7 @@ pub(crate) fn text_after_byte(byte: u8, text: &[u8]) -> &[u8]
     tail_from(text, place_of_byte(byte, text) + 1)
 }
 
-/// Returns the first line with its line feed, or nothing if the text has no line feed.
+/// Returns the first line of a text with its line feed, or nothing if the text has no line feed.
 #[tactic(auto, unfolding(crate::specs::Lines::whole_line))]
 pub(crate) fn whole_line(text: &[u8]) -> &[u8]
     ensures { result.now ≡ whole_line text.now }
@@ -60,7 +60,7 @@ pub(crate) fn whole_line(text: &[u8]) -> &[u8]
     }
 }
 
-/// Returns the value of decimal digits.
+/// Returns the value of a number that is written in decimal.
 pub(crate) fn decimal_number(text: &[u8]) -> u64
     ensures { (number : ℕ) → number < 2 ^ 64 → text.now ≡ decimal number → result ≡ number }
 {
@@ -73,7 +73,7 @@ pub(crate) fn decimal_number(text: &[u8]) -> u64
     value
 }
 
-/// Returns the value of lower-case hexadecimal digits.
+/// Returns the value of a 32-bit word that is written in lower-case hexadecimal digits.
 pub(crate) fn hex_word(digits: &[u8]) -> u32
     ensures { (word : ℕ) → word < 2 ^ 32 → digits.now ≡ word_digits word → result ≡ word }
 {

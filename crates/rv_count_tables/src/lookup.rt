@@ -7,7 +7,7 @@ ghost use Rattle.rv_count_tables.specs.Table.{executed_at, rise_from, taken_at};
 
 use crate::table::AddressCounts;
 
-/// Returns the counts of the instruction at an address, which are 0 if it was never executed.
+/// Returns the counts of the instruction at an address; they are 0 if it was never executed. `counts` is sorted by address.
 pub fn counts_at(counts: &[AddressCounts], address: u32) -> AddressCounts
     requires { rise_from 0 counts.now ≡ true }
     ensures { result ≡ record { address = address; begun = executed_at address counts.now; taken = taken_at address counts.now } }
@@ -23,7 +23,7 @@ pub fn counts_at(counts: &[AddressCounts], address: u32) -> AddressCounts
     }
 }
 
-/// Whether an instruction was executed at an address in the range `from..behind`.
+/// Whether an instruction was executed at some address in the range `from..behind`. `counts` is sorted by address.
 pub fn was_executed_within(counts: &[AddressCounts], from: u32, behind: u64) -> bool
     requires { rise_from 0 counts.now ≡ true }
     ensures { result ≡ list_any (λ c. nat_le from c.address && nat_lt c.address behind) counts.now }
@@ -32,7 +32,7 @@ pub fn was_executed_within(counts: &[AddressCounts], from: u32, behind: u64) -> 
     place < counts.len() && u64::from(counts[place].address) < behind
 }
 
-/// Returns the index of the first count at or above an address, which is how many counts are below it.
+/// Returns the index of the first count at or above an address, or the number of counts if there is none. `counts` is sorted by address.
 pub fn index_of_address(counts: &[AddressCounts], address: u32) -> usize
     requires { rise_from 0 counts.now ≡ true }
     ensures within { result ≤ length counts.now }

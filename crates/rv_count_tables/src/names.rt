@@ -8,7 +8,7 @@ ghost use Rattle.rv_count_tables.specs.Table.{name_of};
 use crate::table::FunctionName;
 use std::alloc::AllocError;
 
-/// Returns the name of a function, or `None` if it has none. Takes time linear in the number of names.
+/// Returns the first name that the list gives a function, or `None` if it gives none. Takes time linear in the number of names.
 pub fn name_of(names: &[FunctionName], function: u32) -> Option<&str>
     ensures { option_map (λ name. name.now) result ≡ name_of function names.now }
 {
@@ -18,14 +18,14 @@ pub fn name_of(names: &[FunctionName], function: u32) -> Option<&str>
     }
 }
 
-// Returns the first entry of a function, or `None` if it has none.
+// Returns the first entry of a function in the list, or `None` if it has none.
 fn first_of(names: &[FunctionName], function: u32) -> Option<&FunctionName>
     ensures { option_map (λ found. found.now) result ≡ find (λ name. name.function == function) names.now }
 {
     names.iter().find(|name| name.function == function)
 }
 
-/// Inserts a name after the names of functions at lower addresses, unless its function has a name already.
+/// Inserts a name before the names of functions at higher addresses, unless its function already has a name in the list.
 pub fn add_name(names: &mut Vec<FunctionName>, name: FunctionName) -> Result<(), AllocError>
     ensures { OnOk result (names.new.items ≡ with_name name names.old.items) }
 {
@@ -37,7 +37,7 @@ pub fn add_name(names: &mut Vec<FunctionName>, name: FunctionName) -> Result<(),
     Ok(())
 }
 
-// Returns the index of the first name of a function at or above this one, which is how many names are those of lower functions.
+// Returns how many entries at the start of the list are names of functions at addresses lower than `function`.
 fn lower_functions(names: &[FunctionName], function: u32) -> usize
     ensures { result ≡ prefix_len (λ m. nat_lt m.function function) names.now }
 {

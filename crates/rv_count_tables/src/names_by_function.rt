@@ -28,7 +28,7 @@ impl Model for NamesByFunction {
 }
 
 impl NamesByFunction {
-    /// Returns no names. Does not allocate.
+    /// Returns an empty map of names. Does not allocate.
     pub(crate) fn new(alloc: Global) -> NamesByFunction
         ensures { result ≡ [] }
     {
@@ -47,7 +47,7 @@ impl NamesByFunction {
         }
     }
 
-    /// Adds a name, unless its function has a name already.
+    /// Adds a name, unless its function already has one.
     pub(crate) fn add(&mut self, name: FunctionName) -> Result<(), AllocError>
         ensures { OnOk result (self.new ≡ with_name name self.old) }
     {

@@ -3,7 +3,7 @@
 ghost use Rattle.std.specs.Prelude.{◌≡◌};
 ghost use Rattle.rv_count_tables.specs.Table.{is_before, least_path};
 
-/// Whether `a` precedes `b` in lexicographic order.
+/// Whether `a` comes before `b` in lexicographic byte order.
 pub(crate) fn is_before(a: &[u8], b: &[u8]) -> bool
     ensures { result ≡ is_before a.now b.now }
 {
@@ -18,7 +18,7 @@ pub(crate) fn is_before(a: &[u8], b: &[u8]) -> bool
     false
 }
 
-/// Returns the one of two paths that comes first in byte order.
+/// Returns whichever of two paths comes first in byte order.
 pub(crate) fn least_path<'a>(path: &'a str, other: &'a str) -> &'a str
     ensures { result.now ≡ least_path path.now other.now }
 {

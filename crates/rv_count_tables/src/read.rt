@@ -32,12 +32,13 @@ pub enum ReadError {
 impl From<AllocError> for ReadError {
     ghost from_gives = { λ _ error. error ≡ OutOfMemory };
 
+    // Returns the error for a failed allocation: out of memory.
     fn from(_: AllocError) -> ReadError {
         ReadError::OutOfMemory
     }
 }
 
-/// Parses a table. Allocates the table, and one line at a time.
+/// Parses the text of a table, or returns the error of its first invalid line. Allocates the table, and one line at a time.
 pub fn read_table(alloc: Global, bytes: &[u8]) -> Result<CountTable, ReadError>
     // The result is a valid table with this text.
     ensures found { IfOk result (λ table. IsTable table) }
@@ -70,7 +71,7 @@ pub fn read_table(alloc: Global, bytes: &[u8]) -> Result<CountTable, ReadError>
     }
 }
 
-// Returns the error for the rejected line that begins at an index.
+// Returns the error for the invalid line that begins at an index: `CutOff` if it has no line feed, or else its number, counted from 1.
 fn refused_at(bytes: &[u8], place: usize) -> ReadError
     ensures { result ≡ read_error_at place bytes.now }
 {

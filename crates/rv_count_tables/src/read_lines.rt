@@ -46,7 +46,7 @@ pub(crate) struct ImageLines {
     pub(crate) length: usize,
 }
 
-/// Parses images at the start of a text, as many as there are.
+/// Parses the lines of images at the start of a text, up to the first line that cannot belong to them.
 pub(crate) fn read_images(alloc: Global, text: &[u8]) -> Result<ImageLines, AllocError>
     ensures { IfOk result (λ read. AreImageLines text.now read) }
 {
@@ -68,7 +68,8 @@ pub(crate) fn read_images(alloc: Global, text: &[u8]) -> Result<ImageLines, Allo
     }
 }
 
-// Parses the image at the start of a text, or returns `None` if there is none that can follow the earlier ones.
+// Parses the lines of one image at the start of a text, or returns `None` if the text does not begin with an image whose digest is greater
+// than those in `earlier`.
 fn read_image(
     alloc: Global,
     text: &[u8],
@@ -95,7 +96,7 @@ fn read_image(
     Ok(Some(OneImage { image, length }))
 }
 
-// Whether this is a digest that is greater than the earlier ones.
+// Whether these bytes are a digest that is greater than the digest of the last of the earlier images, if there are any.
 fn can_follow(digest: &[u8], earlier: &[ImageCounts]) -> bool
     ensures value { result ≡ ((length digest.now == 32) && is_greater_than_last (last_digest None earlier.now) digest.now) }
     ensures bytes { AllByRecursion (λ b. b < 256) digest.now }
@@ -107,7 +108,7 @@ fn can_follow(digest: &[u8], earlier: &[ImageCounts]) -> bool
         }
 }
 
-// Parses lines of addresses at the start of a text, as many as there are.
+// Parses the lines of addresses at the start of a text, up to the first line that is not a line of a higher address.
 fn read_addresses(alloc: Global, text: &[u8]) -> Result<AddressLines, AllocError>
     ensures { IfOk result (λ read. AreAddressLines text.now read) }
 {
@@ -132,7 +133,7 @@ fn read_addresses(alloc: Global, text: &[u8]) -> Result<AddressLines, AllocError
     }
 }
 
-// Returns the counts of a line, or `None` if it is not the line of an address at or above `lowest`.
+// Returns the counts in a line, or `None` if it is not the line of valid counts of an address at or above `lowest`.
 fn parse_address_line(
     alloc: Global,
     line: &[u8],
@@ -151,7 +152,7 @@ fn parse_address_line(
     }
 }
 
-// Whether these counts are valid, and their address is at or above `lowest`.
+// Whether these counts are valid and their address is not below `lowest`.
 fn can_come_next(counts: AddressCounts, lowest: u64) -> bool
     ensures { IsTrue result ↔ (IsCounted counts × (lowest ≤ counts.address)) }
 {
@@ -161,7 +162,7 @@ fn can_come_next(counts: AddressCounts, lowest: u64) -> bool
         && lowest <= u64::from(counts.address)
 }
 
-// Returns the counts that a line `ADDRESS BEGUN TAKEN` is read as.
+// Returns the counts in a line `ADDRESS BEGUN TAKEN`. For any other line, the result is arbitrary.
 fn counts_of_line(line: &[u8]) -> AddressCounts
     ensures { (c : Counts) → IsCounted c → line.now ≡ address_line c → result ≡ c }
 {
@@ -173,7 +174,7 @@ fn counts_of_line(line: &[u8]) -> AddressCounts
     }
 }
 
-// Whether the line of these counts is this line.
+// Whether `line` is the text of the line of these counts.
 fn has_address_line(alloc: Global, counts: AddressCounts, line: &[u8]) -> Result<bool, AllocError>
     ensures { IfOk result (λ same. same ≡ bytes_eq line.now (address_line counts)) }
 {
@@ -182,7 +183,7 @@ fn has_address_line(alloc: Global, counts: AddressCounts, line: &[u8]) -> Result
     Ok(line == text.as_bytes())
 }
 
-// Returns the image, without counts, that a line `image DIGEST PATH` is read as.
+// Returns the image, without counts, in a line `image DIGEST PATH`. For any other line, the result is arbitrary.
 fn image_of_line(alloc: Global, line: &[u8]) -> Result<ImageCounts, AllocError>
     ensures digest { (i : Image) → IsImage i → line.now ≡ image_line i
         → IfOk result (λ read. read.digest ≡ i.digest) }
@@ -205,7 +206,7 @@ fn image_of_line(alloc: Global, line: &[u8]) -> Result<ImageCounts, AllocError>
     })
 }
 
-// Whether the line of this image is this line.
+// Whether `line` is the text of this image's line.
 fn has_image_line(alloc: Global, image: &ImageCounts, line: &[u8]) -> Result<bool, AllocError>
     ensures { IfOk result (λ same. same ≡ bytes_eq line.now (image_line image.now)) }
 {
@@ -214,7 +215,7 @@ fn has_image_line(alloc: Global, image: &ImageCounts, line: &[u8]) -> Result<boo
     Ok(line == text.as_bytes())
 }
 
-/// Returns the number of runs in the last line of a table with this many images, or `None` if the line is another one.
+/// Returns the number of runs in the last line of a table with this many images, or `None` if `line` is not such a line.
 pub(crate) fn runs_of_last_line(
     alloc: Global,
     line: &[u8],

@@ -29,7 +29,7 @@ pub(crate) struct SpotLines {
     pub(crate) length: usize,
 }
 
-/// Parses lines of nodes at the start of a text, as many as there are.
+/// Parses the lines of call-tree nodes at the start of a text, up to the first line that is not a line of a node that may follow.
 pub(crate) fn read_spots(alloc: Global, text: &[u8]) -> Result<SpotLines, AllocError>
     ensures { IfOk result (λ read. AreSpotLines text.now read) }
 {
@@ -58,7 +58,7 @@ pub(crate) fn read_spots(alloc: Global, text: &[u8]) -> Result<SpotLines, AllocE
     }
 }
 
-// Returns the name of a node's function.
+// Returns the function of a node, with its name.
 fn function_name(named: NamedSpot) -> FunctionName
     ensures { result ≡ function_name named }
 {
@@ -68,8 +68,8 @@ fn function_name(named: NamedSpot) -> FunctionName
     }
 }
 
-// Returns the node of a line, or `None` if it is not the line of a node that can follow the path `front` and whose name agrees with
-// `names`.
+// Returns the node of a line. Returns `None` if the line is not the line of a node that may follow a node with the path `front`, or if its
+// name differs from the one in `names`.
 fn next_spot(
     alloc: Global,
     line: &[u8],
@@ -93,7 +93,7 @@ fn next_spot(
     }
 }
 
-// Whether a table can have the node after one with this path.
+// Whether a table can have this node directly after a node with the path `front`.
 fn can_come_next(spot: Spot, front: &[u32]) -> bool
     ensures { IsTrue result ↔ (IsSpot spot × FollowsInPreorder front.now spot) }
 {
@@ -102,7 +102,7 @@ fn can_come_next(spot: Spot, front: &[u32]) -> bool
         && (spot.depth == front.len() || front[spot.depth] < spot.function)
 }
 
-// Whether the node's name is the one that `names` has for its function, if `names` has one.
+// Whether the node's name equals the name of its function in `names`, or `names` has none for it.
 fn agrees(read: &NamedSpot, names: &NamesByFunction) -> bool
     ensures { IsTrue result ↔ AgreesWith read.now.name (name_of read.now.spot.function names.now) }
 {
@@ -112,7 +112,7 @@ fn agrees(read: &NamedSpot, names: &NamesByFunction) -> bool
     }
 }
 
-// Returns the node that a line `spot DEPTH FUNCTION ARRIVALS STEPS NAME` is read as.
+// Returns the node of a line `spot DEPTH FUNCTION ARRIVALS STEPS NAME`. For any other line, the result is arbitrary.
 fn spot_of_line(alloc: Global, line: &[u8]) -> Result<NamedSpot, AllocError>
     ensures spot { (n : ANamedSpot) → IsNamedSpot n → line.now ≡ spot_line n → IfOk result (λ read. read.spot ≡ n.spot) }
     ensures name { (n : ANamedSpot) → IsNamedSpot n → line.now ≡ spot_line n → IfOk result (λ read. read.name ≡ n.name) }
@@ -137,7 +137,7 @@ fn spot_of_line(alloc: Global, line: &[u8]) -> Result<NamedSpot, AllocError>
     })
 }
 
-// Whether the line of this node is this line.
+// Whether `line` is the text of this node's line.
 fn has_spot_line(alloc: Global, read: &NamedSpot, line: &[u8]) -> Result<bool, AllocError>
     ensures { IfOk result (λ same. same ≡ bytes_eq line.now (spot_line read.now)) }
 {

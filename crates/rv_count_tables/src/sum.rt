@@ -34,6 +34,7 @@ pub enum SumError {
 impl From<AllocError> for SumError {
     ghost from_gives = { λ _ error. error ≡ OutOfMemory };
 
+    // Returns the error for a failed allocation: out of memory.
     fn from(_: AllocError) -> SumError {
         SumError::OutOfMemory
     }
@@ -42,6 +43,7 @@ impl From<AllocError> for SumError {
 impl From<SpotSumError> for SumError {
     ghost from_gives = { λ why error. error ≡ sum_error_of why };
 
+    // Returns the error of a sum of tables, given why their call trees have no sum.
     fn from(why: SpotSumError) -> SumError {
         match why {
             SpotSumError::OutOfMemory => SumError::OutOfMemory,
@@ -50,7 +52,8 @@ impl From<SpotSumError> for SumError {
     }
 }
 
-/// Returns the sum of two tables. Images are identified by their digests, and their counts are added. Allocates only the sum.
+/// Returns the sum of two tables, or why there is none. Images are identified by their digests, and their counts are added. Allocates only
+/// the sum.
 pub fn sum_of_tables(alloc: Global, a: &CountTable, b: &CountTable) -> Result<CountTable, SumError>
     requires a { IsTable a.now }
     requires b { IsTable b.now }
@@ -62,7 +65,8 @@ pub fn sum_of_tables(alloc: Global, a: &CountTable, b: &CountTable) -> Result<Co
     Ok(CountTable { images, runs })
 }
 
-/// Like [`sum_of_tables`], but takes the tables by value: if one of them has no images, those of the other are moved, not copied.
+/// Returns the sum of two tables, as [`sum_of_tables`] does, but takes them by value: if one table has no images, the images of the other
+/// are moved, not copied.
 pub fn add_table(alloc: Global, sum: CountTable, table: CountTable) -> Result<CountTable, SumError>
     requires sum { IsTable sum }
     requires table { IsTable table }

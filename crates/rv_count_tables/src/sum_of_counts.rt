@@ -12,7 +12,8 @@ use crate::sum::SumError;
 use crate::table::{AddressCounts, Addresses};
 use std::alloc::Global;
 
-/// Returns the sum of the counts at each address. Allocates only the sum.
+/// Returns the sum of two lists of counts, in which the counts of each address are added, or an error if a number would not fit in 64 bits.
+/// Allocates only the sum.
 pub(crate) fn sum_of_counts(
     alloc: Global,
     a: &[AddressCounts],
@@ -43,7 +44,7 @@ pub(crate) struct NextCount {
     pub(crate) of_b: usize,
 }
 
-// Returns the first counts of the sum of two lists: those of the lowest address.
+// Returns the counts of the lowest address in the sum of two lists, and how many counts of each list they are made of.
 fn next_count(a: &[AddressCounts], b: &[AddressCounts]) -> Result<NextCount, SumError>
     requires a { AllByRecursion IsCounted a.now }
     requires b { AllByRecursion IsCounted b.now }
@@ -71,7 +72,7 @@ fn next_count(a: &[AddressCounts], b: &[AddressCounts]) -> Result<NextCount, Sum
     })
 }
 
-// Returns the first counts of a sum, if they are from the first list alone.
+// Returns `sum` as the next counts of a sum, which only the first list has.
 fn count_of_first(sum: AddressCounts) -> NextCount
     ensures { result ≡ record { sum = sum; of_a = 1; of_b = 0 } }
 {
@@ -82,7 +83,7 @@ fn count_of_first(sum: AddressCounts) -> NextCount
     }
 }
 
-// Returns the first counts of a sum, if they are from the second list alone.
+// Returns `sum` as the next counts of a sum, which only the second list has.
 fn count_of_second(sum: AddressCounts) -> NextCount
     ensures { result ≡ record { sum = sum; of_a = 0; of_b = 1 } }
 {
@@ -93,7 +94,7 @@ fn count_of_second(sum: AddressCounts) -> NextCount
     }
 }
 
-// Returns the sum of two counts of one address.
+// Returns the sum of two counts of one address, or an error if a number would not fit in 64 bits.
 fn sum_at_address(a: AddressCounts, b: AddressCounts) -> Result<AddressCounts, SumError>
     requires a { IsCounted a }
     requires b { IsCounted b }

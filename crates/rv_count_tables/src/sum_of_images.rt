@@ -18,7 +18,7 @@ use rv_base::Text;
 use rv_call_tree::{Spots, sum_of_spots};
 use std::alloc::{AllocError, Global};
 
-/// Returns the sum of the images of two tables. Allocates only the sum.
+/// Returns the sum of the images of two tables, sorted by digest, or why there is none. Allocates only the sum.
 pub(crate) fn sum_of_images(
     alloc: Global,
     a: &[ImageCounts],
@@ -41,7 +41,7 @@ pub(crate) fn sum_of_images(
     Ok(Images::new(sums))
 }
 
-/// Returns the sum of the images of two tables. If only one of them has images, these are moved, not copied.
+/// Returns the sum of the images of two tables, or why there is none. If only one of the tables has images, they are moved, not copied.
 pub(crate) fn add_images(alloc: Global, a: Images, b: Images) -> Result<Images, SumError>
     requires a { AllByRecursion IsImage a }
     requires b { AllByRecursion IsImage b }
@@ -65,7 +65,7 @@ pub(crate) struct NextImage {
     pub(crate) of_b: usize,
 }
 
-// Returns the first image of the sum of two lists: the one with the lowest digest.
+// Returns the image with the lowest digest in the sum of two lists, and how many images of each list it is made of.
 fn next_image(alloc: Global, a: &[ImageCounts], b: &[ImageCounts]) -> Result<NextImage, SumError>
     requires a { AllByRecursion IsImage a.now }
     requires b { AllByRecursion IsImage b.now }
@@ -95,7 +95,7 @@ fn next_image(alloc: Global, a: &[ImageCounts], b: &[ImageCounts]) -> Result<Nex
     })
 }
 
-// Returns the first image of a sum, if it is from the first list alone.
+// Returns a copy of an image as the next image of a sum, which only the first list has.
 fn image_of_first(alloc: Global, image: &ImageCounts) -> Result<NextImage, SumError>
     ensures value { IfOk result (λ next. next ≡ record { image = image.now; of_a = 1; of_b = 0 }) }
     ensures refused { IfErr result (λ error. error ≡ OutOfMemory) }
@@ -108,7 +108,7 @@ fn image_of_first(alloc: Global, image: &ImageCounts) -> Result<NextImage, SumEr
     })
 }
 
-// Returns the first image of a sum, if it is from the second list alone.
+// Returns a copy of an image as the next image of a sum, which only the second list has.
 fn image_of_second(alloc: Global, image: &ImageCounts) -> Result<NextImage, SumError>
     ensures value { IfOk result (λ next. next ≡ record { image = image.now; of_a = 0; of_b = 1 }) }
     ensures refused { IfErr result (λ error. error ≡ OutOfMemory) }
@@ -121,14 +121,14 @@ fn image_of_second(alloc: Global, image: &ImageCounts) -> Result<NextImage, SumE
     })
 }
 
-// Whether the digest of the first image precedes that of the second.
+// Whether the digest of image `a` comes before the digest of image `b`.
 fn is_earlier(a: &ImageCounts, b: &ImageCounts) -> bool
     ensures { result ≡ is_before a.now.digest b.now.digest }
 {
     is_before(a.digest.as_slice(), b.digest.as_slice())
 }
 
-// Returns the sum of two images with one digest.
+// Returns the sum of the counts, names and call trees of one image in two tables, or why there is none.
 fn sum_of_image(alloc: Global, a: &ImageCounts, b: &ImageCounts) -> Result<ImageCounts, SumError>
     requires a { IsImage a.now }
     requires b { IsImage b.now }

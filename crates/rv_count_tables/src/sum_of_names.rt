@@ -13,7 +13,8 @@ use crate::table::{FunctionName, FunctionNames};
 use rv_base::Text;
 use std::alloc::{AllocError, Global};
 
-/// Returns the functions of both lists with their names. Allocates only the result.
+/// Returns the names of all functions in both lists, sorted by function, or an error if the lists give a function different names.
+/// Allocates only the result.
 pub(crate) fn sum_of_names(
     alloc: Global,
     a: &[FunctionName],
@@ -44,7 +45,8 @@ pub(crate) struct NextName {
     pub(crate) of_b: usize,
 }
 
-// Returns the first name of the sum of two lists: the name of the lowest function.
+// Returns the name of the lowest function in both lists, and how many entries of each list it is made of, or an error if they give the
+// function different names.
 fn next_name(alloc: Global, a: &[FunctionName], b: &[FunctionName]) -> Result<NextName, SumError>
     requires a { AllByRecursion IsName a.now }
     requires b { AllByRecursion IsName b.now }
@@ -77,14 +79,14 @@ fn next_name(alloc: Global, a: &[FunctionName], b: &[FunctionName]) -> Result<Ne
     })
 }
 
-// Whether both names are equal.
+// Whether the names of two functions are equal.
 fn have_one_name(a: &FunctionName, b: &FunctionName) -> bool
     ensures { IsTrue result ↔ (a.now.name ≡ b.now.name) }
 {
     a.name.as_str() == b.name.as_str()
 }
 
-// Returns the first name of a sum, if it is from the first list alone.
+// Returns a copy of a name as the next name of a sum, which only the first list has.
 fn name_of_first(alloc: Global, name: &FunctionName) -> Result<NextName, SumError>
     ensures value { IfOk result (λ next. next ≡ record { name = name.now; of_a = 1; of_b = 0 }) }
     ensures refused { IfErr result (λ error. error ≡ OutOfMemory) }
@@ -97,7 +99,7 @@ fn name_of_first(alloc: Global, name: &FunctionName) -> Result<NextName, SumErro
     })
 }
 
-// Returns the first name of a sum, if it is from the second list alone.
+// Returns a copy of a name as the next name of a sum, which only the second list has.
 fn name_of_second(alloc: Global, name: &FunctionName) -> Result<NextName, SumError>
     ensures value { IfOk result (λ next. next ≡ record { name = name.now; of_a = 0; of_b = 1 }) }
     ensures refused { IfErr result (λ error. error ≡ OutOfMemory) }
@@ -110,7 +112,7 @@ fn name_of_second(alloc: Global, name: &FunctionName) -> Result<NextName, SumErr
     })
 }
 
-// Returns a copy of the name of a function.
+// Returns a copy of a function and its name.
 fn copy_of_name(alloc: Global, name: &FunctionName) -> Result<FunctionName, AllocError>
     ensures { IfOk result (λ copy. copy ≡ name.now) }
 {
@@ -120,7 +122,7 @@ fn copy_of_name(alloc: Global, name: &FunctionName) -> Result<FunctionName, Allo
     })
 }
 
-/// Returns a copy of the names.
+/// Returns a copy of a list of names.
 pub(crate) fn copy_of_names(
     alloc: Global,
     names: &[FunctionName],

@@ -44,7 +44,7 @@ image fa5d878384b4165ad613c93c06d8e251eb3c2c4230c67ce1306aa610ced287b5 build/han
 done 2 6
 ";
 
-// Checks the sum of two texts, for tables passed by reference and by value.
+// Checks that the sum of two tables has the expected text, whether the tables are passed by reference or by value.
 fn sum_is(alloc: Global, a: &str, b: &str, expected: &str) -> Result<(), Fail> {
     let first = read_table(alloc, a.as_bytes())?;
     let second = read_table(alloc, b.as_bytes())?;

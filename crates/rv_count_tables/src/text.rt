@@ -35,7 +35,7 @@ fn push_images(alloc: Global, text: &mut String, images: &[ImageCounts]) -> Resu
     Ok(())
 }
 
-// Appends the lines of an image: its own line, those of its addresses, and those of its nodes.
+// Appends the lines of an image: first its own line, then the lines of its addresses, then the lines of its nodes.
 #[tactic(auto, unfolding(crate::specs::Text::image_text))]
 fn push_image(alloc: Global, text: &mut String, image: &ImageCounts) -> Result<(), AllocError>
     ensures { OnOk result (string_bytes text.new ≡ string_bytes text.old ++ image_text image.now) }
@@ -64,7 +64,7 @@ fn push_addresses(
     Ok(())
 }
 
-// Appends the lines of nodes, whose functions have these names.
+// Appends the lines of nodes. `names` has the names of their functions.
 fn push_spots(
     alloc: Global,
     text: &mut String,
@@ -87,7 +87,7 @@ pub(crate) struct FunctionWords {
     pub(crate) name: Text,
 }
 
-// Returns the words of each function, with its first name.
+// Returns a map from each function to its words in the lines of nodes; the first name of each function counts.
 fn index_of_functions(
     alloc: Global,
     names: &[FunctionName],
@@ -116,7 +116,7 @@ fn words_of_function(alloc: Global, name: &FunctionName) -> Result<FunctionWords
     })
 }
 
-// Appends the line of a node with the words of its function from the index. In a valid table each function has a name; a function without
+// Appends the line of a node, with the words of its function from the index. In a valid table each function has a name; a function without
 // one gets an empty name.
 #[tactic(auto, unfolding(crate::specs::SpotLines::line_by_index))]
 fn push_indexed_line(
@@ -166,7 +166,7 @@ pub(crate) fn push_address_line(
     write!(text, "{address} {begun} {taken}\n")
 }
 
-/// Appends the line of a node, whose function has this name.
+/// Appends the line of a node, which ends with this name of its function.
 #[tactic(auto, unfolding(crate::specs::SpotLines::line_with_digits, crate::specs::SpotLines::words_with_digits, crate::specs::Text::spot_line, crate::specs::Text::words_of_spot, rv_text::specs::Words::word_digits))]
 pub(crate) fn push_spot_line(
     alloc: Global,

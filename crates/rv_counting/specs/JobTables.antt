@@ -19,35 +19,35 @@ use Rattle.rv_text.specs.Printable.{printable_text}
 use Rattle.rv_trace.specs.Trace.{image_bytes}
 use Rattle.rv_counting.specs.Coverage.{once_if, executed_in_run, taken_in_run}
 
--- whether there are bytes, and they have this SHA-256 digest
+-- whether there are bytes and this is their SHA-256 digest
 abbrev pub has_digest : List ℕ → Option (List ℕ) → Bool
 has_digest digest None = false
 has_digest digest (Some bytes) = bytes_eq (sha256 bytes) digest
 
--- the state in which a job's run begins, if the job is not refused and its image has this digest
+-- the state in which a job's run begins, or `None` if the job is refused or its image does not have this digest
 unfoldable pub start_over : List Answer → List ℕ → Job → Option State
 start_over answers digest job =
     if has_digest digest (image_bytes answers job) then result_ok (start_in answers job) else None
 
--- how often the instruction at an address is executed in a run from this state, if there is one, within a budget of steps
+-- how often a run from this state executes the instruction at an address, within a budget of `n` steps; 0 if there is no state
 abbrev pub begun_from : ℕ → ℕ → Option State → ℕ
 begun_from address n None = 0
 begun_from address n (Some s) = executed_in_run address n s
 
--- how often the instruction at an address is a taken branch in a run from this state, if there is one, within a budget of steps
+-- how often a run from this state takes the branch at an address, within a budget of `n` steps; 0 if there is no state
 abbrev pub taken_from : ℕ → ℕ → Option State → ℕ
 taken_from address n None = 0
 taken_from address n (Some s) = taken_in_run address n s
 
--- how often a job's run executes the instruction at an address, or 0 if its image does not have this digest
+-- how often a job's run executes the instruction at an address, or 0 if the job is refused or its image does not have this digest
 abbrev pub begun_by : List Answer → List ℕ → ℕ → Job → ℕ
 begun_by answers digest address job = begun_from address job.budget (start_over answers digest job)
 
--- how often a job's run takes the branch at an address, or 0 if its image does not have this digest
+-- how often a job's run takes the branch at an address, or 0 if the job is refused or its image does not have this digest
 abbrev pub taken_by : List Answer → List ℕ → ℕ → Job → ℕ
 taken_by answers digest address job = taken_from address job.budget (start_over answers digest job)
 
--- the path of a job's image, as it is shown, if the job runs and its image has this digest
+-- the printable path of a job's image, or `None` if the job is refused or its image does not have this digest
 abbrev pub path_by : List Answer → List ℕ → Job → Option (List ℕ)
 path_by answers digest job = option_map (λ s. printable_text job.image) (start_over answers digest job)
 
@@ -55,7 +55,7 @@ path_by answers digest job = option_map (λ s. printable_text job.image) (start_
 abbrev pub runs_by : List Answer → Job → ℕ
 runs_by answers job = once_if (is_ok (start_in answers job))
 
--- the first path, in byte order, by which the jobs name the image with this digest, if one of them runs it
+-- the first path in byte order by which the jobs that run the image with this digest name it, or `None` if none runs it
 abbrev pub first_path : List Answer → List ℕ → List Job → Option (List ℕ)
 first_path answers digest [] = None
 first_path answers digest (j ∷ js) = least_path_of (path_by answers digest j) (first_path answers digest js)
@@ -73,13 +73,13 @@ table_of_run path bytes addresses = record {
   runs = 1;
 }
 
--- the table has no call trees
+-- the table has no call trees and no function names
 pub record HasNoStacks (t : CountTable) : Type 0 where
   pub names : (digest : List ℕ) (function : ℕ) → name_in digest function t.images ≡ None
   pub arrivals : (digest path : List ℕ) → arrivals_in digest path t.images ≡ 0
   pub steps : (digest path : List ℕ) → steps_in digest path t.images ≡ 0
 
--- `t` is the table of the jobs: each of its numbers is the sum over the jobs
+-- `t` is the table of the jobs: each of its numbers is the sum of the jobs' numbers
 pub record IsTableOfJobs (answers : List Answer) (jobs : List Job) (t : CountTable) : Type 0 where
   pub table : IsTable t
   pub begun : (digest : List ℕ) (address : ℕ)
@@ -100,7 +100,7 @@ IsTableOfPlaces plan places t = IsTableOfJobs plan.answers (jobs_at plan places)
 
 -- ---- sums that fit
 
--- the numbers of the table are small enough for this many jobs, and it has no call trees
+-- the numbers of the table are as small as this many jobs can make them, and it has no call trees
 pub record IsTableOfFew (jobs : ℕ) (t : CountTable) : Type 0 where
   pub begun : (digest : List ℕ) (address : ℕ) → executed_in digest address t.images ≤ jobs * 2 ^ 32
   pub runs : t.runs ≤ jobs
@@ -113,19 +113,19 @@ pub record IsTableOfOne (answers : List Answer) (job : Job) (t : CountTable) : T
 
 -- ---- parts
 
--- there is one table for each part of the jobs, which is the table of its jobs
+-- there is one table for each part of the jobs, in order: the table of the jobs in that part
 abbrev pub AreTablesOfParts : List Answer → List (List Job) → List CountTable → Type 0
 AreTablesOfParts answers [] [] = Unit {0}
 AreTablesOfParts answers (p ∷ ps) (t ∷ ts) = IsTableOfJobs answers p t × AreTablesOfParts answers ps ts
 AreTablesOfParts answers _ _ = ⊥
 
--- `t` is the sum of `sum` and the tables in the list, added one after another
+-- `t` is the result of adding the tables in the list to `sum`, one after another
 abbrev pub SumsTo : CountTable → List CountTable → CountTable → Type 0
 SumsTo sum [] t = sum ≡ t
 SumsTo sum (u ∷ us) t = (next : CountTable) × IsSum sum u next × SumsTo next us t
 
--- there is one table for each shard of the jobs at these indices; a shard has the indices that leave the same remainder when divided by the
--- number of shards
+-- there is one table for each shard of the jobs at these indices, in order; a shard has the indices that leave the same remainder when
+-- divided by the number of shards
 pub record AreTablesOfShards (plan : Planned) (shards : ℕ) (places : List ℕ) (ts : List CountTable) : Type 0 where
   pub count : length ts ≡ shards
   pub each : (k : ℕ) (d : CountTable) → k < shards

@@ -14,9 +14,9 @@ use std::marker::Brand;
 use std::sync::Wait;
 use std::thread::Threads;
 
-/// Runs each job of a batch once more, on the threads of the crew, and returns the sum of the runs' tables, which is identical for every
-/// crew. Takes memory for the tables that wait to be added, for two sums, and 256 KiB for each thread's decode cache. With so few jobs no
-/// number reaches 2^64.
+/// Runs each job of a batch once more, on the threads of the crew, and returns the sum of the runs' tables, which does not depend on the
+/// crew. Takes memory for the tables that wait to be added, for two sums, and 256 KiB for each thread's decode cache. A list cannot have
+/// enough jobs for a number to reach 2^64.
 pub fn count_batch<R: Threads + Wait + Sync>(
     crew: &Crew<'_, R>,
     batch: &Batch<'_>,
@@ -35,7 +35,8 @@ pub fn count_batch<R: Threads + Wait + Sync>(
     }
 }
 
-// Converts the error of a sum of jobs' tables. These have no call trees, and with so few of them a sum fails only if memory runs out.
+// Converts the error of a sum of jobs' tables, which can only be `OutOfMemory`: these tables have no call trees, and a list cannot have
+// enough jobs for a number to reach 2^64.
 fn alloc_error_of(error: SumError) -> AllocError
     requires { error ≡ OutOfMemory }
 {

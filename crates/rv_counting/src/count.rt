@@ -66,8 +66,8 @@ fn counter_of_run(
     Ok((counter, machine))
 }
 
-/// Runs a job within its budget, and returns the counts of the run, or `None` if the job is refused. A table can hold the counts. Reuses
-/// the memory of the last run, and keeps that of this run.
+/// Runs a job within its budget, and returns the counts of the run, or `None` if the job is refused. The counts are valid in a table.
+/// Reuses the memory of the previous run in `spare`, and leaves the memory of this run there.
 pub fn count_job(
     alloc: Global,
     job: &JobImage<'_>,

@@ -29,7 +29,7 @@ impl Model for JobTable {
 }
 
 impl JobTable {
-    /// Returns the result with this table.
+    /// Returns the result of a job that has this table of counts.
     pub fn new(table: CountTable) -> JobTable
         requires { IsTable table }
         ensures { result ≡ table }
@@ -41,6 +41,7 @@ impl JobTable {
 impl HasTable for JobTable {
     ghost table = { λ s. s };
 
+    // Returns the table of the job.
     fn table(&self) -> &CountTable {
         &self.table
     }
@@ -65,14 +66,17 @@ impl Work<JobTable> for CountWork<'_> {
 
     ghost is_worker_state = { λ _ _. Unit {0} };
 
+    // Returns the number of jobs in the batch.
     fn jobs(&self) -> usize {
         self.batch.places.len()
     }
 
+    // Returns a worker's state without spare memory.
     fn new_worker_state(&self, alloc: Global) -> WorkerState {
         WorkerState::new(alloc)
     }
 
+    // Returns the table of the job with this number in the batch, counted from 0.
     fn make(
         &self,
         alloc: Global,

@@ -40,7 +40,7 @@ pub(crate) fn count_step(machine: &mut Machine, code: Option<Code>) -> StepCount
     }
 }
 
-// Whether the encoding at `pc` is a conditional branch, and the run did not continue at the next address but at another one, `next`.
+// Whether the encoding at `pc` is a conditional branch and `next`, where the run continued, is not the next address.
 fn is_taken_code(code: Option<Code>, pc: u32, next: u32) -> bool
     ensures { result ≡ is_taken_code code pc next }
 {
@@ -50,7 +50,7 @@ fn is_taken_code(code: Option<Code>, pc: u32, next: u32) -> bool
     }
 }
 
-// Whether the instruction of an encoding is a conditional branch.
+// Whether an encoding is a conditional branch.
 fn is_branch_code(code: Code) -> bool
     ensures { result ≡ is_branch_code code }
 {
@@ -77,7 +77,7 @@ pub(crate) fn is_fence(op: Op) -> bool
     matches!(op, Op::FenceI)
 }
 
-/// Whether an instruction continues at the next address whenever it completes, and does not make stored code executable.
+/// Whether an instruction can complete, always continues at the next address then, and does not make stored code executable.
 pub(crate) fn is_straight(op: Op) -> bool
     ensures { result ≡ is_straight op }
 {
@@ -89,7 +89,8 @@ pub(crate) fn is_straight(op: Op) -> bool
     }
 }
 
-/// Whether the step that ended a run with this ending executed an instruction: not if the fetch faulted or the budget was used up.
+/// Whether the step that ended a run with this ending executed an instruction. It did not if the fetch faulted, the encoding was illegal,
+/// or the budget was used up.
 pub fn begins_at_end(ending: Ending) -> bool
     ensures { result ≡ begins_at_end ending }
 {
@@ -100,7 +101,7 @@ pub fn begins_at_end(ending: Ending) -> bool
     }
 }
 
-// Whether an instruction with a fault of this kind was executed: not if the fault is one of the fetch.
+// Whether a step that ended with a fault of this kind executed an instruction. It did not if the fetch faulted or the encoding was illegal.
 fn begins_at_fault(kind: FaultKind) -> bool
     ensures { result ≡ begins_at_fault kind }
 {

@@ -51,7 +51,7 @@ pub(crate) fn job_table(
     }
 }
 
-/// Returns the table of no runs. Does not allocate.
+/// Returns the empty table: no images and no runs. Does not allocate.
 pub fn empty_table(alloc: Global) -> CountTable
     ensures { result ≡ no_counts }
 {
@@ -87,7 +87,7 @@ fn table_of_run(
     Ok(CountTable { images, runs: 1 })
 }
 
-/// Returns the list of this image alone.
+/// Returns the list that has only this image.
 pub fn images_of_one(alloc: Global, image: ImageCounts) -> Result<Images, AllocError>
     ensures { IfOk result (λ images. images ≡ image ∷ []) }
 {
@@ -96,7 +96,7 @@ pub fn images_of_one(alloc: Global, image: ImageCounts) -> Result<Images, AllocE
     Ok(Images::new(images))
 }
 
-/// Returns the SHA-256 digest of the bytes of a file, by which a table identifies the image.
+/// Returns the SHA-256 digest of the bytes of a file, which identifies the image in a table.
 pub fn digest_of(alloc: Global, bytes: &[u8]) -> Result<Bytes, AllocError>
     ensures value { IfOk result (λ digest. digest ≡ sha256 bytes.now) }
     ensures long { IfOk result (λ digest. length digest ≡ 32) }

@@ -44,7 +44,7 @@ impl Model for TableSum {
 }
 
 impl TableSum {
-    /// Returns a sum without tables. Does not allocate.
+    /// Returns the sum of no tables. Does not allocate.
     pub fn new(alloc: Global) -> TableSum
         ensures { result ≡ record { sum = no_counts; failed = None } }
     {
@@ -55,8 +55,8 @@ impl TableSum {
         }
     }
 
-    /// Returns the sum after a run, or why there is none. A run fails if an allocation fails or a thread cannot be started; both count as
-    /// `OutOfMemory`.
+    /// Returns the sum of the tables of a run, or why there is none. `ran` is the outcome of the run: it fails if an allocation fails or a
+    /// thread cannot be started, and both count as `OutOfMemory`.
     pub fn into_sum_of_run(self, ran: Result<Flow, RunError>) -> Result<CountTable, SumError>
         ensures { result ≡ sum_of_run self ran }
     {
@@ -79,6 +79,7 @@ impl<H: HasTable + Drop> Listener<H> for TableSum {
 
     ghost stops = { λ s. is_some s.failed ≡ true };
 
+    // Adds the table of the next result to the sum. Stops if the two have no sum.
     fn receive(&mut self, made: H) -> Flow {
         match sum_of_tables(self.alloc, &self.sum, made.table()) {
             Ok(sum) => {
@@ -92,6 +93,7 @@ impl<H: HasTable + Drop> Listener<H> for TableSum {
         }
     }
 
+    // Lets the run continue: the sum has nothing to do in a pause.
     fn pause(&mut self) -> Flow {
         Flow::GoOn
     }

@@ -20,15 +20,16 @@ code_of_half behind low = if field low 1 0 == 3
     then option_map (λ high. Word (low + 0x1_0000 * high)) (front_half behind)
     else Some (Half low)
 
--- the encoding at the start of the bytes, or `None` if it is cut off
+-- the encoding at the start of the bytes, or `None` if there are too few bytes for one
 unfoldable pub front_code : List ℕ → Option Code
 front_code bytes = option_and_then (code_of_half (drop 2 bytes)) (front_half bytes)
 
--- an encoding with its address
+-- an address and the encoding there
 abbrev pub Placed : Type 0
 Placed = ℕ × Code
 
--- the first `n` encodings of bytes at an address, or all if there are fewer; addresses advance as a pc does
+-- the first `n` encodings in the bytes, or all if there are fewer, each with its address; the first one is at `address`, and addresses wrap
+-- around as a pc does
 unfoldable pub codes_from : ℕ → ℕ → List ℕ → List Placed
 codes_from zero address bytes = []
 codes_from (suc n) address bytes = option_map_or

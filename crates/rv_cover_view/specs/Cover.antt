@@ -31,11 +31,11 @@ is_instruction p = is_some (instr_of p.1)
 abbrev pub was_executed : List AddressCounts → Placed → Bool
 was_executed counts p = nat_lt 0 (executed_at p.0 counts)
 
--- whether RV32IMC has an instruction for the encoding, and one was executed at its address
+-- whether RV32IMC has an instruction for the encoding and an instruction was executed at its address
 abbrev pub is_run : List AddressCounts → Placed → Bool
 is_run counts p = is_instruction p && was_executed counts p
 
--- whether the branch was taken at least once, and also executed without being taken
+-- whether the branch was taken at least once and not taken at least once
 abbrev pub went_both_ways : List AddressCounts → Placed → Bool
 went_both_ways counts p = nat_lt 0 (taken_at p.0 counts) && nat_lt (taken_at p.0 counts) (executed_at p.0 counts)
 
@@ -43,7 +43,7 @@ went_both_ways counts p = nat_lt 0 (taken_at p.0 counts) && nat_lt (taken_at p.0
 abbrev pub is_branch_both_ways : List AddressCounts → Placed → Bool
 is_branch_both_ways counts p = is_branch_code p.1 && went_both_ways counts p
 
--- whether the encoding is a conditional branch that was executed, but always taken or never taken
+-- whether the encoding is a conditional branch that was executed, and was always taken or never taken
 abbrev pub is_branch_one_way : List AddressCounts → Placed → Bool
 is_branch_one_way counts p = is_branch_code p.1 && (was_executed counts p && not (went_both_ways counts p))
 
@@ -53,7 +53,8 @@ is_branch_never counts p = is_branch_code p.1 && not (was_executed counts p)
 
 -- ---- sums
 
--- the coverage of encodings: how many instructions and conditional branches of each kind there are
+-- the coverage of encodings: how many are instructions, how many of these ran, and how many are conditional branches that went both ways,
+-- one way, or never ran
 abbrev pub amounts_of_codes : List AddressCounts → List Placed → CodeAmounts
 amounts_of_codes counts ps = record {
   instructions = count_by is_instruction ps;

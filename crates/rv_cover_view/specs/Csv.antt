@@ -5,7 +5,7 @@ use Rattle.std.specs.List.{flat_map, list_any}
 use Rattle.rv_cover_view.specs.declared.amounts.Amounts.{Amounts}
 use Rattle.rv_cover_view.specs.declared.amounts.CodeAmounts.{CodeAmounts}
 
--- the row of column names
+-- the CSV header, which names the columns
 unfoldable pub csv_head : List ℕ
 csv_head = codes "image,functions,functions_run,instructions,instructions_run,branches_both_ways,branches_one_way,branches_never\n"
 
@@ -13,7 +13,7 @@ csv_head = codes "image,functions,functions_run,instructions,instructions_run,br
 abbrev pub is_special : ℕ → Bool
 is_special byte = (byte == 44) || ((byte == 34) || ((byte == 10) || (byte == 13)))
 
--- a byte of a quoted field: a quote is doubled
+-- a byte of a quoted field, or two quotes for a quote
 abbrev pub quote_twice : ℕ → List ℕ
 quote_twice byte = if byte == 34 then 34 ∷ 34 ∷ [] else byte ∷ []
 
@@ -21,7 +21,7 @@ quote_twice byte = if byte == 34 then 34 ∷ 34 ∷ [] else byte ∷ []
 abbrev pub with_quotes_twice : List ℕ → List ℕ
 with_quotes_twice field = flat_map quote_twice field
 
--- a field, in quotes and with its own quotes doubled if it has a special byte
+-- a field of a CSV row: if it has a special byte, it is put in quotes, and its own quotes are doubled
 unfoldable pub csv_field : List ℕ → List ℕ
 csv_field field = if list_any is_special field then codes "\"" ++ with_quotes_twice field ++ codes "\"" else field
 

@@ -17,11 +17,11 @@ address_of f = f.1.0
 abbrev pub bytes_of : Named → List ℕ
 bytes_of f = f.1.1
 
--- whether a function is at an address
+-- whether a function has this address
 abbrev pub stands_at : ℕ → Named → Bool
 stands_at address f = address_of f == address
 
--- `new` has one function for each address of `old`, the first there, sorted by address
+-- `new` is sorted by address, and has for each address of `old` only the first function there
 pub record IsEachOnce (old new : List Named) : Type 0 where
   pub rising : IsStrictlyIncreasing (map address_of new)
   pub first : (address : ℕ) → find (stands_at address) new ≡ find (stands_at address) old

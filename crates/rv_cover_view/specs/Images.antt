@@ -7,7 +7,8 @@ use Rattle.rv_cover_view.specs.Cover.{amounts_of, never_run}
 use Rattle.rv_cover_view.specs.Functions.{IsEachOnce, named}
 use Rattle.rv_cover_view.specs.declared.image_cover.ImageCover.{ImageCover}
 
--- `cover` has this path, and the totals and the functions that never ran of the functions in the image's file, one for each address
+-- `cover` is the coverage of the image with this path: its totals, and its functions that never ran; of several functions at one address,
+-- only the first counts
 pub record IsCoverOf (path : List ℕ) (image : Image) (file : List ℕ) (counts : List AddressCounts) (cover : ImageCover) : Type 0 where
   pub found : List Named
   pub once : IsEachOnce (functions image file) found

@@ -9,26 +9,28 @@ use Rattle.rv_cover_view.specs.JobImages.{FileImage}
 use Rattle.rv_cover_view.specs.Text.{cover_head, image_line, never_run_line}
 use Rattle.rv_cover_view.specs.declared.image_cover.ImageCover.{ImageCover}
 
--- the coverage of an image: as a CSV row if the Boolean is true, or else as a line, and the names of the functions that never ran
+-- the coverage of an image: a CSV row if the Bool is true, or else a line with its totals, and a line with the functions that never ran, if
+-- there are any
 abbrev pub image_text : Bool → ImageCover → List ℕ
 image_text true cover = csv_row cover.path.now cover.amounts
 image_text false cover = image_line cover.path.now cover.amounts ++ never_run_line (map named cover.never_run.items)
 
--- the header of the report, in CSV or as a line
+-- the header of the report: the CSV header if the Bool is true, or else the heading of a table for people
 abbrev pub head_text : Bool → List ℕ
 head_text csv = if csv then csv_head else cover_head
 
--- the text is the coverage of an image by a table's counts
+-- the text is the coverage of an image by a table's counts: a CSV row if `csv` is true, or else lines for people
 abbrev pub IsImageCoverText : Bool → CountTable → FileImage → List ℕ → Type 0
 IsImageCoverText csv table image text = (cover : ImageCover)
     × (IsCoverOf image.path image.image image.bytes (counts_of table image.bytes) cover × (text ≡ image_text csv cover))
 
--- the text is the coverage of each image by a table's counts, in order
+-- the text is the coverage of each image by a table's counts, in order: as CSV if `csv` is true, or else as lines for people
 abbrev pub AreImageCoverTexts : Bool → CountTable → List FileImage → List ℕ → Type 0
 AreImageCoverTexts csv table [] text = text ≡ []
 AreImageCoverTexts csv table (image ∷ images) text = (first : List ℕ) × (IsImageCoverText csv table image first
     × ((rest : List ℕ) × (AreImageCoverTexts csv table images rest × (text ≡ first ++ rest))))
 
--- the text is the header, and then the coverage of each image by a table's counts, in order
+-- the text is the header of a report, and then the coverage of each image by a table's counts, in order: as CSV if `csv` is true, or else
+-- for people
 abbrev pub IsCoverText : Bool → CountTable → List FileImage → List ℕ → Type 0
 IsCoverText csv table images text = (lines : List ℕ) × (AreImageCoverTexts csv table images lines × (text ≡ head_text csv ++ lines))

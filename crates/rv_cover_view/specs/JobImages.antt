@@ -11,7 +11,7 @@ use Rattle.rv_rows.specs.Rows.{image_if_read}
 use Rattle.rv_cover_view.specs.declared.image_file.ImageFile.{ImageFile}
 use Rattle.rv_trace.specs.Trace.{image_bytes}
 
--- the image of a file, with the path by which a list names the file
+-- an image file of a list: its path in the list, its bytes, and the image that they encode
 pub record FileImage : Type 0 where
   pub path : List ℕ
   pub bytes : List ℕ
@@ -22,20 +22,20 @@ abbrev pub image_of_job : List Answer → Job → Option FileImage
 image_of_job answers job = option_and_then (λ bytes. option_map (λ image. record { path = job.image; bytes = bytes; image = image })
     (image_if_read job.isa (Some bytes))) (image_bytes answers job)
 
--- the images with this one appended, unless one of them has the same bytes
+-- the images with this one appended, or unchanged if one of them has equal bytes
 abbrev pub with_image : List FileImage → FileImage → List FileImage
 with_image images image =
     if list_any (λ other. bytes_eq image.bytes other.bytes) images then images else images ++ image ∷ []
 
--- the images, with the image of a job appended if it has one and no image has the same bytes
+-- the images with the image of a job appended, or unchanged if the job has no image or one of them has equal bytes
 abbrev pub with_image_of : List Answer → List FileImage → Job → List FileImage
 with_image_of answers images job = option_map_or (with_image images) (image_of_job answers job) images
 
--- the images of jobs, in job order: each file once, with the path of the first job that has it
+-- the images of jobs, in job order; images with equal bytes occur once, with the path that the first of their jobs gives
 abbrev pub images_of : List Answer → List Job → List FileImage
 images_of answers jobs = fold (with_image_of answers) [] jobs
 
--- each image file is at most as large as files that are read may be
+-- no image file is larger than a file that is read may be
 abbrev pub AreSmall : List Answer → Type 0
 AreSmall answers = (job : Job) → IfSome (image_bytes answers job) (λ bytes. length bytes ≤ most_bytes)
 

@@ -2,11 +2,11 @@
 use Rattle.std.specs.Prelude.{◌+◌, ◌^◌, ◌<◌}
 use Rattle.rv_cover_view.specs.declared.amounts.CodeAmounts.{CodeAmounts}
 
--- totals of zero
+-- coverage totals that are all zero
 abbrev pub no_amounts : CodeAmounts
 no_amounts = record { instructions = 0; instructions_run = 0; branches_both_ways = 0; branches_one_way = 0; branches_never = 0 }
 
--- the sum of two totals
+-- the sums of two coverage totals
 abbrev pub plus : CodeAmounts → CodeAmounts → CodeAmounts
 plus a b = record {
   instructions = a.instructions + b.instructions;
@@ -16,7 +16,7 @@ plus a b = record {
   branches_never = a.branches_never + b.branches_never;
 }
 
--- each of the totals fits in 64 bits
+-- each of the coverage totals fits in 64 bits
 pub record Fits (a : CodeAmounts) : Type 0 where
   pub instructions : a.instructions < 2 ^ 64
   pub instructions_run : a.instructions_run < 2 ^ 64

@@ -7,11 +7,11 @@ use Rattle.rv_text.specs.Printable.{printable_name, printable_text}
 use Rattle.rv_cover_view.specs.declared.amounts.Amounts.{Amounts}
 use Rattle.rv_cover_view.specs.declared.amounts.CodeAmounts.{CodeAmounts}
 
--- a number with leading spaces up to a width of `width`
+-- a number, with leading spaces so that it fills `width` characters
 unfoldable pub right : ℕ → ℕ → List ℕ
 right width number = replicate (width - length (decimal number)) 32 ++ decimal number
 
--- the header of the coverage table
+-- the heading of the coverage table for people
 unfoldable pub cover_head : List ℕ
 cover_head = codes "   functions run        instructions run  branches both ways   one way     never  image\n"
 
@@ -32,7 +32,7 @@ image_line path a = function_columns a ++ code_columns a.code ++ codes "  " ++ p
 abbrev pub further_names : List Named → List ℕ
 further_names fs = flat_map (λ f. codes ", " ++ printable_name f.0) fs
 
--- the line with the names of the functions that never ran, or no line if there are none
+-- the line `never run: NAME, NAME` with the names of these functions, or nothing if there are none
 unfoldable pub never_run_line : List Named → List ℕ
 never_run_line [] = []
 never_run_line (f ∷ fs) = codes "never run: " ++ printable_name f.0 ++ further_names fs ++ codes "\n"

@@ -30,7 +30,7 @@ pub struct CodeAmounts {
 }
 
 impl CodeAmounts {
-    /// Returns totals of zero.
+    /// Returns coverage totals that are all zero.
     pub(crate) fn none() -> CodeAmounts
         ensures { result ≡ no_amounts }
     {
@@ -43,7 +43,7 @@ impl CodeAmounts {
         }
     }
 
-    /// Returns the sum of two totals, which must fit in 64 bits.
+    /// Returns the sums of two coverage totals, which must fit in 64 bits.
     pub(crate) fn plus(self, other: CodeAmounts) -> CodeAmounts
         requires { Fits (plus self other) }
         ensures { result ≡ plus self other }

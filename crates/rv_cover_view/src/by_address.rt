@@ -8,8 +8,8 @@ ghost use Rattle.rv_cover_view.specs.Functions.{IsEachOnce, code_bytes, named};
 use rv_elf::{Function, Image, functions};
 use std::alloc::{AllocError, Global};
 
-/// Returns the functions of an image, sorted by address, with the first one of the symbol table at each address. A file has at most
-/// 16,777,216 bytes, so the totals fit in 64 bits.
+/// Returns the functions of an image, sorted by address. Of several functions at one address, only the first in the symbol table is
+/// returned. A file has at most 16,777,216 bytes, so the totals fit in 64 bits.
 pub fn functions_by_address<'a>(
     alloc: Global,
     image: &Image,
@@ -23,7 +23,7 @@ pub fn functions_by_address<'a>(
     each_address_once(functions(alloc, image, file)?)
 }
 
-/// Returns the functions sorted by address, with the first one at each address.
+/// Returns the functions sorted by address. Of several functions at one address, only the first in the list is returned.
 pub fn each_address_once(mut functions: Vec<Function<'_>>) -> Result<Vec<Function<'_>>, AllocError>
     ensures once { IfOk result (λ found. IsEachOnce (map named functions.entry.items) (map named found.items)) }
     ensures fewer { IfOk result (λ found. code_bytes (map named found.items) ≤ code_bytes (map named functions.entry.items)) }

@@ -12,7 +12,7 @@ use rv_counting::is_branch;
 use rv_isa::is_long;
 use rv_trace::{Code, code_length, instr_of};
 
-/// Returns the coverage of the encodings in these bytes at an address.
+/// Returns the coverage of the encodings in `code`, whose first byte is at `address`.
 pub(crate) fn amounts_of_code(address: u32, code: &[u8], counts: &[AddressCounts]) -> CodeAmounts
     requires { rise_from 0 counts.now ≡ true }
     ensures { result ≡ amounts_of_codes counts.now (codes_from (length code.now) address code.now) }
@@ -28,7 +28,7 @@ pub(crate) fn amounts_of_code(address: u32, code: &[u8], counts: &[AddressCounts
     amounts
 }
 
-// Returns the coverage of one encoding. Each total is 0 or 1.
+// Returns the coverage of one encoding: each total is 0 or 1.
 fn amounts_at(address: u32, code: Code, counts: &[AddressCounts]) -> CodeAmounts
     requires { rise_from 0 counts.now ≡ true }
     ensures { result ≡ amounts_of_codes counts.now ((address, code) ∷ []) }
@@ -49,7 +49,7 @@ fn amounts_at(address: u32, code: Code, counts: &[AddressCounts]) -> CodeAmounts
     }
 }
 
-// Returns the encoding at the start of the bytes, or `None` if it is cut off.
+// Returns the encoding at the start of the bytes, or `None` if there are too few bytes for one.
 #[tactic(auto, unfolding(crate::specs::Codes::front_code))]
 fn front_code(bytes: &[u8]) -> Option<Code>
     ensures { result ≡ front_code bytes.now }
@@ -72,7 +72,7 @@ fn front_half(bytes: &[u8]) -> Option<u16>
     }
 }
 
-// Returns the bytes after the encoding at the start.
+// Returns the bytes after the encoding `code`, which is at their start.
 fn bytes_after(bytes: &[u8], code: Code) -> &[u8]
     requires { size_of_code code ≤ length bytes.now }
     ensures { result.now ≡ drop (size_of_code code) bytes.now }

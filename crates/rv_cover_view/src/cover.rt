@@ -27,7 +27,7 @@ pub fn cover_of_functions(functions: &[Function<'_>], counts: &[AddressCounts]) 
     }
 }
 
-/// Returns the functions at whose addresses no instruction was executed, in their order.
+/// Returns the functions that never ran, in their order: no instruction was executed at any of their addresses.
 pub fn never_run<'a>(
     alloc: Global,
     functions: &[Function<'a>],
@@ -45,7 +45,7 @@ pub fn never_run<'a>(
     Ok(found)
 }
 
-// Returns how many of the functions ran.
+// Returns how many of the functions ran: an instruction was executed at one of their addresses.
 fn functions_run(functions: &[Function<'_>], counts: &[AddressCounts]) -> u64
     requires { rise_from 0 counts.now ≡ true }
     ensures { result ≡ count_by (has_run counts.now) (map named functions.now) }
@@ -59,7 +59,7 @@ fn functions_run(functions: &[Function<'_>], counts: &[AddressCounts]) -> u64
     count
 }
 
-// Returns the coverage of the code of all functions.
+// Returns the total coverage of the code of all functions.
 fn coverage_of_functions(functions: &[Function<'_>], counts: &[AddressCounts]) -> CodeAmounts
     requires rising { rise_from 0 counts.now ≡ true }
     requires few { code_bytes (map named functions.now) < 2 ^ 64 }

@@ -8,7 +8,7 @@ use crate::amounts::{Amounts, CodeAmounts};
 use rv_text::{Span, push_spans, push_text};
 use std::alloc::AllocError;
 
-/// Appends the row of column names.
+/// Appends the CSV header, which names the columns.
 #[tactic(auto, unfolding(crate::specs::Csv::csv_head))]
 pub fn push_csv_head(bytes: &mut Vec<u8>) -> Result<(), AllocError>
     ensures { OnOk result (bytes.new.items ≡ bytes.old.items ++ csv_head) }
@@ -19,7 +19,7 @@ pub fn push_csv_head(bytes: &mut Vec<u8>) -> Result<(), AllocError>
     )
 }
 
-/// Appends the row of an image: its path unchanged, and its totals.
+/// Appends the CSV row of an image: its path, quoted if necessary, and its totals.
 #[tactic(auto, unfolding(crate::specs::Csv::csv_row))]
 pub fn push_csv_row(bytes: &mut Vec<u8>, path: &[u8], amounts: &Amounts) -> Result<(), AllocError>
     ensures { OnOk result (bytes.new.items ≡ bytes.old.items ++ csv_row path.now amounts.now) }
@@ -81,7 +81,7 @@ fn push_csv_branches(bytes: &mut Vec<u8>, amounts: &CodeAmounts) -> Result<(), A
     )
 }
 
-/// Appends a field, in quotes and with its own quotes doubled if it has a special byte.
+/// Appends a field. A field that has a special byte is put in quotes, and its own quotes are doubled.
 #[tactic(auto, unfolding(crate::specs::Csv::csv_field))]
 pub fn push_csv_field(bytes: &mut Vec<u8>, field: &[u8]) -> Result<(), AllocError>
     ensures { OnOk result (bytes.new.items ≡ bytes.old.items ++ csv_field field.now) }
@@ -94,7 +94,7 @@ pub fn push_csv_field(bytes: &mut Vec<u8>, field: &[u8]) -> Result<(), AllocErro
     push_text(bytes, "\"")
 }
 
-// Whether a field must be quoted.
+// Whether a field must be quoted: it has a comma, a quote, a line feed or a carriage return.
 fn has_special(field: &[u8]) -> bool
     ensures { result ≡ list_any is_special field.now }
 {

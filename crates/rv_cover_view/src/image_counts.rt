@@ -14,7 +14,8 @@ use rv_text::push_printable_text;
 use sha2::{Digest, Sha256};
 use std::alloc::{AllocError, Global};
 
-/// Returns the path of the first image for which a table has only another image with its path, or `None` if there is none.
+/// Returns the path of the first of these images that the table does not have, although it has another image with the path; or `None` if
+/// there is no such image.
 pub fn other_image<'a>(
     alloc: Global,
     table: &CountTable,
@@ -30,7 +31,7 @@ pub fn other_image<'a>(
     Ok(None)
 }
 
-// Whether a table has an image with the path of this image, but none with its digest.
+// Whether a table does not have this image, although it has another image with its path.
 fn is_other_image(
     alloc: Global,
     table: &CountTable,
@@ -46,7 +47,7 @@ fn is_other_image(
     Ok(has_path(table, path.as_slice()))
 }
 
-// Whether a table has an image with the digest of these bytes.
+// Whether a table has the image with these bytes, which the digest identifies.
 fn has_digest_of(table: &CountTable, bytes: &[u8]) -> bool
     ensures { result ≡ list_any (is_of_digest (sha256 bytes.now)) table.now.images }
 {
@@ -65,7 +66,7 @@ fn has_path(table: &CountTable, path: &[u8]) -> bool
         .any(|counted| counted.path.as_str().as_bytes() == path)
 }
 
-/// Returns a table's counts of the image with the digest of these bytes, which are none if there is no such image.
+/// Returns a table's counts of the image with these bytes, which the digest identifies, or no counts if it does not have the image.
 pub(crate) fn counts_of<'t>(table: &'t CountTable, bytes: &[u8]) -> &'t [AddressCounts]
     requires { IsTable table.now }
     ensures counts { result.now ≡ counts_of table.now bytes.now }
@@ -77,7 +78,7 @@ pub(crate) fn counts_of<'t>(table: &'t CountTable, bytes: &[u8]) -> &'t [Address
     }
 }
 
-/// Returns a table's image with the digest of these bytes, or `None` if there is none.
+/// Returns a table's entry for the image with these bytes, which the digest identifies, or `None` if it does not have the image.
 pub fn counted_image<'t>(table: &'t CountTable, bytes: &[u8]) -> Option<&'t ImageCounts>
     ensures { option_map (λ counted. counted.now) result ≡ counted_image table.now bytes.now }
 {

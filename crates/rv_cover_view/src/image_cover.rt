@@ -23,7 +23,8 @@ pub struct ImageCover<'a> {
     pub never_run: Vec<Function<'a>>,
 }
 
-/// Returns the coverage of the image of a file, from the counts of its addresses.
+/// Returns the coverage of an image, given the bytes of its file and the counts of its addresses: its totals, and the functions that never
+/// ran.
 pub fn cover_of_image<'a>(
     alloc: Global,
     path: &'a [u8],

@@ -31,7 +31,7 @@ pub fn cover_text(
     Ok(text)
 }
 
-// Appends the header of the report.
+// Appends the header of the report: the CSV header if `csv` is true, or else the heading of a table for people.
 fn push_head(text: &mut Vec<u8>, csv: bool) -> Result<(), AllocError>
     ensures { OnOk result (text.new.items ≡ text.old.items ++ head_text csv) }
 {
@@ -42,7 +42,7 @@ fn push_head(text: &mut Vec<u8>, csv: bool) -> Result<(), AllocError>
     }
 }
 
-// Appends the coverage of an image by a table's counts.
+// Appends the coverage of an image by a table's counts: a CSV row if `csv` is true, or else lines for people.
 fn push_image(
     alloc: Global,
     text: &mut Vec<u8>,
@@ -60,7 +60,8 @@ fn push_image(
     push_image_cover(alloc, text, csv, &cover)
 }
 
-// Appends the coverage of an image as a CSV row, or as a line and the names of the functions that never ran.
+// Appends the coverage of an image: a CSV row if `csv` is true, or else a line with its totals, and a line with the functions that never
+// ran, if there are any.
 fn push_image_cover(
     alloc: Global,
     text: &mut Vec<u8>,

@@ -14,7 +14,8 @@ use rv_jobs::Plan;
 use rv_trace::{image_bytes, image_of_bytes};
 use std::alloc::{AllocError, Global};
 
-/// Returns the images of the jobs at these indices, in order: each file once, with the path of the first job that has it.
+/// Returns the images of the jobs at these indices, in order. Images with equal bytes are returned once, with the path that the first of
+/// their jobs gives.
 pub fn images_of_jobs<'a>(
     alloc: Global,
     plan: &'a Plan,
@@ -32,7 +33,7 @@ pub fn images_of_jobs<'a>(
     Ok(files)
 }
 
-// Appends the image of the job at an index, if it has one and no image in the list has the same bytes.
+// Appends the image of the job at an index, unless the job has no image or the list has one with equal bytes.
 fn push_image_at<'a>(
     alloc: Global,
     files: &mut Vec<ImageFile<'a>>,
@@ -51,7 +52,7 @@ fn push_image_at<'a>(
     }
 }
 
-// Appends an image, unless one in the list has the same bytes.
+// Appends an image, unless the list has one with equal bytes.
 fn push_image<'a>(files: &mut Vec<ImageFile<'a>>, file: ImageFile<'a>) -> Result<(), AllocError>
     ensures { OnOk result (images_of_files files.new.items ≡ with_image (images_of_files files.old.items) (image_of_file file.entry)) }
 {

@@ -7,7 +7,7 @@ ghost use Rattle.rv_count_tables.specs.Table.{AreCounts};
 ghost use Rattle.rv_elf.specs.Functions.{Named};
 ghost use Rattle.rv_cover_view.specs.Cover.{WasNotExecuted, never_run};
 
-/// Proves that `never_run` has exactly those of the functions at whose addresses no instruction was executed.
+/// Proves that `never_run` has exactly the functions at whose addresses no instruction was executed.
 pub fn functions_never_run_have_not_begun()
     ensures { (counts : List Counts) (fs : List Named) (f : Named) → AreCounts counts
         → Contains (never_run counts fs) f ↔ (Contains fs f × WasNotExecuted counts f) }

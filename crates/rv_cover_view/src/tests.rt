@@ -64,6 +64,7 @@ const COUNTS: [AddressCounts; 7] = [
     },
 ];
 
+// Returns the names of the functions in order, each followed by a space.
 fn names(alloc: Global, functions: &[Function<'_>]) -> Result<Vec<u8>, AllocError> {
     let mut names = Vec::new(alloc);
     for function in functions {

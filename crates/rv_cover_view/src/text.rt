@@ -9,7 +9,7 @@ use rv_elf::Function;
 use rv_text::{Span, push_number, push_spans, push_text};
 use std::alloc::{AllocError, Global};
 
-/// Appends the header of the coverage table.
+/// Appends the heading of the coverage table for people.
 #[tactic(auto, unfolding(crate::specs::Text::cover_head))]
 pub fn push_cover_head(bytes: &mut Vec<u8>) -> Result<(), AllocError>
     ensures { OnOk result (bytes.new.items ≡ bytes.old.items ++ cover_head) }
@@ -20,7 +20,7 @@ pub fn push_cover_head(bytes: &mut Vec<u8>) -> Result<(), AllocError>
     )
 }
 
-/// Appends the line of an image: its totals, each right-aligned in its column, and its path.
+/// Appends the line of an image for people: its totals, each right-aligned in its column, and its path.
 #[tactic(auto, unfolding(crate::specs::Text::image_line))]
 pub fn push_image_line(
     alloc: Global,
@@ -38,7 +38,7 @@ pub fn push_image_line(
     )
 }
 
-/// Appends the line of the functions that never ran, if there are any: `never run: NAME, NAME`.
+/// Appends the line `never run: NAME, NAME` with the names of these functions, or nothing if there are none.
 #[tactic(auto, unfolding(crate::specs::Text::never_run_line))]
 pub fn push_never_run_line(
     bytes: &mut Vec<u8>,
@@ -95,7 +95,7 @@ fn push_code_columns(
     push_right(alloc, bytes, 10, amounts.branches_never)
 }
 
-/// Appends a number with leading spaces up to a width of `width`. A longer number widens the column.
+/// Appends a number, with leading spaces so that it fills `width` characters. A longer number widens the column.
 #[tactic(auto, unfolding(crate::specs::Text::right))]
 pub fn push_right(
     alloc: Global,

@@ -14,18 +14,18 @@ use Rattle.rv_diff.specs.declared.change.Change.TheVariants.{Gone, Added, Change
 
 -- ---- which rows differ
 
--- whether two jobs ended alike: with one exit code, with one kind of fault, by using up their budgets, or with one refusal
+-- whether two endings are of one kind: two equal exit codes, two faults of one kind, two used budgets, or two equal refusals
 abbrev pub are_same_end_kinds : RowEnd → RowEnd → Bool
 are_same_end_kinds (ending.Refused why) (ending.Refused because) =
     bytes_eq (refusal_name why) (refusal_name because)
 are_same_end_kinds old new = are_alike_endings old new
 
--- whether two endings, if both are faults, have the same address and the same value; true for other endings
+-- whether two faults have equal addresses and equal values; true if one of the endings is not a fault
 abbrev pub agree_in_fault_pc_and_value : RowEnd → RowEnd → Bool
 agree_in_fault_pc_and_value (ending.Fault kind pc value) (ending.Fault other at met) = pc == at && value == met
 agree_in_fault_pc_and_value old new = true
 
--- whether two jobs ended alike, as far as `compare` compares endings: addresses and values of faults are compared only if steps are
+-- whether two endings are equal, as far as `compare` compares them: the addresses and values of faults are compared only if steps are
 abbrev pub are_same_endings : Compare → RowEnd → RowEnd → Bool
 are_same_endings Outcomes old new = are_same_end_kinds old new
 are_same_endings (Slower percent) old new = are_same_end_kinds old new
@@ -41,11 +41,11 @@ agree_in_steps Outcomes old new = true
 agree_in_steps Steps old new = old.steps == new.steps
 agree_in_steps (Slower percent) old new = not (is_slower percent old.steps new.steps)
 
--- whether two rows have the same console
+-- whether the consoles of two rows are equal
 abbrev pub have_same_console : Row → Row → Bool
 have_same_console old new = bytes_eq old.console new.console
 
--- whether two verdicts are the same
+-- whether two verdicts are equal
 abbrev pub are_same_verdicts : Verdict → Verdict → Bool
 are_same_verdicts old new = bytes_eq (verdict_name old) (verdict_name new)
 
@@ -57,7 +57,8 @@ rows_agree compare old new = are_same_endings compare old.ending new.ending && a
 
 -- ---- how a job changed
 
--- how a job changed, given its rows in the old and in the new report, if it has them; a job in neither counts as unchanged
+-- how a job changed, given its rows in the old and in the new report, which are `None` if the report does not have the job; a job in
+-- neither counts as unchanged
 abbrev pub change_of : Compare → Option Row → Option Row → Change
 change_of compare None None = Same
 change_of compare None (Some new) = Added

@@ -16,16 +16,16 @@ use Rattle.rv_diff.specs.Differences.{change_lines}
 
 -- ---- a row, and the row with its name in the other report, if there is one
 
--- whether the other report has no row with this row's name
+-- whether no row in the other report has this row's name
 abbrev pub is_alone_in : List Row → Row → Bool
 is_alone_in others row = is_none (row_named others row.name)
 
--- whether a row of the new report has an old row with its name, and does not agree with it
+-- whether the old report has a row with the name of this new row, and the two do not agree
 abbrev pub is_changed : Compare → Option Row → Row → Bool
 is_changed compare None new = false
 is_changed compare (Some old) new = not (rows_agree compare old new)
 
--- the line `- NAME` for a row of the old report, if the new report has no row with its name
+-- the line `- NAME` for a row of the old report, or nothing if the new report has a row with its name
 abbrev pub gone_line : Option Row → Row → List ℕ
 gone_line None old = line (codes "- " ++ old.name)
 gone_line (Some new) old = []
@@ -67,7 +67,7 @@ unfoldable pub change_counts_words : Differing → List ℕ
 change_counts_words counts = decimal counts.gone ++ codes " gone, " ++ decimal counts.added
     ++ codes " new, " ++ decimal counts.changed ++ codes " changed"
 
--- the verb after the number of compared jobs: singular for 1, else plural
+-- ` differs: ` for 1 compared job, and ` differ: ` for any other number
 abbrev pub differ_words : ℕ → List ℕ
 differ_words jobs = if jobs == 1 then codes " differs: " else codes " differ: "
 
@@ -80,22 +80,22 @@ differing_words count jobs = decimal count ++ codes " of " ++ count_text jobs (c
 abbrev pub total_steps : List Row → ℕ
 total_steps rows = sum_by (λ row. row.steps) rows
 
--- the total steps of both reports, if slower jobs are compared
+-- the total steps of both reports if `compare` looks for slower jobs, or else `None`
 abbrev pub step_sums : Compare → List Row → List Row → Option StepSums
 step_sums Outcomes old new = None
 step_sums Steps old new = None
 step_sums (Slower percent) old new = Some record { old = total_steps old; new = total_steps new }
 
--- the words for the total steps of both reports, or nothing if they are not requested
+-- the text for the total steps of both reports, or nothing if there are no sums
 abbrev pub sums_words : Option StepSums → List ℕ
 sums_words None = []
 sums_words (Some sums) = codes ", total steps " ++ decimal sums.old ++ codes " -> " ++ decimal sums.new
 
--- the words for the number of jobs that were not compared, or nothing if it is 0
+-- the text for the number of jobs that were not compared, or nothing if it is 0
 abbrev pub left_out_words : ℕ → List ℕ
 left_out_words count = if count == 0 then [] else codes ", " ++ decimal count ++ codes " not compared"
 
--- the last line: how many of the compared jobs differ and how, how many jobs were not compared, and the total steps, if requested
+-- the last line: how many of the compared jobs differ and how, how many jobs were not compared, and the total steps, if there are sums
 unfoldable pub count_line : ℕ → Differing → ℕ → Option StepSums → List ℕ
 count_line jobs counts left_out sums = line (differing_words (differing_count counts) jobs ++ change_counts_words counts
     ++ left_out_words left_out ++ sums_words sums)

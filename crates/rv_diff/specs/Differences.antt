@@ -18,7 +18,7 @@ use Rattle.rv_diff.specs.Change.{have_same_console, are_same_endings, agree_in_s
 
 -- ---- the words for a change
 
--- the words for how a job ended, as in a report
+-- how a job ended, in the words of a report
 unfoldable pub ending_words : RowEnd → List ℕ
 ending_words (ending.Exit code) = codes "exit " ++ exit_code_text code
 ending_words (ending.Fault kind pc value) = codes "fault " ++ fault_name kind
@@ -34,25 +34,25 @@ becomes old new = old ++ codes " -> " ++ new
 abbrev pub value_in_quotes : List ℕ → List ℕ
 value_in_quotes value = codes "\"" ++ printable_value value ++ codes "\""
 
--- the first index at which both lists have elements that differ, or `None` if one list is a prefix of the other
+-- the first index at which two lists have different elements, or `None` if one list is a prefix of the other
 abbrev pub first_differing_index : List ℕ → List ℕ → Option ℕ
 first_differing_index old new = position (λ pair. not (pair.0 == pair.1)) (zip old new)
 
--- the words `COUNT -> COUNT` for the lengths of two lists of `what`
+-- the text `COUNT -> COUNT` for the lengths of two lists, each with the noun `what`
 abbrev pub counts_words : List ℕ → List ℕ → List ℕ → List ℕ
 counts_words what old new = becomes (count_text (length old) what) (count_text (length new) what)
 
--- how two consoles differ: the bytes from the first difference on, or the lengths if one console is a prefix of the other
+-- how two consoles differ: the bytes from the first difference, at the given index, or the lengths if there is no such index
 abbrev pub byte_change_words : Option ℕ → List ℕ → List ℕ → List ℕ
 byte_change_words (Some place) old new = codes "byte " ++ decimal place ++ codes ": "
     ++ becomes (value_in_quotes (drop place old)) (value_in_quotes (drop place new))
 byte_change_words None old new = counts_words (codes "byte") old new
 
--- the words for a console that changed from `old` to `new`
+-- the text for a console that changed from `old` to `new`
 unfoldable pub console_words : List ℕ → List ℕ → List ℕ
 console_words old new = codes "console " ++ byte_change_words (first_differing_index old new) old new
 
--- how the words of two signatures differ: the first word that differs, or the lengths if one signature is a prefix of the other
+-- how the words of two signatures differ: the first word that differs, at the given index, or the lengths if there is no such index
 abbrev pub word_change_words : Option ℕ → List ℕ → List ℕ → List ℕ
 word_change_words (Some place) old new = codes "word " ++ decimal place ++ codes ": "
     ++ becomes (word_digits (slice_index old place)) (word_digits (slice_index new place))
@@ -68,23 +68,23 @@ abbrev pub signature_change_words : Option (List ℕ) → Option (List ℕ) → 
 signature_change_words (Some old) (Some new) = word_change_words (first_differing_index old new) old new
 signature_change_words old new = becomes (size_words old) (size_words new)
 
--- the words for a signature that changed from `old` to `new`
+-- the text for a signature that changed from `old` to `new`
 unfoldable pub signature_words : Option (List ℕ) → Option (List ℕ) → List ℕ
 signature_words old new = codes "signature " ++ signature_change_words old new
 
--- the increase of the steps in percent of the old number, if slower jobs are compared, or else nothing
+-- the increase of the steps in percent of the old number, if `compare` looks for slower jobs and the old number is not 0; otherwise nothing
 abbrev pub percent_words : Compare → ℕ → ℕ → List ℕ
 percent_words Outcomes old new = []
 percent_words Steps old new = []
 percent_words (Slower percent) old new =
     if old == 0 then [] else codes " (+" ++ decimal ((new - old) * 100 / old) ++ codes " %)"
 
--- the words for steps that changed from `old` to `new`
+-- the text for steps that changed from `old` to `new`
 abbrev pub steps_words : Compare → ℕ → ℕ → List ℕ
 steps_words compare old new =
     codes "steps " ++ becomes (decimal old) (decimal new) ++ percent_words compare old new
 
--- the words for a verdict that changed from `old` to `new`
+-- the text for a verdict that changed from `old` to `new`
 abbrev pub verdict_words : Verdict → Verdict → List ℕ
 verdict_words old new = codes "verdict " ++ becomes (verdict_name old) (verdict_name new)
 
@@ -94,7 +94,7 @@ verdict_words old new = codes "verdict " ++ becomes (verdict_name old) (verdict_
 abbrev pub change_begin : List ℕ → List ℕ
 change_begin name = codes "! " ++ name ++ codes ": "
 
--- the line for a field of the job with this name, if it is not the same in both rows
+-- the line for a field of the job with this name, or nothing if the Bool says that the field is equal in both rows
 abbrev pub change_line : List ℕ → Bool → List ℕ → List ℕ
 change_line name same words = if same then [] else line (change_begin name ++ words)
 

@@ -30,7 +30,7 @@ pub enum Compare {
     Slower(u32),
 }
 
-/// Returns how a job changed, given its rows in the old and in the new report, if it has them.
+/// Returns how a job changed, given its rows in the old and in the new report, which are `None` if the report does not have the job.
 pub fn change_of(compare: Compare, old: Option<&Row>, new: Option<&Row>) -> Change
     ensures { result ≡ change_of compare (option_map (λ row. row.now) old.entry)
         (option_map (λ row. row.now) new.entry) }
@@ -55,8 +55,8 @@ fn rows_agree(compare: Compare, old: &Row, new: &Row) -> bool
         && are_same_verdicts(old.verdict, new.verdict)
 }
 
-/// Whether two jobs ended alike: with one exit code, with one kind of fault, by using up their budgets, or with one refusal; and, if steps
-/// are compared, with one address and value of a fault.
+/// Whether two endings are equal, as far as `compare` compares them: two equal exit codes, two faults of one kind, two used budgets, or two
+/// equal refusals. The addresses and values of faults are compared only if steps are.
 pub fn are_same_endings(compare: Compare, old: RowEnd, new: RowEnd) -> bool
     ensures { result ≡ are_same_endings compare old new }
 {
@@ -66,7 +66,7 @@ pub fn are_same_endings(compare: Compare, old: RowEnd, new: RowEnd) -> bool
     }
 }
 
-// Whether two jobs ended alike: with one exit code, with one kind of fault, by using up their budgets, or with one refusal.
+// Whether two endings are of one kind: two equal exit codes, two faults of one kind, two used budgets, or two equal refusals.
 fn are_same_end_kinds(old: RowEnd, new: RowEnd) -> bool
     ensures { result ≡ are_same_end_kinds old new }
 {
@@ -76,7 +76,7 @@ fn are_same_end_kinds(old: RowEnd, new: RowEnd) -> bool
     }
 }
 
-// Whether two endings, if both are faults, have the same address and the same value. True for other endings.
+// Whether two faults have equal addresses and equal values; true if one of the endings is not a fault.
 fn agree_in_fault_pc_and_value(old: RowEnd, new: RowEnd) -> bool
     ensures { result ≡ agree_in_fault_pc_and_value old new }
 {
@@ -86,7 +86,7 @@ fn agree_in_fault_pc_and_value(old: RowEnd, new: RowEnd) -> bool
     }
 }
 
-/// Whether two rows have the same steps, if these are compared, or the new row is not slower, if that is compared.
+/// Whether the steps of two rows are equal, if `compare` compares steps, or the new row is not slower, if it compares that; true otherwise.
 pub fn agree_in_steps(compare: Compare, old: &Row, new: &Row) -> bool
     ensures { result ≡ agree_in_steps compare old.now new.now }
 {
@@ -105,14 +105,14 @@ fn is_slower(percent: u32, old: u32, new: u32) -> bool
     u64::from(old) * u64::from(percent) < more
 }
 
-/// Whether two rows have the same console.
+/// Whether the consoles of two rows are equal.
 pub fn have_same_console(old: &Row, new: &Row) -> bool
     ensures { result ≡ have_same_console old.now new.now }
 {
     old.console.as_slice() == new.console.as_slice()
 }
 
-/// Whether two verdicts are the same.
+/// Whether two verdicts are equal.
 pub fn are_same_verdicts(old: Verdict, new: Verdict) -> bool
     ensures { result ≡ are_same_verdicts old new }
 {

@@ -27,7 +27,7 @@ pub struct Differing {
 }
 
 impl Differing {
-    /// Whether any job differs.
+    /// Whether at least one job differs.
     pub fn has_differences(&self) -> bool
         ensures { result ≡ not (differing_count self.now == 0) }
     {
@@ -92,7 +92,7 @@ pub fn rows_in_both(alloc: Global, rows: Vec<Row>, others: &[Row]) -> Result<Vec
     Ok(rows)
 }
 
-// Returns the total steps of both reports, if slower jobs are compared.
+// Returns the total steps of both reports if `compare` looks for slower jobs, or else `None`.
 fn step_sums(compare: Compare, old: &[Row], new: &[Row]) -> Option<StepSums>
     requires old { length old.now < 2 ^ 32 }
     requires new { length new.now < 2 ^ 32 }
@@ -139,7 +139,7 @@ fn push_gone_lines(
     Ok(gone)
 }
 
-// Appends the lines of the jobs that the new report adds or changes, and returns how many were added and how many changed.
+// Appends the lines of the jobs that the new report adds or changes, and returns how many it adds and how many it changes.
 fn push_added_and_changed_lines(
     alloc: Global,
     text: &mut Vec<u8>,
@@ -186,7 +186,7 @@ fn push_changes_of_row(
     }
 }
 
-// Appends a line with a sign and the name of a job.
+// Appends the line of a sign followed by the name of a row's job.
 fn push_sign_line<'a>(text: &mut Vec<u8>, sign: &'a str, row: &'a Row) -> Result<(), AllocError>
     ensures { OnOk result
         (text.new.items ≡ text.old.items ++ line (sign.now ++ row.now.name)) }
@@ -202,7 +202,7 @@ fn push_sign_line<'a>(text: &mut Vec<u8>, sign: &'a str, row: &'a Row) -> Result
 }
 
 // Appends the last line: how many of the compared jobs differ and how, how many jobs are not compared, and the total steps of both reports,
-// if requested.
+// if there are sums.
 #[tactic(auto, unfolding(crate::specs::Diff::count_line))]
 fn push_count_line(
     text: &mut Vec<u8>,
@@ -237,7 +237,7 @@ fn push_left_out(text: &mut Vec<u8>, count: usize) -> Result<(), AllocError>
     )
 }
 
-// Appends the total steps of both reports, if requested.
+// Appends the total steps of both reports, or nothing if there are no sums.
 fn push_step_sums(text: &mut Vec<u8>, sums: Option<StepSums>) -> Result<(), AllocError>
     ensures { OnOk result (text.new.items ≡ text.old.items ++ sums_words sums) }
 {
@@ -255,7 +255,7 @@ fn push_step_sums(text: &mut Vec<u8>, sums: Option<StepSums>) -> Result<(), Allo
     }
 }
 
-// Returns the verb after the number of compared jobs: singular for 1, else plural.
+// Returns ` differs: ` for 1 compared job, and ` differ: ` for any other number.
 fn differ_words(jobs: usize) -> &'static str
     ensures { result.now ≡ differ_words jobs }
 {

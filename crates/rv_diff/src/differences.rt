@@ -57,7 +57,7 @@ fn push_ending_change(
     push_ending(text, new.ending, "\n")
 }
 
-// Appends how a job ended, as reports say it, followed by `end`.
+// Appends how a job ended, in the words of a report, followed by `end`.
 #[tactic(auto, unfolding(crate::specs::Differences::ending_words))]
 fn push_ending<'a>(text: &mut Vec<u8>, ending: RowEnd, end: &'a str) -> Result<(), AllocError>
     ensures { OnOk result (text.new.items
@@ -123,7 +123,8 @@ fn push_steps_change(
     push_text(text, "\n")
 }
 
-// Appends the increase of the steps in percent of the old number, if slower jobs are compared.
+// Appends the increase of the steps in percent of the old number, if `compare` looks for slower jobs and the old number is not 0; otherwise
+// nothing.
 fn push_percent(text: &mut Vec<u8>, compare: Compare, old: u32, new: u32) -> Result<(), AllocError>
     ensures { OnOk result (text.new.items ≡ text.old.items ++ percent_words compare old new) }
 {
@@ -139,8 +140,8 @@ fn push_percent(text: &mut Vec<u8>, compare: Compare, old: u32, new: u32) -> Res
     }
 }
 
-// Appends the line for the consoles, if they differ: the bytes from the first difference on, or the lengths if one console is a prefix of
-// the other.
+// Appends the line for the consoles, if they differ: the bytes from the first difference, or the lengths if one console is a prefix of the
+// other.
 #[tactic(auto, unfolding(crate::specs::Differences::console_words))]
 fn push_console_change<'a>(text: &mut Vec<u8>, old: &'a Row, new: &'a Row) -> Result<(), AllocError>
     ensures { OnOk result (text.new.items ≡ text.old.items
@@ -182,7 +183,7 @@ fn push_console_change<'a>(text: &mut Vec<u8>, old: &'a Row, new: &'a Row) -> Re
     }
 }
 
-// Returns the first index at which both have bytes that differ, or `None` if one is a prefix of the other.
+// Returns the first index at which two consoles have different bytes, or `None` if one is a prefix of the other.
 fn first_differing_byte(old: &[u8], new: &[u8]) -> Option<usize>
     ensures { result ≡ first_differing_index old.now new.now }
 {

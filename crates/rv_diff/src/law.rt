@@ -7,13 +7,13 @@ ghost use Rattle.rv_diff.specs.Change.{rows_agree};
 ghost use Rattle.rv_diff.specs.Diff.{difference_lines, counts_of_differing, differing_count};
 ghost use Rattle.rv_diff.specs.Differences.{change_lines};
 
-/// Proves that there is a line for two rows with the same name if and only if they differ.
+/// Proves that `diff` prints a line for the old and the new row of a job if and only if they differ.
 pub fn rows_agree_where_no_line_is_due()
     ensures { (compare : Compare) (old new : Row)
         → (length (change_lines compare old new) == 0) ≡ rows_agree compare old new }
 {}
 
-/// Proves that there is a line for two reports if and only if some job differs.
+/// Proves that `diff` prints a line of differences for two reports if and only if at least one job differs.
 pub fn jobs_differ_where_a_line_is_due()
     ensures { (compare : Compare) (old new : List Row)
         → (length (difference_lines compare old new) == 0)

@@ -26,7 +26,8 @@ pub(crate) fn push_signature_change(
     push_signature_line(text, new.name.as_str(), &old.signature, &new.signature)
 }
 
-// Appends the line for two signatures that differ.
+// Appends the line for two signatures that differ: the first word that differs, or the sizes if one signature is missing or a prefix of the
+// other.
 #[tactic(auto, unfolding(crate::specs::Differences::signature_words))]
 fn push_signature_line<'a>(
     text: &mut Vec<u8>,
@@ -113,14 +114,14 @@ fn push_words_change<'a>(
     }
 }
 
-// Returns the first index at which both have words that differ, or `None` if one is a prefix of the other.
+// Returns the first index at which two signatures have different words, or `None` if one is a prefix of the other.
 fn first_differing_word(old: &[u32], new: &[u32]) -> Option<usize>
     ensures { result ≡ first_differing_index old.now new.now }
 {
     old.iter().zip(new).position(|(x, y)| x != y)
 }
 
-// Returns the word at an index, or 0 if there are not so many.
+// Returns the word at an index, or 0 if there are too few words.
 fn word_or_zero(words: &[u32], place: usize) -> u32
     ensures { result ≡ slice_index words.now place }
 {

@@ -25,12 +25,11 @@ operands_text (Three a b c) f =
 unfoldable pub form_text : Form → Fetched → List ℕ
 form_text form f = form.mnemonic ++ operands_text form.operands f
 
--- a fetched instruction, with its encoding and the address that it was fetched at
+-- this instruction, with its encoding and the address from which it was fetched
 abbrev pub fetched_instr : Instr → ℕ → ℕ → Fetched
 fetched_instr i code pc = record { instr = i; code = code; pc = pc }
 
--- the text of a word: the instruction that it decodes to, or, if it does not decode, the description of an instruction that is not
--- simulated
+-- the text of a word: of the instruction that it decodes to, or, if there is none, the description of an instruction that is not simulated
 abbrev pub text_by_name : Option Instr → ℕ → ℕ → List ℕ
 text_by_name None word pc = unsimulated_text (unsimulated32 word)
 text_by_name (Some i) word pc = form_text (form32 i.op) (fetched_instr i word pc)
@@ -39,7 +38,8 @@ text_by_name (Some i) word pc = form_text (form32 i.op) (fetched_instr i word pc
 unfoldable pub assembly32 : ℕ → ℕ → List ℕ
 assembly32 word pc = text_by_name (meaning32 set.Imc word) word pc
 
--- the text of a halfword, by its form and instruction, or, if one is missing, the description of an instruction that is not simulated
+-- the text of a halfword in this form with the operands of this instruction, or, if one is missing, the description of an instruction that
+-- is not simulated
 abbrev pub text_by_row : Option Form → Option Instr → ℕ → ℕ → List ℕ
 text_by_row None i half pc = unsimulated_text (unsimulated16 half)
 text_by_row (Some form) None half pc = unsimulated_text (unsimulated16 half)

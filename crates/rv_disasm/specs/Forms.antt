@@ -22,7 +22,7 @@ pub record Form : Type 0 where
 abbrev pub form_row : List ℕ → Operands → Form
 form_row mnemonic operands = record { mnemonic = mnemonic; operands = operands }
 
--- the form that a `Form` of the code represents; its text is a reference
+-- a `Form` of the code as contracts see it, with the text in place of a reference
 abbrev pub form_of_code : CodesForm → Form
 form_of_code seen = form_row seen.0.now seen.1
 
@@ -167,6 +167,6 @@ forms16 h =
     form_row (codes "c.swsp") store_operands ∷
     []
 
--- how the halfword is written: the form of the first row of RV32IMC that it matches, or `None` if it matches none
+-- the form of the first row of RV32IMC that the halfword matches, or `None` if it matches none
 unfoldable pub form16 : ℕ → Option Form
 form16 h = first_of (λ r. fits16 set.Imc h r.0) (λ r. r.1) (zip rows16 (forms16 h))

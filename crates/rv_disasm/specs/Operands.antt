@@ -17,12 +17,12 @@ register_names =
     ∷ codes "s5" ∷ codes "s6" ∷ codes "s7" ∷ codes "s8" ∷ codes "s9" ∷ codes "s10" ∷ codes "s11"
     ∷ codes "t3" ∷ codes "t4" ∷ codes "t5" ∷ codes "t6" ∷ []
 
--- the ABI name of the register with this number
+-- the ABI name of the register with this number, from 0 to 31
 abbrev pub register_name : ℕ → List ℕ
 register_name number = slice_index_or register_names number []
 
--- the letters of a predecessor or successor set of FENCE (section 2.7): those of its set bits, from bit 3 (`i`) to bit 0 (`w`), or `0` if
--- no bit is set
+-- the letters of a predecessor or successor set of FENCE (section 2.7): one for each set bit, from bit 3 (`i`) to bit 0 (`w`), or `0` if no
+-- bit is set
 abbrev pub fence_set_name : ℕ → List ℕ
 fence_set_name bits = if bits == 0 then codes "0" else
     (if bit bits 3 == 1 then codes "i" else []) ++ (if bit bits 2 == 1 then codes "o" else [])

@@ -3,7 +3,7 @@
 use Rattle.std.specs.Prelude.{ℕ, List, [], ◌∷◌, ◌++◌, Option, Bool, codes, bit_and, find, ◌==◌}
 use Rattle.rv_disasm.specs.declared.unsimulated.Row.{Row as CodesRow}
 
--- a line of a listing: it matches an encoding whose bits in `mask` are those of `pattern`
+-- a line of a listing: an encoding matches it if its bits in `mask` equal `pattern`
 pub record Row : Type 0 where
   -- the bits that the line fixes
   pub mask : ℕ
@@ -17,7 +17,7 @@ abbrev pub row : ℕ → ℕ → List ℕ → List ℕ → Row
 row mask pattern mnemonic extension =
     record { mask = mask; pattern = pattern; mnemonic = mnemonic; extension = extension }
 
--- the line that a `Row` of the code represents; its texts are references
+-- a `Row` of the code as contracts see it, with texts in place of references
 abbrev pub row_of_code : CodesRow → Row
 row_of_code seen = row seen.0 seen.1 seen.2.now seen.3.now
 

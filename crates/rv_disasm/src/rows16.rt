@@ -23,7 +23,7 @@ pub(crate) fn form16(half: u32) -> Option<Form>
     }
 }
 
-// Returns the form of a halfword of quadrant 0 (low bits 00), if it is an instruction.
+// Returns the form of a halfword of quadrant 0 (low bits 00), or `None` if it is not an instruction.
 #[tactic(auto, using(crate::proofs::HalfwordForms::by_quadrant))]
 fn quadrant0_form(half: u32) -> Option<Form>
     requires { bits_of half 1 0 ≡ 0 }
@@ -37,7 +37,7 @@ fn quadrant0_form(half: u32) -> Option<Form>
     }
 }
 
-// Returns the form of a halfword of quadrant 1 (low bits 01), if it is an instruction.
+// Returns the form of a halfword of quadrant 1 (low bits 01), or `None` if it is not an instruction.
 #[tactic(auto, using(crate::proofs::HalfwordForms::by_quadrant))]
 fn quadrant1_form(half: u32) -> Option<Form>
     requires { bits_of half 1 0 ≡ 1 }
@@ -101,7 +101,7 @@ fn misc_alu_form(half: u32) -> Option<Form>
     }
 }
 
-// Returns the form of a halfword of quadrant 2 (low bits 10), if it is an instruction.
+// Returns the form of a halfword of quadrant 2 (low bits 10), or `None` if it is not an instruction.
 #[tactic(auto, using(crate::proofs::HalfwordForms::by_quadrant))]
 fn quadrant2_form(half: u32) -> Option<Form>
     requires { bits_of half 1 0 ≡ 2 }

@@ -7,14 +7,14 @@ use crate::form::{
 };
 use rv_isa::Op;
 
-/// Returns how the 32-bit instruction with this name is written.
+/// Returns the form of the 32-bit instruction with this name: its mnemonic and its operands.
 pub(crate) fn form32(op: Op) -> Form
     ensures { form_of_code result ≡ form32 op }
 {
     Form(mnemonic(op), operands_of_op(op))
 }
 
-// Returns the operands of the 32-bit instruction with this name.
+// Returns which operands the 32-bit instruction with this name has, in the order in which they are written.
 fn operands_of_op(op: Op) -> Operands
     ensures { result ≡ (form32 op).operands }
 {

@@ -10,11 +10,11 @@ use Rattle.rv_elf.specs.Sections.{symbols_of, text_before_zero}
 use Rattle.rv_elf.specs.SymbolSearch.{has_section, has_usable_name, is_function}
 use Rattle.rv_elf.specs.Symbols.{symbol_and_string_bytes, symbol_tables_check}
 
--- whether a segment may be executed: its flags have PF_X
+-- whether a segment is executable: its flags have PF_X
 abbrev pub is_executable : Segment → Bool
 is_executable segment = segment.flags % 2 == 1
 
--- whether all file bytes of a segment are in a file of `n` bytes; true if it has none
+-- whether all file bytes of a segment are in a file of `n` bytes; true if the segment has no file bytes
 abbrev pub is_in_file : ℕ → Segment → Bool
 is_in_file n segment = not (nat_lt 0 segment.filesz && nat_lt n (segment.offset + segment.filesz))
 
@@ -22,7 +22,7 @@ is_in_file n segment = not (nat_lt 0 segment.filesz && nat_lt n (segment.offset 
 abbrev pub has_code_of : Symbol → Segment → Bool
 has_code_of s segment = nat_le segment.vaddr s.value && nat_le (s.value + s.size) (segment.vaddr + segment.filesz)
 
--- whether a segment may be executed and has all bytes of the symbol `s` among its file bytes
+-- whether a segment is executable and has all bytes of the symbol `s` among its file bytes
 abbrev pub is_code_segment_of : Symbol → Segment → Bool
 is_code_segment_of s segment = is_executable segment && has_code_of s segment
 
@@ -34,7 +34,7 @@ bytes_in_segment file s segment = take s.size (drop (segment.offset + (s.value -
 abbrev pub code_of_symbol : List Segment → List ℕ → Symbol → Option (List ℕ)
 code_of_symbol segments file s = option_map (bytes_in_segment file s) (find (is_code_segment_of s) segments)
 
--- whether the symbol `s` is a function with a section, a size above 0, and a usable name
+-- whether the symbol `s` is a function, has a section and a size above 0, and has a usable name; the first argument is the string table
 abbrev pub is_sized_function : List ℕ → Symbol → Bool
 is_sized_function strings s = is_function s && (has_section s && (nat_lt 0 s.size && has_usable_name strings s))
 
@@ -42,7 +42,7 @@ is_sized_function strings s = is_function s && (has_section s && (nat_lt 0 s.siz
 abbrev pub most_name : ℕ
 most_name = 1024
 
--- the name at the start of these bytes: those before the first zero byte, but at most `most_name`
+-- the name at the start of these bytes: the bytes before the first zero byte, but at most `most_name`
 abbrev pub name_in : List ℕ → List ℕ
 name_in bytes = unwrap_or (text_before_zero (take most_name bytes)) (take most_name bytes)
 
@@ -50,12 +50,12 @@ name_in bytes = unwrap_or (text_before_zero (take most_name bytes)) (take most_n
 abbrev pub Named : Type 0
 Named = List ℕ × (ℕ × List ℕ)
 
--- the function of the symbol `s` with this code
+-- the function that the symbol `s` names, with this code
 abbrev pub named_code : List ℕ → Symbol → List ℕ → Named
 named_code strings s code = (name_in (drop s.name strings), (s.value, code))
 
--- the function of the symbol `s`, or `None` if it is not a function with a size and a usable name, or if no executable segment has its
--- bytes
+-- the function that the symbol `s` names, or `None` if it is not a function with a size and a usable name, or if no executable segment has
+-- its bytes
 abbrev pub function_of_symbol : List Segment → List ℕ → List ℕ → Symbol → Option Named
 function_of_symbol segments file strings s =
     if is_sized_function strings s then option_map (named_code strings s) (code_of_symbol segments file s) else None
@@ -64,7 +64,7 @@ function_of_symbol segments file strings s =
 abbrev pub functions_in : List Segment → List ℕ → List ℕ → List ℕ → List Named
 functions_in segments file table strings = filter_map (function_of_symbol segments file strings) (symbols_of table)
 
--- the functions of the file's first symbol table, in table order; none if the tables are rejected
+-- the functions of the file's first symbol table, in table order; none if the symbol or string table is rejected
 unfoldable pub functions : Image → List ℕ → List Named
 functions image file = if is_ok (symbol_tables_check file)
     then option_map_or (λ t. functions_in image.segments file t.0 t.1) (symbol_and_string_bytes file) [] else []

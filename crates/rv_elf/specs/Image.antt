@@ -50,35 +50,35 @@ e_phnum file = half_at file 44
 
 -- ---- the program header table ("Program Header"), and the fields of the program header at an offset `at`
 
--- p_type: the type of the program header at `at`
+-- p_type: the type of the program header at the offset `at`
 abbrev pub p_type : List ℕ → ℕ → ℕ
 p_type file at = word_at file at
 
--- p_offset: the offset of the segment's bytes in the file
+-- p_offset: the offset of the segment's bytes in the file, in the program header at the offset `at`
 abbrev pub p_offset : List ℕ → ℕ → ℕ
 p_offset file at = word_at file (at + 4)
 
--- p_vaddr: the virtual address of the segment
+-- p_vaddr: the virtual address of the segment, in the program header at the offset `at`
 abbrev pub p_vaddr : List ℕ → ℕ → ℕ
 p_vaddr file at = word_at file (at + 8)
 
--- p_paddr: the physical address of the segment
+-- p_paddr: the physical address of the segment, in the program header at the offset `at`
 abbrev pub p_paddr : List ℕ → ℕ → ℕ
 p_paddr file at = word_at file (at + 12)
 
--- p_filesz: the number of the segment's bytes in the file
+-- p_filesz: the number of the segment's bytes in the file, in the program header at the offset `at`
 abbrev pub p_filesz : List ℕ → ℕ → ℕ
 p_filesz file at = word_at file (at + 16)
 
--- p_memsz: the number of the segment's bytes in memory
+-- p_memsz: the number of the segment's bytes in memory, in the program header at the offset `at`
 abbrev pub p_memsz : List ℕ → ℕ → ℕ
 p_memsz file at = word_at file (at + 20)
 
--- p_flags: the access rights of the segment
+-- p_flags: the access rights of the segment, in the program header at the offset `at`
 abbrev pub p_flags : List ℕ → ℕ → ℕ
 p_flags file at = word_at file (at + 24)
 
--- the segment of the program header at the offset `at`
+-- the segment that the program header at the offset `at` describes
 unfoldable pub segment_at : List ℕ → ℕ → Segment
 segment_at file at = record {
   offset = p_offset file at;
@@ -93,7 +93,7 @@ segment_at file at = record {
 unfoldable pub program_entry_at : List ℕ → ℕ → ProgramHeader
 program_entry_at file at = record { p_type = p_type file at; segment = segment_at file at }
 
--- the program header table: `e_phnum` program headers of 32 bytes from `e_phoff` on
+-- the program header table: `e_phnum` program headers of 32 bytes, which begin at `e_phoff`
 unfoldable pub program_entries : List ℕ → List ProgramHeader
 program_entries file = map (λ k. program_entry_at file (e_phoff file + 32 * k)) (range_with_len 0 (e_phnum file))
 
@@ -108,8 +108,8 @@ has_magic file = (byte_at file 0 == 0x7f) && ((byte_at file 1 == 0x45)
 abbrev pub has_bad_version : List ℕ → Bool
 has_bad_version file = not (byte_at file 6 == 1) || not (e_version file == 1)
 
--- whether there are more than 64 program headers; or there are some, and their size is not 32 bytes or the table extends past the end of
--- the file
+-- whether the program header table is invalid: it has more than 64 entries; or it has some, and they are not 32 bytes long, or the table
+-- extends past the end of the file
 abbrev pub has_bad_program_table : List ℕ → Bool
 has_bad_program_table file = nat_lt 64 (e_phnum file) || (nat_lt 0 (e_phnum file)
     && (not (e_phentsize file == 32) || nat_lt (length file) (e_phoff file + 32 * e_phnum file)))
@@ -126,7 +126,7 @@ is_load e = e.p_type == 1
 abbrev pub has_bad_sizes : ProgramHeader → Bool
 has_bad_sizes e = is_load e && nat_lt e.segment.memsz e.segment.filesz
 
--- whether a program header is PT_LOAD, and its file bytes, if any, extend past the end of a file of `n` bytes
+-- whether a program header is PT_LOAD and has file bytes that extend past the end of a file of `n` bytes
 abbrev pub is_entry_past_file : ℕ → ProgramHeader → Bool
 is_entry_past_file n e = is_load e
     && (nat_lt 0 e.segment.filesz && nat_lt n (e.segment.offset + e.segment.filesz))
@@ -135,19 +135,19 @@ is_entry_past_file n e = is_load e
 abbrev pub is_loaded_entry : ProgramHeader → Bool
 is_loaded_entry e = is_load e && nat_lt 0 e.segment.memsz
 
--- the segments of the PT_LOAD program headers with bytes in memory, in order
+-- the segments of the PT_LOAD program headers that have bytes in memory, in order
 abbrev pub loaded_segments : List ProgramHeader → List Segment
 loaded_segments found = map (λ e. e.segment) (filter is_loaded_entry found)
 
--- the segments of the file's PT_LOAD program headers with bytes in memory, in table order
+-- the segments of the file's PT_LOAD program headers that have bytes in memory, in table order
 unfoldable pub segments : List ℕ → List Segment
 segments file = loaded_segments (program_entries file)
 
 -- ---- the image, or the first reason to refuse the file
 
--- the errors of an image, in order, each with its condition: those of the ELF header, of the location of the program header table, of the
--- program headers (each condition is checked for all of them before the next one), and of the entry; only instruction sets without
--- compressed instructions require the entry to be a multiple of 4
+-- the errors of an image, in order, each with its condition: errors of the ELF header, of the location of the program header table, of the
+-- program headers (each condition is checked for all headers before the next one), and of the entry; the entry must be a multiple of 4 only
+-- for instruction sets without compressed instructions
 abbrev pub refusals : Isa → List ℕ → List RefusalRow
 refusals isa file = (nat_lt (length file) 52, ShortHeader)
     ∷ (not (has_magic file), BadMagic)
@@ -173,7 +173,7 @@ unchecked_image file = record { entry = e_entry file; segments = segments file }
 unfoldable pub image_of : Isa → List ℕ → Result Image ImageError
 image_of isa file = first_refusal (refusals isa file) (Ok (unchecked_image file))
 
--- the file is read as this image for some instruction set
+-- for some instruction set, the file is accepted and has this image
 pub record IsImageOf (file : List ℕ) (image : Image) : Type 0 where
   pub isa : Isa
   pub is : image_of isa file ≡ Ok image

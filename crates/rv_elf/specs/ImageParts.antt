@@ -7,8 +7,8 @@ use Rattle.rv_elf.specs.declared.image.Image.{Image}
 use Rattle.rv_elf.specs.Rows.{RefusalRow, first_refusal, accepted}
 use Rattle.rv_elf.specs.Image.{refusals, unchecked_image}
 
--- the first eight errors, which concern the header and the location of the program header table; since only the last of all errors depends
--- on the instruction set, any set does here
+-- the first eight errors, which concern the header and the location of the program header table; only the last of all errors depends on the
+-- instruction set, so any set will do here
 abbrev pub header_rows : List ℕ → List RefusalRow
 header_rows file = take 8 (refusals Imc file)
 
@@ -20,18 +20,18 @@ entry_rows file = take 3 (drop 8 (refusals Imc file))
 abbrev pub image_rows : Isa → List ℕ → List RefusalRow
 image_rows isa file = drop 11 (refusals isa file)
 
--- the first error of the header that applies; accepted if none does
+-- the first error of the header that applies, or `accepted` if none does
 unfoldable pub header_check : List ℕ → Result (Unit {0}) ImageError
 header_check file = first_refusal (header_rows file) accepted
 
--- the first error of the program headers that applies; accepted if none does
+-- the first error of the program headers that applies, or `accepted` if none does
 unfoldable pub entry_check : List ℕ → Result (Unit {0}) ImageError
 entry_check file = first_refusal (entry_rows file) accepted
 
--- the first error of the loaded segments and the entry that applies; accepted if none does
+-- the first error of the loaded segments and the entry that applies, or `accepted` if none does
 unfoldable pub segments_and_entry_check : Isa → List ℕ → Result (Unit {0}) ImageError
 segments_and_entry_check isa file = first_refusal (image_rows isa file) accepted
 
--- the image of a file whose header is accepted, or the first of the other errors that applies
+-- the image of a file whose header is accepted, or the first error that applies after the header
 unfoldable pub image_after_header : Isa → List ℕ → Result Image ImageError
 image_after_header isa file = first_refusal (drop 8 (refusals isa file)) (Ok (unchecked_image file))

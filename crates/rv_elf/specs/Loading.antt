@@ -33,17 +33,17 @@ abbrev pub segments_overlap : LoadAt → Segment → Segment → Bool
 segments_overlap at s t = nat_lt (max (load_address at s) (load_address at t))
     (min (load_address at s + s.filesz) (load_address at t + t.filesz))
 
--- whether some segment of a list shares a byte of memory with a later one
+-- whether the file bytes of any two segments of a list share a byte of memory
 abbrev pub any_segments_overlap : LoadAt → List Segment → Bool
 any_segments_overlap at [] = false
 any_segments_overlap at (s ∷ ss) = list_any (segments_overlap at s) ss || any_segments_overlap at ss
 
--- the errors of an image with these segments on a map, in order, each with its condition
+-- the errors of loading these segments into a map, in order, each with its condition
 abbrev pub map_rows : List Segment → List Region → LoadAt → List RefusalRow
 map_rows segments regions at = (not (list_all (segment_fits regions at) segments), SegmentMap)
     ∷ (any_segments_overlap at segments, SegmentOverlap) ∷ []
 
--- the first error of an image with these segments on a map that applies; accepted if none does
+-- the first error of loading these segments into a map that applies, or `accepted` if none does
 unfoldable pub map_check : List Segment → List Region → LoadAt → Result (Unit {0}) ImageError
 map_check segments regions at = first_refusal (map_rows segments regions at) accepted
 
@@ -55,14 +55,14 @@ segment_fills at a s = nat_le (load_address at s) a && nat_lt a (load_address at
 abbrev pub segment_byte : List ℕ → LoadAt → Segment → ℕ → ℕ
 segment_byte file at s a = slice_index file (s.offset + (a - load_address at s))
 
--- the byte at the address `a` of a loaded image: the file byte of the segment that fills it, else 0; if the map is accepted, no two
--- segments fill one address
+-- the byte at the address `a` of a loaded image: the file byte of the first segment that fills the address, or 0 if none does; if the map
+-- is accepted, no two segments fill one address
 abbrev pub initial_byte : List Segment → List ℕ → LoadAt → ℕ → ℕ
 initial_byte [] file at a = 0
 initial_byte (s ∷ ss) file at a =
     if segment_fills at a s then segment_byte file at s a else initial_byte ss file at a
 
--- the memory of these regions after an image with these segments is loaded
+-- the memory of these regions after these segments of a file are loaded
 unfoldable pub initial_memory : List Region → List Segment → List ℕ → LoadAt → fin.FinMap nat_cmp ℕ
 initial_memory regions segments file at =
     tabulate (addresses regions) (initial_byte segments file at)

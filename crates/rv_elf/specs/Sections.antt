@@ -27,23 +27,23 @@ e_shnum file = half_at file 48
 
 -- ---- the section header table, and the fields of the section header at an offset `at`
 
--- sh_type: the type of the section
+-- sh_type: the type of the section, in the section header at the offset `at`
 abbrev pub sh_type : List ℕ → ℕ → ℕ
 sh_type file at = word_at file (at + 4)
 
--- sh_offset: the offset of the section's bytes in the file
+-- sh_offset: the offset of the section's bytes in the file, in the section header at the offset `at`
 abbrev pub sh_offset : List ℕ → ℕ → ℕ
 sh_offset file at = word_at file (at + 16)
 
--- sh_size: the number of the section's bytes
+-- sh_size: the number of the section's bytes, in the section header at the offset `at`
 abbrev pub sh_size : List ℕ → ℕ → ℕ
 sh_size file at = word_at file (at + 20)
 
--- sh_link: for a symbol table, the index of its string table
+-- sh_link: for a symbol table, the index of its string table, in the section header at the offset `at`
 abbrev pub sh_link : List ℕ → ℕ → ℕ
 sh_link file at = word_at file (at + 24)
 
--- sh_entsize: the size of an entry of the section
+-- sh_entsize: the size of an entry of the section, in the section header at the offset `at`
 abbrev pub sh_entsize : List ℕ → ℕ → ℕ
 sh_entsize file at = word_at file (at + 36)
 
@@ -61,7 +61,7 @@ section_at file at = record {
 abbrev pub section_of_index : List ℕ → ℕ → Section
 section_of_index file index = section_at file (e_shoff file + 40 * index)
 
--- the section header table: `e_shnum` section headers of 40 bytes from `e_shoff` on
+-- the section header table: `e_shnum` section headers of 40 bytes, which begin at `e_shoff`
 abbrev pub sections : List ℕ → List Section
 sections file = map (section_of_index file) (range_with_len 0 (e_shnum file))
 
@@ -93,23 +93,23 @@ symbol_table_section file = find is_symbol_section (sections file)
 abbrev pub is_bad_symbol_table : ℕ → Section → Bool
 is_bad_symbol_table n s = not (s.entsize == 16) || (not (s.size % 16 == 0) || is_section_past_file n s)
 
--- st_name: the offset of the symbol's name in the string table
+-- st_name: the offset of the symbol's name in the string table, in the symbol at the offset `at`
 abbrev pub st_name : List ℕ → ℕ → ℕ
 st_name table at = word_at table at
 
--- st_value: the value of the symbol
+-- st_value: the value of the symbol at the offset `at`
 abbrev pub st_value : List ℕ → ℕ → ℕ
 st_value table at = word_at table (at + 4)
 
--- st_size: the number of bytes that the symbol covers
+-- st_size: the number of bytes that the symbol at the offset `at` covers
 abbrev pub st_size : List ℕ → ℕ → ℕ
 st_size table at = word_at table (at + 8)
 
--- ELF32_ST_TYPE, the low four bits of st_info: what the symbol names
+-- ELF32_ST_TYPE, the low four bits of st_info: the type of the symbol at the offset `at`, such as function or object
 abbrev pub st_type : List ℕ → ℕ → ℕ
 st_type table at = byte_at table (at + 12) % 16
 
--- st_shndx: the index of the symbol's section
+-- st_shndx: the index of the section of the symbol at the offset `at`
 abbrev pub st_shndx : List ℕ → ℕ → ℕ
 st_shndx table at = half_at table (at + 14)
 
@@ -129,7 +129,7 @@ symbols_of table = map (λ k. symbol_entry table (16 * k)) (range_with_len 0 (le
 
 -- ---- the string table of a symbol table
 
--- the section at the index in a symbol table's link, or `None` if there is no such index
+-- the string table section of a symbol table, whose index is the link of the symbol table, or `None` if no section has this index
 abbrev pub string_table_section : List ℕ → Section → Option Section
 string_table_section file symbols =
     if nat_lt symbols.link (e_shnum file) then Some (section_of_index file symbols.link) else None
@@ -143,7 +143,7 @@ abbrev pub text_before_zero : List ℕ → Option (List ℕ)
 text_before_zero [] = None
 text_before_zero (b ∷ bs) = if b == 0 then Some [] else option_map (λ text. b ∷ text) (text_before_zero bs)
 
--- whether the bytes before the first zero byte are this text
+-- whether the bytes before the first zero byte equal this text; false if there is no zero byte
 unfoldable pub begins_with_name : List ℕ → List ℕ → Bool
 begins_with_name bytes text = option_map_or (bytes_eq text) (text_before_zero bytes) false
 

@@ -20,12 +20,12 @@ use Rattle.rv_elf.specs.Symbols.{symbol_tables_check, symbol_and_string_bytes}
 abbrev pub is_function : Symbol → Bool
 is_function s = s.kind == 2
 
--- whether the symbol is a function or has no type (STT_NOTYPE), like an assembly label
+-- whether the symbol is a function or has no type (STT_NOTYPE), as an assembly label does
 abbrev pub may_be_code : Symbol → Bool
 may_be_code s = is_function s || (s.kind == 0)
 
--- whether the symbol is defined in a section of the file: its section index is neither SHN_UNDEF nor reserved, unlike that of an absolute
--- value (SHN_ABS)
+-- whether the symbol is defined in a section of the file: its section index is neither SHN_UNDEF nor reserved, as SHN_ABS is for an
+-- absolute value
 abbrev pub has_section : Symbol → Bool
 has_section s = nat_lt 0 s.section && nat_lt s.section 0xff00
 
@@ -33,7 +33,7 @@ has_section s = nat_lt 0 s.section && nat_lt s.section 0xff00
 abbrev pub symbol_name : List ℕ → Symbol → Option (List ℕ)
 symbol_name strings s = text_before_zero (drop s.name strings)
 
--- whether a name is not empty and begins with neither `.` nor `$`, unlike the names that an assembler makes up
+-- whether a name is not empty and begins with neither `.` nor `$`, as names that an assembler makes up do
 abbrev pub is_source_name : List ℕ → Bool
 is_source_name [] = false
 is_source_name (b ∷ bs) = not (b == 0x2e) && not (b == 0x24)
@@ -58,13 +58,13 @@ is_object s = s.kind == 1
 abbrev pub symbol_holds_address : ℕ → Symbol → Bool
 symbol_holds_address addr s = nat_le s.value addr && nat_lt addr (s.value + s.size)
 
--- whether the address is the value of the symbol, or is among the bytes of a function or an object
+-- whether the address is the symbol's value, or the symbol is a function or an object and the address is among its bytes
 abbrev pub covers_address : ℕ → Symbol → Bool
 covers_address addr s = (s.value == addr) || ((is_function s || is_object s) && symbol_holds_address addr s)
 
--- whether the symbol may name the address `addr`; to name code, it must be a function or have no type, not be above the address, and be in
--- one segment with it; to name a value, it must be a function, an object or have no type, and cover the address; it must always have a
--- section and a usable name
+-- whether the symbol may name the address `addr`, and has a section and a usable name. To name code, it must be a function or have no type,
+-- must not be above the address, and must be in one segment with it. To name a value, it must be a function, an object or have no type, and
+-- must cover the address.
 abbrev pub is_candidate : LookupKind → List Segment → List ℕ → ℕ → Symbol → Bool
 is_candidate Code segments strings addr s = may_be_code s && (has_section s && (nat_le s.value addr
     && (has_usable_name strings s && are_in_one_segment segments s.value addr)))
@@ -78,7 +78,7 @@ candidates sought segments strings addr table =
 
 -- ---- which of them is chosen
 
--- the precedence of a symbol: functions come before objects, and objects before other symbols
+-- the precedence of a symbol: 2 for a function, 1 for an object, and 0 for any other
 abbrev pub precedence : Symbol → ℕ
 precedence s = if is_function s then 2 else if is_object s then 1 else 0
 
@@ -87,31 +87,33 @@ abbrev pub is_nearer : Symbol → Symbol → Bool
 is_nearer s t = nat_lt t.value s.value
     || ((s.value == t.value) && nat_lt (precedence t) (precedence s))
 
--- the first symbol in a list to which no other is preferred, or `None` if the list is empty
+-- the first symbol in a list to which no other symbol of the list is preferred, or `None` if the list is empty
 unfoldable pub nearest_candidate : List Symbol → Option Symbol
 nearest_candidate ss = find (λ s. not (list_any (λ t. is_nearer t s) ss)) ss
 
--- the name of the symbol, and the offset of the address `addr` from its value
+-- the name of the symbol, and the offset of the address `addr` from its value; `None` if it has no name
 abbrev pub name_and_offset : List ℕ → ℕ → Symbol → Option (List ℕ × ℕ)
 name_and_offset strings addr s = option_map (λ name. (name, addr - s.value)) (symbol_name strings s)
 
--- the name of the preferred symbol in a symbol table that may name the address `addr`, and the offset of the address from its value
+-- the name of the preferred symbol in a symbol table that may name the address `addr`, and the offset of the address from its value; `None`
+-- if there is none
 abbrev pub preferred_symbol : LookupKind → List Segment → ℕ → List ℕ → List ℕ → Option (List ℕ × ℕ)
 preferred_symbol sought segments addr table strings = option_and_then (name_and_offset strings addr)
     (nearest_candidate (candidates sought segments strings addr table))
 
 -- the name of the preferred symbol in the file's first symbol table that may name the address `addr`, and the offset of the address from
--- its value; `None` if there is none or a table is rejected
+-- its value; `None` if there is none or the symbol or string table is rejected
 unfoldable pub nearest_symbol : LookupKind → Image → List ℕ → ℕ → Option (List ℕ × ℕ)
 nearest_symbol sought image file addr = if is_ok (symbol_tables_check file)
     then option_and_then (λ t. preferred_symbol sought image.segments addr t.0 t.1) (symbol_and_string_bytes file)
     else None
 
--- the name of the symbol that a code address belongs to, and the offset of the address from its value
+-- the name of the symbol that a code address belongs to, and the offset of the address from its value; `None` if there is none
 abbrev pub symbol_at : Image → List ℕ → ℕ → Option (List ℕ × ℕ)
 symbol_at = nearest_symbol Code
 
--- the name of the symbol whose address a value is, or into which it points, and the offset of the value from it
+-- the name of the symbol that has this value as its address or covers it, and the offset of the value from the symbol's; `None` if there is
+-- none
 abbrev pub symbol_of_value : Image → List ℕ → ℕ → Option (List ℕ × ℕ)
 symbol_of_value = nearest_symbol Value
 

@@ -30,7 +30,7 @@ symbol_table_rows file = (has_bad_section_table file, SectionTable)
     ∷ (option_map_or (has_bad_string_table file) (symbol_table_section file) false, StringTable)
     ∷ []
 
--- the first error of the file's symbol and string tables that applies; accepted if none does
+-- the first error of the file's symbol and string tables that applies, or `accepted` if none does
 unfoldable pub symbol_tables_check : List ℕ → Result (Unit {0}) ImageError
 symbol_tables_check file = first_refusal (symbol_table_rows file) accepted
 
@@ -52,7 +52,7 @@ symbol_of_name file name = option_and_then (λ t. symbol_named t.0 t.1 name) (sy
 abbrev pub symbol_rows : List ℕ → List ℕ → List RefusalRow
 symbol_rows file name = symbol_table_rows file ++ (is_none (symbol_of_name file name), NoBegin) ∷ []
 
--- the value of the symbol with this name, or the first error that applies; without an error the symbol exists, so the default 0 is never
+-- the value of the symbol with this name, or the first error that applies; if none does, the symbol exists, so the default 0 is never
 -- returned
 unfoldable pub symbol_of : List ℕ → List ℕ → Result ℕ ImageError
 symbol_of file name = first_refusal (symbol_rows file name)
@@ -65,7 +65,7 @@ is_bad_signature_range begin end regions = nat_lt end begin || (not (begin % 4 =
     || (nat_lt begin end && (not (in_one regions begin (end - begin))
     || nat_lt 0x4_0000 (end - begin)))))
 
--- the error of a signature from `begin` up to `end` if it is not in a valid range; accepted if it is
+-- the error of a signature from `begin` up to `end` that is not in a valid range, or `accepted` if it is
 unfoldable pub signature_check : ℕ → ℕ → List Region → Result (Unit {0}) ImageError
 signature_check begin end regions =
     first_refusal ((is_bad_signature_range begin end regions, SignatureRange) ∷ []) accepted

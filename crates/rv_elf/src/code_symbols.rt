@@ -39,9 +39,9 @@ pub struct CodeSymbols<'a> {
 const MOST_SYMBOLS: u64 = 0x1000_0000;
 
 impl<'a> CodeSymbols<'a> {
-    /// Sorts the symbols of a file that [`symbol_at`](crate::symbol_at) can return; there are none if [`find_symbol`](crate::find_symbol)
-    /// would reject the tables. Takes one pass over the table, one over the strings and a sort, and 16 bytes of memory per symbol. Only the
-    /// first byte of each name is read.
+    /// Returns the symbols of a file that [`symbol_at`](crate::symbol_at) can return, sorted; there are none if
+    /// [`find_symbol`](crate::find_symbol) would reject the tables. Takes one pass over the table, one over the strings and a sort, and 16
+    /// bytes of memory per symbol. Only the first byte of each name is read.
     pub fn new(
         alloc: Global,
         image: &'a Image,
@@ -68,8 +68,8 @@ impl<'a> CodeSymbols<'a> {
         })
     }
 
-    /// Returns the symbol that an address of the image belongs to, as [`symbol_at`](crate::symbol_at) does. Takes time logarithmic in the
-    /// number of symbols and linear in the length of the returned name. Does not allocate.
+    /// Returns the symbol that an address of the image belongs to, or `None` if it belongs to none, as [`symbol_at`](crate::symbol_at)
+    /// does. Takes time logarithmic in the number of symbols and linear in the length of the returned name. Does not allocate.
     pub fn symbol_at(&self, addr: u32) -> Option<SymbolAt<'a>>
         ensures { MatchOption result (symbol_at self.now.image.now self.now.bytes.now addr ≡ None)
             (λ s. symbol_at self.now.image.now self.now.bytes.now addr ≡ Some (s.name.now, s.offset)) }
@@ -89,8 +89,9 @@ impl<'a> CodeSymbols<'a> {
         Some(self.nearest_symbol(addr)?.value)
     }
 
-    // Returns the symbol that an address belongs to: the last one not above it, if both are in one segment. A segment that has both a lower
-    // symbol and the address has every value between them. So if the last symbol shares no segment with the address, no lower one does.
+    // Returns the symbol that an address belongs to: the last one not above it, if one segment has both; otherwise `None`. A segment that
+    // has both a lower symbol and the address has every value between them. So if the last symbol shares no segment with the address, no
+    // lower one does.
     fn nearest_symbol(&self, addr: u32) -> Option<CodeSymbol>
         ensures { MatchOption result (symbol_at self.now.image.now self.now.bytes.now addr ≡ None)
             (IsSymbolFor (symbol_at self.now.image.now self.now.bytes.now addr) self.now.strings.now addr) }
@@ -148,7 +149,7 @@ impl Symbol {
         self.may_be_code() && self.has_section() && self.has_usable_name(strings, end)
     }
 
-    // Returns the stored form of the symbol at an index of its table.
+    // Returns the symbol at this index of its table, in the form in which it is stored: its rank, its value, and the offset of its name.
     fn code_symbol(&self, index: usize) -> CodeSymbol
         requires { index < 0x1000_0000 }
         ensures { result ≡ code_symbol index self.now }

@@ -99,6 +99,7 @@ impl ImageError {
 impl From<AllocError> for ImageError {
     ghost from_gives = { λ _ e. e ≡ OutOfMemory };
 
+    // Returns the error for a failed allocation: out of memory.
     fn from(_error: AllocError) -> ImageError {
         ImageError::OutOfMemory
     }
@@ -107,6 +108,7 @@ impl From<AllocError> for ImageError {
 impl<T: Drop> From<AllocFailed<T>> for ImageError {
     ghost from_gives = { λ _ e. e ≡ OutOfMemory };
 
+    // Returns the error for a failed allocation: out of memory.
     fn from(_error: AllocFailed<T>) -> ImageError {
         ImageError::OutOfMemory
     }

@@ -64,7 +64,7 @@ fn functions_in<'a>(
     Ok(found)
 }
 
-// Appends the function of a symbol, if an executable segment has its bytes in the file.
+// Appends the function that a symbol names, or nothing if no executable segment has its bytes in the file.
 fn push_function<'a>(
     found: &mut Vec<Function<'a>>,
     symbol: &Symbol,
@@ -90,7 +90,7 @@ fn push_function<'a>(
 }
 
 impl Symbol {
-    // Whether the symbol is a function with a section, a size above 0, and a usable name.
+    // Whether the symbol is a function, has a section and a size above 0, and has a usable name.
     fn is_sized_function(&self, strings: &[u8], end: usize) -> bool
         requires { IsNamesEnd strings.now end }
         ensures { result ≡ is_sized_function strings.now self.now }
@@ -112,7 +112,7 @@ impl Symbol {
         Some(&file[at..at + self.size as usize])
     }
 
-    // Returns the first executable segment that has all the symbol's bytes in the file.
+    // Returns the first executable segment that has all the symbol's bytes in the file, or `None` if there is none.
     fn code_segment<'s>(&self, segments: &'s [Segment]) -> Option<&'s Segment>
         ensures { option_map (λ segment. segment.now) result ≡ find (is_code_segment_of self.now) segments.now }
     {
@@ -130,7 +130,7 @@ impl Symbol {
     }
 }
 
-// Returns the name at the start of these bytes: those before the first zero byte, but at most `MOST_NAME`.
+// Returns the name at the start of these bytes: the bytes before the first zero byte, but at most `MOST_NAME`.
 fn name_in(bytes: &[u8]) -> &[u8]
     ensures { result.now ≡ name_in bytes.now }
 {

@@ -26,7 +26,7 @@ const ET_EXEC: u16 = 2;
 
 const EM_RISCV: u16 = 243;
 
-/// Checks the ELF header and the location of the program header table; fails with the first error that applies.
+/// Checks the ELF header and the location of the program header table, and returns the first error that applies.
 #[tactic(auto, unfolding(crate::specs::ImageParts::header_check))]
 pub(crate) fn check_header(file: &[u8]) -> Result<(), ImageError>
     ensures value { result ≡ header_check file.now }
@@ -75,8 +75,8 @@ fn has_bad_version(file: &[u8]) -> bool
     file[EI_VERSION] != EV_CURRENT || word_field(file, E_VERSION) != u32::from(EV_CURRENT)
 }
 
-// Whether there are more than 64 program headers; or there are some, and their size is not 32 bytes or the table extends past the end of
-// the file.
+// Whether the program header table is invalid: it has more than 64 entries; or it has some, and they are not 32 bytes long, or the table
+// extends past the end of the file.
 fn has_bad_program_table(file: &[u8]) -> bool
     requires { 52 ≤ length file.now }
     ensures { result ≡ has_bad_program_table file.now }

@@ -32,7 +32,7 @@ pub struct Segment {
 }
 
 impl Segment {
-    /// Whether the segment may be executed: p_flags has PF_X.
+    /// Whether the segment is executable: its flags have PF_X.
     pub(crate) fn is_executable(&self) -> bool
         ensures { result ≡ is_executable self.now }
     {
@@ -66,7 +66,7 @@ pub fn read_image(alloc: Global, file: &[u8], isa: Isa) -> Result<Image, ImageEr
     read_image_after_header(alloc, file, isa)
 }
 
-// Reads the image of a file whose header is accepted, or returns the first of the other errors that applies.
+// Returns the image of a file whose header is accepted, or the first error that applies after the header.
 fn read_image_after_header(alloc: Global, file: &[u8], isa: Isa) -> Result<Image, ImageError>
     requires { HasTable file.now }
     ensures { MatchResult result (λ image. image_after_header isa file.now ≡ Ok image)
@@ -82,7 +82,7 @@ fn read_image_after_header(alloc: Global, file: &[u8], isa: Isa) -> Result<Image
     })
 }
 
-// Checks that there is a loaded segment, and that an instruction may begin at the entry.
+// Checks that there is a loaded segment and that an instruction may begin at the entry, and returns the first error that applies.
 #[tactic(auto, unfolding(crate::specs::ImageParts::segments_and_entry_check))]
 fn check_segments_and_entry(file: &[u8], kept: &[Segment], isa: Isa) -> Result<(), ImageError>
     requires header { 52 ≤ length file.now }

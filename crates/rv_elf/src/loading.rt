@@ -36,7 +36,7 @@ pub fn check_map(image: &Image, map: &Map, at: LoadAt) -> Result<(), ImageError>
     Ok(())
 }
 
-/// Writes the file bytes of an image's segments to a new bus, even to read-only regions. All other bytes are zero, and none counts as
+/// Writes the file bytes of an image's segments to a new bus, even to read-only regions. All other bytes are zero, and no byte counts as
 /// stored to.
 pub fn load(image: &Image, file: &[u8], at: LoadAt, bus: &mut Bus)
     requires image { IsImageOf file.now image.now }
@@ -70,7 +70,7 @@ impl LoadAt {
     }
 }
 
-// Whether all segments fit a map.
+// Whether each segment fits a map, as `segment_fits` says.
 fn all_segments_fit(segments: &[Segment], map: &Map, at: LoadAt) -> bool
     ensures { result ≡ list_all (segment_fits map.now at) segments.now }
 {
@@ -79,7 +79,7 @@ fn all_segments_fit(segments: &[Segment], map: &Map, at: LoadAt) -> bool
         .all(|segment| segment_fits(map, at, segment))
 }
 
-/// Returns the first segment that does not fit a map, or `None` if all fit.
+/// Returns the first segment that does not fit a map, as `segment_fits` says, or `None` if all fit.
 pub fn unfit_segment<'a>(map: &Map, at: LoadAt, segments: &'a [Segment]) -> Option<&'a Segment>
     ensures { option_map (λ segment. segment.now) result ≡ unfit_segment map.now at segments.now }
 {
@@ -96,7 +96,7 @@ pub fn segment_fits(map: &Map, at: LoadAt, segment: &Segment) -> bool
     map.in_one(at.load_address(segment), segment.filesz) && map.in_one(segment.vaddr, segment.memsz)
 }
 
-// Whether the file bytes of two of the segments share a byte of memory.
+// Whether the file bytes of any two segments share a byte of memory.
 fn any_segments_overlap(segments: &[Segment], at: LoadAt) -> bool
     ensures { result ≡ any_segments_overlap at segments.now }
 {
@@ -108,7 +108,7 @@ fn any_segments_overlap(segments: &[Segment], at: LoadAt) -> bool
     false
 }
 
-// Whether the file bytes of a segment share a byte of memory with those of one of the others.
+// Whether the file bytes of a segment share a byte of memory with the file bytes of at least one of the other segments.
 fn overlaps_any_segment(segment: &Segment, others: &[Segment], at: LoadAt) -> bool
     ensures { result ≡ list_any (segments_overlap at segment.now) others.now }
 {

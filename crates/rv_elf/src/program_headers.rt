@@ -40,7 +40,8 @@ pub(crate) fn program_entries(alloc: Global, file: &[u8]) -> Result<Vec<ProgramH
     )
 }
 
-/// Checks the program headers; fails with the first error that applies. Each condition is checked for all of them before the next one.
+/// Checks the program headers, and returns the first error that applies. Each condition is checked for all headers before the next
+/// condition.
 #[tactic(auto, unfolding(crate::specs::ImageParts::entry_check))]
 pub(crate) fn check_entries(found: &[ProgramHeader], file: &[u8]) -> Result<(), ImageError>
     requires { found.now ≡ program_entries file.now }
@@ -58,7 +59,7 @@ pub(crate) fn check_entries(found: &[ProgramHeader], file: &[u8]) -> Result<(), 
     Ok(())
 }
 
-/// Returns the segments of the PT_LOAD program headers with bytes in memory, in order.
+/// Returns the segments of the PT_LOAD program headers that have bytes in memory, in order.
 pub(crate) fn loaded_segments(
     alloc: Global,
     found: &[ProgramHeader],
@@ -74,7 +75,7 @@ pub(crate) fn loaded_segments(
     Ok(kept)
 }
 
-// Returns the program headers of the table of `count` entries at an offset.
+// Returns the `count` program headers of the table at an offset, in order.
 fn program_entries_at(
     alloc: Global,
     file: &[u8],
@@ -105,7 +106,7 @@ fn program_entry_at(file: &[u8], at: usize) -> ProgramHeader
     }
 }
 
-// Returns the segment of the program header at an offset.
+// Returns the segment that the program header at an offset describes.
 #[tactic(auto, unfolding(crate::specs::Image::segment_at))]
 fn segment_at(file: &[u8], at: usize) -> Segment
     requires { at + 32 ≤ length file.now }
@@ -121,7 +122,7 @@ fn segment_at(file: &[u8], at: usize) -> Segment
     }
 }
 
-// Whether a program header is PT_DYNAMIC or PT_INTERP.
+// Whether at least one program header is PT_DYNAMIC or PT_INTERP.
 fn any_dynamic_entry(found: &[ProgramHeader]) -> bool
     ensures { result ≡ list_any is_dynamic found.now }
 {
@@ -130,14 +131,14 @@ fn any_dynamic_entry(found: &[ProgramHeader]) -> bool
         .any(|e| e.p_type == PT_DYNAMIC || e.p_type == PT_INTERP)
 }
 
-// Whether a PT_LOAD program header has more bytes in the file than in memory.
+// Whether at least one PT_LOAD program header has more bytes in the file than in memory.
 fn any_bad_segment_sizes(found: &[ProgramHeader]) -> bool
     ensures { result ≡ list_any has_bad_sizes found.now }
 {
     found.iter().any(|e| e.p_type == PT_LOAD && e.segment.memsz < e.segment.filesz)
 }
 
-// Whether a PT_LOAD program header has file bytes that extend past the end of a file of `size` bytes.
+// Whether at least one PT_LOAD program header has file bytes that extend past the end of a file of `size` bytes.
 fn any_segment_past_file(found: &[ProgramHeader], size: usize) -> bool
     ensures { result ≡ list_any (is_entry_past_file size) found.now }
 {

@@ -90,7 +90,7 @@ pub(crate) fn symbol_table_section(file: &[u8]) -> Option<Section>
     None
 }
 
-/// Returns the section at the index in a symbol table's link, or `None` if there is no section with this index.
+/// Returns the string table section of a symbol table, whose index is the link of the symbol table, or `None` if no section has this index.
 pub(crate) fn string_table_section(file: &[u8], symbols: &Section) -> Option<Section>
     requires { HasSections file.now }
     ensures { result ≡ string_table_section file.now symbols.now }

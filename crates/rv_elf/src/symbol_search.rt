@@ -69,7 +69,8 @@ pub fn symbol_of_value<'a>(image: &Image, file: &'a [u8], value: u32) -> Option<
     nearest_symbol(image, file, value, LookupKind::Value)
 }
 
-// Returns the preferred symbol in the first symbol table that may name an address, as code or as a value.
+// Returns the preferred symbol in the first symbol table that may name an address, or `None` if there is none. `sought` says whether the
+// address is looked up as code or as a value.
 fn nearest_symbol<'a>(
     image: &Image,
     file: &'a [u8],
@@ -90,8 +91,8 @@ fn nearest_symbol<'a>(
     })
 }
 
-// Returns the preferred symbol of a table that may name an address. A symbol that is not preferred to the best so far is not checked any
-// further.
+// Returns the preferred symbol of a table that may name an address, or `None` if there is none. A symbol that is not preferred to the best
+// so far is not checked any further.
 fn nearest_candidate(
     table: &[u8],
     strings: &[u8],
@@ -115,7 +116,8 @@ fn nearest_candidate(
     best
 }
 
-// Returns the index after the last zero byte of a string table: a name begins at each index before it, and at no other.
+// Returns the index after the last zero byte of a string table, or 0 if it has none: a name begins at each index before it, and at no
+// other.
 pub(crate) fn names_end(strings: &[u8]) -> usize
     ensures { IsNamesEnd strings.now result }
 {
@@ -127,7 +129,7 @@ pub(crate) fn names_end(strings: &[u8]) -> usize
 }
 
 impl Symbol {
-    // Whether the symbol is preferred to the best so far, or there is none so far.
+    // Whether the symbol is preferred to the best one so far; true if there is none.
     fn is_nearer_than_best(&self, best: Option<Symbol>) -> bool
         ensures { result ≡ option_map_or (is_nearer self.now) best true }
     {
@@ -159,7 +161,8 @@ impl Symbol {
         }
     }
 
-    // Whether the symbol may name an address, as code or as a value. There may be 64 segments, so they are checked last.
+    // Whether the symbol may name an address. `sought` says whether the address is looked up as code or as a value. There may be 64
+    // segments, so they are checked last.
     fn is_candidate(
         &self,
         strings: &[u8],
@@ -188,7 +191,7 @@ impl Symbol {
         }
     }
 
-    // Whether an address is the symbol's value, or is among the bytes of a function or an object.
+    // Whether an address is the symbol's value, or the symbol is a function or an object and the address is among its bytes.
     fn covers_address(&self, addr: u32) -> bool
         ensures { result ≡ covers_address addr self.now }
     {
@@ -199,21 +202,21 @@ impl Symbol {
                 && u64::from(addr) < end
     }
 
-    /// Whether the symbol is a function.
+    /// Whether the symbol is a function (STT_FUNC).
     pub(crate) fn is_function(&self) -> bool
         ensures { result ≡ is_function self.now }
     {
         self.kind == STT_FUNC
     }
 
-    // Whether the symbol is an object.
+    // Whether the symbol is an object (STT_OBJECT).
     fn is_object(&self) -> bool
         ensures { result ≡ is_object self.now }
     {
         self.kind == STT_OBJECT
     }
 
-    /// Whether the symbol is a function or has no type, like an assembly label.
+    /// Whether the symbol is a function or has no type, as an assembly label does.
     pub(crate) fn may_be_code(&self) -> bool
         ensures { result ≡ may_be_code self.now }
     {

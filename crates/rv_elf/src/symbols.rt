@@ -51,7 +51,7 @@ pub fn find_symbol(image: &Image, file: &[u8], name: &[u8]) -> Result<u32, Image
     }
 }
 
-/// Checks that the words from `begin` up to `end` can be a signature; fails with [`ImageError::SignatureRange`].
+/// Checks that the words from `begin` up to `end` can be a signature, and returns [`ImageError::SignatureRange`] if they cannot.
 #[tactic(auto, unfolding(crate::specs::Symbols::signature_check))]
 pub fn check_signature(begin: u32, end: u32, map: &Map) -> Result<(), ImageError>
     ensures { result ≡ signature_check begin end map.now }
@@ -73,7 +73,7 @@ fn is_bad_signature_range(begin: u32, end: u32, map: &Map) -> bool
         || begin < end && (!map.in_one(begin, end - begin) || MOST_BYTES < end - begin)
 }
 
-/// Returns the bytes of the file's first symbol table and of its string table, or the first error of the tables that applies.
+/// Returns the bytes of the file's first symbol table and of its string table, or the first error of these tables that applies.
 pub(crate) fn symbol_and_string_bytes(file: &[u8]) -> Result<(&[u8], &[u8]), ImageError>
     requires { 52 ≤ length file.now }
     ensures checked { MatchResult result (λ _. symbol_tables_check file.now ≡ accepted)
@@ -99,7 +99,7 @@ pub(crate) fn symbol_and_string_bytes(file: &[u8]) -> Result<(&[u8], &[u8]), Ima
     Ok((symbols.section_bytes(file), strings.section_bytes(file)))
 }
 
-// Returns the value of the first defined symbol of this name in a symbol table and its string table, or `None` if there is none.
+// Returns the value of the first defined symbol with this name in a symbol table and its string table, or `None` if there is none.
 fn value_of_symbol_name(table: &[u8], strings: &[u8], name: &[u8]) -> Option<u32>
     ensures { result ≡ option_map (λ s. s.value) (symbol_named table.now strings.now name.now) }
 {
@@ -136,14 +136,14 @@ impl Symbol {
     }
 }
 
-/// Returns the bytes from an offset on, which are none if it is past the end.
+/// Returns the bytes after the first `at` bytes, or no bytes if there are fewer.
 pub(crate) fn bytes_from(bytes: &[u8], at: usize) -> &[u8]
     ensures { result.now ≡ drop at bytes.now }
 {
     &bytes[at.min(bytes.len())..]
 }
 
-// Whether the bytes before the first zero byte are `text`, which contains no zero byte. The text itself is compared last, since few
+// Whether the bytes before the first zero byte equal `text`. If `text` contains a zero byte, they do not; it is checked last, since few
 // candidates get that far.
 fn begins_with_name(bytes: &[u8], text: &[u8]) -> bool
     ensures { result ≡ begins_with_name bytes.now text.now }

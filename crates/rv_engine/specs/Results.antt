@@ -9,7 +9,7 @@ use Rattle.rv_engine.specs.declared.in_order.End.TheVariants.{GaveUp, Stopped}
 use Rattle.rv_engine.specs.declared.listener.Flow.{Flow}
 use Rattle.rv_engine.specs.declared.listener.Flow.TheVariants.{GoOn, Stop}
 
--- the list has a result of each of the first jobs, in order; `is_result` says which results a job with an index can have
+-- the list has one result for each of the first jobs, in order; `is_result` says which results the job at an index can have
 abbrev pub AreResults : {H : Type 0} → (ℕ → H → Type 0) → List H → Type 0
 AreResults {H} is_result results = (k : ℕ) (any : H) → k < length results → is_result k (slice_index_or results k any)
 
@@ -23,13 +23,13 @@ pub record HasReceived {H : Type 0} (is_result : ℕ → H → Type 0) (jobs : �
   pub count_is : length results ≡ count
   pub few : count ≤ jobs
 
--- a listener has received the results of the first jobs, each once and in order, however many
+-- a listener has received the results of the first jobs, for some number of jobs, each once and in order
 pub record HasReceivedSome {H : Type 0} (is_result : ℕ → H → Type 0) (jobs : ℕ) (has_received : List H → Type 0) : Type 0 where
   pub count : ℕ
   pub hears : HasReceived is_result jobs has_received count
 
--- after a run, the listener has received all results, or those up to the job at which it stopped the run, or, after an error, those of the
--- first jobs
+-- how many results the listener has received after a run: all of them; or, if it stopped the run, the results up to the job at which it
+-- did; or, after an error, the results of some number of first jobs
 abbrev pub IsRunDelivered : {H : Type 0} → (ℕ → H → Type 0) → ℕ → (List H → Type 0) → Type 0 → Result Flow RunError → Type 0
 IsRunDelivered is_result jobs has_received stops (Ok GoOn) = HasReceived is_result jobs has_received jobs × (stops → ⊥)
 IsRunDelivered is_result jobs has_received stops (Ok Stop) = HasReceivedSome is_result jobs has_received × stops
@@ -37,44 +37,44 @@ IsRunDelivered is_result jobs has_received stops (Err error) = HasReceivedSome i
 
 -- ---- computed in chunks
 
--- the number of chunks of `group` jobs that the jobs are divided into
+-- the number of chunks that the jobs are divided into, with `group` jobs each; the last chunk may have fewer
 abbrev pub chunk_count : ℕ → ℕ → ℕ
 chunk_count jobs group = div_ceil jobs group
 
--- these are the results of the jobs in the chunk with this index: `group` of them, or fewer in the last chunk
+-- these are the results of the jobs in the chunk with the number `piece`: `group` of them, or fewer in the last chunk
 pub record IsChunk {H : Type 0} (is_result : ℕ → H → Type 0) (jobs group piece : ℕ) (results : List H) : Type 0 where
   pub each : AreResults (λ k. is_result (piece * group + k)) results
   pub count : length results ≡ min group (jobs - piece * group)
 
--- the results that were computed before their turn are at the indices of their chunks
+-- each entry of the list is empty, or has the results of the chunk with the number that is its index
 abbrev pub ArePending : {H : Type 0} → (ℕ → H → Type 0) → ℕ → ℕ → List (Option (Vec H Global)) → Type 0
 ArePending is_result jobs group pending = (k : ℕ)
     → IfSome (slice_index_or pending k None) (λ results. IsChunk is_result jobs group k results.items)
 
--- a listener has received the results of all chunks before this one, and has not stopped the run
+-- a listener has received the results of all chunks before the chunk `piece`, and has not stopped the run
 abbrev pub HasReceivedUpTo : {H : Type 0} → (ℕ → H → Type 0) → ℕ → ℕ → (List H → Type 0) → Type 0 → ℕ → Type 0
 HasReceivedUpTo is_result jobs group has_received stops piece = HasReceived is_result jobs has_received (min (piece * group) jobs) × (stops → ⊥)
 
--- a listener has received the results of all chunks before `next`, and has not stopped the run; or, if the run has ended, those of the
--- first jobs
+-- a listener has received the results of all chunks before `next`, and has not stopped the run; or, if the run has ended, the results of
+-- some number of first jobs
 abbrev pub HasReceivedUntil : {H : Type 0} → (ℕ → H → Type 0) → ℕ → ℕ → (List H → Type 0) → Type 0 → ℕ → Option End → Type 0
 HasReceivedUntil is_result jobs group has_received stops next None = HasReceivedUpTo is_result jobs group has_received stops next
 HasReceivedUntil is_result jobs group has_received stops next (Some Stopped) = HasReceivedSome is_result jobs has_received × stops
 HasReceivedUntil is_result jobs group has_received stops next (Some GaveUp) = HasReceivedSome is_result jobs has_received
 
--- the invariant under the lock of a run: the listener has received the results of all chunks before `next`, unless the run has ended, and
--- the pending results are at the indices of their chunks
+-- the invariant under the lock of a run: unless the run has ended, the listener has received the results of all chunks before `next`; and
+-- each pending entry has the results of the chunk with the number that is its index
 pub record IsInOrder {H : Type 0} (is_result : ℕ → H → Type 0) (jobs group : ℕ) (has_received : List H → Type 0) (stops : Type 0)
     (next : ℕ) (ended : Option End) (pending : List (Option (Vec H Global))) : Type 0 where
   pub received : HasReceivedUntil is_result jobs group has_received stops next ended
   pub waiting : ArePending is_result jobs group pending
 
--- a listener has received the results of all chunks before `next` and continues, or has received those of the first jobs and stopped the
--- run
+-- with `GoOn`, a listener has received the results of all chunks before `next`; with `Stop`, it has received the results of some number of
+-- first jobs and stopped the run
 abbrev pub IsDelivered : {H : Type 0} → (ℕ → H → Type 0) → ℕ → ℕ → (List H → Type 0) → Type 0 → ℕ → Flow → Type 0
 IsDelivered is_result jobs group has_received stops next GoOn = HasReceivedUpTo is_result jobs group has_received stops next
 IsDelivered is_result jobs group has_received stops next Stop = HasReceivedSome is_result jobs has_received × stops
 
--- each result that the work can compute for a job is a result in the sense of the run
+-- each result that the work can compute for a job is one of the results that the run allows for the job
 abbrev pub AreComputed : {H : Type 0} → (ℕ → H → Type 0) → (ℕ → H → Type 0) → Type 0
 AreComputed {H} is_made is_result = (number : ℕ) (made : H) → is_made number made → is_result number made

@@ -19,12 +19,14 @@ impl<H, A: Observer<H> + Drop, B: Listener<H> + Drop> Listener<H> for Both<A, B>
 
     ghost stops = { λ s. A.stops s.first ⊎ B.stops s.second };
 
+    // Delivers the result to both listeners. Returns `Stop` if one of them does.
     fn receive(&mut self, made: H) -> Flow {
         let first = self.first.see(&made);
         let second = self.second.receive(made);
         first_stop(first, second)
     }
 
+    // Lets both listeners pause. Returns `Stop` if one of them does.
     fn pause(&mut self) -> Flow {
         let first = self.first.pause();
         let second = self.second.pause();
@@ -39,12 +41,14 @@ impl<H, A: Observer<H> + Drop, B: Observer<H> + Drop> Observer<H> for Both<A, B>
 
     ghost stops = { λ s. A.stops s.first ⊎ B.stops s.second };
 
+    // Shows the result to both observers. Returns `Stop` if one of them does.
     fn see(&mut self, made: &H) -> Flow {
         let first = self.first.see(made);
         let second = self.second.see(made);
         first_stop(first, second)
     }
 
+    // Lets both observers pause. Returns `Stop` if one of them does.
     fn pause(&mut self) -> Flow {
         let first = self.first.pause();
         let second = self.second.pause();
@@ -52,7 +56,7 @@ impl<H, A: Observer<H> + Drop, B: Observer<H> + Drop> Observer<H> for Both<A, B>
     }
 }
 
-// Returns `Stop` if one of the two is `Stop`.
+// Returns `Stop` if one of the two is `Stop`, and otherwise `GoOn`.
 fn first_stop(first: Flow, second: Flow) -> Flow
     ensures goes { result ≡ GoOn → (first ≡ GoOn) × (second ≡ GoOn) }
     ensures stops { result ≡ Stop → (first ≡ Stop) ⊎ (second ≡ Stop) }

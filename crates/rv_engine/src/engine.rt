@@ -32,6 +32,7 @@ pub enum RunError {
 impl From<AllocError> for RunError {
     ghost from_gives = { λ _ error. error ≡ OutOfMemory };
 
+    // Returns the error for a failed allocation: out of memory.
     fn from(_: AllocError) -> RunError {
         RunError::OutOfMemory
     }
@@ -78,7 +79,8 @@ pub fn run_jobs<
     }
 }
 
-// Delivers the results that no worker delivered. After a run that ends normally there are none.
+// Delivers to the listener the results that no worker delivered, and returns the listener and the outcome of the run. After a run that ends
+// normally there are no such results.
 fn deliver_rest<J: RunSpec<H>, H: Drop, R, W: Work<H>, L: Listener<H>>(
     crew: &Crew<'_, R>,
     work: &W,
@@ -108,7 +110,8 @@ fn deliver_rest<J: RunSpec<H>, H: Drop, R, W: Work<H>, L: Listener<H>>(
     }
 }
 
-// Delivers the results of the chunks from `next` on. Those that are not pending are computed here.
+// Delivers to the listener the results of the chunk with the number `next` and of all later chunks. Results that are not pending are
+// computed here. Returns whether to continue.
 fn deliver_from<J: RunSpec<H>, H: Drop, R, W: Work<H>, L: Listener<H>>(
     crew: &Crew<'_, R>,
     work: &W,

@@ -57,7 +57,7 @@ impl<J: RunSpec<H>, H: Drop, L: Listener<H> + Drop> Model for InOrder<J, H, L> {
 }
 
 impl<J: RunSpec<H>, H: Drop, L: Listener<H> + Drop> InOrder<J, H, L> {
-    /// Returns the state before the first result, with room for the results of each chunk in `pending`.
+    /// Returns the state of a run before its first result. `pending` has an empty entry for each chunk.
     pub(crate) fn new(listener: L, pending: Vec<Option<Vec<H>>>) -> InOrder<J, H, L>
         requires received { L.has_received listener [] }
         requires goes { L.stops listener → ⊥ }
@@ -72,7 +72,7 @@ impl<J: RunSpec<H>, H: Drop, L: Listener<H> + Drop> InOrder<J, H, L> {
         }
     }
 
-    /// Stores the results of a chunk, and delivers all results whose turn has come. Returns whether to continue.
+    /// Stores the results of a chunk, and delivers to the listener all results whose turn has come. Returns whether the run continues.
     pub(crate) fn receive_chunk(&mut self, piece: u64, results: Vec<H>) -> Flow
         requires { IsChunk J.is_result J.jobs J.group piece results.items }
     {
@@ -88,7 +88,7 @@ impl<J: RunSpec<H>, H: Drop, L: Listener<H> + Drop> InOrder<J, H, L> {
         received.flow
     }
 
-    /// Ends the run after an allocation or the start of a thread failed, unless it has ended already.
+    /// Ends the run, unless it has ended already. Called after an allocation failed or a thread could not be started.
     pub(crate) fn give_up(&mut self) {
         if self.ended.is_none() {
             self.ended = Some(End::GaveUp);
@@ -136,7 +136,7 @@ struct DeliveredChunks {
     flow: Flow,
 }
 
-// Stores the results of a chunk until their turn comes.
+// Stores the results of a chunk in `pending` until their turn comes.
 fn store_chunk<J: RunSpec<H>, H: Drop>(
     pending: &mut Vec<Option<Vec<H>>>,
     piece: usize,
@@ -151,8 +151,8 @@ fn store_chunk<J: RunSpec<H>, H: Drop>(
     }
 }
 
-// Delivers the results of consecutive chunks from `from` on, as far as they are pending. Then lets the listener pause, if any were
-// delivered.
+// Delivers to the listener the pending results of consecutive chunks, beginning with the chunk `from`, and then lets the listener pause if
+// there were any. Returns the next chunk, and whether to continue.
 fn deliver_ready<J: RunSpec<H>, H: Drop, L: Listener<H>>(
     listener: &mut L,
     pending: &mut Vec<Option<Vec<H>>>,
@@ -173,7 +173,8 @@ fn deliver_ready<J: RunSpec<H>, H: Drop, L: Listener<H>>(
     }
 }
 
-// Delivers the results of consecutive chunks from `from` on, as far as they are pending.
+// Delivers to the listener the pending results of consecutive chunks, beginning with the chunk `from`. Returns the next chunk, and whether
+// to continue.
 fn deliver_chunks<J: RunSpec<H>, H: Drop, L: Listener<H>>(
     listener: &mut L,
     pending: &mut Vec<Option<Vec<H>>>,

@@ -18,14 +18,14 @@ pub trait Listener<H> {
     // What holds once the listener has returned `Stop`.
     ghost stops: { Self → Type 0 };
 
-    /// Receives the result of the next job, and returns whether to continue. It is not called again after it returned `Stop`.
+    /// Receives the result of the next job, and returns whether the run continues. It is not called again after it returned `Stop`.
     fn receive(&mut self, made: H) -> Flow
         requires goes { stops self.old → ⊥ }
         ensures received { (results : List H) → has_received self.old results → has_received self.new (results ++ made ∷ []) }
         ensures goes { result ≡ GoOn → stops self.new → ⊥ }
         ensures stops { result ≡ Stop → stops self.new };
 
-    /// Flushes the buffered output, since the next result is not ready yet. Returns whether to continue.
+    /// Flushes the buffered output, since the next result is not ready yet. Returns whether the run continues.
     fn pause(&mut self) -> Flow
         requires goes { stops self.old → ⊥ }
         ensures received { (results : List H) → has_received self.old results → has_received self.new results }
@@ -44,14 +44,14 @@ pub trait Observer<H> {
     // What holds once the observer has returned `Stop`.
     ghost stops: { Self → Type 0 };
 
-    /// Sees the result of the next job, and returns whether to continue. It is not called again after it returned `Stop`.
+    /// Sees the result of the next job, and returns whether the run continues. It is not called again after it returned `Stop`.
     fn see(&mut self, made: &H) -> Flow
         requires goes { stops self.old → ⊥ }
         ensures seen { (results : List H) → has_seen self.old results → has_seen self.new (results ++ made.now ∷ []) }
         ensures goes { result ≡ GoOn → stops self.new → ⊥ }
         ensures stops { result ≡ Stop → stops self.new };
 
-    /// Flushes the buffered output, since the next result is not ready yet. Returns whether to continue.
+    /// Flushes the buffered output, since the next result is not ready yet. Returns whether the run continues.
     fn pause(&mut self) -> Flow
         requires goes { stops self.old → ⊥ }
         ensures seen { (results : List H) → has_seen self.old results → has_seen self.new results }

@@ -8,7 +8,7 @@ use crate::work::Work;
 use crate::worker_state::WorkerState;
 use std::alloc::{AllocError, Global};
 
-/// Returns the number of chunks of `group` jobs that the jobs are divided into. The last chunk may have fewer jobs.
+/// Returns the number of chunks that `jobs` jobs are divided into, with `group` jobs each. The last chunk may have fewer.
 pub(crate) fn chunk_count(jobs: usize, group: u32) -> u64
     requires few { jobs ≤ most_jobs }
     requires some { 0 < group }
@@ -18,7 +18,7 @@ pub(crate) fn chunk_count(jobs: usize, group: u32) -> u64
     jobs.div_ceil(group as usize) as u64
 }
 
-/// Computes the results of the jobs in a chunk.
+/// Returns the results of the jobs in a chunk, in order.
 pub(crate) fn compute_chunk<H: Drop, W: Work<H>>(
     alloc: Global,
     work: &W,

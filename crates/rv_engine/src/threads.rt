@@ -20,12 +20,12 @@ pub(crate) trait Worker: Sync {
     // The chunks of this shared counter are those that the worker can compute.
     ghost draws: { Self → SharedDraw → Type 0 };
 
-    /// Draws chunks and computes them until none is left or the run ends.
+    /// Draws chunks and computes them until no chunk is left or the run ends.
     fn compute_chunks(&self, claims: &Claims, pass: Pass) -> Result<(), AllocError>
         requires claims { draws self.now claims.now }
         requires pass { pass.draw ≡ claims.now };
 
-    /// Makes the other workers stop.
+    /// Makes the other workers stop after their current chunks.
     fn give_up(&self);
 }
 
@@ -75,7 +75,7 @@ pub(crate) fn run_workers<R: Threads + Wait, S: Worker>(
     )
 }
 
-// Returns a pass for each thread: `count` of them, or as many as there are free pass indices. The last one is the first pass itself.
+// Returns `count` passes, one for each thread, or as many as there are free pass indices. The last one is `first` itself.
 fn split_passes(
     alloc: Global,
     claims: &Claims,

@@ -27,7 +27,7 @@ pub trait Work<H> {
     fn new_worker_state(&self, alloc: Global) -> WorkerState
         ensures { is_worker_state self.now result };
 
-    /// Computes the result of the job with this number.
+    /// Computes the result of the job with this number, counted from 0.
     fn make(
         &self,
         alloc: Global,

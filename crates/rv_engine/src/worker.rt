@@ -38,6 +38,7 @@ impl<
 
     ghost draws = { λ s draw. (draw.pieces ≡ chunk_count (W.jobs s.work.now) s.group) × AreComputed (W.is_made s.work.now) J.is_result };
 
+    // Draws chunks, computes them and delivers their results until no chunk is left or the run ends.
     fn compute_chunks(&self, claims: &Claims, pass: Pass) -> Result<(), AllocError> {
         let mut pass = pass;
         let mut worker_state = self.work.new_worker_state(self.alloc);
@@ -63,6 +64,7 @@ impl<
         Ok(())
     }
 
+    // Makes the other workers stop after their current chunks.
     fn give_up(&self) {
         self.in_order.lock(self.rt).give_up();
     }

@@ -14,7 +14,8 @@ use Rattle.rv_expect.specs.declared.difference.SameDifference.TheVariants as sam
 
 -- ---- two lists
 
--- the first difference of two lists, whose first elements have the index `place`, or `None` if they are equal
+-- the first difference of two lists, or `None` if they are equal; the reported index is `place` for the first elements, and one more for
+-- each later element
 unfoldable pub difference_from : ℕ → List ℕ → List ℕ → Option Difference
 difference_from place [] [] = None
 difference_from place [] (y ∷ ys) = Some Lengths
@@ -76,7 +77,7 @@ difference_of_runs row other =
     if are_alike_endings row.ending other.ending then difference_of_texts row other
     else Some same.Ending
 
--- the first difference between a row and the row of the job that `same_as` names, or `None` if they agree or there is no `same_as`
+-- the first difference between a row and the row `other` of the job that `same_as` names, or `None` if they agree or there is no `same_as`
 abbrev pub same_as_difference : Option ℕ → Option Row → Row → Option SameDifference
 same_as_difference None other row = None
 same_as_difference (Some place) None row = Some same.Absent

@@ -26,24 +26,24 @@ use Rattle.rv_expect.specs.declared.unmet.Unmet.TheVariants as unmet
 abbrev pub failure_kind_count : ℕ
 failure_kind_count = length fault_kinds + 6
 
--- the kind of failure at an index of the kinds that follow those of faults
+-- the kind of failure at an index, counted from `Refused`, which follows the kinds of faults
 abbrev pub kind_after_faults : ℕ → FailureKind
 kind_after_faults index = if index == 0 then failure.Refused
     else (if index == 1 then failure.Console else (if index == 2 then failure.Signature else failure.SameAs))
 
--- the kind of failure at an index of the kinds that follow the budget, given the kind of fault at this index, if there is one: the kinds of
--- faults come first
+-- the kind of failure at an index, counted from the first kind of fault, which follows `Budget`; the first argument is the kind of fault at
+-- this index, if there is one
 abbrev pub kind_after_budget : Option FaultKind → ℕ → FailureKind
 kind_after_budget (Some kind) index = failure.Fault kind
 kind_after_budget None index = kind_after_faults (index - length fault_kinds)
 
--- the kind of failure at an index, in their order
+-- the kind of failure at an index: exit, budget, each kind of fault, refused, console, signature, `same_as`
 abbrev pub failure_kind_at : ℕ → FailureKind
 failure_kind_at index =
     if index == 0 then failure.Exit
     else (if index == 1 then failure.Budget else kind_after_budget (slice_get fault_kinds (index - 2)) (index - 2))
 
--- whether two kinds of failures are the same
+-- whether two kinds of failures are equal; two faults must be of one kind
 abbrev pub is_same_failure_kind : FailureKind → FailureKind → Bool
 is_same_failure_kind failure.Exit failure.Exit = true
 is_same_failure_kind failure.Budget failure.Budget = true
@@ -70,18 +70,19 @@ failure_kind_of_first end (unmet.Signature difference) = failure.Signature
 failure_kind_of_first end (unmet.Same difference) = failure.SameAs
 failure_kind_of_first end _ = failure_kind_of_end end
 
--- the kind of a failure with these unmet expectations, of which the first decides; a refused job has none
+-- the kind of a failure, given how the job ended and its unmet expectations: the first one decides, or the ending if there are none, as for
+-- a refused job
 abbrev pub failure_kind_of_unmet : RowEnd → List Unmet → FailureKind
 failure_kind_of_unmet end [] = failure_kind_of_end end
 failure_kind_of_unmet end (first ∷ others) = failure_kind_of_first end first
 
 -- ---- the failures among rows
 
--- the kind of a row that counts as a failure, given only how its job ended, or `None` if it does not count as one
+-- the kind of failure of a row, by how its job ended, or `None` if the row does not count as a failure
 abbrev pub failure_by_end : Judging → Row → Option FailureKind
 failure_by_end judging row = if fails judging row then Some (failure_kind_of_end row.ending) else None
 
--- the kinds of the failures in a report, which has no expectations, in order
+-- the kind of failure of each row of a report that counts as a failure, in order, by how its job ended
 abbrev pub failures_by_end : Judging → List Row → List FailureKind
 failures_by_end judging rows = flat_map (λ row. option_to_list (failure_by_end judging row)) rows
 
@@ -90,20 +91,20 @@ failures_by_end judging rows = flat_map (λ row. option_to_list (failure_by_end 
 abbrev pub sides_without_named_job : Planned → Job → Row → Sides
 sides_without_named_job plan job row = record (sides_in plan job row) { other = None }
 
--- the kind of a row that counts as a failure, given its job in a plan, if it has one; a job that passes although it is known to fail has no
--- unmet expectation
+-- the kind of failure of a row, given its job in a plan, if there is one: the first unmet expectation decides, or the ending for a job that
+-- passes although it is known to fail
 abbrev pub failure_kind_in_plan : Judging → Planned → Option Job → Row → FailureKind
 failure_kind_in_plan judging plan None row = failure_kind_of_end row.ending
 failure_kind_in_plan judging plan (Some job) row = if is_unknown_failure (judgement judging row)
     then failure_kind_of_unmet row.ending (unmet_of (sides_without_named_job plan job row))
     else failure_kind_of_end row.ending
 
--- the kind of the row of the job at an index of a plan, or `None` if the row does not count as a failure
+-- the kind of failure of a row, or `None` if the row does not count as a failure; `place` is the index of its job in the plan
 abbrev pub failure_in_plan : Judging → Planned → ℕ → Row → Option FailureKind
 failure_in_plan judging plan place row =
     if fails judging row then Some (failure_kind_in_plan judging plan (slice_get plan.jobs place) row) else None
 
--- the kinds of the failures among the rows of the jobs at these indices of a plan, in order
+-- the kind of failure of each row that counts as a failure, in order; `places` are the indices in the plan of the rows' jobs
 abbrev pub failures_in_plan : Judging → Planned → List ℕ → List Row → List FailureKind
 failures_in_plan judging plan places rows =
     flat_map (λ placed. option_to_list (failure_in_plan judging plan placed.0 placed.1)) (zip places rows)

@@ -37,7 +37,7 @@ judged_of counted.Failed = failed
 judged_of (counted.Known reason) = known reason.now
 judged_of (counted.NowPasses path) = now_passes path.now
 
--- the judgement of a row whose job is not a known failure, given whether the row passed
+-- the judgement of a row whose job is not listed as a known failure, given whether the row passed
 abbrev pub judged_unknown : Bool → Judged
 judged_unknown true = passed
 judged_unknown false = failed
@@ -58,7 +58,7 @@ judged_by_known (Some file) has_passed name = judged_in_file file.path has_passe
 abbrev pub judgement : Judging → Row → Judged
 judgement judging row = judged_by_known judging.known (has_passed judging.rule row) row.name
 
--- whether a row with this judgement is a failure
+-- whether a row with this judgement counts as a failure: it failed and is not a known failure, or it passed although it is listed as one
 abbrev pub is_failing : Judged → Bool
 is_failing passed = false
 is_failing failed = true
@@ -70,16 +70,16 @@ abbrev pub is_passed : Judged → Bool
 is_passed passed = true
 is_passed _ = false
 
--- whether a row with this judgement is a known failure
+-- whether a row with this judgement failed and is listed as a known failure
 abbrev pub is_known_failure : Judged → Bool
 is_known_failure (known reason) = true
 is_known_failure _ = false
 
--- whether a row with this judgement failed and is not a known failure
+-- whether a row with this judgement failed and is not listed as a known failure
 abbrev pub is_unknown_failure : Judged → Bool
 is_unknown_failure failed = true
 is_unknown_failure _ = false
 
--- whether a row counts as a failure
+-- whether a row counts as a failure: it failed and is not a known failure, or it passed although it is listed as one
 abbrev pub fails : Judging → Row → Bool
 fails judging row = is_failing (judgement judging row)

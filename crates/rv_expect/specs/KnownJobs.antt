@@ -13,15 +13,15 @@ use Rattle.rv_expect.specs.KnownLines.{has_name, lines_of, name_text, reason_tex
 
 -- ---- known jobs
 
--- the known failure with this name, or `None` if there is none
+-- the known failure of the job with this name, or `None` if there is none
 abbrev pub known_job_of : List KnownJob → List ℕ → Option KnownJob
 known_job_of known name = find (λ (job : KnownJob). bytes_eq job.name name) known
 
--- the reason of the known failure with this name, or `None` if there is none
+-- the reason why the job with this name is known to fail, or `None` if it is not a known failure
 abbrev pub reason_of : List KnownJob → List ℕ → Option (List ℕ)
 reason_of known name = option_map (λ (job : KnownJob). job.reason) (known_job_of known name)
 
--- whether there is a known failure with this name
+-- whether the job with this name is a known failure
 abbrev pub is_known : List KnownJob → List ℕ → Bool
 is_known known name = is_some (known_job_of known name)
 
@@ -35,7 +35,7 @@ known_job_of_line line = record { name = name_text line; reason = reason_text li
 abbrev pub known_in : List (List ℕ) → List KnownJob
 known_in lines = map known_job_of_line (filter has_name lines)
 
--- the names of jobs, which are passed by reference
+-- the names of jobs that these references point to
 abbrev pub job_names : List (Bor (List ℕ)) → List (List ℕ)
 job_names jobs = map (λ name. name.now) jobs
 
@@ -57,7 +57,7 @@ fault_of_line jobs earlier line = if has_name line
     (fault_kind jobs (known_in earlier) (name_text line))
     else None
 
--- the first of two errors, or the other if there is only one
+-- the first error, or the second one if there is no first one, or `None` if there is neither
 abbrev pub first_of : Option KnownFault → Option KnownFault → Option KnownFault
 first_of (Some fault) more = Some fault
 first_of None more = more
@@ -70,7 +70,7 @@ first_fault jobs earlier (line ∷ lines) =
 
 -- ---- a text
 
--- the known failures, or the error if there is one
+-- the error if there is one, or else the known failures
 abbrev pub known_or_fault : List KnownJob → Option KnownFault → Result (List KnownJob) KnownFault
 known_or_fault known None = Ok known
 known_or_fault known (Some fault) = Err fault

@@ -40,6 +40,6 @@ name_text line = trimmed (before_first is_hash line)
 unfoldable pub reason_text : List ℕ → List ℕ
 reason_text line = trimmed (after_first is_hash line)
 
--- whether a line has a name
+-- whether a line has a name: the text before the first `#` is not only white space
 abbrev pub has_name : List ℕ → Bool
 has_name line = not (length (name_text line) == 0)

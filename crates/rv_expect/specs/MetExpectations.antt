@@ -8,7 +8,7 @@ use Rattle.rv_expect.specs.declared.unmet.Unmet.TheVariants as unmet
 use Rattle.rv_jobs.specs.declared_job.Job.{Job}
 use Rattle.rv_rows.specs.Verdict.{expects_anything}
 
--- whether a job has an expectation of this kind; a job without any other expects exit code 0
+-- whether a job has an expectation of this kind; a job without any other has the default one, exit code 0
 unfoldable pub job_expects : Job → Expectation → Bool
 job_expects job expectation.Exit = is_some job.expect_exit
 job_expects job expectation.End = is_some job.expect_end
@@ -27,6 +27,6 @@ is_unmet_of_kind expectation.Same (unmet.Same difference) = true
 is_unmet_of_kind expectation.Nothing unmet.Nothing = true
 is_unmet_of_kind _ _ = false
 
--- whether a job has an expectation of this kind, and its run meets it, given the unmet ones
+-- whether a job has an expectation of this kind and its run meets it; `unmet` are the unmet expectations of the job
 abbrev pub is_expectation_met : Job → List Unmet → Expectation → Bool
 is_expectation_met job unmet one = job_expects job one && not (list_any (is_unmet_of_kind one) unmet)

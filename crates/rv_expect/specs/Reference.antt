@@ -18,7 +18,7 @@ use Rattle.rv_expect.specs.declared.reference.Reference.TheVariants.{Words, BadL
 
 -- ---- one line
 
--- the word with these bytes, if `line` is its line, or else `None`
+-- the word with these bytes, or `None` if there are no bytes, or `line` is not the line that this word is written as
 abbrev pub word_if_line : List ℕ → Result (List ℕ) FromHexError → Option ℕ
 word_if_line line (Ok bytes) =
     let word = from_be_bytes w32 bytes in
@@ -31,13 +31,13 @@ word_of_line line = word_if_line line (decode_sized (take 8 line) 4)
 
 -- ---- all lines
 
--- the words of a first line and of the lines after it, or the number of the first line without a word
+-- the result for a first line and the lines after it: all their words, or the number of the first line without a word
 abbrev pub with_reference_line : Option ℕ → Reference → Reference
 with_reference_line None behind = BadLine 1
 with_reference_line (Some word) (Words words) = Words (word ∷ words)
 with_reference_line (Some word) (BadLine line) = BadLine (line + 1)
 
--- the words in the lines of a text, or the number of its first line without a word
+-- the words in the lines of a text, or the number of its first line that is not a word in eight lower-case hexadecimal digits
 unfoldable pub read_reference : List ℕ → Reference
 read_reference [] = Words []
 read_reference (a ∷ b ∷ c ∷ d ∷ e ∷ f ∷ g ∷ h ∷ feed ∷ rest) =
@@ -48,7 +48,7 @@ read_reference _ = BadLine 1
 abbrev pub IsWord : ℕ → Type 0
 IsWord word = word < 2 ^ 32
 
--- each line of the bytes before the line `number` has a 32-bit word; this line exists and has none
+-- each line of the bytes before the line `number` has a 32-bit word; the line `number` exists and has none
 pub record IsFirstBadLine (number : ℕ) (bytes : List ℕ) : Type 0 where
   pub words : List ℕ
   pub rest : List ℕ
@@ -58,7 +58,7 @@ pub record IsFirstBadLine (number : ℕ) (bytes : List ℕ) : Type 0 where
   pub there : rest ≡ [] → ⊥
   pub bad : (word : ℕ) (more : List ℕ) → IsWord word → rest ≡ word_line word ++ more → ⊥
 
--- the result of reading a text is right: the text consists of the lines of these words, or this is its first line without a word
+-- the text consists of the lines of these words, or this is the number of its first line without a word
 abbrev pub IsReferenceOf : Reference → List ℕ → Type 0
 IsReferenceOf (Words words) text =
     AllByRecursion IsWord words × (text ≡ flat_map word_line words)
@@ -71,20 +71,21 @@ abbrev pub signature_words_or_empty : Option (List ℕ) → List ℕ
 signature_words_or_empty None = []
 signature_words_or_empty (Some words) = words
 
--- the first difference between two lists of words, as a difference of signatures
+-- a difference between two lists of words, as a difference between signatures
 abbrev pub word_difference : Difference → SignatureDifference
 word_difference (difference.At place) = Word place
 word_difference difference.Lengths = Count
 word_difference difference.Absent = Absent
 
--- the first difference between the words of a signature and the expected ones, which were read from a text, or `None` if they are equal
+-- the first difference between the words of a signature and the contents of the expected file, which are words or have an invalid line;
+-- `None` if the words are equal
 abbrev pub difference_from_reference : Reference → List ℕ → Option SignatureDifference
 difference_from_reference (Words expected) words =
     option_map word_difference (first_difference words expected)
 difference_from_reference (BadLine line) words = Some (Line line)
 
--- the first difference between a signature and the expected one, in the file with these bytes, if it was read, or `None` if they are equal
--- or none is expected
+-- the first difference between a signature and the expected one, or `None` if they are equal or none is expected; the list names the
+-- expected file, and `bytes` are its contents, if it was read
 abbrev pub signature_difference :
     Option (List ℕ) → Option (List ℕ) → Option (List ℕ) → Option SignatureDifference
 signature_difference None bytes signature = None

@@ -13,29 +13,30 @@ use Rattle.rv_expect.specs.declared.unmet.Unmet.{Unmet}
 use Rattle.rv_expect.specs.declared.unmet.Unmet.TheVariants.{Exit, End, Console, Signature}
 use Rattle.rv_expect.specs.declared.unmet.Unmet.TheVariants.{Same, Nothing}
 
--- the expectation of an exit code, if the job has it and this ending does not meet it
+-- the expectation of an exit code, or `None` if the job does not have it or this ending meets it
 abbrev pub unmet_exit : Job → RowEnd → Option Unmet
 unmet_exit job end = if has_expected_exit job.expect_exit end then None else Some Exit
 
--- the expectation of an end, if the job has it and this ending does not meet it
+-- the expectation of an end, or `None` if the job does not have it or this ending meets it
 abbrev pub unmet_end : Job → RowEnd → Option Unmet
 unmet_end job end = if has_expected_end job.expect_end end then None else Some End
 
--- the expectation of a console, if the job has it and the row does not meet it; `file` are the bytes of the file with the expected text, if
--- it was read
+-- the expectation of a console, or `None` if the job does not have it or the row meets it; `file` are the bytes of the file with the
+-- expected text, if it was read
 abbrev pub unmet_console : Job → Option (List ℕ) → Row → Option Unmet
 unmet_console job file row =
     option_map Console (console_difference job.expect_console file row.console)
 
--- the expectation of a signature, if there is a difference from it
+-- the expectation of a signature, with its difference from the actual one, or `None` if there is no difference
 abbrev pub unmet_signature : Option SignatureDifference → Option Unmet
 unmet_signature difference = option_map Signature difference
 
--- the expectation of `same_as`, if the job has it and the row does not meet it; `other` is the row of the named job, if that job ran
+-- the expectation of `same_as`, or `None` if the job does not have it or the row meets it; `other` is the row of the named job, or `None`
+-- if there is none
 abbrev pub unmet_same_as : Job → Option Row → Row → Option Unmet
 unmet_same_as job other row = option_map Same (same_as_difference job.same_as other row)
 
--- the default expectation of exit code 0, if this ending does not meet it
+-- the default expectation, exit code 0, or `None` if this ending meets it
 abbrev pub unmet_default_exit : RowEnd → Option Unmet
 unmet_default_exit end = if has_expected_exit (Some 0) end then None else Some Nothing
 
@@ -49,7 +50,7 @@ unmet_of_expecting_job sides =
     (signature_difference sides.job.expect_signature sides.reference sides.row.signature))
     ++ option_to_list (unmet_same_as sides.job sides.other sides.row)
 
--- the unmet expectations of a row, with the data that it is compared with; the row of a refused job has none
+-- the unmet expectations of a row, with the data that it is compared with; a row of a refused job has none
 unfoldable pub unmet_of : Sides → List Unmet
 unmet_of sides =
     if did_run sides.row.ending then

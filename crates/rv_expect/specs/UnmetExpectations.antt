@@ -58,7 +58,7 @@ outcome_in_row row = record {
   signature = row.signature;
 }
 
--- the outcome in the row of the job that `same_as` names, if it has one
+-- the outcome in the row of the job that `same_as` names, or `None` if there is no such row
 abbrev pub named_outcome : Option Row → Option Outcome
 named_outcome other = option_map outcome_in_row other
 
@@ -81,7 +81,7 @@ passes verdict.Pass end = true
 passes verdict.Fail end = false
 passes verdict.Unasked end = exits_with 0 end
 
--- the verdict in the row is that on its outcome
+-- the row has the verdict that its outcome requires
 abbrev pub HasItsVerdict : Sides → Type 0
 HasItsVerdict sides =
     sides.row.verdict ≡ verdict_of sides.job (outcome_in_row sides.row) sides.reference

@@ -13,8 +13,8 @@ abbrev pub row_of_same_as_job : Planned → Job → Option Row
 row_of_same_as_job plan job =
     option_map (row_of plan) (option_and_then (slice_get plan.jobs) job.same_as)
 
--- a row of a plan's job, with the data that it is compared with: the contents of the job's files, and the row of the job that its `same_as`
--- names
+-- the row of a plan's job with the data that it is compared with: the contents of the job's files, and the row of the job that its
+-- `same_as` names
 abbrev pub sides_in : Planned → Job → Row → Sides
 sides_in plan job row = record {
   job = job;
@@ -24,6 +24,6 @@ sides_in plan job row = record {
   other = row_of_same_as_job plan job;
 }
 
--- the unmet expectations of a row of a plan's job
+-- the unmet expectations of this row of a plan's job
 abbrev pub unmet_in : Planned → Job → Row → List Unmet
 unmet_in plan job row = unmet_of (sides_in plan job row)

@@ -59,7 +59,8 @@ impl FailureKind {
         }
     }
 
-    /// Returns the kind of a failure with these unmet expectations, of which the first decides.
+    /// Returns the kind of a failure, given how the job ended and its unmet expectations: the first one decides, or the ending if there are
+    /// none.
     pub fn of_unmet(ending: RowEnd, unmet: &[Unmet]) -> FailureKind
         ensures { result ≡ failure_kind_of_unmet ending unmet.now }
     {
@@ -69,7 +70,7 @@ impl FailureKind {
         }
     }
 
-    /// Whether two kinds of failures are the same.
+    /// Whether two kinds of failures are equal; two faults must be of one kind.
     pub fn is_same(self, other: FailureKind) -> bool
         ensures { result ≡ is_same_failure_kind self other }
     {
@@ -86,7 +87,7 @@ impl FailureKind {
     }
 }
 
-// Returns the kind of failure at an index of the kinds that follow the budget.
+// Returns the kind of failure at an index, counted from the first kind of fault, which follows `Budget`.
 fn kind_after_budget(index: usize) -> FailureKind
     ensures { result ≡ kind_after_budget (slice_get fault_kinds index) index }
 {
@@ -96,7 +97,7 @@ fn kind_after_budget(index: usize) -> FailureKind
     }
 }
 
-// Returns the kind of failure at an index of the kinds that follow those of faults.
+// Returns the kind of failure at an index, counted from `Refused`, which follows the kinds of faults.
 fn kind_after_faults(index: usize) -> FailureKind
     ensures { result ≡ kind_after_faults index }
 {
@@ -108,7 +109,7 @@ fn kind_after_faults(index: usize) -> FailureKind
     }
 }
 
-// Returns the kind of a failure, given how the job ended and the first expectation that its run does not meet.
+// Returns the kind of a failure, given how the job ended and its first unmet expectation.
 fn kind_of_first(ending: RowEnd, first: Unmet) -> FailureKind
     ensures { result ≡ failure_kind_of_first ending first }
 {

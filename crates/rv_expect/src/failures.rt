@@ -15,8 +15,8 @@ use rv_jobs::Plan;
 use rv_rows::{Row, expected_console_bytes, signature_reference_bytes};
 use std::alloc::{AllocError, Global};
 
-/// Returns the kinds of the failures among the rows of a report, in order. A report has no expectations, so only how the jobs ended is
-/// known.
+/// Returns the kind of failure of each row that counts as a failure, in order. It is the way the job ended, since a report has no
+/// expectations.
 pub fn failures_by_end(
     alloc: Global,
     judge: &Judge<'_>,
@@ -31,7 +31,7 @@ pub fn failures_by_end(
     Ok(failures)
 }
 
-/// Returns the kinds of the failures among the rows of the jobs at these indices of a plan, in order.
+/// Returns the kind of failure of each row that counts as a failure, in order. `places` are the indices in the plan of the rows' jobs.
 pub fn failures_in_plan(
     alloc: Global,
     judge: &Judge<'_>,
@@ -64,7 +64,7 @@ fn push_if_failed(
     Ok(())
 }
 
-// Returns the kind of a row that counts as a failure, given only how its job ended, or `None` if it does not count as one.
+// Returns the kind of failure of a row, by how its job ended, or `None` if the row does not count as a failure.
 fn failure_by_end(judge: &Judge<'_>, row: &Row) -> Option<FailureKind>
     ensures { result ≡ failure_by_end (judging_of judge.now) row.now }
 {
@@ -75,7 +75,7 @@ fn failure_by_end(judge: &Judge<'_>, row: &Row) -> Option<FailureKind>
     }
 }
 
-// Returns the kind of the row of the job at an index of a plan, or `None` if the row does not count as a failure.
+// Returns the kind of failure of a row, or `None` if the row does not count as a failure. `place` is the index of its job in the plan.
 fn failure_in_plan(
     alloc: Global,
     judge: &Judge<'_>,
@@ -95,8 +95,8 @@ fn failure_in_plan(
     Ok(Some(kind))
 }
 
-// Returns the kind of a failure by the unmet expectations of the job at an index of a plan. The job that its `same_as` names is not run
-// again.
+// Returns the kind of failure of a row, by the first unmet expectation of its job, which is at the index `place` of the plan. The job that
+// `same_as` names is not run again: `same_as` counts as unmet.
 fn kind_of_job(
     alloc: Global,
     plan: &Plan,

@@ -48,14 +48,14 @@ impl<'k> Judge<'k> {
         }
     }
 
-    /// Whether a row counts as a failure.
+    /// Whether a row counts as a failure: its job failed and is not a known failure, or it passed although it is listed as one.
     pub fn fails(&self, row: &Row) -> bool
         ensures { result ≡ fails (judging_of self.now) row.now }
     {
         self.judgement(row).is_failing()
     }
 
-    /// Whether one of the rows counts as a failure.
+    /// Whether at least one of the rows counts as a failure.
     pub fn fail_some(&self, rows: &[Row]) -> bool
         ensures { result ≡ list_any (fails (judging_of self.now)) rows.now }
     {
@@ -64,7 +64,8 @@ impl<'k> Judge<'k> {
 }
 
 impl<'k> Judgement<'k> {
-    /// Whether a row with this judgement is a failure.
+    /// Whether a row with this judgement counts as a failure: it failed and is not a known failure, or it passed although it is listed as
+    /// one.
     pub fn is_failing(self) -> bool
         ensures { result ≡ is_failing (judged_of self.entry) }
     {
@@ -84,7 +85,7 @@ impl<'k> Judgement<'k> {
         }
     }
 
-    /// Whether a row with this judgement failed and is not a known failure.
+    /// Whether a row with this judgement failed and is not listed as a known failure.
     pub fn is_unknown_failure(self) -> bool
         ensures { result ≡ is_unknown_failure (judged_of self.entry) }
     {
@@ -94,7 +95,7 @@ impl<'k> Judgement<'k> {
         }
     }
 
-    /// Whether a row with this judgement is a known failure.
+    /// Whether a row with this judgement failed and is listed as a known failure.
     pub fn is_known(self) -> bool
         ensures { result ≡ is_known_failure (judged_of self.entry) }
     {
@@ -105,7 +106,7 @@ impl<'k> Judgement<'k> {
     }
 }
 
-// Returns the judgement of a row whose job is not a known failure, given whether the row passed.
+// Returns the judgement of a row whose job is not listed as a known failure, given whether the row passed.
 fn judgement_of_unknown<'k>(passed: bool) -> Judgement<'k>
     ensures { judged_of result ≡ judged_unknown passed }
 {
@@ -116,7 +117,7 @@ fn judgement_of_unknown<'k>(passed: bool) -> Judgement<'k>
     }
 }
 
-// Returns the judgement of a row, given the known failures and whether the row passed.
+// Returns the judgement of a row, given the file of known failures and whether the row passed.
 fn judgement_in_file<'k>(known: &'k KnownJobs, passed: bool, row: &Row) -> Judgement<'k>
     ensures { judged_of result ≡ judged_in_file known.now.path passed (reason_of known.now.jobs row.now.name) }
 {

@@ -24,7 +24,7 @@ pub struct KnownJobs {
 }
 
 impl KnownJobs {
-    /// Returns why the job with this name is known to fail, or `None` if it is not.
+    /// Returns the reason why the job with this name is known to fail, or `None` if it is not a known failure.
     pub fn reason_of(&self, name: &[u8]) -> Option<&[u8]>
         ensures { option_map (λ reason. reason.now) result ≡ reason_of self.now.jobs name.now }
     {
@@ -35,7 +35,7 @@ impl KnownJobs {
     }
 }
 
-/// Returns the known failure with this name, or `None` if there is none.
+/// Returns the known failure of the job with this name, or `None` if there is none.
 pub(crate) fn known_job_of<'a>(jobs: &'a [KnownJob], name: &[u8]) -> Option<&'a KnownJob>
     ensures { option_map (λ job. job.now) result ≡ known_job_of jobs.now name.now }
 {

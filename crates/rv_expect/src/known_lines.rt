@@ -13,7 +13,7 @@ pub(crate) fn lines_of(alloc: Global, text: &[u8]) -> Result<Vec<&[u8]>, AllocEr
     text.split(|byte| *byte == b'\n').collect(alloc)
 }
 
-/// Returns the name in a line, which is empty if there is none.
+/// Returns the name in a line, which is the text before the first `#`, trimmed; empty if there is none.
 #[tactic(auto, unfolding(crate::specs::KnownLines::name_text))]
 pub(crate) fn name_text(line: &[u8]) -> &[u8]
     ensures { result.now ≡ name_text line.now }
@@ -21,7 +21,7 @@ pub(crate) fn name_text(line: &[u8]) -> &[u8]
     trimmed(&line[..hash_index(line)])
 }
 
-/// Returns the reason in a line, which is empty if there is none.
+/// Returns the reason in a line, which is the text after the first `#`, trimmed; empty if there is none.
 #[tactic(auto, unfolding(crate::specs::KnownLines::reason_text))]
 pub(crate) fn reason_text(line: &[u8]) -> &[u8]
     ensures { result.now ≡ reason_text line.now }
@@ -34,7 +34,7 @@ pub(crate) fn reason_text(line: &[u8]) -> &[u8]
     }
 }
 
-// Returns the index of the first `#`, or the length if there is none.
+// Returns the index of the first `#` in a line, or the length of the line if there is none.
 fn hash_index(line: &[u8]) -> usize
     ensures place { result ≡ position_or_len is_hash line.now }
     ensures within { result ≤ length line.now }
@@ -45,7 +45,7 @@ fn hash_index(line: &[u8]) -> usize
     }
 }
 
-// Returns the index of the first `#`, or `None` if there is none.
+// Returns the index of the first `#` in a line, or `None` if there is none.
 fn first_hash(line: &[u8]) -> Option<usize>
     ensures { result ≡ position is_hash line.now }
 {

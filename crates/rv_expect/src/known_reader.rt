@@ -25,7 +25,7 @@ pub fn read_known_jobs(
     read_lines(alloc, jobs, lines.as_slice())
 }
 
-// Parses the lines of a list of known failures.
+// Returns the known failures in these lines, or the first error. `jobs` are the names of the list's jobs.
 fn read_lines(
     alloc: Global,
     jobs: &[&str],
@@ -45,7 +45,8 @@ fn read_lines(
     Ok(Ok(Sequence::new(known)))
 }
 
-// Returns the error in the line with this number, which follows lines with these known failures, or `None` if the line is valid.
+// Returns the error in a line, or `None` if it is valid. `number` is its number, counted from 1, and `known` are the known failures in the
+// lines before it.
 fn fault_of_line(
     alloc: Global,
     jobs: &[&str],
@@ -71,7 +72,8 @@ fn fault_of_line(
     }))
 }
 
-// Returns what is wrong with a name that follows these known failures, or `None` if nothing is.
+// Returns what is wrong with a name, or `None` if it is valid: it must be the name of a job, and must not be among `known`, the known
+// failures before it.
 fn fault_kind(jobs: &[&str], known: &[KnownJob], name: &[u8]) -> Option<KnownFaultKind>
     ensures { result ≡ fault_kind (job_names jobs.now) known.now name.now }
 {
@@ -86,21 +88,21 @@ fn fault_kind(jobs: &[&str], known: &[KnownJob], name: &[u8]) -> Option<KnownFau
     }
 }
 
-// Whether there is a known failure with this name.
+// Whether the job with this name is among the known failures.
 fn is_known(known: &[KnownJob], name: &[u8]) -> bool
     ensures { result ≡ is_known known.now name.now }
 {
     known_job_of(known, name).is_some()
 }
 
-// Whether one of the jobs has this name.
+// Whether at least one job has this name.
 fn has_job_named(jobs: &[&str], name: &[u8]) -> bool
     ensures { result ≡ has_job_named (job_names jobs.now) name.now }
 {
     is_among(jobs, name)
 }
 
-// Whether one of the names is this name.
+// Whether `name` is one of these names.
 fn is_among(names: &[&str], name: &[u8]) -> bool
     ensures { result ≡ list_any (λ one. bytes_eq one.now name.now) names.now }
 {

@@ -41,8 +41,8 @@ pub fn unmet_is_what_does_not_hold()
 {}
 
 /// Proves that no expectation is reported as unmet if and only if the job passes, for each row whose job ran, whose signature has 32-bit
-/// words and whose verdict is that on its outcome. A job passes if its verdict is `pass`, or if it has no expectations and ended with exit
-/// code 0.
+/// words, and whose verdict is the one that its outcome requires. A job passes if its verdict is `pass`, or if it has no expectations and
+/// ended with exit code 0.
 pub fn nothing_is_unmet_where_a_job_passes()
     ensures { (sides : Sides)
         → IsTrue (did_run sides.row.ending)

@@ -20,21 +20,21 @@ pub enum Expectation {
     Nothing,
 }
 
-/// Whether a job has an expectation of this kind and its run meets it, given the unmet ones.
+/// Whether a job has an expectation of this kind and its run meets it. `unmet` are the unmet expectations of the job.
 pub fn is_expectation_met(job: &Job, unmet: &[Unmet], one: Expectation) -> bool
     ensures { result ≡ is_expectation_met job.now unmet.now one }
 {
     job_expects(job, one) && !is_expectation_unmet(unmet, one)
 }
 
-// Whether an expectation of this kind is unmet.
+// Whether one of these unmet expectations is of this kind.
 fn is_expectation_unmet(unmet: &[Unmet], one: Expectation) -> bool
     ensures { result ≡ list_any (is_unmet_of_kind one) unmet.now }
 {
     unmet.iter().any(|other| is_unmet_of_kind(one, *other))
 }
 
-// Whether a job has an expectation of this kind.
+// Whether a job has an expectation of this kind; a job without any other has the default one, exit code 0.
 #[tactic(auto, unfolding(crate::specs::MetExpectations::job_expects))]
 fn job_expects(job: &Job, one: Expectation) -> bool
     ensures { result ≡ job_expects job.now one }

@@ -15,7 +15,8 @@ pub enum Rule {
     Lenient,
 }
 
-/// Whether a row passed by this rule.
+/// Whether a row passed. By the strict rule, the verdict must be `pass`, or the job has no expectations and ended with exit code 0. By the
+/// lenient rule, the verdict must not be `fail`.
 pub fn has_passed(rule: Rule, row: &Row) -> bool
     ensures { result ≡ has_passed rule row.now }
 {

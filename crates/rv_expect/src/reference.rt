@@ -50,7 +50,8 @@ pub fn signature_words_or_empty(signature: &Option<Words>) -> &[u32]
     }
 }
 
-// Returns the first difference between the words of a signature and the expected ones, or `None` if they are equal.
+// Returns the first difference between the words of a signature and the contents of the expected file: its words, or its first invalid
+// line. Returns `None` if the words are equal.
 fn difference_from_reference(reference: &Reference, words: &[u32]) -> Option<SignatureDifference>
     ensures { result ≡ difference_from_reference reference.now words.now }
 {
@@ -66,7 +67,7 @@ fn difference_from_reference(reference: &Reference, words: &[u32]) -> Option<Sig
     }
 }
 
-// Returns the words in the lines of a text, or the number of its first line without a word.
+// Returns the words in the lines of a text, or the number of its first line that is not a word in eight lower-case hexadecimal digits.
 fn read_reference(alloc: Global, text: &[u8]) -> Result<Reference, AllocError>
     ensures { IfOk result (λ reference. reference ≡ read_reference text.now) }
 {
@@ -86,7 +87,8 @@ fn read_reference(alloc: Global, text: &[u8]) -> Result<Reference, AllocError>
     }
 }
 
-// Returns the word in a line, or `None` if it has none. Digits are decoded in either case, so the word is written again and compared.
+// Returns the word in a line, or `None` if the line is not eight lower-case hexadecimal digits and a line feed. Digits are decoded in
+// either case, so the word is written again and compared.
 fn word_of_line(line: &[u8]) -> Option<u32>
     requires { length line.now ≡ LINE }
     ensures { result ≡ word_of_line line.now }

@@ -67,7 +67,7 @@ fn push_if_unmet(found: &mut Vec<Unmet>, unmet: Option<Unmet>) -> Result<(), All
     Ok(())
 }
 
-// Returns the default expectation of exit code 0, if the ending does not meet it.
+// Returns the default expectation, exit code 0, if this ending does not meet it, or else `None`.
 fn unmet_default_exit(ending: RowEnd) -> Option<Unmet>
     ensures { result ≡ unmet_default_exit ending }
 {
@@ -78,7 +78,7 @@ fn unmet_default_exit(ending: RowEnd) -> Option<Unmet>
     }
 }
 
-// Returns the expectation of an exit code, if the job has it and the ending does not meet it.
+// Returns the expectation of an exit code, or `None` if the job does not have it or this ending meets it.
 fn unmet_exit(job: &Job, ending: RowEnd) -> Option<Unmet>
     ensures { result ≡ unmet_exit job.now ending }
 {
@@ -89,7 +89,7 @@ fn unmet_exit(job: &Job, ending: RowEnd) -> Option<Unmet>
     }
 }
 
-// Returns the expectation of an end, if the job has it and the ending does not meet it.
+// Returns the expectation of an end, or `None` if the job does not have it or this ending meets it.
 fn unmet_end(job: &Job, ending: RowEnd) -> Option<Unmet>
     ensures { result ≡ unmet_end job.now ending }
 {
@@ -100,8 +100,8 @@ fn unmet_end(job: &Job, ending: RowEnd) -> Option<Unmet>
     }
 }
 
-// Returns the expectation of a console, if the job has it and the row does not meet it. `file` holds the bytes of the file with the
-// expected text, if it was read.
+// Returns the expectation of a console, or `None` if the job does not have it or the row meets it. `file` holds the bytes of the file with
+// the expected text, if it was read.
 fn unmet_console(job: &Job, file: Option<&[u8]>, row: &Row) -> Option<Unmet>
     ensures { result ≡ unmet_console job.now (option_map (λ bytes. bytes.now) file.entry) row.now }
 {
@@ -111,7 +111,7 @@ fn unmet_console(job: &Job, file: Option<&[u8]>, row: &Row) -> Option<Unmet>
     }
 }
 
-// Returns the expectation of a signature, if there is a difference from it.
+// Returns the expectation of a signature, with its difference from the actual one, or `None` if there is no difference.
 fn unmet_signature(difference: Option<SignatureDifference>) -> Option<Unmet>
     ensures { result ≡ unmet_signature difference }
 {
@@ -121,8 +121,8 @@ fn unmet_signature(difference: Option<SignatureDifference>) -> Option<Unmet>
     }
 }
 
-// Returns the expectation of `same_as`, if the job has it and the row does not meet it. `other` is the row of the named job, if that job
-// ran.
+// Returns the expectation of `same_as`, or `None` if the job does not have it or the row meets it. `other` is the row of the named job, or
+// `None` if there is none.
 fn unmet_same_as(job: &Job, other: Option<&Row>, row: &Row) -> Option<Unmet>
     ensures { result ≡ unmet_same_as job.now (option_map (λ row. row.now) other.entry) row.now }
 {

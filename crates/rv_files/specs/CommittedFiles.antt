@@ -13,8 +13,8 @@ committed_file path bytes = record {
   bytes = bytes;
 }
 
--- the committed files went from `before` to `after`, which adds a file with this path and these bytes; nothing is said if the files or the
--- bytes are unknown
+-- the committed files went from `before` to `after` by adding a file with this path and these bytes; true if the files or the bytes are
+-- unknown
 abbrev pub IsCommittedFileAdded : Option (List CommittedFile) → Option (List CommittedFile) → List ℕ → Option (List ℕ) → Type 0
 IsCommittedFileAdded before after path bytes =
     IfSome before (λ earlier. IfSome bytes (λ known. after ≡ Some (earlier ++ committed_file path known ∷ [])))

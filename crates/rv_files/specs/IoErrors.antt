@@ -4,7 +4,7 @@ use Rattle.std.specs.declared.io.ErrorKind.{ErrorKind}
 use Rattle.std.specs.declared.io.ErrorKind.TheVariants as kind
 
 -- the message for a failed open, read or write: `out of memory` if memory ran out, `cannot be read` for an error that is not listed, and
--- otherwise that of `strerror`
+-- otherwise the message of `strerror`
 unfoldable pub io_error_text : ErrorKind → List ℕ
 io_error_text kind.NotFound = codes "No such file or directory"
 io_error_text kind.IsADirectory = codes "Is a directory"
@@ -27,8 +27,8 @@ io_error_text kind.Unsupported = codes "Operation not supported"
 io_error_text kind.OutOfMemory = codes "out of memory"
 io_error_text _ = codes "cannot be read"
 
--- the message for a failed write: `out of memory` if memory ran out, `write failed` for an error that is not listed, and otherwise that of
--- `strerror`
+-- the message for a failed write: `out of memory` if memory ran out, `write failed` for an error that is not listed, and otherwise the
+-- message of `strerror`
 unfoldable pub write_error_text : ErrorKind → List ℕ
 write_error_text kind.StorageFull = codes "No space left on device"
 write_error_text kind.QuotaExceeded = codes "Disk quota exceeded"
@@ -40,7 +40,7 @@ write_error_text kind.TimedOut = codes "Connection timed out"
 write_error_text kind.OutOfMemory = codes "out of memory"
 write_error_text _ = codes "write failed"
 
--- whether a write failed because the pipe has no readers left
+-- whether a write that failed with this error failed because the pipe has no readers left
 abbrev pub is_broken_pipe : ErrorKind → Bool
 is_broken_pipe kind.BrokenPipe = true
 is_broken_pipe _ = false

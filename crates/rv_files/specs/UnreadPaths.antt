@@ -7,16 +7,16 @@ use Rattle.rv_files.specs.declared.file_store.WholeError.{WholeError}
 use Rattle.rv_files.specs.declared.file_store.WholeError.TheVariants as whole
 use Rattle.rv_files.specs.declared.recording_store.UnreadablePath.{UnreadablePath}
 
--- the path of a file: below the directory `folder` if it is given and the path is relative, else the path itself
+-- the path joined to the directory `folder` if the path is relative and there is a directory; otherwise the path itself
 abbrev pub resolved_path : Option (List ℕ) → List ℕ → List ℕ
 resolved_path (Some folder) path = path_join folder path
 resolved_path None path = path
 
--- the contents of the files as a function of paths relative to the directory `folder`, if they are known
+-- the contents of the files for paths relative to the directory `folder`, if the contents are known
 abbrev pub contents_below : Option (List ℕ) → Option FileContents → Option FileContents
 contents_below folder known = option_map (λ files path. files (resolved_path folder path)) known
 
--- if a path could not be read because of a system error, and the contents of files are known, then no file has this path
+-- if the system failed to read a path, and the contents of files are known, then no file has this path
 abbrev pub HasNoContentsIfUnreadable : Option FileContents → List ℕ → WholeError → Type 0
 HasNoContentsIfUnreadable known path (whole.Failed reason) = IfSome known (λ files. files path ≡ None)
 HasNoContentsIfUnreadable known path whole.TooLong = Unit {0}
@@ -29,7 +29,7 @@ unread_entry path reason = record {
   reason = reason;
 }
 
--- the records to add after a path could not be read: one if the system failed to open or read the file, else none
+-- a record of the path if the system failed to open or read it, or else none
 abbrev pub unread_entries : List ℕ → WholeError → List UnreadablePath
 unread_entries path (whole.Failed reason) = unread_entry path reason ∷ []
 unread_entries path whole.TooLong = []

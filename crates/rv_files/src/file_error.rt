@@ -21,6 +21,7 @@ impl From<AllocError> for FileError {
 
     ghost from_gives = { λ _ error. error ≡ OutOfMemory };
 
+    // Returns the error for a failed allocation: out of memory.
     fn from(_: AllocError) -> FileError {
         FileError::OutOfMemory
     }
@@ -32,6 +33,7 @@ impl From<io::Error> for FileError {
 
     ghost from_gives = { λ refused error. error ≡ file_error (error_kind refused) };
 
+    // Returns the error for an error of the system: out of memory, or a failure with the system's reason.
     fn from(error: io::Error) -> FileError {
         match error.kind() {
             ErrorKind::OutOfMemory => FileError::OutOfMemory,

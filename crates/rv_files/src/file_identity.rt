@@ -8,8 +8,8 @@ use std::os::unix::fs::MetadataExt;
 use std::path::{Path, PathBuf};
 use std::rt::Files;
 
-/// Returns a text that two paths share if and only if they denote one file of the system: the device and inode of an existing file, or else
-/// the path with its directory resolved by the system.
+/// Returns a text that is equal for two paths if and only if they denote one file of the system: the device and inode of an existing file,
+/// or else the path with its directory resolved by the system.
 pub(crate) fn file_identity<R: Files>(
     files: &R,
     alloc: Global,

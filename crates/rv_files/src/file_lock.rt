@@ -10,6 +10,7 @@ pub trait FileLock {
 }
 
 impl FileLock for File {
+    // Locks the file until it is closed, and returns whether no other process holds the lock.
     fn try_to_lock(&self) -> bool {
         !matches!(self.try_lock(), Err(TryLockError::WouldBlock))
     }

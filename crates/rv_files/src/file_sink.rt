@@ -24,6 +24,7 @@ impl<W: Write + Drop> Sink for FileSink<W> {
 
     ghost failed = { λ sink. sink.stream.failures };
 
+    // Writes bytes to the file, and returns how many were written, which is at least one.
     fn put(&mut self, bytes: &[u8]) -> Result<usize, SinkFailed>
         ensures within { IfOk result (λ count. (1 ≤ count) × (count ≤ length bytes.now)) }
         ensures written { IfOk result (λ count. Appends (W.contents self.old.stream.stream)
@@ -37,12 +38,14 @@ impl<W: Write + Drop> Sink for FileSink<W> {
         self.stream.put(bytes)
     }
 
+    // Returns the number of failed writes.
     fn failures(&self) -> u64 {
         self.stream.failures()
     }
 }
 
 impl<W: Write + Drop> LastError for FileSink<W> {
+    // Returns the kind of the last error, or `Other` if no write has failed.
     fn last_error(&self) -> ErrorKind {
         self.stream.last_error()
     }

@@ -29,6 +29,7 @@ impl From<InputError> for WholeError {
 
     ghost from_gives = { λ input error. error ≡ input_failure input };
 
+    // Returns why a file could not be read whole, given why a limited read of it failed.
     fn from(error: InputError) -> WholeError {
         match error {
             InputError::OutOfMemory => WholeError::OutOfMemory,
@@ -42,6 +43,7 @@ impl From<AllocError> for WholeError {
 
     ghost from_gives = { λ _ error. error ≡ OutOfMemory };
 
+    // Returns the error for a failed allocation: out of memory.
     fn from(_: AllocError) -> WholeError {
         WholeError::OutOfMemory
     }
@@ -52,6 +54,7 @@ impl From<WholeError> for ReadError {
 
     ghost from_gives = { λ whole error. error ≡ read_failure whole };
 
+    // Returns the error of a store, given why a file could not be read whole.
     fn from(error: WholeError) -> ReadError {
         match error {
             WholeError::Failed(_) => ReadError::Unreadable,
@@ -70,12 +73,12 @@ pub struct FileStore<'a, R: Files> {
 }
 
 impl<'a, R: Files> FileStore<'a, R> {
-    /// Returns a store over these files that has counted no unreadable file.
+    /// Returns a store that reads these files, and has not counted any unreadable file.
     pub fn new(files: &'a R) -> FileStore<'a, R> {
         FileStore { files, faults: 0 }
     }
 
-    // Reads the file at a path, and counts it if it is unreadable. The bytes are those of some file of the system.
+    // Reads the file at a path, and counts it if it is unreadable.
     fn read_counting_faults(&mut self, alloc: Global, path: &str) -> Result<Vec<u8>, ReadError>
         ensures opened { IfOk result (λ bytes. (file : R.File)
             × IfSome (R.File.remaining file) (λ known. bytes.items ≡ known)) }
@@ -91,7 +94,7 @@ impl<'a, R: Files> FileStore<'a, R> {
         }
     }
 
-    // Counts an unreadable file, and returns the error that says so.
+    // Counts an unreadable file, and returns the error for it.
     fn count_fault(&mut self) -> ReadError
         ensures counted { self.new.faults ≡ one_more self.old.faults }
         ensures value { result ≡ ReadError.Unreadable }
@@ -106,16 +109,18 @@ impl<'a, R: Files> Store for FileStore<'a, R> {
 
     ghost faulted = { λ store. store.faults };
 
+    // Reads the file at a path, and counts it if it is unreadable.
     fn read(&mut self, alloc: Global, path: &str) -> Result<Vec<u8>, ReadError> {
         self.read_counting_faults(alloc, path)
     }
 
+    // Returns the number of unreadable files.
     fn faults(&self) -> u64 {
         self.faults
     }
 }
 
-/// Opens the file at exactly this path and reads it with [`read_whole`].
+/// Returns the contents of the file at exactly this path, read by [`read_whole`].
 pub(crate) fn read_file<R: Files>(
     files: &R,
     alloc: Global,

@@ -21,6 +21,7 @@ impl From<AllocError> for InputError {
 
     ghost from_gives = { λ _ error. error ≡ OutOfMemory };
 
+    // Returns the error for a failed allocation: out of memory.
     fn from(_: AllocError) -> InputError {
         InputError::OutOfMemory
     }
@@ -29,7 +30,7 @@ impl From<AllocError> for InputError {
 // The maximum number of bytes requested per read: large, for lists and images of megabytes, since each read is a system call.
 const CHUNK: usize = 16_384;
 
-/// Returns the reader's bytes to its end, or the first `most` of them if there are more; the rest remains in the reader.
+/// Returns the reader's bytes up to its end, or the first `most` of them if there are more; the others remain in the reader.
 pub fn read_at_most<R: Read>(
     alloc: Global,
     input: &mut R,
@@ -51,8 +52,8 @@ pub fn read_at_most<R: Read>(
     Ok(bytes)
 }
 
-// Reads once, appends the bytes that were read, and returns their number. A separate buffer receives them, so that a failed allocation is
-// not taken for a failed read.
+// Reads once, appends the bytes that were read, so that there are at most `most`, and returns how many they are. A separate buffer receives
+// them, so that a failed allocation is not taken for a failed read.
 fn read_chunk<R: Read>(
     input: &mut R,
     chunk: &mut [u8; CHUNK],

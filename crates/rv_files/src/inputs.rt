@@ -41,6 +41,7 @@ impl<'a, R: Files> SystemInputs<'a, R> {
 impl<'a, R: Files> Inputs for SystemInputs<'a, R> {
     ghost contents = { λ _. None };
 
+    // Returns the first `most` bytes of the file at a path, or all of them if there are fewer.
     fn read_up_to(&self, alloc: Global, path: &str, most: usize) -> Result<Vec<u8>, InputError>
         ensures within { IfOk result (λ bytes. length bytes.items ≤ most) }
 

@@ -6,7 +6,7 @@ ghost use Rattle.rv_files.specs.IoErrors.{io_error_text, write_error_text};
 use std::io::ErrorKind;
 
 /// Returns the message for a failed open, read or write: `out of memory` if memory ran out, `cannot be read` for an error that is not
-/// listed, and otherwise that of `strerror`.
+/// listed, and otherwise the message of `strerror`.
 #[tactic(auto, unfolding(crate::specs::IoErrors::io_error_text))]
 pub fn io_error_text(kind: ErrorKind) -> &'static str
     ensures { result.now ≡ io_error_text kind }
@@ -36,7 +36,7 @@ pub fn io_error_text(kind: ErrorKind) -> &'static str
 }
 
 /// Returns the message for a failed write: `out of memory` if memory ran out, `write failed` for an error that is not listed, and otherwise
-/// that of `strerror`.
+/// the message of `strerror`.
 #[tactic(auto, unfolding(crate::specs::IoErrors::write_error_text))]
 pub fn write_error_text(kind: ErrorKind) -> &'static str
     ensures { result.now ≡ write_error_text kind }

@@ -45,6 +45,7 @@ impl MemoryInputs {
 impl Inputs for MemoryInputs {
     ghost contents = { λ inputs. Some (memory_contents inputs.files.items) };
 
+    // Returns the first `most` bytes of the file with this path, or all of them if there are fewer. A missing file is an error.
     fn read_up_to(&self, alloc: Global, path: &str, most: usize) -> Result<Vec<u8>, InputError> {
         let Some(file) = self.file_at(path) else {
             return Err(InputError::Failed(ErrorKind::NotFound));
@@ -66,6 +67,7 @@ impl Sink for MemorySink {
 
     ghost failed = { λ sink. sink.failures };
 
+    // Appends all bytes to the file in memory, or none if an allocation fails.
     fn put(&mut self, bytes: &[u8]) -> Result<usize, SinkFailed> {
         match self.bytes.extend_from_slice(bytes) {
             Ok(()) => Ok(bytes.len()),
@@ -76,12 +78,14 @@ impl Sink for MemorySink {
         }
     }
 
+    // Returns the number of failed writes.
     fn failures(&self) -> u64 {
         self.failures
     }
 }
 
 impl LastError for MemorySink {
+    // Returns `OutOfMemory`: a write to memory fails for no other reason.
     fn last_error(&self) -> ErrorKind {
         // Out of memory: nothing but a growth is refused here.
         ErrorKind::OutOfMemory
@@ -122,7 +126,7 @@ impl MemoryOutputs {
         &self.placed
     }
 
-    // Uses up one of the allowed steps, or fails if none is left.
+    // Uses up one of the allowed steps, or returns an error if none is left.
     fn take_step(&mut self) -> Result<(), FileError>
         ensures same { self.new.placed ≡ self.old.placed }
         ensures taken { MatchResult result (λ _. self.new.steps_left + 1 ≡ self.old.steps_left)
@@ -151,20 +155,24 @@ impl Outputs for MemoryOutputs {
 
     ghost synced_bytes = { λ bytes. Some bytes.items };
 
+    // Returns the path itself: in memory, a file has only one path.
     fn identity(&self, alloc: Global, path: &str) -> Result<Text, AllocError> {
         Text::copy(alloc, path)
     }
 
+    // Returns true: in memory, there are no directories.
     fn is_below(&self, _alloc: Global, _directory: &str, _path: &str) -> Result<bool, AllocError> {
         Ok(true)
     }
 
+    // Returns the path itself, which is the only file that writing to it replaces.
     fn replaced_files(&self, alloc: Global, path: &str) -> Result<Vec<Text>, FileError> {
         let mut replaced = Vec::with_capacity(alloc, 1)?;
         add_text(&mut replaced, Text::copy(alloc, path)?)?;
         Ok(replaced)
     }
 
+    // Creates an empty file in memory, which uses up one step. Any file at the path remains.
     fn create(&mut self, alloc: Global, path: &str) -> Result<(Text, MemorySink), FileError> {
         self.take_step()?;
         let file = MemorySink {
@@ -174,11 +182,13 @@ impl Outputs for MemoryOutputs {
         Ok((Text::copy(alloc, path)?, file))
     }
 
+    // Returns the bytes of the file, which uses up one step.
     fn sync(&mut self, file: MemorySink) -> Result<Vec<u8>, FileError> {
         self.take_step()?;
         Ok(file.bytes)
     }
 
+    // Places a file at its path, which uses up one step.
     fn place(&mut self, path: Text, bytes: Vec<u8>) -> Result<(), FileError> {
         self.take_step()?;
         match self.placed.push(MemoryFile { path, bytes }) {
@@ -187,6 +197,7 @@ impl Outputs for MemoryOutputs {
         }
     }
 
+    // Does nothing: a file that was not placed leaves nothing behind.
     fn abandon(&mut self, _place: Text) {}
 }
 

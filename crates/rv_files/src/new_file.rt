@@ -32,8 +32,8 @@ fn replaceable_file<R: Files>(files: &R, path: &str) -> io::Result<Option<Metada
     }
 }
 
-// Creates and locks a file, after removing one that an earlier run left. Of two processes that do this at once, only one succeeds: each
-// locks what it removes and what it creates.
+// Creates and locks a file at a path, after removing one that an earlier run left there. Of two processes that do this at once, only one
+// succeeds: each locks what it removes and what it creates.
 fn create_locked_file<R: Files>(files: &R, path: &str) -> io::Result<R::File>
 where
     R::File: FileLock,
@@ -55,8 +55,8 @@ where
     }
 }
 
-// Returns the locked file that an earlier run left at a path, or `None` if no regular file is there. If another process has locked it, this
-// is an error.
+// Locks the file that an earlier run left at a path, and returns it, or returns `None` if no regular file is there. If another process has
+// locked it, this is an error.
 fn lock_left_file<R: Files>(files: &R, path: &str) -> io::Result<Option<R::File>>
 where
     R::File: FileLock,
@@ -80,7 +80,7 @@ fn is_still_at<R: Files>(files: &R, file: &R::File, path: &str) -> bool {
     }
 }
 
-// Gives a new file the mode of another file, and its owner and group if the system allows it.
+// Gives a new file the mode of the file with the metadata `old`, and its owner and group if the system allows it.
 fn keep_attributes<R: Files>(
     files: &R,
     path: &str,
@@ -94,14 +94,15 @@ fn keep_attributes<R: Files>(
     file.set_permissions(old.permissions())
 }
 
-/// Syncs the directory of a path to disk, if the system can.
+/// Syncs the directory of a path to disk. Failures are ignored.
 pub(crate) fn sync_directory<R: Files>(files: &R, path: &str) {
     if let Ok(directory) = fs::open(files, directory_of(path).as_str()) {
         let _ = directory.sync_all();
     }
 }
 
-/// Checks, as far as possible before the file is created, that it can be placed: its directory exists, and no read-only file is in the way.
+/// Returns an error if the file cannot be placed at its final path: its directory does not exist, or a read-only file is there. This is
+/// checked before the file is created.
 pub(crate) fn check_distinct_files<R: Files>(files: &R, places: &FilePaths) -> io::Result<()> {
     replaceable_file(files, places.whole.as_str())?;
     files.metadata(directory_of(places.whole.as_str()).as_str())?;

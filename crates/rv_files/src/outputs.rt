@@ -28,22 +28,22 @@ pub trait Outputs {
     // The bytes of a synced file, if known.
     ghost synced_bytes: { Self.Synced → Option (List ℕ) };
 
-    /// Returns a text that two paths share if and only if they denote the same file, however they are spelled.
+    /// Returns a text that is equal for two paths if and only if they denote one file, however the paths are spelled.
     fn identity(&self, alloc: Global, path: &str) -> Result<Text, AllocError>
         // If the placed files are known, a file has only one path.
         ensures { IfOk result (λ identity. IfSome (placed self.now) (λ _. identity ≡ path.now)) };
 
-    /// Whether the file at a path is in a directory or below it, however both are spelled.
+    /// Whether the file at a path is in a directory or in one of its subdirectories, however both paths are spelled.
     fn is_below(&self, alloc: Global, directory: &str, path: &str) -> Result<bool, AllocError>
         // If the placed files are known, there are no directories.
         ensures { IfOk result (λ below. IfSome (placed self.now) (λ _. IsTrue below)) };
 
-    /// Returns the identities of the files that writing to a path replaces or removes. Fails if no file can be written there: its directory
-    /// is missing, or a read-only file is in the way.
+    /// Returns the identities of the files that writing to a path replaces or removes. If no file can be written there, because its
+    /// directory is missing or a read-only file is in the way, returns an error.
     fn replaced_files(&self, alloc: Global, path: &str) -> Result<Vec<Text>, FileError>
         ensures { IfOk result (λ replaced. IfSome (placed self.now) (λ _. replaced.items ≡ path.now ∷ [])) };
 
-    /// Creates an empty file for a path, and its destination. Any file at the path remains.
+    /// Creates an empty file that is to be placed at a path, and returns its destination and the file. Any file at the path remains.
     fn create(&mut self, alloc: Global, path: &str) -> Result<(Self::Place, Self::File), FileError>
         ensures same { placed self.new ≡ placed self.old }
         ensures path { IfOk result (λ made. pending_path made.0 ≡ path.now) }
@@ -68,7 +68,7 @@ pub trait Outputs {
         ensures same { OnErr result (placed self.new ≡ placed self.old) }
         ensures another_error { IfErr result (λ error. error ≢ FileError.SamePlace) };
 
-    /// Removes the unplaced file of a destination. Any file at the path remains.
+    /// Removes a file that was not placed. Any file at its path remains.
     fn abandon(&mut self, place: Self::Place)
         ensures { placed self.new ≡ placed self.old };
 }

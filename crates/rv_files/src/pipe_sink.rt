@@ -14,7 +14,7 @@ pub trait Closable: Sink {
     // Whether a write failed because no reader is left.
     ghost closed: { Self → Bool };
 
-    /// Returns whether a write failed because no reader is left.
+    /// Whether a write failed because the pipe has no readers left.
     fn is_closed(&self) -> bool
         ensures { result ≡ closed self.now };
 }
@@ -42,7 +42,7 @@ impl<W: Write + Drop> PipeSink<W> {
         }
     }
 
-    // Counts a failure, and records whether it means that the reader has closed the pipe.
+    // Counts a failed write, and records whether it failed because the pipe has no readers left.
     fn record_failure(&mut self, reason: ErrorKind) -> SinkFailed
         ensures counted { self.new.failures ≡ one_more self.old.failures }
         ensures closed { self.new.is_closed ≡ (self.old.is_closed || is_broken_pipe reason) }
@@ -54,7 +54,7 @@ impl<W: Write + Drop> PipeSink<W> {
     }
 }
 
-// Whether a write failed because the pipe has no readers left.
+// Whether a write that failed with this error failed because the pipe has no readers left.
 fn is_broken_pipe(reason: ErrorKind) -> bool
     ensures { result ≡ is_broken_pipe reason }
 {
@@ -66,6 +66,7 @@ impl<W: Write + Drop> Sink for PipeSink<W> {
 
     ghost failed = { λ sink. sink.failures };
 
+    // Writes bytes to the stream and flushes it. Returns how many were written, which is at least one.
     fn put(&mut self, bytes: &[u8]) -> Result<usize, SinkFailed>
         ensures within { IfOk result (λ count. (1 ≤ count) × (count ≤ length bytes.now)) }
         ensures written { IfOk result (λ count. Appends (W.contents self.old.stream)
@@ -82,6 +83,7 @@ impl<W: Write + Drop> Sink for PipeSink<W> {
         }
     }
 
+    // Returns the number of failed writes.
     fn failures(&self) -> u64 {
         self.failures
     }
@@ -90,12 +92,14 @@ impl<W: Write + Drop> Sink for PipeSink<W> {
 impl<W: Write + Drop> Closable for PipeSink<W> {
     ghost closed = { λ sink. sink.is_closed };
 
+    // Whether a write failed because the pipe has no readers left.
     fn is_closed(&self) -> bool {
         self.is_closed
     }
 }
 
-// Writes bytes with one call, and flushes them. Returns how many were written, which is at least one, or why that failed.
+// Writes bytes to a stream with one call, and flushes it. Returns how many were written, which is at least one, or the kind of error if
+// that failed.
 fn write_and_flush<W: Write>(stream: &mut W, bytes: &[u8]) -> Result<usize, ErrorKind>
     ensures within { IfOk result (λ count. (1 ≤ count) × (count ≤ length bytes.now)) }
     ensures written { IfOk result (λ count. Appends (W.contents stream.old) (W.contents stream.new) (take count bytes.now)) }

@@ -33,7 +33,7 @@ pub struct RecordingStore<'a, D: Inputs> {
 }
 
 impl<'a, D: Inputs> RecordingStore<'a, D> {
-    /// Returns a store over inputs. Paths are relative to `folder`, if it is given. Does not allocate.
+    /// Returns a store that reads these inputs. Relative paths are resolved against `folder`, if it is given. Does not allocate.
     pub fn new(inputs: &'a D, alloc: Global, folder: Option<&'a str>) -> RecordingStore<'a, D>
         ensures inputs { result.inputs ≡ inputs.entry }
         ensures folder { result.folder ≡ folder.entry }
@@ -60,7 +60,7 @@ impl<'a, D: Inputs> RecordingStore<'a, D> {
         self.unread
     }
 
-    // Reads the file at a path below the directory, and records the path if it is unreadable.
+    // Reads the file at a path, which is relative to the store's directory, and records the path if it is unreadable.
     fn read_noting_failure(&mut self, alloc: Global, path: &str) -> Result<Vec<u8>, WholeError>
         ensures same { (self.new.inputs ≡ self.old.inputs) × (self.new.folder ≡ self.old.folder) }
         ensures known { IfOk result (λ bytes.
@@ -83,7 +83,7 @@ impl<'a, D: Inputs> RecordingStore<'a, D> {
         answer
     }
 
-    // Reads the file at a path below the directory.
+    // Reads the file at a path, which is relative to the store's directory.
     fn read_resolved_path(&self, alloc: Global, path: &str) -> Result<Vec<u8>, WholeError>
         ensures known { IfOk result (λ bytes.
             IfSome (contents_below (option_copied self.now.folder) (D.contents self.now.inputs.now))
@@ -125,10 +125,12 @@ impl<'a, D: Inputs> Store for RecordingStore<'a, D> {
 
     ghost faulted = { λ store. length store.unread.items };
 
+    // Reads the file at a path, and records the path if it is unreadable.
     fn read(&mut self, alloc: Global, path: &str) -> Result<Vec<u8>, ReadError> {
         Ok(self.read_noting_failure(alloc, path)?)
     }
 
+    // Returns the number of unreadable paths.
     fn faults(&self) -> u64 {
         self.unread.len() as u64
     }

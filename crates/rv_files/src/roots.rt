@@ -8,7 +8,7 @@ ghost use Rattle.rv_files.specs.UnreadPaths.{resolved_path};
 use std::alloc::{AllocError, Global};
 use std::path::{Path, PathBuf};
 
-/// Returns the path below the root, if there is a root and the path is relative; otherwise the path itself.
+/// Returns the path joined to the root if the path is relative and there is a root; otherwise the path itself.
 pub fn resolved_path(alloc: Global, root: Option<&str>, path: &str) -> Result<PathBuf, AllocError>
     ensures { IfOk result (λ place. path_buf_bytes place ≡ resolved_path (option_copied root.entry) path.now) }
 {

@@ -21,7 +21,7 @@ pub(crate) struct FilePaths {
 }
 
 impl FilePaths {
-    /// Returns the identities of the files at the final and the temporary path.
+    /// Returns the identities of two files: the file at the final path and the file at the temporary path.
     pub(crate) fn identities<R: Files>(
         &self,
         files: &R,
@@ -52,7 +52,7 @@ pub(crate) fn temporary_and_final_path<R: Files>(
     Ok(Some(FilePaths { new, whole }))
 }
 
-// Whether there is nothing or a regular file at a path. A link is followed.
+// Whether a file may be placed at a path: a regular file is there, or nothing. A link is followed.
 fn is_replaceable<R: Files>(files: &R, path: &str) -> io::Result<bool> {
     match files.metadata(path) {
         Ok(met) => Ok(may_be_replaced(&met)),
@@ -61,7 +61,7 @@ fn is_replaceable<R: Files>(files: &R, path: &str) -> io::Result<bool> {
     }
 }
 
-// Whether another file may replace this one: only a regular file may be replaced.
+// Whether another file may replace the file with this metadata: only if it is a regular file.
 fn may_be_replaced(met: &Metadata) -> bool
     ensures { IsTrue result ↔ IsFile (file_type met.now) }
 {
@@ -71,7 +71,7 @@ fn may_be_replaced(met: &Metadata) -> bool
 // The maximum number of links followed in a chain, as on Linux.
 const MOST_LINKS: u32 = 40;
 
-/// Returns the path that a path leads to if links are followed.
+/// Returns the path at the end of the chain of symbolic links that begins at a path, or the path itself if it is not a link.
 pub(crate) fn follow_links<R: Files>(
     files: &R,
     alloc: Global,
@@ -90,7 +90,7 @@ pub(crate) fn follow_links<R: Files>(
     Err(FileError::Failed(ErrorKind::FilesystemLoop))
 }
 
-// Whether there is a link at a path.
+// Whether there is a symbolic link at a path.
 fn is_link<R: Files>(files: &R, path: &str) -> bool {
     match files.symlink_metadata(path) {
         Ok(met) => met.is_symlink(),
@@ -98,7 +98,7 @@ fn is_link<R: Files>(files: &R, path: &str) -> bool {
     }
 }
 
-/// Returns the directory of a path, which is `.` if the path has no directory.
+/// Returns the directory of a path, or `.` if the path names none.
 pub(crate) fn directory_of(path: &str) -> Path<'_> {
     match Path::new(path).parent() {
         Some(parent) if !parent.as_str().is_empty() => parent,
@@ -115,7 +115,7 @@ pub(crate) fn with_new_suffix(alloc: Global, path: &str) -> Result<PathBuf, Allo
     PathBuf::from_str(alloc, text.as_str())
 }
 
-/// Whether the system resolves two paths to one location.
+/// Whether the system resolves two paths to equal paths.
 pub(crate) fn is_same_file<R: Files>(
     files: &R,
     alloc: Global,

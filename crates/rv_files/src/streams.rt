@@ -32,14 +32,14 @@ impl<W: Write + Drop> StreamSink<W> {
         }
     }
 
-    /// Returns the stream.
+    /// Returns the stream of the sink.
     pub fn into_inner(self) -> W
         ensures { result ≡ self.stream }
     {
         self.stream
     }
 
-    // Counts a failure, and records its error.
+    // Counts a failed write, and records its error.
     fn count_failure(&mut self, error: ErrorKind) -> SinkFailed
         ensures counted { self.new.failures ≡ one_more self.old.failures }
         ensures same { self.new.stream ≡ self.old.stream }
@@ -55,6 +55,7 @@ impl<W: Write + Drop> Sink for StreamSink<W> {
 
     ghost failed = { λ sink. sink.failures };
 
+    // Writes bytes to the stream and flushes it. Returns how many were written, which is at least one.
     fn put(&mut self, bytes: &[u8]) -> Result<usize, SinkFailed>
         ensures within { IfOk result (λ count. (1 ≤ count) × (count ≤ length bytes.now)) }
         ensures written { IfOk result (λ count. Appends (W.contents self.old.stream)
@@ -75,12 +76,14 @@ impl<W: Write + Drop> Sink for StreamSink<W> {
         }
     }
 
+    // Returns the number of failed writes.
     fn failures(&self) -> u64 {
         self.failures
     }
 }
 
 impl<W: Write + Drop> LastError for StreamSink<W> {
+    // Returns the kind of error of the last failed write, or `Other` if no write has failed.
     fn last_error(&self) -> ErrorKind {
         self.error
     }

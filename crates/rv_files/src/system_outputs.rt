@@ -63,7 +63,7 @@ where
         }
     }
 
-    // Opens the file that receives the bytes: a new temporary file, or, without `places`, what is at the path.
+    // Opens the file that receives the bytes: a new temporary file, or, if `places` is `None`, whatever is at the path.
     fn open_file(
         &mut self,
         alloc: Global,
@@ -83,7 +83,7 @@ where
         }
     }
 
-    // Creates a file at its temporary path, and records it as not yet placed.
+    // Creates a file at its temporary path, and records that it is not yet placed.
     fn create_uncommitted(
         &mut self,
         alloc: Global,
@@ -102,7 +102,8 @@ where
         }
     }
 
-    // Fails if one of the file's paths is a path of a file that is not yet placed: neither would end up complete.
+    // Returns an error if the final or temporary path of a file belongs to another file that is not yet placed: neither would end up
+    // complete.
     fn check_not_same_file(&self, alloc: Global, places: &FilePaths) -> Result<(), FileError>
         ensures first { IfErr result (λ error. error ≡ FileError.SamePlace → 0 < vec_len self.now.unplaced) }
     {
@@ -118,13 +119,13 @@ where
         Ok(())
     }
 
-    // Records the file at a temporary path as not yet placed.
+    // Records that the file at this temporary path is not yet placed.
     fn record_uncommitted(&mut self, alloc: Global, new: &str) -> Result<(), AllocError> {
         self.unplaced.push(PathBuf::from_str(alloc, new)?)?;
         Ok(())
     }
 
-    // Removes a temporary path from the record of files that are not yet placed.
+    // Removes the record that the file at this temporary path is not yet placed.
     fn remove_uncommitted(&mut self, new: &str) {
         self.unplaced.retain(|path| path.as_str() != new);
     }
@@ -143,7 +144,7 @@ fn real_path_of<R: Files>(
     }
 }
 
-// Returns the path at which a file is created if nothing, or only a dangling link, is at a path.
+// Returns the path at which the system creates a file when it writes to a path where there is nothing, or only a dangling link.
 fn path_of_missing_file<R: Files>(
     files: &R,
     alloc: Global,
@@ -179,11 +180,12 @@ where
 
     ghost synced_bytes = { λ _. None };
 
+    // Returns the identity of the file of the system at a path.
     fn identity(&self, alloc: Global, path: &str) -> Result<Text, AllocError> {
         file_identity(self.files, alloc, path)
     }
 
-    // Compares the paths as resolved by the system: links are followed.
+    // Whether the file at a path is in a directory or in one of its subdirectories. The system resolves both paths, so links are followed.
     fn is_below(&self, alloc: Global, directory: &str, path: &str) -> Result<bool, AllocError> {
         let Some(directory) = real_path_of(self.files, alloc, directory)? else {
             return Ok(false);
@@ -195,7 +197,8 @@ where
         Ok(path.starts_with(directory.as_str()))
     }
 
-    // Returns the files at the path and at its temporary path. Anything that is not a regular file is written directly and stays.
+    // Returns the identities of the files at the path and at its temporary path. If something other than a regular file is at the path,
+    // returns none: it is written directly and stays.
     fn replaced_files(&self, alloc: Global, path: &str) -> Result<Vec<Text>, FileError> {
         match temporary_and_final_path(self.files, alloc, path)? {
             Some(places) => {
@@ -206,6 +209,7 @@ where
         }
     }
 
+    // Creates a file for a path: a locked temporary file, or, if something other than a regular file is at the path, opens that.
     fn create(
         &mut self,
         alloc: Global,
@@ -225,6 +229,7 @@ where
         Ok((PendingFile { given, places }, file))
     }
 
+    // Syncs the bytes of a file to disk, if it is a temporary file.
     fn sync(&mut self, file: FileSink<R::File>) -> Result<SyncedFile<R::File>, FileError> {
         let FileSink { stream, is_on_disk } = file;
         let file = stream.into_inner();
@@ -234,6 +239,7 @@ where
         Ok(SyncedFile { file })
     }
 
+    // Renames a temporary file to its final path. A file that was written directly stays as it is.
     fn place(&mut self, place: PendingFile, file: SyncedFile<R::File>) -> Result<(), FileError> {
         // Its lock is released here, once the file has its final path.
         let SyncedFile { file: _locked } = file;
@@ -251,6 +257,7 @@ where
         Ok(())
     }
 
+    // Removes the temporary file of a destination, if there is one.
     fn abandon(&mut self, place: PendingFile) {
         if let Some(places) = &place.places {
             let _ = self.files.remove_file(places.new.as_str());

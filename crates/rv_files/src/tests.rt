@@ -35,6 +35,7 @@ fn write_file<F: Outputs>(
     outputs.place(place, synced)
 }
 
+// Returns the outcome of writing a file as a text.
 fn answer_text(answer: Result<(), FileError>) -> &'static str {
     match answer {
         Ok(()) => "placed",
@@ -58,6 +59,8 @@ report|missing/report|failed|first
 /dev/null|/dev/null|placed|
 ";
 
+// Writes a second file while a first one is not yet placed, and checks the outcome, and the contents of the first file once it is placed,
+// as in the line `FIRST|SECOND|OUTCOME|CONTENTS`.
 fn writes_pair<R: Files + Abort>(rt: &R, alloc: Global, line: &str) -> Result<(), Fail>
 where
     R::File: FileLock,
@@ -299,6 +302,7 @@ fn steps_are_refused(rt: HostRuntime) -> Result<(), Fail> {
     Ok(())
 }
 
+// Returns a file in memory with this path and these bytes.
 fn memory_file(alloc: Global, path: &str, bytes: &[u8]) -> Result<MemoryFile, AllocError> {
     Ok(MemoryFile {
         path: Text::copy(alloc, path)?,

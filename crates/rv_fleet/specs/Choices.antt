@@ -3,6 +3,6 @@ use Rattle.std.specs.Prelude.{ℕ, ◌<◌, List, length}
 use Rattle.std.specs.List.{All}
 use Rattle.rv_jobs.specs.Plans.{Planned}
 
--- each of these is the index of a job of the plan
+-- each number in the list is the index of a job of the plan
 abbrev pub AreJobIndices : Planned → List ℕ → Type 0
 AreJobIndices plan places = All (λ place. place < length plan.jobs) places

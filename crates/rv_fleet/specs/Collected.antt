@@ -6,16 +6,16 @@ use Rattle.rv_fleet.specs.declared.pieces.Pieces.{Pieces}
 use Rattle.rv_rows.specs.declared_row.Row.{Row}
 use Rattle.rv_fleet.specs.Pieces.{count_of_pieces, numbered_piece, piece_rows}
 
--- this is one of the chunks, with its rows
+-- the chunk has the number and the rows of one of the batch's chunks
 abbrev pub IsPiece : Pieces → Piece → Type 0
 IsPiece pieces piece =
     (piece.number < count_of_pieces pieces) × (piece ≡ numbered_piece pieces piece.number)
 
--- each of these is one of the chunks, with its rows
+-- each chunk in the list has the number and the rows of one of the batch's chunks
 abbrev pub ArePieces : Pieces → List Piece → Type 0
 ArePieces pieces made = All (IsPiece pieces) made
 
--- each chunk has a slot, which holds its rows or is empty
+-- there is one slot for each chunk, in order, and each slot is empty or has the rows of its chunk
 abbrev pub IsFilled : Pieces → List (Option (List Row)) → Type 0
 IsFilled pieces slots = (length slots ≡ count_of_pieces pieces)
     × ((k : ℕ) → IfSome (slice_index_or slots k None) (λ part. part ≡ piece_rows pieces k))

@@ -9,27 +9,27 @@ use Rattle.rv_fleet.specs.declared.pieces.Pieces.{Pieces}
 use Rattle.rv_rows.specs.declared_row.Row.{Row}
 use Rattle.rv_rows.specs.Rows.{rows_of}
 
--- the number of chunks of `group` rows that the rows are divided into
+-- the number of chunks that the rows are divided into, with `group` rows each; the last chunk may have fewer
 abbrev pub piece_count_of_rows : List Row → ℕ → ℕ
 piece_count_of_rows rows group = div_ceil (length rows) group
 
--- the chunk with the number `k`: `group` of the rows from index `k` * `group` on, or as many as there are
+-- the chunk with the number `k`: the `group` rows that begin at the index `k` * `group`, or as many as there are
 abbrev pub piece_for : List Row → ℕ → ℕ → Piece
 piece_for rows group k = record { number = k; rows = slice_chunk rows group k }
 
 -- ---- the chunks of a plan
 
--- the number of chunks of `group` jobs that the jobs of a plan are divided into
+-- the number of chunks that the jobs of a plan are divided into, with `group` jobs each; the last chunk may have fewer
 abbrev pub pieces_of : Planned → ℕ → ℕ
 pieces_of plan group = div_ceil (length plan.jobs) group
 
--- the chunk of a plan's rows with the number `k`
+-- the chunk with the number `k` of a plan's rows, with `group` rows in each chunk
 abbrev pub piece_at : Planned → ℕ → ℕ → Piece
 piece_at plan group k = piece_for (rows_of plan) group k
 
 -- ---- the chunks of a batch
 
--- the number of chunks of a batch
+-- the number of chunks that a batch is divided into
 abbrev pub count_of_pieces : Pieces → ℕ
 count_of_pieces pieces = piece_count_of_rows (batch_rows pieces.batch) pieces.group
 

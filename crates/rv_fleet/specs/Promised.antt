@@ -6,15 +6,16 @@ use Rattle.rv_claims.specs.NewPieces.{pieces_among}
 use Rattle.rv_claims.specs.Passes.{SharedDraw, PassView}
 use Rattle.rv_fleet.specs.Pieces.{piece_for}
 
--- the pass belongs to this shared counter and has no draws
+-- the pass belongs to this shared counter and has not drawn yet
 abbrev pub IsFresh : SharedDraw → PassView → Type 0
 IsFresh draw pass = (pass.draw ≡ draw) × (pass.draws ≡ [])
 
--- each pass belongs to this shared counter and has no draws
+-- each pass belongs to this shared counter and has not drawn yet
 abbrev pub AreFresh : SharedDraw → List PassView → Type 0
 AreFresh draw passes = All (IsFresh draw) passes
 
--- the promise of a worker: unless memory ran out, its result is the chunks that its pass drew, each with its number and its rows
+-- the promise of a worker: its pass belongs to this shared counter, and unless memory ran out, its result has exactly the chunks that the
+-- pass drew, each with its number and its rows
 abbrev pub KeepsPromise : List Row → ℕ → SharedDraw → WorkerResult → Type 0
 KeepsPromise rows group draw worked = (worked.pass.draw ≡ draw)
     × IfOk worked.pieces (λ made. made.items

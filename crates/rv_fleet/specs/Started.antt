@@ -24,7 +24,7 @@ abbrev pub CanWork : Planned → List ℕ → ℕ → SharedDraw → Type 0
 CanWork plan places group draw = AreGrouped plan places group
     × (draw.pieces ≡ piece_count_of_rows (rows_at plan places) group)
 
--- the promise of a started thread is about these rows, this chunk size and this shared counter
+-- the promise of a started thread is about these rows, this number of rows in a chunk, and this shared counter
 abbrev pub IsStarted : List Row → ℕ → SharedDraw → PromisedHandle WorkerResult WorkerPromise → Type 0
 IsStarted rows group draw handle =
     (rows_at handle.promise.plan.now handle.promise.places.now ≡ rows)

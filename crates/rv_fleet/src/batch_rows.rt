@@ -28,14 +28,17 @@ impl Work<Row> for BatchRows<'_> {
 
     ghost is_worker_state = { λ s worker_state. AreOutcomes s.batch.now.plan.now worker_state.recent };
 
+    // Returns the number of jobs in the batch.
     fn jobs(&self) -> usize {
         self.batch.places.len()
     }
 
+    // Returns the state of a worker that has not run a job.
     fn new_worker_state(&self, alloc: Global) -> WorkerState {
         WorkerState::new(alloc)
     }
 
+    // Returns the row of the job with this number in the batch, counted from 0.
     fn make(
         &self,
         alloc: Global,
@@ -76,6 +79,7 @@ impl Listener<Row> for CollectedRows {
 
     ghost stops = { λ s. s.refused ≡ true };
 
+    // Keeps the next row. Stops if an allocation fails.
     fn receive(&mut self, made: Row) -> Flow {
         match self.rows.push(made) {
             Ok(()) => Flow::GoOn,
@@ -86,12 +90,13 @@ impl Listener<Row> for CollectedRows {
         }
     }
 
+    // Lets the run continue: collecting rows needs no pause.
     fn pause(&mut self) -> Flow {
         Flow::GoOn
     }
 }
 
-/// Runs the jobs of a batch, and returns their rows in order. The rows are identical for every crew.
+/// Runs the jobs of a batch, and returns their rows in order. The rows do not depend on the crew.
 pub fn run_batch<R: Threads + Wait + Sync>(
     crew: &Crew<'_, R>,
     batch: &Batch<'_>,

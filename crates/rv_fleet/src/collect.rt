@@ -24,7 +24,8 @@ pub(crate) struct Collected {
     pub(crate) pass: Option<Pass>,
 }
 
-/// Collects the results of all workers, each chunk once.
+/// Collects the chunks of all workers: a slot for each chunk, with its rows if a worker computed them, and the passes of the workers,
+/// merged into one.
 pub(crate) fn collect_chunks(
     alloc: Global,
     claims: &Claims,
@@ -57,7 +58,7 @@ fn empty_slots(alloc: Global, pieces: &Pieces<'_>) -> Result<Vec<Option<Rows>>, 
     Ok(slots)
 }
 
-// Stores the rows of each chunk in its slot, unless the slot is filled.
+// Stores the rows of each of these chunks in the slot of the chunk, if the slot is empty.
 fn store_chunks(slots: &mut Vec<Option<Rows>>, pieces: &Pieces<'_>, made: Vec<Piece>)
     requires slots { IsFilled pieces.now slots.old.items }
     requires made { ArePieces pieces.now made.items }
@@ -68,7 +69,7 @@ fn store_chunks(slots: &mut Vec<Option<Rows>>, pieces: &Pieces<'_>, made: Vec<Pi
     }
 }
 
-/// Stores the rows of a chunk in its slot, unless the slot is filled.
+/// Stores the rows of a chunk in the slot of the chunk, if the slot is empty.
 fn store_chunk(slots: &mut Vec<Option<Rows>>, pieces: &Pieces<'_>, piece: Piece)
     requires slots { IsFilled pieces.now slots.old.items }
     requires piece { IsPiece pieces.now piece }
@@ -80,7 +81,7 @@ fn store_chunk(slots: &mut Vec<Option<Rows>>, pieces: &Pieces<'_>, piece: Piece)
     }
 }
 
-// Merges a pass into the earlier ones, if there are any.
+// Returns the pass of a worker merged with the earlier passes, if there are any.
 fn join_passes(claims: &Claims, all: Option<Pass>, pass: Pass) -> Pass
     requires all { IfSome all (λ other. other.draw ≡ claims.now) }
     requires pass { pass.draw ≡ claims.now }
@@ -92,7 +93,7 @@ fn join_passes(claims: &Claims, all: Option<Pass>, pass: Pass) -> Pass
     }
 }
 
-/// Returns the rows of all chunks, in order. Computes the rows of each chunk that no worker has computed.
+/// Returns the rows of all chunks, in order. The rows of a chunk whose slot is empty are computed here.
 pub(crate) fn rows_of_all_chunks<G: Gate>(
     alloc: Global,
     slots: Vec<Option<Rows>>,

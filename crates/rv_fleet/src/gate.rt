@@ -11,5 +11,6 @@ pub trait Gate: Sync {
 pub struct FreeGate;
 
 impl Gate for FreeGate {
+    // Does nothing: this gate is always open.
     fn enter(&self, _piece: u64) {}
 }

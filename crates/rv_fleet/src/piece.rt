@@ -18,7 +18,7 @@ pub struct Piece {
     pub rows: Rows,
 }
 
-/// Enters the gate for a chunk, and then computes the chunk.
+/// Enters the gate for the chunk with this number, and then returns the chunk with its rows.
 pub(crate) fn compute_chunk<G: Gate>(
     alloc: Global,
     pieces: &Pieces<'_>,
@@ -36,7 +36,7 @@ pub(crate) fn compute_chunk<G: Gate>(
     Ok(Piece { number, rows })
 }
 
-// Computes the rows of a chunk.
+// Returns the rows of the chunk with this number.
 fn rows_of_chunk(
     alloc: Global,
     pieces: &Pieces<'_>,

@@ -17,7 +17,7 @@ pub(crate) struct Pieces<'a> {
 impl<'a> Pieces<'a> {
     ghost use Rattle.rv_fleet.specs.Pieces.{count_of_pieces};
 
-    /// Returns the number of chunks.
+    /// Returns the number of chunks that the batch is divided into.
     #[tactic(auto, using(crate::proofs::Collects::rows_count))]
     pub(crate) fn count(&self) -> u64
         ensures value { result ≡ count_of_pieces self.now }

@@ -23,8 +23,8 @@ use std::sync::Wait;
 use std::thread;
 use std::thread::Threads;
 
-/// Computes the rows of all chunks, and returns those of each chunk in the slot with its number. Runs as many threads as the crew has, or
-/// one per chunk if there are fewer chunks.
+/// Computes the rows of all chunks, and returns for each chunk, in order, a slot with its rows, or an empty one if no worker computed them.
+/// Runs as many threads as the crew has, or one per chunk if there are fewer chunks.
 pub(crate) fn compute_chunks<R: Threads + Wait, G: Gate>(
     crew: &Crew<'_, R>,
     pieces: &Pieces<'_>,
@@ -45,7 +45,7 @@ pub(crate) fn compute_chunks<R: Threads + Wait, G: Gate>(
     Ok(slots)
 }
 
-/// Returns a pass for each thread: `count` of them, or as many as there are free pass indices. The last one is the first pass itself.
+/// Returns `count` passes, one for each thread, or as many as there are free pass indices. The last one is `first` itself.
 fn split_passes(
     alloc: Global,
     claims: &Claims,
@@ -76,7 +76,7 @@ fn split_passes(
     Ok(passes)
 }
 
-/// Runs a thread for each pass, and returns the result of each, once all of them have ended.
+/// Runs one thread for each pass, and returns the result of each thread once all of them have ended.
 fn run_workers<R: Threads + Wait, G: Gate>(
     crew: &Crew<'_, R>,
     claims: &Claims,

@@ -43,7 +43,8 @@ pub fn work<G: Gate>(
     compute_drawn_chunks(alloc, claims, pass, &pieces, gate)
 }
 
-/// Draws and computes chunks like [`work`], but those of a batch.
+/// Draws chunks of a batch until none is left, and computes each before it draws the next. Returns the chunks in the order drawn, as
+/// [`work`] does for all jobs of a plan.
 pub(crate) fn compute_drawn_chunks<G: Gate>(
     alloc: Global,
     claims: &Claims,
@@ -67,7 +68,7 @@ pub(crate) fn compute_drawn_chunks<G: Gate>(
     Ok(drawn)
 }
 
-/// Draws and computes chunks with a pass of its own, which it returns with the chunks.
+/// Draws chunks of a batch with this pass until none is left, and computes each. Returns the chunks, and the pass with its draws.
 pub(crate) fn work_with_own_pass<G: Gate>(
     alloc: Global,
     claims: &Claims,

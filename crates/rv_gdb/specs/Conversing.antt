@@ -8,13 +8,13 @@ use Rattle.rv_session.specs.declared.session.Session.{Session}
 abbrev pub most_read : ℕ
 most_read = 16384
 
--- one read returned this chunk: at most `most_read` bytes, and none only at the end of the input
+-- one read returned this chunk: it has at most `most_read` bytes, and is empty only at the end of the input
 pub record IsChunkRead (before after : Option (List ℕ)) (chunk : List ℕ) : Type 0 where
   pub read : Consumes before after chunk
   pub short : length chunk ≤ most_read
   pub ended : chunk ≡ [] → IsAtEnd after
 
--- the last of these bytes were returned by a read that began while the session was open
+-- the last of these bytes come from one read, which began while the session was open
 pub record IsLastReadOpen (end_text : List ℕ) (session : Session) (received : List ℕ) : Type 0 where
   pub front : List ℕ
   pub last : List ℕ
@@ -26,11 +26,11 @@ pub record IsLastReadOpen (end_text : List ℕ) (session : Session) (received : 
   pub fed : IsReceived end_text (is_interrupted last true) session front replies standing
   pub is_open : standing.is_over ≡ false
 
--- no read began after the session was over
+-- no read began after the session was over: there are no bytes, or the last read began while it was open
 abbrev pub IsReadWhileOpen : List ℕ → Session → List ℕ → Type 0
 IsReadWhileOpen end_text session received = (received ≡ []) ⊎ IsLastReadOpen end_text session received
 
--- bytes were read, and the session's replies to them were written
+-- bytes were read and fed to the session, which became `next`, and its replies were written
 pub record IsConversed (end_text : List ℕ) (session : Session) (before after old new : Option (List ℕ)) (next : Session)
     : Type 0 where
   -- the bytes that were read

@@ -34,6 +34,7 @@ impl From<AllocError> for SessionError {
 
     ghost from_gives = { λ _ error. error ≡ OutOfMemory };
 
+    // Returns the error for a failed allocation: out of memory.
     fn from(_: AllocError) -> SessionError {
         SessionError::OutOfMemory
     }
@@ -51,7 +52,7 @@ pub struct SessionContext<'a, R, E> {
     pub end: &'a E,
 }
 
-/// Receives the bytes of a reader, and writes the session's replies to them, until gdb ends the session or the reader is at its end. No
+/// Feeds the bytes of a reader to a session, and writes the session's replies, until gdb ends the session or the reader is at its end. No
 /// read begins once the session is over. If every received byte has been used when a move starts, another thread reads ahead during the
 /// move, and only 0x03 or the end of the bytes interrupts the move.
 pub fn serve<R: Threads, E: EndText, I: Read + Send, O: Sink>(
@@ -86,7 +87,7 @@ pub fn serve<R: Threads, E: EndText, I: Read + Send, O: Sink>(
     Err(SessionError::UnreadPath(ErrorKind::TimedOut))
 }
 
-// Writes the replies to the bytes of a chunk. Returns the next chunk, or `None` if the session is over.
+// Feeds a chunk of bytes to the session, and writes the replies. Returns the next chunk, or `None` if the session is over.
 fn answer_chunk<R: Threads, E: EndText, I: Read + Send, O: Sink>(
     context: &SessionContext<'_, R, E>,
     session: &mut Session,
@@ -115,8 +116,8 @@ fn answer_chunk<R: Threads, E: EndText, I: Read + Send, O: Sink>(
     Ok(Some(read_chunk(context.alloc, input)?))
 }
 
-// Writes the reply to a byte of a chunk, and makes the move that it requests if another byte follows in the chunk. Returns whether a move
-// is pending.
+// Feeds the byte at an index of a chunk to the session, and writes the reply. If the byte requests a move and another byte follows in the
+// chunk, also makes the move. Returns whether a move is pending.
 fn answer_byte<R, E: EndText, O: Sink>(
     context: &SessionContext<'_, R, E>,
     session: &mut Session,
@@ -146,7 +147,7 @@ fn answer_byte<R, E: EndText, O: Sink>(
     Ok(false)
 }
 
-// Makes the requested move, and writes the reply to it. The next byte, `behind`, interrupts the move if it is 0x03.
+// Makes the requested move, and writes the reply to it. `behind` is the next byte, which interrupts the move if it is 0x03.
 fn write_move_reply_before<R, E: EndText, O: Sink>(
     context: &SessionContext<'_, R, E>,
     session: &mut Session,
@@ -169,7 +170,7 @@ fn write_move_reply_before<R, E: EndText, O: Sink>(
     }
 }
 
-// Writes the session's reply to a byte.
+// Feeds a byte to the session, and writes the session's reply to it.
 fn write_byte_reply<O: Sink>(
     alloc: Global,
     session: &mut Session,
@@ -214,6 +215,7 @@ fn write_move_reply<R, E: EndText, J: Interrupt, O: Sink>(
     }
 }
 
+// Writes the bytes of a reply, or returns `ReplyWriteFailed` if a write fails.
 fn write_reply_bytes<O: Sink>(out: &mut O, told: &[u8]) -> Result<(), SessionError>
     ensures put { OnOk result (Appends (O.taken out.old) (O.taken out.new) told.now) }
     ensures failed { IfErr result (λ broken. broken ≡ SessionError.ReplyWriteFailed → O.failed out.new ≡ one_more (O.failed out.old)) }
@@ -226,7 +228,7 @@ fn write_reply_bytes<O: Sink>(out: &mut O, told: &[u8]) -> Result<(), SessionErr
     }
 }
 
-// Makes the requested move while another thread reads once. Returns what was read.
+// Makes the requested move while another thread reads once, and writes the reply. Returns the bytes that were read.
 fn move_while_reading<R: Threads, E: EndText, I: Read + Send, O: Sink>(
     context: &SessionContext<'_, R, E>,
     session: &mut Session,
@@ -247,8 +249,8 @@ fn move_while_reading<R: Threads, E: EndText, I: Read + Send, O: Sink>(
     move_while_reading_into(context, session, input, out, &raised)
 }
 
-// Makes the requested move while another thread reads once. The move is interrupted if the bytes read begin with 0x03, if there are none,
-// or if the read fails.
+// Makes the requested move while another thread reads once, and writes the reply. Returns the bytes that were read. The move is interrupted
+// if these bytes begin with 0x03, if there are none, or if the read fails. `raised` passes the interrupt between the threads.
 fn move_while_reading_into<R: Threads, E: EndText, I: Read + Send, O: Sink>(
     context: &SessionContext<'_, R, E>,
     session: &mut Session,

@@ -16,6 +16,7 @@ impl Interrupt for Raised {
 
     ghost was_raised = { λ _. true };
 
+    // Returns true: the move is interrupted at once.
     fn is_raised(&mut self) -> bool {
         true
     }
@@ -30,6 +31,7 @@ impl Interrupt for Unraised {
 
     ghost was_raised = { λ _. false };
 
+    // Returns false: the move is never interrupted.
     fn is_raised(&mut self) -> bool {
         false
     }
@@ -46,6 +48,7 @@ pub(crate) struct SharedInterrupt<'a> {
 impl Interrupt for SharedInterrupt<'_> {
     ghost was_raised = { λ coming. coming.was_seen };
 
+    // Whether the reading thread has raised the interrupt. Records the result.
     fn is_raised(&mut self) -> bool {
         self.was_seen = self.raised.load(SeqCst);
         self.was_seen

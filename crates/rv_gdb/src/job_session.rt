@@ -15,8 +15,8 @@ use rv_session::{Program, Session};
 use rv_trace::{image_bytes, image_of_bytes};
 use std::alloc::{AllocError, Global};
 
-/// Returns the session over the run of the job at index `place`, before gdb has sent anything; `None` if the job is refused. `path` is the
-/// path by which gdb knows the job's image.
+/// Returns a session at the start of the run of the job at the index `place`, before gdb has sent anything, or `None` if the job is
+/// refused. `path` is the path by which gdb knows the job's image.
 pub fn session_at(
     alloc: Global,
     plan: &Plan,
@@ -40,7 +40,7 @@ pub fn session_at(
     session_over_image(alloc, plan, place, &image, program)
 }
 
-// Returns the session over the run of a job with this image; `None` if the job is refused.
+// Returns a session at the start of the run of a job that has this image, or `None` if the job is refused.
 fn session_over_image(
     alloc: Global,
     plan: &Plan,

@@ -26,7 +26,7 @@ is_special byte = byte == begin_mark || byte == end_mark || byte == escape || by
 abbrev pub changed : ℕ → ℕ
 changed byte = bit_xor byte 32
 
--- the bytes that represent a byte in a packet: `}` and the byte with bit 5 inverted if it has a special meaning
+-- the bytes that represent a byte in a packet: the byte itself, or, if it has a special meaning, `}` and the byte with bit 5 inverted
 abbrev pub escaped_byte : ℕ → List ℕ
 escaped_byte byte = if is_special byte then escape ∷ changed byte ∷ [] else byte ∷ []
 
@@ -39,7 +39,7 @@ abbrev pub is_escape : Bool → ℕ → Bool
 is_escape true byte = false
 is_escape false byte = byte == escape
 
--- the data that a byte represents, given whether the previous byte is an escape; none for an escape
+-- the data that a byte represents, given whether the previous byte is an escape; empty for an escape
 abbrev pub data_byte : Bool → ℕ → List ℕ
 data_byte true byte = changed byte ∷ []
 data_byte false byte = if byte == escape then [] else byte ∷ []

@@ -8,7 +8,7 @@ use Rattle.rv_gdb_protocol.specs.declared.frame.Incoming.TheVariants as heard
 use Rattle.rv_gdb_protocol.specs.declared.frame.Place.{Place}
 use Rattle.rv_gdb_protocol.specs.declared.frame.Place.TheVariants as place
 
--- the maximum length of a body that is kept
+-- the maximum length of a body that the parser stores
 abbrev pub most_body : ℕ
 most_body = 16384
 
@@ -17,7 +17,7 @@ pub record Frame : Type 0 where
   pub place : Place
   pub body : List ℕ
 
--- the maximum length of the body that is kept in a state
+-- the maximum length of the body that the parser stores in a state
 abbrev pub room : Place → ℕ
 room place.Body = most_body
 room place.FirstDigit = most_body
@@ -31,11 +31,11 @@ room place.LongSecondDigit = 0
 abbrev pub between : Frame
 between = record { place = place.Between; body = [] }
 
--- the parser at the beginning of a body: after `$`, even within a body, whose bytes are then dropped
+-- the parser at the beginning of a body: after `$`, which also drops the bytes of a body that was not complete
 abbrev pub opened : Frame
 opened = record { place = place.Body; body = [] }
 
--- the parser in a body that is too long to be kept
+-- the parser in a body that is too long to be stored
 abbrev pub too_long : Frame
 too_long = record { place = place.LongBody; body = [] }
 
@@ -44,7 +44,7 @@ abbrev pub longer_body : List ℕ → ℕ → Frame
 longer_body body byte =
     if nat_lt (length body) most_body then record { place = place.Body; body = body ++ byte ∷ [] } else too_long
 
--- the parser after a byte, which it receives in the state `Place`; other bytes than `$` between packets are ignored
+-- the parser after a byte, given its state; between packets, any byte but `$` leaves it unchanged
 abbrev pub frame_after_in : Place → Frame → ℕ → Frame
 frame_after_in place.Between frame byte = if byte == begin_mark then opened else frame
 frame_after_in place.Body frame byte =
@@ -60,17 +60,17 @@ frame_after_in place.LongBody frame byte =
 frame_after_in place.LongFirstDigit frame byte = record { place = place.LongSecondDigit; body = frame.body }
 frame_after_in place.LongSecondDigit frame byte = record { place = place.Between; body = frame.body }
 
--- the parser after a byte
+-- the parser after this byte
 abbrev pub frame_after : Frame → ℕ → Frame
 frame_after frame byte = frame_after_in frame.place frame byte
 
--- what a byte between packets means: 0x03 is Ctrl-C, `+` and `-` acknowledge a packet; none for any other byte
+-- the item that a byte between packets completes: 0x03 is Ctrl-C, `+` and `-` acknowledge a packet; `None` for any other byte
 abbrev pub signal : ℕ → Option Incoming
 signal byte = if byte == 3 then Some heard.Interrupt
     else if byte == 43 then Some heard.Arrived
     else if byte == 45 then Some heard.Again else None
 
--- what a byte completes in a state with this body: a packet is complete at the second digit of its checksum
+-- the item that a byte completes in a state with this body, or `None`: a packet is complete at the second digit of its checksum
 abbrev pub received_in_state : Place → List ℕ → ℕ → Option Incoming
 received_in_state place.Between body byte = signal byte
 received_in_state place.Body body byte = None
@@ -81,11 +81,11 @@ received_in_state place.LongBody body byte = None
 received_in_state place.LongFirstDigit body byte = None
 received_in_state place.LongSecondDigit body byte = Some heard.TooLong
 
--- what a byte completes, if anything
+-- the item that a byte completes, or `None` if it completes none
 abbrev pub incoming_at : Frame → ℕ → Option Incoming
 incoming_at frame byte = received_in_state frame.place frame.body byte
 
--- the received item as a list, empty if there is none
+-- the item as a list, which is empty if there is none
 abbrev pub option_list : Option Incoming → List Incoming
 option_list None = []
 option_list (Some heard) = heard ∷ []

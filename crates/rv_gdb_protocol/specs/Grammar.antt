@@ -21,7 +21,7 @@ joined_by mark first second = first ++ mark ∷ second
 abbrev pub HasNo : ℕ → List ℕ → Type 0
 HasNo mark text = list_all (λ byte. not (byte == mark)) text ≡ true
 
--- the text is the digits of two numbers, separated by a comma
+-- the text consists of the digits of two numbers, separated by a comma
 pub record AreTwoNumbers (text : List ℕ) (first second : ℕ) : Type 0 where
   pub front : List ℕ
   -- the digits of the second number
@@ -30,7 +30,7 @@ pub record AreTwoNumbers (text : List ℕ) (first second : ℕ) : Type 0 where
   pub front_tells : number_of front ≡ Some first
   pub behind_tells : number_of second_digits ≡ Some second
 
--- the arguments of `Z` and `z` for this stoppoint: 0 and 1 are breakpoints, 2 to 4 watchpoints for writes, reads and both
+-- the text is the arguments of `Z` and `z` for this stoppoint: 0 and 1 are breakpoints, 2 to 4 are watchpoints for writes, reads and both
 pub data IsTrap : List ℕ → Stoppoint → Type 0 where
   software : (fields : List ℕ) (address kind : ℕ) → AreTwoNumbers fields address kind → IsTrap (codes "0," ++ fields) (trap.Break address)
   hardware : (fields : List ℕ) (address kind : ℕ) → AreTwoNumbers fields address kind → IsTrap (codes "1," ++ fields) (trap.Break address)
@@ -44,12 +44,12 @@ pub data IsTrap : List ℕ → Stoppoint → Type 0 where
       → address + count ≤ 4294967296
       → IsTrap (codes "4," ++ fields) (trap.Watch watch.Accesses (record { address = address; count = count }))
 
--- `c` continues and `s` steps
+-- the text `c` requests to continue, and `s` to step
 pub data IsMove : List ℕ → Move → Type 0 where
   goes_on : IsMove (codes "c") move.Continue
   steps : IsMove (codes "s") move.Step
 
--- an action of `vCont;`: a signal is ignored, and `r` steps while the pc is in a range of addresses
+-- the text is an action of `vCont;` that requests this move: a signal is ignored, and `r` steps while the pc is in a range of addresses
 pub data IsAction : List ℕ → Move → Type 0 where
   moves : (text : List ℕ) (step : Move) → IsMove text step → IsAction text step
   goes_on_signalled : (signal : List ℕ) (number : ℕ) → number_of signal ≡ Some number

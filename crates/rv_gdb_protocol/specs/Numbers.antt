@@ -7,46 +7,47 @@ use Rattle.hex.specs.declared.error.FromHexError.{FromHexError}
 
 -- applies the next step only if there is a value
 infixl 10 ◌>>=◌
+-- the result of `next` for the value, or `None` if there is no value or `next` returns `None`
 abbrev pub ◌>>=◌ : {A B : Type 0} → Option A → (A → Option B) → Option B
 value >>= next = option_and_then next value
 
--- the number with one more hexadecimal digit; none if either is missing
+-- the number with one more hexadecimal digit, or `None` if either is missing
 abbrev pub with_digit : Option ℕ → Option ℕ → Option ℕ
 with_digit (Some value) (Some digit) = Some (value * 16 + digit)
 with_digit (Some value) None = None
 with_digit None digit = None
 
--- the number with the byte as one more hexadecimal digit; none if the byte is not a digit
+-- the number with the byte as one more hexadecimal digit, or `None` if there is no number or the byte is not a digit
 abbrev pub digit_on : Option ℕ → ℕ → Option ℕ
 digit_on value byte = with_digit value (hex_digit_value byte)
 
--- the number that 1 to 8 hexadecimal digits represent, in either case; none for any other text
+-- the number that 1 to 8 hexadecimal digits represent, in either case, or `None` for any other text
 unfoldable pub number_of : List ℕ → Option ℕ
 number_of text = if nat_le 1 (length text) && nat_le (length text) 8 then fold digit_on (Some 0) text else None
 
--- the bytes, if decoding succeeded
+-- the decoded bytes, or `None` if decoding failed
 abbrev pub bytes_if_decoded : Result (List ℕ) FromHexError → Option (List ℕ)
 bytes_if_decoded (Ok bytes) = Some bytes
 bytes_if_decoded (Err refused) = None
 
--- the bytes that hexadecimal digits represent, two digits for each; none for any other text
+-- the bytes that hexadecimal digits represent, two digits for each, or `None` for any other text
 unfoldable pub bytes_of : List ℕ → Option (List ℕ)
 bytes_of text = bytes_if_decoded (decode_of text)
 
--- the value of a register with these bytes, low byte first, if decoding succeeded
+-- the value of a register with the decoded bytes, low byte first, or `None` if decoding failed
 abbrev pub value_if_decoded : Result (List ℕ) FromHexError → Option ℕ
 value_if_decoded (Ok bytes) = Some (from_le_bytes w32 bytes)
 value_if_decoded (Err refused) = None
 
--- the value of a register that eight hexadecimal digits represent, low byte first; none for any other text
+-- the value of a register that eight hexadecimal digits represent, low byte first, or `None` for any other text
 unfoldable pub value_of : List ℕ → Option ℕ
 value_of text = value_if_decoded (decode_sized text 4)
 
--- the index of the first occurrence of a delimiter
+-- the index of the first occurrence of a delimiter, or `None` if there is none
 abbrev pub place_of : ℕ → List ℕ → Option ℕ
 place_of mark text = position (λ byte. byte == mark) text
 
--- the two numbers before and after the first occurrence of a delimiter; none if either is not a number
+-- the two numbers before and after the first occurrence of a delimiter, or `None` if either is not a number
 unfoldable pub numbers_at : ℕ → List ℕ → Option (ℕ × ℕ)
 numbers_at mark text = do
   place ← place_of mark text
@@ -54,7 +55,7 @@ numbers_at mark text = do
   second ← number_of (drop (place + 1) text)
   Some (first, second)
 
--- the text up to this index, or all of it without an index
+-- the text up to this index, or the whole text if there is no index
 abbrev pub text_to : Option ℕ → List ℕ → List ℕ
 text_to (Some place) text = take place text
 text_to None text = text
@@ -63,6 +64,6 @@ text_to None text = text
 unfoldable pub until : ℕ → List ℕ → List ℕ
 until mark text = text_to (place_of mark text) text
 
--- the text after `name`, if it begins with `name`
+-- the text after `name`, or `None` if the text does not begin with `name`
 unfoldable pub text_after : List ℕ → List ℕ → Option (List ℕ)
 text_after name text = if starts_with nat_eq text name then Some (drop (length name) text) else None

@@ -13,16 +13,17 @@ use Rattle.rv_gdb_protocol.specs.declared.request.Request.TheVariants as ask
 
 -- the first of several that is present
 infixl 5 ◌<|>◌
+-- the first of the two values, or the second one if the first is missing
 abbrev pub ◌<|>◌ : {A : Type 0} → Option A → Option A → Option A
 one <|> other = option_or one other
 
--- the request of a packet that begins with `name`: `asked` of its arguments; none for any other body
+-- the result of `asked` for the arguments of a packet that begins with `name`, or `None` for any other body
 abbrev pub named : List ℕ → (List ℕ → Request) → List ℕ → Option Request
 named name asked body = option_map asked (text_after name body)
 
 -- ---- packets without arguments
 
--- the request of a packet without arguments that reads something
+-- the request of a packet without arguments that asks for something or turns off acknowledgements, or `None` for any other packet
 unfoldable pub bare_query : List ℕ → Option Request
 bare_query body =
     if bytes_eq body (codes "?") then Some ask.LastStop
@@ -34,7 +35,8 @@ bare_query body =
     else if bytes_eq body (codes "vCont?") then Some ask.Actions
     else None
 
--- the request of a packet without arguments that has an effect
+-- the request of a packet without arguments that moves backwards, kills the program, is only accepted, or is a call on the image file, or
+-- `None` for any other packet
 unfoldable pub bare_command : List ℕ → Option Request
 bare_command body =
     if bytes_eq body (codes "bs") then Some (ask.Move move.StepBack)
@@ -48,55 +50,55 @@ bare_command body =
 
 -- ---- packets with arguments
 
--- the request of a `qSupported` or `qAttached` packet, whose arguments are ignored
+-- the request of a `qSupported` or `qAttached` packet, whose arguments are ignored, or `None` for any other packet
 unfoldable pub query : List ℕ → Option Request
 query body =
     if starts_with nat_eq body (codes "qSupported") then Some ask.Features
     else if starts_with nat_eq body (codes "qAttached") then Some ask.Attached else None
 
--- the request of a packet that reads a part of the target description
+-- the request of a packet that reads a part of the target description, or `None` for any other packet
 abbrev pub description_request : List ℕ → Option Request
 description_request body = named (codes "qXfer:features:read:") description body
 
--- the request of a packet that reads a part of the image's path
+-- the request of a packet that reads a part of the image's path, or `None` for any other packet
 abbrev pub image_path_request : List ℕ → Option Request
 image_path_request body = named (codes "qXfer:exec-file:read:") image_path body
 
--- the request of a packet that reads or writes a register, or reads memory
+-- the request of a packet that reads or writes a register, or reads memory, or `None` for any other packet
 unfoldable pub register_or_memory_request : List ℕ → Option Request
 register_or_memory_request body =
     named (codes "p") read_register body
     <|> named (codes "P") write_register body
     <|> named (codes "m") read_memory body
 
--- the request of a packet that sets or clears a stoppoint
+-- the request of a packet that sets or clears a stoppoint, or `None` for any other packet
 unfoldable pub stoppoint_request : List ℕ → Option Request
 stoppoint_request body = named (codes "Z") (stoppoint_change ask.Set) body <|> named (codes "z") (stoppoint_change ask.Clear) body
 
--- the action `c` or `s` of `vCont;`
+-- the move that the action `c` or `s` of `vCont;` requests, or `None` for any other action
 unfoldable pub bare_action : List ℕ → Option Move
 bare_action text =
     if bytes_eq text (codes "c") then Some move.Continue
     else if bytes_eq text (codes "s") then Some move.Step else None
 
--- the action `name` of `vCont;`, followed by a signal, which is ignored
+-- the move `step` if the text is the action `name` of `vCont;` followed by a signal, which is ignored, or else `None`
 abbrev pub signal_action : List ℕ → Move → List ℕ → Option Move
 signal_action name step text = text_after name text >>= move_with_signal step
 
--- the action `r` of `vCont;`, which steps while the pc is in a range of addresses
+-- the move that the action `r` of `vCont;` requests, which steps while the pc is in a range of addresses, or `None` for any other action
 abbrev pub range_action : List ℕ → Option Move
 range_action text = text_after (codes "r") text >>= move_within
 
--- the move that an action of `vCont;` requests, after its thread was removed; none for an unknown action
+-- the move that an action of `vCont;` without its thread requests, or `None` for an unknown action
 unfoldable pub action_of : List ℕ → Option Move
 action_of text = bare_action text <|> signal_action (codes "C") move.Continue text <|> signal_action (codes "S") move.Step text
     <|> range_action text
 
--- the request of `vCont;` with these arguments, of which only the first action counts, since there is one thread
+-- the request of `vCont;` with these arguments, or a refusal if they are malformed; only the first action counts, since there is one thread
 unfoldable pub first_action : List ℕ → Request
 first_action args = or_refused refusal.Malformed (option_map ask.Move (action_of (until colon (until semicolon args))))
 
--- the request of a packet that moves forwards in the run
+-- the request of a packet that moves forwards in the run, or `None` for any other packet
 unfoldable pub move_request : List ℕ → Option Request
 move_request body =
     named (codes "vCont;") first_action body
@@ -105,11 +107,11 @@ move_request body =
     <|> named (codes "C") (signal_move move.Continue) body
     <|> named (codes "S") (signal_move move.Step) body
 
--- a request to detach if nothing follows `D`, or `;` and any text (gdb sends a process number); otherwise an unknown packet
+-- a request to detach if nothing follows `D`, or `;` and any text (gdb sends a process number); otherwise the refusal of an unknown packet
 unfoldable pub detach : List ℕ → Request
 detach args = if length args == 0 || starts_with nat_eq args (codes ";") then ask.Detach else ask.Refused refusal.Unknown
 
--- the request of a packet that is accepted whatever follows its name
+-- the request of a packet that is accepted whatever follows its name, or `None` for any other packet
 unfoldable pub accepted_request : List ℕ → Option Request
 accepted_request body =
     if starts_with nat_eq body (codes "H") then Some ask.Accepted
@@ -117,7 +119,7 @@ accepted_request body =
     else if starts_with nat_eq body (codes "vKill") then Some ask.Accepted
     else if starts_with nat_eq body (codes "vRun") then Some ask.Restart else None
 
--- the request of a packet that begins with `D`
+-- the request of a packet that begins with `D`, or `None` for any other packet
 abbrev pub detach_request : List ℕ → Option Request
 detach_request body = named (codes "D") detach body
 
@@ -127,19 +129,19 @@ is_file_call body =
     starts_with nat_eq body (codes "vFile:pread:") || starts_with nat_eq body (codes "vFile:fstat:")
     || starts_with nat_eq body (codes "vFile:close:") || starts_with nat_eq body (codes "vFile:setfs:")
 
--- the request of a packet that reads from file descriptor 5, the only one
+-- the request of a packet that reads from file descriptor 5, the only one, or `None` for any other packet
 abbrev pub file_reading : List ℕ → Option Request
 file_reading body = named (codes "vFile:pread:5,") read_file body
 
--- the refusal of a call on a file descriptor other than 5; none for any other packet
+-- the refusal of a call on a file descriptor other than 5, or `None` for any other packet
 abbrev pub other_file : List ℕ → Option Request
 other_file body = if is_file_call body then Some (ask.Refused refusal.OtherFile) else None
 
--- the request of a `monitor` command, which is given in hexadecimal digits
+-- the request to execute a `monitor` command, which is given in hexadecimal digits, or a refusal for other arguments
 unfoldable pub command : List ℕ → Request
 command args = or_refused refusal.Failed (option_map ask.Command (bytes_of args))
 
--- the request of a packet whose arguments contain data bytes
+-- the request of a packet whose arguments contain data bytes, or `None` for any other packet
 unfoldable pub request_with_bytes : List ℕ → Option Request
 request_with_bytes body =
     named (codes "G") write_registers body
@@ -148,12 +150,12 @@ request_with_bytes body =
     <|> named (codes "vFile:open:") open_file body
     <|> named (codes "qRcmd,") command body
 
--- the request of a packet whose arguments contain no data bytes
+-- the request of a packet whose arguments contain no data bytes, or `None` for any other packet
 unfoldable pub request_without_bytes : List ℕ → Option Request
 request_without_bytes body =
     bare_query body <|> bare_command body <|> query body <|> description_request body <|> image_path_request body <|> register_or_memory_request body <|> stoppoint_request body
     <|> move_request body <|> accepted_request body <|> detach_request body <|> file_reading body <|> other_file body
 
--- the request that the body of a packet makes; other packets are refused as unknown
+-- the request that the body of a packet makes; a packet that makes none is refused as unknown
 unfoldable pub request_of : List ℕ → Request
 request_of body = unwrap_or (request_without_bytes body <|> request_with_bytes body) (ask.Refused refusal.Unknown)

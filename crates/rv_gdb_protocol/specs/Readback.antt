@@ -14,7 +14,7 @@ use Rattle.rv_gdb_protocol.specs.declared.frame.Checksum.TheVariants as verdict
 abbrev pub is_plain : ℕ → Bool
 is_plain byte = not (byte == begin_mark || byte == end_mark)
 
--- the text can be sent in a packet and is kept: it has neither `$` nor `#`, and is not too long
+-- the text can be sent in a packet and is short enough to be stored: it has neither `$` nor `#`
 pub record CanBeSent (text : List ℕ) : Type 0 where
   pub plain : list_all is_plain text ≡ true
   pub fits : length text ≤ most_body
@@ -23,11 +23,11 @@ pub record CanBeSent (text : List ℕ) : Type 0 where
 abbrev pub sent : List ℕ → ℕ → ℕ → List ℕ
 sent text high low = begin_mark ∷ (text ++ end_mark ∷ high ∷ low ∷ [])
 
--- whether the digits `high` and `low` are the checksum of the text
+-- `Right` if the digits `high` and `low` are the checksum of the text, or else `Wrong`
 abbrev pub verdict_of : List ℕ → ℕ → ℕ → Checksum
 verdict_of text high low = checksum_verdict (sum_of text) (sum_of_digits (hex_digit_value high) (hex_digit_value low))
 
--- the items that the parser receives in bytes that arrive in several pieces
+-- the items that the parser receives, in order, if the bytes arrive in these pieces
 unfoldable pub incoming_in_pieces : Frame → List (List ℕ) → List Incoming
 incoming_in_pieces frame [] = []
 incoming_in_pieces frame (piece ∷ rest) =

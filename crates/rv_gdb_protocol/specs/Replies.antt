@@ -18,12 +18,12 @@ refusal_text refusal.NotReached = codes "E.the run does not reach that point"
 refusal_text refusal.TooManyTraps = codes "E.too many breakpoints"
 refusal_text refusal.TooLong = codes "E.packet too long"
 
--- the features of the stub; a packet can have 0x4000 bytes
+-- the features that the stub reports to gdb; a packet can have 0x4000 bytes
 abbrev pub features : List ℕ
 features =
     codes "PacketSize=4000;QStartNoAckMode+;ReverseStep+;ReverseContinue+;qXfer:features:read+;qXfer:exec-file:read+"
 
--- the body of the reply to a request if it is equal in every session; none otherwise
+-- the body of the reply to a request that has an equal reply in every session, or `None` if the reply depends on the session
 abbrev pub fixed_reply : Request → Option (List ℕ)
 fixed_reply ask.Features = Some features
 fixed_reply ask.NoAcknowledgements = Some (codes "OK")
@@ -39,7 +39,7 @@ fixed_reply ask.Attached = Some (codes "0")
 fixed_reply (ask.Refused refusal) = Some (refusal_text refusal)
 fixed_reply request = None
 
--- the maximum number of bytes in a part of a text
+-- the maximum number of bytes of a text in one reply
 abbrev pub most_part : ℕ
 most_part = 8184
 

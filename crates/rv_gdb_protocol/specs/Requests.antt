@@ -44,24 +44,26 @@ or_refused refusal asked = unwrap_or asked (ask.Refused refusal)
 abbrev pub part_of : ℕ × ℕ → Part
 part_of pair = record { offset = pair.0; count = pair.1 }
 
--- the part that the arguments `OFFSET,COUNT` request
+-- the part that the arguments `OFFSET,COUNT` specify, or `None` for other arguments
 abbrev pub part_at : List ℕ → Option Part
 part_at text = option_map part_of (numbers_at comma text)
 
--- the request of the arguments `target.xml:OFFSET,COUNT`; a refusal for other arguments
+-- the request for a part of the target description, from the arguments `target.xml:OFFSET,COUNT`, or a refusal for other arguments
 unfoldable pub description : List ℕ → Request
 description args = unwrap_or
     (option_map (λ part. or_refused refusal.Failed (option_map ask.Description (part_at part))) (text_after (codes "target.xml:") args))
     (ask.Refused refusal.OtherAnnex)
 
--- the request of the arguments `PROCESS:OFFSET,COUNT`, of which the process is ignored; a refusal for other arguments
+-- the request for a part of the image's path, from the arguments `PROCESS:OFFSET,COUNT`, of which the process is ignored, or a refusal for
+-- other arguments
 unfoldable pub image_path : List ℕ → Request
 image_path args = or_refused refusal.Failed do
   place ← place_of colon args
   part ← part_at (drop (place + 1) args)
   Some (ask.ImagePath part)
 
--- the path in the arguments `PATH,FLAGS,MODE`, in hexadecimal digits, if the flags are 0, which means reading
+-- the path in the arguments `PATH,FLAGS,MODE`, which is in hexadecimal digits, or `None` if they are malformed or the flags are not 0,
+-- which means reading
 unfoldable pub opened_file : List ℕ → Option (List ℕ)
 opened_file args = do
   place ← place_of comma args
@@ -72,7 +74,7 @@ opened_file args = do
 abbrev pub open_file : List ℕ → Request
 open_file args = or_refused refusal.OtherFile (option_map ask.OpenFile (opened_file args))
 
--- the request of the arguments `COUNT,OFFSET`; a refusal for other arguments
+-- the request to read a part of the image file, from the arguments `COUNT,OFFSET`, or a refusal for other arguments
 unfoldable pub read_file : List ℕ → Request
 read_file args = or_refused refusal.OtherFile do
   pair ← numbers_at comma args
@@ -80,7 +82,7 @@ read_file args = or_refused refusal.OtherFile do
 
 -- ---- registers
 
--- the register with this number in the target description, if there is one
+-- the register with this number in the target description, or `None` if there is none
 unfoldable pub register_of : ℕ → Option Register
 register_of number =
     if nat_le number 32 then Some (register.Hart number)
@@ -88,17 +90,17 @@ register_of number =
     else if number == 34 then Some register.Printed
     else if number == 35 then Some register.Taken else None
 
--- the register whose number the text is
+-- the register whose number the text is, or `None` if it is not the number of a register
 abbrev pub register_at : List ℕ → Option Register
 register_at text = do
   number ← number_of text
   register_of number
 
--- the request to read the register whose number the arguments are; a refusal for other arguments
+-- the request to read the register with this number, or a refusal if the arguments are not the number of a register
 abbrev pub read_register : List ℕ → Request
 read_register args = or_refused refusal.Failed (option_map ask.Register (register_at args))
 
--- the request of the arguments `NUMBER=VALUE`, if they have this form
+-- the request to write a register, from the arguments `NUMBER=VALUE`, or `None` for other arguments
 abbrev pub register_write : List ℕ → Option Request
 register_write args = do
   place ← place_of equals args
@@ -106,15 +108,15 @@ register_write args = do
   value ← value_of (drop (place + 1) args)
   Some (ask.WriteRegister register value)
 
--- the request of the arguments `NUMBER=VALUE`; a refusal for other arguments
+-- the request to write a register, from the arguments `NUMBER=VALUE`, or a refusal for other arguments
 unfoldable pub write_register : List ℕ → Request
 write_register args = or_refused refusal.Malformed (register_write args)
 
--- the request to write all registers, if there are 33 values of four bytes
+-- the request to write all registers, or `None` if the bytes are not 33 values of four bytes
 abbrev pub all_registers : List ℕ → Option Request
 all_registers bytes = if length bytes == 132 then Some (ask.WriteRegisters bytes) else None
 
--- the request to write all registers, whose values the arguments are; a refusal for other arguments
+-- the request to write all registers, from 33 values of four bytes, or a refusal for other arguments
 unfoldable pub write_registers : List ℕ → Request
 write_registers args = or_refused refusal.Malformed do
   bytes ← bytes_of args
@@ -126,103 +128,107 @@ write_registers args = or_refused refusal.Malformed do
 abbrev pub range_of : ℕ × ℕ → Range
 range_of pair = record { address = pair.0; count = pair.1 }
 
--- the range in the arguments `ADDRESS,COUNT`
+-- the range that the arguments `ADDRESS,COUNT` specify, or `None` for other arguments
 abbrev pub range_at : List ℕ → Option Range
 range_at text = option_map range_of (numbers_at comma text)
 
--- the request to read the range in the arguments `ADDRESS,COUNT`; a refusal for other arguments
+-- the request to read a range of memory, from the arguments `ADDRESS,COUNT`, or a refusal for other arguments
 abbrev pub read_memory : List ℕ → Request
 read_memory args = or_refused refusal.Failed (option_map ask.ReadMemory (range_at args))
 
--- the request to write these bytes, if there are as many as the range has
+-- the request to write these bytes, or `None` if there are not as many as the range has
 abbrev pub written : Range → List ℕ → Option Request
 written range bytes = if length bytes == range.count then Some (ask.WriteMemory range.address bytes) else None
 
--- the data of a text with escapes, unless it ends with an escape
+-- the data of a text with escapes, or `None` if the text ends with an escape
 abbrev pub whole_data : List ℕ → Option (List ℕ)
 whole_data text = if is_whole text then Some (data_of false text) else None
 
--- the request to write these bytes; a refusal if there are none or not as many as the range has
+-- the request to write these bytes, or a refusal if there are none or not as many as the range has
 abbrev pub write_of : Range → Option (List ℕ) → Request
 write_of range bytes = or_refused refusal.Malformed (bytes >>= written range)
 
--- the request of the arguments `ADDRESS,COUNT:BYTES`, where `read` parses the bytes
+-- the request to write memory, from the arguments `ADDRESS,COUNT:BYTES`, where `read` parses the bytes, or `None` if the range is malformed
 abbrev pub write_memory : (List ℕ → Option (List ℕ)) → List ℕ → Option Request
 write_memory read args = do
   place ← place_of colon args
   range ← range_at (take place args)
   Some (write_of range (read (drop (place + 1) args)))
 
--- the request of the arguments `ADDRESS,COUNT:BYTES` with the bytes in hexadecimal digits; a refusal for other arguments
+-- the request to write memory, from the arguments `ADDRESS,COUNT:BYTES` with the bytes in hexadecimal digits, or a refusal for other
+-- arguments
 unfoldable pub write_digits : List ℕ → Request
 write_digits args = or_refused refusal.Malformed (write_memory bytes_of args)
 
--- the request of the arguments `ADDRESS,COUNT:BYTES` with the bytes as data with escapes; a refusal for other arguments
+-- the request to write memory, from the arguments `ADDRESS,COUNT:BYTES` with the bytes as data with escapes, or a refusal for other
+-- arguments
 unfoldable pub write_data : List ℕ → Request
 write_data args = or_refused refusal.Malformed (write_memory whole_data args)
 
 -- ---- breakpoints and watchpoints
 
--- the range in the arguments `,ADDRESS,COUNT`
+-- the range that the arguments `,ADDRESS,COUNT` specify, or `None` for other arguments
 abbrev pub stoppoint_range : List ℕ → Option Range
 stoppoint_range text = do
   fields ← text_after (codes ",") text
   range_at fields
 
--- the watchpoint for a range of 1 to 65,536 bytes within the address space; none for any other range
+-- the watchpoint for a range of 1 to 65,536 bytes within the address space, or `None` for any other range
 abbrev pub watched : Watched → Range → Option Stoppoint
 watched kind range = if (nat_le 1 range.count && nat_le range.count 65536) && nat_le (range.address + range.count) 4294967296
     then Some (trap.Watch kind range) else None
 
--- the breakpoint at the address in the arguments `,ADDRESS,KIND`
+-- the breakpoint that the arguments `,ADDRESS,KIND` specify, or `None` for other arguments
 abbrev pub break_at : List ℕ → Option Stoppoint
 break_at text = option_map (λ (range : Range). trap.Break range.address) (stoppoint_range text)
 
--- the watchpoint of this kind for the range in the arguments `,ADDRESS,COUNT`
+-- the watchpoint of this kind that the arguments `,ADDRESS,COUNT` specify, or `None` for other arguments and for an invalid range
 unfoldable pub watch_at : Watched → List ℕ → Option Stoppoint
 watch_at kind text = do
   range ← stoppoint_range text
   watched kind range
 
--- the watchpoint in the arguments, if their kind is 2 (writes), 3 (reads) or 4 (both); the inner option is none if they are malformed
+-- the watchpoint that the arguments specify, if their kind is 2 (writes), 3 (reads) or 4 (both), or else `None`; the inner option is `None`
+-- if they are malformed
 abbrev pub kind_at : List ℕ → Option (Option Stoppoint)
 kind_at args = option_or (option_map (watch_at watch.Writes) (text_after (codes "2") args))
     (option_or (option_map (watch_at watch.Reads) (text_after (codes "3") args))
     (option_map (watch_at watch.Accesses) (text_after (codes "4") args)))
 
--- the stoppoint in the arguments, if their kind is 0 to 4, where 0 and 1 are breakpoints; the inner option is none if they are malformed
+-- the stoppoint that the arguments specify, if their kind is 0 to 4, where 0 and 1 are breakpoints, or else `None`; the inner option is
+-- `None` if they are malformed
 abbrev pub stoppoint_at : List ℕ → Option (Option Stoppoint)
 stoppoint_at args = option_or (option_map break_at (text_after (codes "0") args))
     (option_or (option_map break_at (text_after (codes "1") args)) (kind_at args))
 
--- the refusal of arguments with another kind: malformed if they are empty, and otherwise unknown
+-- the refusal of arguments that begin with no known kind: malformed if they are empty, and otherwise unknown
 abbrev pub other_kind : List ℕ → Request
 other_kind args = if length args == 0 then ask.Refused refusal.Malformed else ask.Refused refusal.Unknown
 
--- the request `change` for the stoppoint in the arguments; a refusal for other arguments
+-- the request `change` for the stoppoint that the arguments specify, or a refusal for other arguments
 unfoldable pub stoppoint_change : (Stoppoint → Request) → List ℕ → Request
 stoppoint_change change args = unwrap_or (option_map (λ found. or_refused refusal.Malformed (option_map change found)) (stoppoint_at args))
     (other_kind args)
 
 -- ---- moves
 
--- the refusal of a move with arguments: with an address it would start elsewhere, and otherwise it is malformed
+-- the refusal of a move with arguments: an address, as the Bool says, would make it start elsewhere, and anything else is malformed
 abbrev pub refusal_of_address : Bool → Refusal
 refusal_of_address is_address = if is_address then refusal.WouldChange else refusal.Malformed
 
--- the request of `c` or `s` with these arguments; refused unless they are empty
+-- the move if the arguments of `c` or `s` are empty, and otherwise a refusal
 unfoldable pub plain_move : Move → List ℕ → Request
 plain_move move args = if length args == 0 then ask.Move move else ask.Refused (refusal_of_address (is_some (number_of args)))
 
--- the request of `C` or `S` with a signal, which is ignored; refused if an address follows
+-- the move if the arguments of `C` or `S` are only a signal, which is ignored, and otherwise a refusal
 unfoldable pub signal_move : Move → List ℕ → Request
 signal_move move args = if is_some (number_of args) then ask.Move move
     else ask.Refused (refusal_of_address (is_some (numbers_at semicolon args)))
 
--- the move in the arguments `LOW,HIGH`, which steps while the pc is in this range of addresses
+-- the move that steps while the pc is in the range `LOW,HIGH` of addresses, or `None` for other arguments
 abbrev pub move_within : List ℕ → Option Move
 move_within text = option_map (λ pair. move.StepWithin pair.0 pair.1) (numbers_at comma text)
 
--- the move, if the text is the number of a signal, which is ignored
+-- the move if the text is the number of a signal, which is ignored, or else `None`
 abbrev pub move_with_signal : Move → List ℕ → Option Move
 move_with_signal move text = if is_some (number_of text) then Some move else None

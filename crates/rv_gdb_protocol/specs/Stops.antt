@@ -9,7 +9,7 @@ use Rattle.rv_gdb_protocol.specs.declared.request.Watched.TheVariants as watch
 use Rattle.rv_gdb_protocol.specs.declared.stop.Stop.{Stop}
 use Rattle.rv_gdb_protocol.specs.declared.stop.Stop.TheVariants as stop
 
--- the stop reply for a fault: SIGSEGV, SIGBUS, SIGILL, SIGABRT, SIGSYS or SIGXFSZ, by gdb's numbers
+-- the body of the stop reply for a fault of this kind: SIGSEGV, SIGBUS, SIGILL, SIGABRT, SIGSYS or SIGXFSZ, by gdb's numbers
 abbrev pub fault_text : FaultKind → List ℕ
 fault_text fault.FetchAccess = codes "T0b"
 fault_text fault.StaleCode = codes "T04"
@@ -23,13 +23,14 @@ fault_text fault.ConsoleFull = codes "T19"
 fault_text fault.UnknownCall = codes "T0c"
 fault_text fault.FetchMisaligned = codes "T0a"
 
--- the beginning of the stop reply for a watchpoint of this kind
+-- the beginning of the stop reply for a watchpoint of this kind, up to the address
 abbrev pub watch_text : Watched → List ℕ
 watch_text watch.Writes = codes "T05watch:"
 watch_text watch.Reads = codes "T05rwatch:"
 watch_text watch.Accesses = codes "T05awatch:"
 
--- the stop reply: SIGTRAP, SIGINT, SIGXCPU or the signal of a fault; never `W` or `X`, since a run can go backwards from its end
+-- the body of the stop reply for this stop: SIGTRAP, SIGINT, SIGXCPU or the signal of a fault; never `W` or `X`, since a run can go
+-- backwards from its end
 unfoldable pub stop_text : Stop → List ℕ
 stop_text stop.Here = codes "T05"
 stop_text (stop.Watch kind address) = watch_text kind ++ (encode_lower (to_be_bytes w32 address) ++ codes ";")

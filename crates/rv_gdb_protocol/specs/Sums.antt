@@ -21,13 +21,13 @@ in_frame text = begin_mark ∷ (text ++ end_mark ∷ sum_digits text)
 unfoldable pub framed : List ℕ → List ℕ
 framed body = in_frame (escaped body)
 
--- the checksum that two hexadecimal digits represent; none if one is not a digit
+-- the checksum that two hexadecimal digits represent, given their values, or `None` if one is not a digit
 abbrev pub sum_of_digits : Option ℕ → Option ℕ → Option ℕ
 sum_of_digits (Some high) (Some low) = Some (high * 16 + low)
 sum_of_digits (Some high) None = None
 sum_of_digits None low = None
 
--- whether the received checksum is the correct one
+-- `Right` if the received checksum equals the correct one, or else `Wrong`
 abbrev pub checksum_verdict : ℕ → Option ℕ → Checksum
 checksum_verdict right (Some told) = if told == right then verdict.Right else verdict.Wrong
 checksum_verdict right None = verdict.Wrong

@@ -7,7 +7,8 @@ use crate::number::{number_of, numbers_at, place_of, text_after, value_of};
 use crate::request::{Move, Part, Range, Refusal, Register, Request, Stoppoint, Watched};
 use rv_base::Bytes;
 
-/// Parses `target.xml:OFFSET,COUNT`. Returns a refusal for other arguments.
+/// Returns the request for a part of the target description, from the arguments `target.xml:OFFSET,COUNT`, or a refusal for other
+/// arguments.
 #[tactic(auto, unfolding(crate::specs::Requests::description))]
 pub(crate) fn description(args: &[u8]) -> Request
     ensures { result ≡ description args.now }
@@ -21,7 +22,7 @@ pub(crate) fn description(args: &[u8]) -> Request
     }
 }
 
-// Parses `OFFSET,COUNT`.
+// Parses `OFFSET,COUNT`. Returns `None` for any other text.
 fn part_at(text: &[u8]) -> Option<Part>
     ensures { result ≡ part_at text.now }
 {
@@ -29,7 +30,8 @@ fn part_at(text: &[u8]) -> Option<Part>
     Some(Part { offset, count })
 }
 
-/// Parses `PROCESS:OFFSET,COUNT`, and ignores the process. Returns a refusal for other arguments.
+/// Returns the request for a part of the image's path, from the arguments `PROCESS:OFFSET,COUNT`, of which the process is ignored, or a
+/// refusal for other arguments.
 #[tactic(auto, unfolding(crate::specs::Requests::image_path))]
 pub(crate) fn image_path(args: &[u8]) -> Request
     ensures { result ≡ image_path args.now }
@@ -43,7 +45,7 @@ pub(crate) fn image_path(args: &[u8]) -> Request
     }
 }
 
-/// Parses `COUNT,OFFSET`. Returns a refusal for other arguments.
+/// Returns the request to read a part of the image file, from the arguments `COUNT,OFFSET`, or a refusal for other arguments.
 #[tactic(auto, unfolding(crate::specs::Requests::read_file))]
 pub(crate) fn read_file(args: &[u8]) -> Request
     ensures { result ≡ read_file args.now }
@@ -54,7 +56,7 @@ pub(crate) fn read_file(args: &[u8]) -> Request
     }
 }
 
-/// Parses the number of a register to read. Returns a refusal for other arguments.
+/// Returns the request to read the register with this number, or a refusal if the arguments are not the number of a register.
 pub(crate) fn read_register(args: &[u8]) -> Request
     ensures { result ≡ read_register args.now }
 {
@@ -64,14 +66,14 @@ pub(crate) fn read_register(args: &[u8]) -> Request
     }
 }
 
-// Parses the number of a register in the target description.
+// Returns the register whose number the text is, or `None` if it is not the number of a register.
 fn register_at(text: &[u8]) -> Option<Register>
     ensures { result ≡ register_at text.now }
 {
     register_of(number_of(text)?)
 }
 
-// Returns the register with this number in the target description, if there is one.
+// Returns the register with this number in the target description, or `None` if there is none.
 #[tactic(auto, unfolding(crate::specs::Requests::register_of))]
 fn register_of(number: u32) -> Option<Register>
     ensures { result ≡ register_of number }
@@ -85,7 +87,7 @@ fn register_of(number: u32) -> Option<Register>
     }
 }
 
-/// Parses `NUMBER=VALUE`. Returns a refusal for other arguments.
+/// Returns the request to write a register, from the arguments `NUMBER=VALUE`, or a refusal for other arguments.
 #[tactic(auto, unfolding(crate::specs::Requests::write_register))]
 pub(crate) fn write_register(args: &[u8]) -> Request
     ensures { result ≡ write_register args.now }
@@ -93,7 +95,7 @@ pub(crate) fn write_register(args: &[u8]) -> Request
     register_write(args).unwrap_or(Request::Refused(Refusal::Malformed))
 }
 
-// Parses `NUMBER=VALUE`.
+// Returns the request to write a register, from the arguments `NUMBER=VALUE`, or `None` for other arguments.
 fn register_write(args: &[u8]) -> Option<Request>
     ensures { result ≡ register_write args.now }
 {
@@ -103,7 +105,7 @@ fn register_write(args: &[u8]) -> Option<Request>
     Some(Request::WriteRegister(register, value))
 }
 
-/// Returns the request to write all registers, if there are 33 values of four bytes.
+/// Returns the request to write all registers, or `None` if the bytes are not 33 values of four bytes.
 pub(crate) fn all_registers(bytes: Vec<u8>) -> Option<Request>
     ensures { result ≡ all_registers bytes.items }
 {
@@ -114,7 +116,7 @@ pub(crate) fn all_registers(bytes: Vec<u8>) -> Option<Request>
     }
 }
 
-/// Parses `ADDRESS,COUNT` as a range to read. Returns a refusal for other arguments.
+/// Returns the request to read a range of memory, from the arguments `ADDRESS,COUNT`, or a refusal for other arguments.
 pub(crate) fn read_memory(args: &[u8]) -> Request
     ensures { result ≡ read_memory args.now }
 {
@@ -124,7 +126,7 @@ pub(crate) fn read_memory(args: &[u8]) -> Request
     }
 }
 
-/// Parses `ADDRESS,COUNT`.
+/// Parses the range `ADDRESS,COUNT`. Returns `None` for any other text.
 pub(crate) fn range_at(text: &[u8]) -> Option<Range>
     ensures { result ≡ range_at text.now }
 {
@@ -132,7 +134,7 @@ pub(crate) fn range_at(text: &[u8]) -> Option<Range>
     Some(Range { address, count })
 }
 
-/// Returns the request to write these bytes, if there are as many as the range has.
+/// Returns the request to write these bytes, or `None` if there are not as many as the range has.
 pub(crate) fn written(range: Range, bytes: Vec<u8>) -> Option<Request>
     ensures { result ≡ written range bytes.items }
 {
@@ -144,7 +146,7 @@ pub(crate) fn written(range: Range, bytes: Vec<u8>) -> Option<Request>
 }
 
 /// Parses a kind and `,ADDRESS,COUNT`: a breakpoint (0 or 1), or a watchpoint for writes (2), reads (3) or both (4). Returns `None` for
-/// another kind, and `Some(None)` for malformed arguments.
+/// another kind, and `Some(None)` for a known kind with malformed arguments.
 pub(crate) fn stoppoint_at(args: &[u8]) -> Option<Option<Stoppoint>>
     ensures { result ≡ stoppoint_at args.now }
 {
@@ -157,7 +159,8 @@ pub(crate) fn stoppoint_at(args: &[u8]) -> Option<Option<Stoppoint>>
     kind_at(args)
 }
 
-// Parses a watchpoint, like [`stoppoint_at`].
+// Parses a kind from 2 to 4 and `,ADDRESS,COUNT` as a watchpoint. Returns `None` for another kind, and `Some(None)` for a known kind with
+// malformed arguments.
 fn kind_at(args: &[u8]) -> Option<Option<Stoppoint>>
     ensures { result ≡ kind_at args.now }
 {
@@ -171,7 +174,7 @@ fn kind_at(args: &[u8]) -> Option<Option<Stoppoint>>
     Some(watch_at(Watched::Accesses, fields))
 }
 
-// Parses `,ADDRESS,KIND` as a breakpoint.
+// Parses `,ADDRESS,KIND` as a breakpoint. Returns `None` for any other text.
 fn break_at(text: &[u8]) -> Option<Stoppoint>
     ensures { result ≡ break_at text.now }
 {
@@ -179,7 +182,7 @@ fn break_at(text: &[u8]) -> Option<Stoppoint>
     Some(Stoppoint::Break(range.address))
 }
 
-// Parses `,ADDRESS,COUNT` as a watchpoint of this kind.
+// Parses `,ADDRESS,COUNT` as a watchpoint of this kind. Returns `None` for any other text, and for an invalid range.
 #[tactic(auto, unfolding(crate::specs::Requests::watch_at))]
 fn watch_at(kind: Watched, text: &[u8]) -> Option<Stoppoint>
     ensures { result ≡ watch_at kind text.now }
@@ -187,14 +190,14 @@ fn watch_at(kind: Watched, text: &[u8]) -> Option<Stoppoint>
     watched(kind, stoppoint_range(text)?)
 }
 
-// Parses `,ADDRESS,COUNT`.
+// Parses the range `,ADDRESS,COUNT`. Returns `None` for any other text.
 fn stoppoint_range(text: &[u8]) -> Option<Range>
     ensures { result ≡ stoppoint_range text.now }
 {
     range_at(text_after(b",", text)?)
 }
 
-// Returns the watchpoint for a range of 1 to 65,536 bytes within the address space; `None` for any other range.
+// Returns the watchpoint for a range of 1 to 65,536 bytes within the address space, or `None` for any other range.
 fn watched(kind: Watched, range: Range) -> Option<Stoppoint>
     ensures { result ≡ watched kind range }
 {
@@ -206,7 +209,7 @@ fn watched(kind: Watched, range: Range) -> Option<Stoppoint>
     }
 }
 
-/// Returns the refusal of arguments with another kind: malformed if they are empty, and otherwise unknown.
+/// Returns the refusal of arguments that begin with no known kind: malformed if they are empty, and otherwise unknown.
 pub(crate) fn other_kind(args: &[u8]) -> Request
     ensures { result ≡ other_kind args.now }
 {
@@ -217,7 +220,7 @@ pub(crate) fn other_kind(args: &[u8]) -> Request
     }
 }
 
-/// Parses the arguments of `c` or `s`. Returns a refusal unless they are empty: with an address the move would start elsewhere.
+/// Returns the move if the arguments of `c` or `s` are empty, and otherwise a refusal: with an address the move would start elsewhere.
 #[tactic(auto, unfolding(crate::specs::Requests::plain_move))]
 pub(crate) fn plain_move(step: Move, args: &[u8]) -> Request
     ensures { result ≡ plain_move step args.now }
@@ -228,7 +231,7 @@ pub(crate) fn plain_move(step: Move, args: &[u8]) -> Request
     Request::Refused(refusal_of_address(number_of(args).is_some()))
 }
 
-/// Parses the arguments of `C` or `S`: a signal, which is ignored. Returns a refusal if an address follows.
+/// Returns the move if the arguments of `C` or `S` are only a signal, which is ignored, and otherwise a refusal.
 #[tactic(auto, unfolding(crate::specs::Requests::signal_move))]
 pub(crate) fn signal_move(step: Move, args: &[u8]) -> Request
     ensures { result ≡ signal_move step args.now }
@@ -239,7 +242,7 @@ pub(crate) fn signal_move(step: Move, args: &[u8]) -> Request
     Request::Refused(refusal_of_address(numbers_at(b';', args).is_some()))
 }
 
-// Returns the refusal of a move with arguments: with an address it would start elsewhere, and otherwise it is malformed.
+// Returns the refusal of a move with arguments: an address would make it start elsewhere, and anything else is malformed.
 fn refusal_of_address(is_address: bool) -> Refusal
     ensures { result ≡ refusal_of_address is_address }
 {
@@ -250,7 +253,7 @@ fn refusal_of_address(is_address: bool) -> Refusal
     }
 }
 
-/// Parses `LOW,HIGH`: the range of addresses in which to step.
+/// Returns the move that steps while the pc is in the range `LOW,HIGH` of addresses, or `None` for any other text.
 pub(crate) fn move_within(text: &[u8]) -> Option<Move>
     ensures { result ≡ move_within text.now }
 {
@@ -258,7 +261,7 @@ pub(crate) fn move_within(text: &[u8]) -> Option<Move>
     Some(Move::StepWithin(low, high))
 }
 
-/// Returns the move if the text is the number of a signal, which is ignored.
+/// Returns the move if the text is the number of a signal, which is ignored, or else `None`.
 pub(crate) fn move_with_signal(step: Move, text: &[u8]) -> Option<Move>
     ensures { result ≡ move_with_signal step text.now }
 {

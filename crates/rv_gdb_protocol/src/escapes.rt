@@ -34,14 +34,14 @@ fn push_escaped_byte(out: &mut Vec<u8>, byte: u8) -> Result<(), AllocError>
     Ok(())
 }
 
-// Whether a byte has a special meaning in a packet.
+// Whether a byte has a special meaning in a packet: `$`, `#`, `}` or `*`.
 fn is_special(byte: u8) -> bool
     ensures { result ≡ is_special byte }
 {
     byte == b'$' || byte == b'#' || byte == ESCAPE || byte == b'*'
 }
 
-/// Appends the data that a text with escapes represents. Returns whether the text is complete: it does not end with an escape.
+/// Appends the data that a text with escapes represents. Returns whether the text is complete, that is, does not end with an escape.
 pub fn push_data(out: &mut Vec<u8>, text: &[u8]) -> Result<bool, AllocError>
     ensures bytes { OnOk result (out.new.items ≡ out.old.items ++ data_of false text.now) }
     ensures whole { IfOk result (λ whole. whole ≡ is_whole text.now) }
@@ -53,7 +53,8 @@ pub fn push_data(out: &mut Vec<u8>, text: &[u8]) -> Result<bool, AllocError>
     Ok(!behind_escape)
 }
 
-// Appends the data that a byte represents. Returns whether the byte is an escape.
+// Appends the data that a byte represents, or nothing if it is an escape, and returns whether it is one. `behind_escape` is whether the
+// previous byte is an escape.
 fn push_data_byte(out: &mut Vec<u8>, behind_escape: bool, byte: u8) -> Result<bool, AllocError>
     ensures bytes { OnOk result (out.new.items ≡ out.old.items ++ data_byte behind_escape byte) }
     ensures escape { IfOk result (λ is. is ≡ is_escape behind_escape byte) }

@@ -14,42 +14,42 @@ ghost use Rattle.rv_gdb_protocol.specs.declared.request.Request.{Request};
 ghost use Rattle.rv_gdb_protocol.specs.declared.stop.Stop.{Stop};
 ghost use Rattle.rv_gdb_protocol.specs.declared.frame.Incoming.TheVariants.{Packet};
 
-/// What the parser receives does not depend on how the bytes are split.
+/// Proves that what the parser receives does not depend on how the bytes are split.
 pub fn bytes_can_be_split()
     ensures { (frame : Frame) (front rest : List ℕ) → incoming_in frame (front ++ rest)
         ≡ incoming_in frame front ++ incoming_in (fold frame_after frame front) rest }
 {}
 
-/// A framed body is received as one packet with a correct checksum, and its data is the body.
+/// Proves that a framed body is received as one packet with a correct checksum, whose data is the body.
 pub fn framed_bodies_are_read_back()
     ensures { (body : List ℕ) → length (escaped body) ≤ most_body → IsReadBack body }
 {}
 
-/// A text without `$` and `#`, followed by any two digits as its checksum, is received as one packet.
+/// Proves that a text without `$` and `#`, followed by any two digits as its checksum, is received as one packet.
 pub fn sent_texts_are_received()
     ensures { (text : List ℕ) (high low : ℕ) → CanBeSent text
         → IsReceivedAlone (sent text high low) text (verdict_of text high low) }
 {}
 
-/// If the parser receives a packet, the bytes so far end with that packet.
+/// Proves that if the parser receives a packet, the bytes so far end with this packet.
 pub fn received_texts_were_sent()
     ensures { (bytes text : List ℕ) (byte : ℕ) (sum : Checksum)
         → incoming_at (fold frame_after between bytes) byte ≡ Some (Packet text sum)
         → EndsWithSent (bytes ++ byte ∷ []) text sum }
 {}
 
-/// The stop reply tells how the run ended: stops with equal replies report equal ends, and a stop before the end never has the reply of one
-/// at the end.
+/// Proves that the stop reply tells how the run ended: stops with equal replies report equal ends, and a stop before the end and a stop at
+/// the end never have equal replies.
 pub fn stop_replies_show_the_ending()
     ensures { (one other : Stop) → stop_text one ≡ stop_text other → end_kind_of_stop one ≡ end_kind_of_stop other }
 {}
 
-/// The reply with a part of a text fits in a packet, however many of its bytes must be escaped.
+/// Proves that the reply with a part of a text fits in a packet, however many of its bytes must be escaped.
 pub fn parts_fit()
     ensures { (text : List ℕ) (part : Part) → length (escaped (part_text text part)) ≤ most_body }
 {}
 
-/// Each packet of the protocol's grammar is parsed as the request that it makes.
+/// Proves that each packet of the protocol's grammar is parsed as the request that the grammar gives it.
 pub fn packets_are_read()
     ensures { (body : List ℕ) (request : Request) → IsRequest body request → request_of body ≡ request }
 {}

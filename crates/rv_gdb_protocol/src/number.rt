@@ -11,7 +11,7 @@ use std::alloc::{AllocError, Global};
 /// The maximum number of digits in a number.
 const MOST_DIGITS: usize = 8;
 
-/// Parses a number of 1 to 8 hexadecimal digits, in either case.
+/// Returns the number that 1 to 8 hexadecimal digits represent, in either case, or `None` for any other text.
 #[tactic(auto, unfolding(crate::specs::Numbers::number_of))]
 pub(crate) fn number_of(text: &[u8]) -> Option<u32>
     ensures { result ≡ number_of text.now }
@@ -26,7 +26,7 @@ pub(crate) fn number_of(text: &[u8]) -> Option<u32>
     value
 }
 
-// Returns the number with one more digit; `None` if the byte is not a digit.
+// Returns the number with the byte as one more hexadecimal digit, or `None` if there is no number or the byte is not a digit.
 fn digit_on(value: Option<u32>, byte: u8) -> Option<u32>
     requires { IfSome value (λ value. value < 2 ^ 28) }
     ensures { result ≡ digit_on value byte }
@@ -37,7 +37,7 @@ fn digit_on(value: Option<u32>, byte: u8) -> Option<u32>
     }
 }
 
-/// Parses two numbers separated by a delimiter, as in `80000000,4`.
+/// Returns two numbers that a delimiter separates, as in `80000000,4`, or `None` for any other text.
 #[tactic(auto, unfolding(crate::specs::Numbers::numbers_at))]
 pub(crate) fn numbers_at(mark: u8, text: &[u8]) -> Option<(u32, u32)>
     ensures { result ≡ numbers_at mark text.now }
@@ -48,7 +48,7 @@ pub(crate) fn numbers_at(mark: u8, text: &[u8]) -> Option<(u32, u32)>
     Some((first, second))
 }
 
-/// Returns the index of the first occurrence of a delimiter.
+/// Returns the index of the first occurrence of a delimiter, or `None` if there is none.
 pub(crate) fn place_of(mark: u8, text: &[u8]) -> Option<usize>
     ensures place { result ≡ place_of mark text.now }
     ensures within { IfSome result (λ place. place < length text.now) }
@@ -67,7 +67,7 @@ pub(crate) fn until(mark: u8, text: &[u8]) -> &[u8]
     }
 }
 
-/// Returns the text after `name`, if it begins with `name`.
+/// Returns the text after `name`, or `None` if the text does not begin with `name`.
 #[tactic(auto, unfolding(crate::specs::Numbers::text_after))]
 pub(crate) fn text_after<'a>(name: &[u8], text: &'a [u8]) -> Option<&'a [u8]>
     ensures { option_copied result ≡ text_after name.now text.now }
@@ -79,7 +79,7 @@ pub(crate) fn text_after<'a>(name: &[u8], text: &'a [u8]) -> Option<&'a [u8]>
     }
 }
 
-/// Decodes hexadecimal digits, two for each byte. Returns `None` for any other text.
+/// Returns the bytes that hexadecimal digits represent, two digits for each, or `None` for any other text.
 #[tactic(auto, unfolding(crate::specs::Numbers::bytes_of))]
 pub(crate) fn bytes_of(alloc: Global, text: &[u8]) -> Result<Option<Vec<u8>>, AllocError>
     ensures { IfOk result (λ bytes. option_map (λ bytes. bytes.items) bytes ≡ bytes_of text.now) }
@@ -91,7 +91,7 @@ pub(crate) fn bytes_of(alloc: Global, text: &[u8]) -> Result<Option<Vec<u8>>, Al
     }
 }
 
-/// Parses the value of a register: eight hexadecimal digits, low byte first.
+/// Returns the value of a register that eight hexadecimal digits represent, low byte first, or `None` for any other text.
 #[tactic(auto, unfolding(crate::specs::Numbers::value_of))]
 pub(crate) fn value_of(text: &[u8]) -> Option<u32>
     ensures { result ≡ value_of text.now }

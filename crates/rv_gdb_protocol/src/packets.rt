@@ -13,7 +13,7 @@ use crate::arguments::{
 use crate::number::{text_after, until};
 use crate::request::{Move, Refusal, Request};
 
-/// Parses a packet whose arguments contain no data bytes. Returns `None` for any other packet.
+/// Returns the request of a packet whose arguments contain no data bytes, or `None` for any other packet.
 #[tactic(auto, unfolding(crate::specs::Packets::request_without_bytes))]
 pub(crate) fn request_without_bytes(body: &[u8]) -> Option<Request>
     ensures { result ≡ request_without_bytes body.now }
@@ -32,14 +32,14 @@ pub(crate) fn request_without_bytes(body: &[u8]) -> Option<Request>
         .or(other_file(body))
 }
 
-// Whether the body of a packet is this name, without arguments.
+// Whether the body of a packet is exactly this name.
 fn is(body: &[u8], name: &[u8]) -> bool
     ensures { result ≡ bytes_eq body.now name.now }
 {
     body == name
 }
 
-// Parses a packet without arguments that reads something.
+// Returns the request of a packet without arguments that asks for something or turns off acknowledgements, or `None` for any other packet.
 #[tactic(auto, unfolding(crate::specs::Packets::bare_query))]
 fn bare_query(body: &[u8]) -> Option<Request>
     ensures { result ≡ bare_query body.now }
@@ -63,7 +63,8 @@ fn bare_query(body: &[u8]) -> Option<Request>
     }
 }
 
-// Parses a packet without arguments that has an effect.
+// Returns the request of a packet without arguments that moves backwards, kills the program, is only accepted, or is a call on the image
+// file, or `None` for any other packet.
 #[tactic(auto, unfolding(crate::specs::Packets::bare_command))]
 fn bare_command(body: &[u8]) -> Option<Request>
     ensures { result ≡ bare_command body.now }
@@ -87,7 +88,7 @@ fn bare_command(body: &[u8]) -> Option<Request>
     }
 }
 
-// Parses a `qSupported` or `qAttached` packet, whose arguments are ignored.
+// Returns the request of a `qSupported` or `qAttached` packet, whose arguments are ignored, or `None` for any other packet.
 #[tactic(auto, unfolding(crate::specs::Packets::query))]
 fn query(body: &[u8]) -> Option<Request>
     ensures { result ≡ query body.now }
@@ -101,7 +102,7 @@ fn query(body: &[u8]) -> Option<Request>
     }
 }
 
-// Parses a packet that reads a part of the target description.
+// Returns the request of a packet that reads a part of the target description, or `None` for any other packet.
 fn description_request(body: &[u8]) -> Option<Request>
     ensures { result ≡ description_request body.now }
 {
@@ -109,7 +110,7 @@ fn description_request(body: &[u8]) -> Option<Request>
     Some(description(args))
 }
 
-// Parses a packet that reads a part of the image's path.
+// Returns the request of a packet that reads a part of the image's path, or `None` for any other packet.
 fn image_path_request(body: &[u8]) -> Option<Request>
     ensures { result ≡ image_path_request body.now }
 {
@@ -117,7 +118,7 @@ fn image_path_request(body: &[u8]) -> Option<Request>
     Some(image_path(args))
 }
 
-// Parses a packet that reads or writes a register, or reads memory.
+// Returns the request of a packet that reads or writes a register, or reads memory, or `None` for any other packet.
 #[tactic(auto, unfolding(crate::specs::Packets::register_or_memory_request))]
 fn register_or_memory_request(body: &[u8]) -> Option<Request>
     ensures { result ≡ register_or_memory_request body.now }
@@ -132,7 +133,7 @@ fn register_or_memory_request(body: &[u8]) -> Option<Request>
     Some(read_memory(args))
 }
 
-// Parses a packet that sets or clears a breakpoint or watchpoint.
+// Returns the request of a packet that sets or clears a breakpoint or watchpoint, or `None` for any other packet.
 #[tactic(auto, unfolding(crate::specs::Packets::stoppoint_request))]
 fn stoppoint_request(body: &[u8]) -> Option<Request>
     ensures { result ≡ stoppoint_request body.now }
@@ -144,7 +145,7 @@ fn stoppoint_request(body: &[u8]) -> Option<Request>
     Some(clear_stoppoint(args))
 }
 
-// Parses the arguments of `Z`, which sets a breakpoint or watchpoint.
+// Returns the request to set the breakpoint or watchpoint in the arguments of `Z`, or a refusal for other arguments.
 #[tactic(auto, unfolding(crate::specs::Requests::stoppoint_change))]
 fn set_stoppoint(args: &[u8]) -> Request
     ensures { result ≡ stoppoint_change ask.Set args.now }
@@ -156,7 +157,7 @@ fn set_stoppoint(args: &[u8]) -> Request
     }
 }
 
-// Parses the arguments of `z`, which clears a breakpoint or watchpoint.
+// Returns the request to clear the breakpoint or watchpoint in the arguments of `z`, or a refusal for other arguments.
 #[tactic(auto, unfolding(crate::specs::Requests::stoppoint_change))]
 fn clear_stoppoint(args: &[u8]) -> Request
     ensures { result ≡ stoppoint_change ask.Clear args.now }
@@ -168,7 +169,7 @@ fn clear_stoppoint(args: &[u8]) -> Request
     }
 }
 
-// Parses a packet that moves forwards in the run.
+// Returns the request of a packet that moves forwards in the run, or `None` for any other packet.
 #[tactic(auto, unfolding(crate::specs::Packets::move_request))]
 fn move_request(body: &[u8]) -> Option<Request>
     ensures { result ≡ move_request body.now }
@@ -189,7 +190,8 @@ fn move_request(body: &[u8]) -> Option<Request>
     Some(signal_move(Move::Step, args))
 }
 
-// Parses the arguments of `vCont;`, of which only the first action counts, since there is one thread.
+// Returns the request of `vCont;` with these arguments, or a refusal if they are malformed. Only the first action counts, since there is
+// one thread.
 #[tactic(auto, unfolding(crate::specs::Packets::first_action))]
 fn first_action(args: &[u8]) -> Request
     ensures { result ≡ first_action args.now }
@@ -200,7 +202,7 @@ fn first_action(args: &[u8]) -> Request
     }
 }
 
-// Parses an action of `vCont;` without its thread.
+// Returns the move that an action of `vCont;` without its thread requests, or `None` for an unknown action.
 #[tactic(auto, unfolding(crate::specs::Packets::action_of))]
 fn action_of(text: &[u8]) -> Option<Move>
     ensures { result ≡ action_of text.now }
@@ -211,7 +213,7 @@ fn action_of(text: &[u8]) -> Option<Move>
         .or(range_action(text))
 }
 
-// Parses the action `c` or `s` of `vCont;`.
+// Returns the move that the action `c` or `s` of `vCont;` requests, or `None` for any other action.
 #[tactic(auto, unfolding(crate::specs::Packets::bare_action))]
 fn bare_action(text: &[u8]) -> Option<Move>
     ensures { result ≡ bare_action text.now }
@@ -225,21 +227,22 @@ fn bare_action(text: &[u8]) -> Option<Move>
     }
 }
 
-// Parses the action `name` of `vCont;`, followed by a signal, which is ignored.
+// Returns `step` if the text is the action `name` of `vCont;` followed by a signal, which is ignored, or else `None`.
 fn signal_action(name: &[u8], step: Move, text: &[u8]) -> Option<Move>
     ensures { result ≡ signal_action name.now step text.now }
 {
     move_with_signal(step, text_after(name, text)?)
 }
 
-// Parses the action `r` of `vCont;`, which steps while the pc is in a range of addresses.
+// Returns the move that the action `r` of `vCont;` requests, which steps while the pc is in a range of addresses, or `None` for any other
+// action.
 fn range_action(text: &[u8]) -> Option<Move>
     ensures { result ≡ range_action text.now }
 {
     move_within(text_after(b"r", text)?)
 }
 
-// Parses a packet that is accepted whatever follows its name.
+// Returns the request of a packet that is accepted whatever follows its name, or `None` for any other packet.
 #[tactic(auto, unfolding(crate::specs::Packets::accepted_request))]
 fn accepted_request(body: &[u8]) -> Option<Request>
     ensures { result ≡ accepted_request body.now }
@@ -253,7 +256,7 @@ fn accepted_request(body: &[u8]) -> Option<Request>
     }
 }
 
-// Parses a packet that begins with `D`.
+// Returns the request of a packet that begins with `D`, or `None` for any other packet.
 fn detach_request(body: &[u8]) -> Option<Request>
     ensures { result ≡ detach_request body.now }
 {
@@ -273,7 +276,7 @@ fn detach(args: &[u8]) -> Request
     }
 }
 
-// Parses a packet that reads from file descriptor 5, the only one.
+// Returns the request of a packet that reads from file descriptor 5, the only one, or `None` for any other packet.
 fn file_reading(body: &[u8]) -> Option<Request>
     ensures { result ≡ file_reading body.now }
 {
@@ -281,7 +284,7 @@ fn file_reading(body: &[u8]) -> Option<Request>
     Some(read_file(args))
 }
 
-// Returns the refusal of a call on a file descriptor other than 5; `None` for any other packet.
+// Returns the refusal of a call on a file descriptor other than 5, or `None` for any other packet.
 fn other_file(body: &[u8]) -> Option<Request>
     ensures { result ≡ other_file body.now }
 {

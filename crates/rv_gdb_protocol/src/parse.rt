@@ -13,7 +13,7 @@ use crate::request::{Range, Refusal, Request};
 use rv_base::Bytes;
 use std::alloc::{AllocError, Global};
 
-/// Parses the body of a packet. A malformed or unknown packet is a refusal, which determines the reply.
+/// Returns the request that the body of a packet makes. A malformed or unknown packet gives a refusal, which determines the reply.
 #[tactic(auto, unfolding(crate::specs::Packets::request_of))]
 pub fn parse_request(alloc: Global, body: &[u8]) -> Result<Request, AllocError>
     ensures { IfOk result (λ request. request ≡ request_of body.now) }
@@ -27,7 +27,7 @@ pub fn parse_request(alloc: Global, body: &[u8]) -> Result<Request, AllocError>
     }
 }
 
-// Parses a packet whose arguments contain data bytes. Returns `None` for any other packet.
+// Returns the request of a packet whose arguments contain data bytes, or `None` for any other packet.
 #[tactic(auto, unfolding(crate::specs::Packets::request_with_bytes))]
 fn request_with_bytes(alloc: Global, body: &[u8]) -> Result<Option<Request>, AllocError>
     ensures { IfOk result (λ request. request ≡ request_with_bytes body.now) }
@@ -50,7 +50,7 @@ fn request_with_bytes(alloc: Global, body: &[u8]) -> Result<Option<Request>, All
     Ok(None)
 }
 
-// Parses 33 values of four bytes. Returns a refusal for other arguments.
+// Returns the request to write all registers, from 33 values of four bytes, or a refusal for other arguments.
 #[tactic(auto, unfolding(crate::specs::Requests::write_registers))]
 fn write_registers(alloc: Global, args: &[u8]) -> Result<Request, AllocError>
     ensures { IfOk result (λ request. request ≡ write_registers args.now) }
@@ -61,7 +61,8 @@ fn write_registers(alloc: Global, args: &[u8]) -> Result<Request, AllocError>
     }
 }
 
-// Parses `ADDRESS,COUNT:` and bytes in hexadecimal digits. Returns a refusal for other arguments.
+// Returns the request to write memory, from the arguments `ADDRESS,COUNT:` and bytes in hexadecimal digits, or a refusal for other
+// arguments.
 #[tactic(auto, unfolding(crate::specs::Requests::write_digits))]
 fn write_digits(alloc: Global, args: &[u8]) -> Result<Request, AllocError>
     ensures { IfOk result (λ request. request ≡ write_digits args.now) }
@@ -78,7 +79,8 @@ fn write_digits(alloc: Global, args: &[u8]) -> Result<Request, AllocError>
     }
 }
 
-// Parses `ADDRESS,COUNT:` and bytes as data with escapes. Returns a refusal for other arguments.
+// Returns the request to write memory, from the arguments `ADDRESS,COUNT:` and bytes as data with escapes, or a refusal for other
+// arguments.
 #[tactic(auto, unfolding(crate::specs::Requests::write_data))]
 fn write_data(alloc: Global, args: &[u8]) -> Result<Request, AllocError>
     ensures { IfOk result (λ request. request ≡ write_data args.now) }
@@ -95,7 +97,7 @@ fn write_data(alloc: Global, args: &[u8]) -> Result<Request, AllocError>
     }
 }
 
-// Returns the request to write these bytes; a refusal if there are none or not as many as the range has.
+// Returns the request to write these bytes, or a refusal if there are none or not as many as the range has.
 fn write_of(range: Range, bytes: Option<Vec<u8>>) -> Request
     ensures { result ≡ write_of range (option_map (λ bytes. bytes.items) bytes) }
 {
@@ -105,7 +107,7 @@ fn write_of(range: Range, bytes: Option<Vec<u8>>) -> Request
     }
 }
 
-// Returns the data of a text with escapes; `None` if it ends with an escape.
+// Returns the data of a text with escapes, or `None` if the text ends with an escape.
 fn whole_data(alloc: Global, text: &[u8]) -> Result<Option<Vec<u8>>, AllocError>
     ensures { IfOk result (λ bytes. option_map (λ bytes. bytes.items) bytes ≡ whole_data text.now) }
 {
@@ -117,7 +119,8 @@ fn whole_data(alloc: Global, text: &[u8]) -> Result<Option<Vec<u8>>, AllocError>
     }
 }
 
-// Parses `PATH,FLAGS,MODE` with the path in hexadecimal digits. Returns a refusal for other arguments.
+// Returns the request to open a file, from the arguments `PATH,FLAGS,MODE` with the path in hexadecimal digits, or a refusal for other
+// arguments.
 fn open_file(alloc: Global, args: &[u8]) -> Result<Request, AllocError>
     ensures { IfOk result (λ request. request ≡ open_file args.now) }
 {
@@ -127,7 +130,7 @@ fn open_file(alloc: Global, args: &[u8]) -> Result<Request, AllocError>
     }
 }
 
-// Returns the path of the file to open, if the flags are 0, which means reading.
+// Returns the path of the file to open, or `None` if the arguments are malformed or the flags are not 0, which means reading.
 #[tactic(auto, unfolding(crate::specs::Requests::opened_file))]
 fn opened_file(alloc: Global, args: &[u8]) -> Result<Option<Vec<u8>>, AllocError>
     ensures { IfOk result (λ path. option_map (λ bytes. bytes.items) path ≡ opened_file args.now) }
@@ -141,7 +144,7 @@ fn opened_file(alloc: Global, args: &[u8]) -> Result<Option<Vec<u8>>, AllocError
     }
 }
 
-// Parses a `monitor` command in hexadecimal digits. Returns a refusal for other arguments.
+// Returns the request to execute a `monitor` command, which is given in hexadecimal digits, or a refusal for other arguments.
 #[tactic(auto, unfolding(crate::specs::Packets::command))]
 fn command(alloc: Global, args: &[u8]) -> Result<Request, AllocError>
     ensures { IfOk result (λ request. request ≡ command args.now) }

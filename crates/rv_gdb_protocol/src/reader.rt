@@ -34,7 +34,7 @@ impl Reader {
     ghost use Rattle.rv_gdb_protocol.specs.Frames.{between, frame_after, incoming_at, incoming_in, opened, option_list};
     ghost use Rattle.rv_gdb_protocol.specs.declared.frame.Place.TheVariants as place;
 
-    /// Creates a reader between packets.
+    /// Returns a parser that is between packets.
     pub fn new(alloc: Global) -> Reader
         ensures { result ≡ between }
     {
@@ -44,8 +44,8 @@ impl Reader {
         }
     }
 
-    /// Consumes bytes up to and including the first one that completes an item. Returns how many it consumed, and the item if there is one.
-    /// The remaining bytes are for the next call.
+    /// Consumes bytes up to and including the first one that completes an item. Returns how many bytes it consumed, and the item, or `None`
+    /// if no item is complete. The remaining bytes are for the next call.
     pub fn receive(
         &mut self,
         alloc: Global,
@@ -63,7 +63,7 @@ impl Reader {
         Ok((bytes.len(), None))
     }
 
-    /// Consumes a byte. Returns the item that it completes, if any.
+    /// Consumes a byte. Returns the item that it completes, or `None` if it completes none.
     pub fn take(&mut self, alloc: Global, byte: u8) -> Result<Option<Incoming>, AllocError>
         ensures heard { IfOk result (λ heard. heard ≡ incoming_at self.old byte) }
         ensures frame { OnOk result (self.new ≡ frame_after self.old byte) }
@@ -95,7 +95,7 @@ impl Reader {
         }
     }
 
-    // Consumes a byte between packets. Ignores bytes without a meaning.
+    // Consumes a byte between packets. Returns the item that it completes, or `None`; bytes without a meaning are ignored.
     fn take_between(&mut self, byte: u8) -> Option<Incoming>
         requires { self.old.place ≡ place.Between }
         ensures heard { result ≡ incoming_at self.old byte }
@@ -113,7 +113,7 @@ impl Reader {
         }
     }
 
-    // Consumes a byte of a body.
+    // Consumes a byte of a body, which becomes too long if the byte does not fit.
     fn take_of_body(&mut self, byte: u8) -> Result<(), AllocError>
         requires { self.old.place ≡ place.Body }
         ensures frame { OnOk result (self.new ≡ frame_after self.old byte) }
@@ -131,7 +131,7 @@ impl Reader {
         Ok(())
     }
 
-    // Consumes a byte of a body that is too long to be kept.
+    // Consumes a byte of a body that is too long to be stored.
     fn skip_byte(&mut self, byte: u8)
         requires { self.old.place ≡ place.LongBody }
         ensures { self.new ≡ frame_after self.old byte }
@@ -143,7 +143,7 @@ impl Reader {
         }
     }
 
-    // Begins a body.
+    // Begins a body, and drops the bytes of a body that was not complete.
     fn open(&mut self)
         ensures { self.new ≡ opened }
     {
@@ -151,7 +151,7 @@ impl Reader {
         self.body.clear();
     }
 
-    // Completes the packet at the second digit of its checksum.
+    // Completes a packet with its second checksum digit `low`, and returns the packet. `high` is the first digit.
     fn finish(&mut self, alloc: Global, high: u8, low: u8) -> Incoming
         requires { self.old.place ≡ place.SecondDigit high }
         ensures heard { Some result ≡ incoming_at self.old low }

@@ -17,7 +17,7 @@ pub fn push_register(out: &mut Vec<u8>, value: u32) -> Result<(), AllocError>
     out.extend_from_slice(&digits)
 }
 
-/// Appends x0 to x31 and the pc: exactly 33 words, since a client that has not read target.xml rejects a longer reply.
+/// Appends the values of x0 to x31 and the pc: exactly 33 words, since a client that has not read target.xml rejects a longer reply.
 pub fn push_registers(out: &mut Vec<u8>, registers: &[u32; 32], pc: u32) -> Result<(), AllocError>
     ensures { OnOk result (out.new.items ≡ out.old.items ++ registers_text registers.now pc) }
 {

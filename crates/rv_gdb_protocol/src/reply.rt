@@ -9,7 +9,7 @@ use std::alloc::AllocError;
 /// The maximum number of bytes in a part of a text. The reply fits in a packet even if each byte must be escaped.
 const MOST_PART: usize = 8184;
 
-/// Returns the body of the reply to a request if it is equal in every session; `None` if it depends on the session.
+/// Returns the body of the reply to a request that has an equal reply in every session, or `None` if the reply depends on the session.
 pub fn fixed_reply(request: &Request) -> Option<&'static str>
     ensures { option_copied result ≡ fixed_reply request.now }
 {
@@ -46,7 +46,7 @@ pub fn refusal_text(refusal: Refusal) -> &'static str
     }
 }
 
-/// Appends a part of a text: `m` and at most 8,184 bytes, or `l` and the rest if the part reaches the end.
+/// Appends the body of the reply with a part of a text: `m` and at most 8,184 bytes if more follow, or `l` and the rest of the text.
 #[tactic(auto, unfolding(crate::specs::Replies::part_text))]
 pub fn push_part(out: &mut Vec<u8>, text: &[u8], part: Part) -> Result<(), AllocError>
     ensures { OnOk result (out.new.items ≡ out.old.items ++ part_text text.now part) }

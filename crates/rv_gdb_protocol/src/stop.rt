@@ -27,7 +27,7 @@ pub enum Stop {
     Fault(FaultKind),
 }
 
-/// Appends the body of a stop reply.
+/// Appends the body of the stop reply for this stop.
 #[tactic(auto, unfolding(crate::specs::Stops::stop_text))]
 pub fn push_stop(out: &mut Vec<u8>, stop: Stop) -> Result<(), AllocError>
     ensures { OnOk result (out.new.items ≡ out.old.items ++ stop_text stop) }
@@ -43,7 +43,7 @@ pub fn push_stop(out: &mut Vec<u8>, stop: Stop) -> Result<(), AllocError>
     }
 }
 
-// Appends the stop reply for a hit of a watchpoint of this kind, at this address.
+// Appends the body of the stop reply for a watchpoint of this kind that was triggered at this address.
 #[tactic(auto, unfolding(crate::specs::Stops::stop_text))]
 fn push_watch(out: &mut Vec<u8>, kind: Watched, address: u32) -> Result<(), AllocError>
     ensures { OnOk result (out.new.items ≡ out.old.items ++ stop_text (stop.Watch kind address)) }
@@ -56,7 +56,7 @@ fn push_watch(out: &mut Vec<u8>, kind: Watched, address: u32) -> Result<(), Allo
     Ok(())
 }
 
-// Returns the beginning of the stop reply for a watchpoint of this kind.
+// Returns the beginning of the stop reply for a watchpoint of this kind, up to the address.
 fn watch_text(kind: Watched) -> &'static str
     ensures { result.now ≡ watch_text kind }
 {
@@ -67,7 +67,7 @@ fn watch_text(kind: Watched) -> &'static str
     }
 }
 
-// Returns the stop reply for a fault.
+// Returns the body of the stop reply for a fault of this kind.
 fn fault_text(kind: FaultKind) -> &'static str
     ensures { result.now ≡ fault_text kind }
 {

@@ -18,7 +18,7 @@ pub(crate) fn sum_of(text: &[u8]) -> u8
     sum
 }
 
-/// Returns whether two digits are the checksum of a text.
+/// Returns `Right` if the digits `high` and `low` are the checksum of a text, and otherwise `Wrong`.
 pub(crate) fn checksum_verdict(text: &[u8], high: u8, low: u8) -> Checksum
     ensures { result ≡ checksum_verdict (sum_of text.now) (sum_of_digits (hex_digit_value high) (hex_digit_value low)) }
 {
@@ -28,7 +28,7 @@ pub(crate) fn checksum_verdict(text: &[u8], high: u8, low: u8) -> Checksum
     }
 }
 
-// Returns the checksum that two hexadecimal digits represent; `None` if one is not a digit.
+// Returns the checksum that two hexadecimal digits represent, or `None` if one is not a digit.
 fn received_sum(high: u8, low: u8) -> Option<u8>
     ensures { result ≡ sum_of_digits (hex_digit_value high) (hex_digit_value low) }
 {
@@ -38,7 +38,7 @@ fn received_sum(high: u8, low: u8) -> Option<u8>
     }
 }
 
-/// Returns the value of a hexadecimal digit, in either case; `None` for any other byte.
+/// Returns the value of a hexadecimal digit, in either case, or `None` for any other byte.
 pub(crate) fn digit_value(digit: u8) -> Option<u8>
     ensures value { result ≡ hex_digit_value digit }
     ensures least { IfSome result (λ value. value < 16) }

@@ -9,18 +9,19 @@ use Rattle.rv_hang.specs.Repetition.{IsLastAgain, IsRepetition, IsWaitReported}
 use Rattle.rv_hang.specs.declared.budget_use.BudgetUse.{BudgetUse}
 use Rattle.rv_hang.specs.declared.budget_use.BudgetUse.TheVariants.{Changes, Repeats}
 
--- how many of the last steps of a run of `steps` steps are searched
+-- how many of the last steps of a run of `steps` steps are searched for a repetition
 abbrev pub searched_steps : ℕ → ℕ
 searched_steps steps = min steps 100_000
 
--- The analysis of a run of `steps` steps from a state on: either a state repeats; or no step among those searched has the pc and the
--- registers of the end and is followed only by steps that cannot change the bus.
+-- how a run of `steps` steps from the state `s` used up its budget: either a state repeats; or among the last `within` steps there is none
+-- before which the run has the pc and the registers of its end and after which no step can change the bus
 abbrev pub IsBudgetUse : ℕ → State → BudgetUse → Type 0
 IsBudgetUse steps s (Repeats r) = IsRepetition steps s r × IsWaitReported steps s r
 IsBudgetUse steps s (Changes within) = (within ≡ searched_steps steps)
     × ((place : ℕ) → steps - within ≤ place → IsLastAgain steps place s → ⊥)
 
--- As `IsBudgetUse`, for the run of a plan's job that completes `steps` steps. The result is none only if there is no such run.
+-- how the run of a plan's job used up a budget of `steps` steps, as `IsBudgetUse` says; `None` only if the job is refused or its run does
+-- not complete `steps` steps
 abbrev pub IsBudgetUseIn : Planned → Job → ℕ → Option BudgetUse → Type 0
 IsBudgetUseIn plan job steps None =
     (s : State) → start_in plan.answers job ≡ Ok s → (run_of steps s).steps ≡ steps → ⊥

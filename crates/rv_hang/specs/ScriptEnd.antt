@@ -7,16 +7,16 @@ use Rattle.rv_machine.specs.Effect.{address}
 use Rattle.rv_machine.specs.State.{State}
 use Rattle.rv_trace.specs.Steps.{instr_at}
 
--- whether an instruction is a word load at the console's first address while no byte of the script is left
+-- whether an instruction is a word load at the console's first address while the script has no bytes left
 abbrev pub loads_script_end : Op → Instr → State → Bool
 loads_script_end op.Lw i s = address s i == 0x1000_0000 && length s.bus.script == 0
 loads_script_end _ i s = false
 
--- whether the instruction, if there is one, loads from the exhausted input script
+-- whether there is an instruction and it loads from the exhausted input script
 abbrev pub is_found_loading : Option Instr → State → Bool
 is_found_loading None s = false
 is_found_loading (Some i) s = loads_script_end i.op i s
 
--- whether the next step in a state loads from the exhausted input script
+-- whether the next step in this state loads from the exhausted input script
 abbrev pub reads_script_end : State → Bool
 reads_script_end s = is_found_loading (instr_at s) s

@@ -27,8 +27,8 @@ pub enum BudgetUse {
     Changes(u32),
 }
 
-/// Analyses the run of a job that completes `steps` steps. Takes the time of two more runs. Returns `None` if the job is refused or its run
-/// ends earlier.
+/// Returns an analysis of how a job's run of `steps` steps used up its budget, or `None` if the job is refused or its run ends earlier.
+/// Takes the time of two more runs.
 pub fn budget_use_of(
     alloc: Global,
     job: &JobImage<'_>,
@@ -50,7 +50,7 @@ pub fn budget_use_of(
     }
 }
 
-// Returns the pc and the registers after `steps` steps of a machine; `None` if it does not complete them.
+// Returns the pc and the registers after `steps` steps of a machine, or `None` if it does not complete them.
 fn values_after(machine: Machine, steps: u32) -> Option<HartValues>
     ensures { MatchOption result ((run_of steps (state_of machine)).steps ≡ steps → ⊥)
         (λ end. ((run_of steps (state_of machine)).steps ≡ steps)
@@ -66,7 +66,8 @@ fn values_after(machine: Machine, steps: u32) -> Option<HartValues>
     })
 }
 
-// Analyses the last steps of a machine's run of `steps` steps, all of which complete.
+// Returns an analysis of the last steps of a machine's run of `steps` steps, all of which complete: a repetition, or how many steps have
+// none. `end` has the pc and the registers after the last step.
 fn budget_use(machine: Machine, steps: u32, end: &HartValues) -> BudgetUse
     requires complete { (run_of steps (state_of machine)).steps ≡ steps }
     requires end { has_values end.now (state_after steps (state_of machine)) ≡ true }

@@ -14,7 +14,7 @@ pub struct HartValues {
 }
 
 impl HartValues {
-    /// Whether a machine's hart has these values.
+    /// Whether a machine's hart has this pc and these registers.
     pub(crate) fn are_of(&self, machine: &Machine) -> bool
         ensures { result ≡ has_values self.now (state_of machine.now) }
     {

@@ -7,7 +7,7 @@ ghost use Rattle.rv_machine.specs.Run.{run_of};
 ghost use Rattle.rv_machine.specs.State.{State};
 ghost use Rattle.rv_machine.specs.declared.ending.Ending.TheVariants.{Budget};
 
-/// A run that completes these steps, among which a state repeats, never ends: it uses up every budget.
+/// Proves that a run in which a state repeats within its first `steps` steps never ends: it uses up every budget.
 pub fn repetitions_never_end()
     ensures { (steps : ℕ) (s : State) (r : ARepetition) → (run_of steps s).steps ≡ steps → IsRepetition steps s r
         → (budget : ℕ) → ((run_of budget s).ending ≡ Budget) × ((run_of budget s).steps ≡ budget) }

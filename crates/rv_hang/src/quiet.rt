@@ -13,7 +13,7 @@ use rv_machine::Machine;
 use rv_memory::{Bus, Width};
 use rv_trace::{accessed_address, code_at, instr_of};
 
-/// Whether the next step of a machine leaves the bus unchanged if it completes.
+/// Whether the next step of a machine leaves the bus unchanged if it completes; false if there is no instruction.
 pub(crate) fn is_step_quiet(machine: &Machine) -> bool
     ensures { result ≡ is_step_quiet (state_of machine.now) }
 {
@@ -41,7 +41,7 @@ fn is_instr_quiet(machine: &Machine, instr: Instr) -> bool
     }
 }
 
-// Whether a word load at this address consumes a byte of the input script.
+// Whether a word load at this address consumes a byte of the input script: it is the console's first address, and a byte is left.
 fn takes_script(bus: &Bus, addr: u32) -> bool
     ensures { result ≡ takes_script bus.now addr }
 {
@@ -62,14 +62,14 @@ fn is_store_quiet(machine: &Machine, instr: Instr, width: Width) -> bool
     )
 }
 
-// Whether a store is outside the console, to bytes that already have these values and count as stored.
+// Whether a store would change nothing: it is outside the console, and its bytes already have these values and count as stored.
 fn is_store_again(bus: &Bus, addr: u32, width: Width, value: u32) -> bool
     ensures { result ≡ is_store_again bus.now addr width value }
 {
     are_bytes_apart(addr, width) && is_value_again(bus, addr, width, value)
 }
 
-// Whether the bytes of an access are in the address space, and none of them is the console's.
+// Whether the bytes of an access of this width are in the address space, and none of them belongs to the console.
 fn are_bytes_apart(addr: u32, width: Width) -> bool
     ensures { result ≡ are_bytes_apart addr (size_of width) }
 {
@@ -77,7 +77,7 @@ fn are_bytes_apart(addr: u32, width: Width) -> bool
     end <= 0x1000_0000 || (addr >= 0x1000_0010 && end <= 0x1_0000_0000)
 }
 
-// Whether the bytes at the address already have the values of the low bytes of `value`, and count as stored.
+// Whether the bytes at the address already have the values that a store of this width and value would give them, and count as stored.
 fn is_value_again(bus: &Bus, addr: u32, width: Width, value: u32) -> bool
     requires { addr + size_of width ≤ 0x1_0000_0000 }
     ensures { result ≡ is_value_again bus.now addr width value }

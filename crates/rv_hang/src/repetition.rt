@@ -22,8 +22,9 @@ pub struct Repetition {
     pub waits: bool,
 }
 
-/// Finds a repetition of the state after the last of `steps` steps of a machine, all of which complete: the first step among the last
-/// `within` ones with that state, and the smallest period. `end` has the pc and the registers after the last step.
+/// Returns a repetition of the state after the last of `steps` steps of a machine, all of which complete, or `None` if none is found: the
+/// first of the last `within` steps before which the machine has this state, and the smallest period. `end` has the pc and the registers
+/// after the last step.
 pub fn find_repetition(
     machine: Machine,
     steps: u32,
@@ -62,7 +63,8 @@ struct Again {
     last: u32,
 }
 
-// Returns the first and the last step updated for step `place`, given the machine before it.
+// Returns the first and the last step before which the hart has the values `end` and after which nothing can change the bus. `again` has
+// those before step `place`, and `machine` is the machine before this step.
 fn again_at(again: Option<Again>, machine: &Machine, place: u32, end: &HartValues) -> Option<Again>
     ensures { result ≡ again_after again place end.now (state_of machine.now) }
 {
@@ -76,8 +78,8 @@ fn again_at(again: Option<Again>, machine: &Machine, place: u32, end: &HartValue
     Some(Again { first, last: place })
 }
 
-// Returns the number of steps up to and including the last one that loads from the exhausted input script, updated for step `place`, given
-// the machine before it.
+// Returns the number of steps up to and including the last one that loads from the exhausted input script. `waited` is this number before
+// step `place`, and `machine` is the machine before this step.
 fn waited_at(waited: u32, machine: &Machine, place: u32) -> u32
     requires { place < 0xFFFF_FFFF }
     ensures { result ≡ waits_up_to waited place (state_of machine.now) }

@@ -9,7 +9,7 @@ use rv_isa::{Instr, Op};
 use rv_machine::Machine;
 use rv_trace::{accessed_address, code_at, instr_of};
 
-/// Whether the next step of a machine loads from the exhausted input script.
+/// Whether the next step of a machine is a load from the exhausted input script.
 pub(crate) fn reads_script_end(machine: &Machine) -> bool
     ensures { result ≡ reads_script_end (state_of machine.now) }
 {
@@ -22,7 +22,7 @@ pub(crate) fn reads_script_end(machine: &Machine) -> bool
     }
 }
 
-// Whether an instruction of a machine is a word load at the console's first address while no byte of the script is left.
+// Whether an instruction of a machine is a word load at the console's first address while the script has no bytes left.
 fn loads_script_end(machine: &Machine, instr: Instr) -> bool
     requires { IsWellFormed instr }
     ensures { result ≡ loads_script_end instr.op instr (state_of machine.now) }

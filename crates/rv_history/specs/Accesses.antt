@@ -18,7 +18,7 @@ read_of count = Some (record { is_read = true; count = count })
 abbrev pub write_of : ℕ → Option Reach
 write_of count = Some (record { is_read = false; count = count })
 
--- how many bytes an instruction reads or writes; none if it does not access memory
+-- whether an instruction reads or writes, and how many bytes, or `None` if it does not access memory
 abbrev pub reach_of : Op → Option Reach
 reach_of op.Lb = read_of 1
 reach_of op.Lbu = read_of 1
@@ -30,11 +30,11 @@ reach_of op.Sh = write_of 2
 reach_of op.Sw = write_of 4
 reach_of _ = None
 
--- the bytes that the instruction `i` reads or writes in state `s`; none if it does not access memory
+-- the bytes that the instruction `i` reads or writes in the state `s`, or `None` if it does not access memory
 abbrev pub access_by : State → Instr → Option Access
 access_by s i = option_map (λ reach. record { is_read = reach.is_read; address = address s i; count = reach.count }) (reach_of i.op)
 
--- the bytes that the instruction at the pc reads or writes; none if it does not access memory
+-- the bytes that the instruction at the pc reads or writes, or `None` if it does not access memory or there is no instruction
 abbrev pub access_at : State → Option Access
 access_at s = option_and_then (access_by s) (instr_at s)
 

@@ -6,11 +6,11 @@ use Rattle.rv_machine.specs.State.{State}
 use Rattle.rv_history.specs.declared.machine_at.MachineAt.{MachineAt}
 use Rattle.rv_history.specs.Places.{IsReached}
 
--- the machine is in the state of the run from `start` after `place` steps
+-- the run from `start` reaches the step of the machine, and the machine is in the state of the run there
 abbrev pub IsAt : State → MachineAt → Type 0
 IsAt start at = IsReached start at.place (state_of at.machine)
 
--- each of the machines is in the state of the run from `start` after its number of steps
+-- for each of the machines, the run from `start` reaches its step, and it is in the state of the run there
 abbrev pub AreStates : State → List MachineAt → Type 0
 AreStates start kept = All (IsAt start) kept
 
@@ -18,6 +18,6 @@ AreStates start kept = All (IsAt start) kept
 abbrev pub AreDecreasing : List MachineAt → Type 0
 AreDecreasing kept = AllPairs (λ one other. other.place < one.place) kept
 
--- no machine at or before the step `place` is later than the step `last`
+-- each machine of the list that is not after the step `place` is not after the step `last`
 abbrev pub IsLastUpTo : List MachineAt → ℕ → ℕ → Type 0
 IsLastUpTo kept place last = All (λ (other : MachineAt). other.place ≤ place → other.place ≤ last) kept

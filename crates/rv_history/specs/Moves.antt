@@ -10,7 +10,7 @@ use Rattle.rv_history.specs.declared.found.Found.{Found}
 use Rattle.rv_history.specs.declared.found.Found.TheVariants as found
 use Rattle.rv_history.specs.declared.stops.Stops.{Stops}
 
--- the run ends at the step `place` with this end
+-- the run ends at the step `place` in this way
 abbrev pub IsEndAt : ℕ → State → ℕ → Ending → Type 0
 IsEndAt budget start place ending = (place ≡ last_step budget start) × (ending ≡ (run_of budget start).ending)
 
@@ -24,7 +24,7 @@ IsUninterrupted what = IsInterrupted what → ⊥
 
 -- ---- forwards
 
--- A forward move that began at the step `from` can end with this result at the step `place`. After its first step, a breakpoint or an
+-- a forward move that began at the step `from` can end with this result at the step `place`: after its first step, a breakpoint or an
 -- address outside of the bounds comes first, then the end of the run, then a watchpoint that the next step triggers. An interrupt cannot
 -- end the move at a breakpoint or outside of the bounds, because the next move would then skip this stop.
 abbrev pub IsStopAhead : Stops → Bounds → ℕ → State → ℕ → ℕ → Found → Type 0
@@ -37,7 +37,8 @@ IsStopAhead stops bounds budget start from place found.Done = ⊥
 IsStopAhead stops bounds budget start from place found.Begin = ⊥
 IsStopAhead stops bounds budget start from place found.Interrupted = from < place → IsHaltAt stops bounds start place → ⊥
 
--- the result of a forward move that has used up the budget, given whether it is at a breakpoint or outside of the bounds
+-- the result of a forward move that has used up the budget: `Break` if the Bool says that it is at a breakpoint or outside of the bounds,
+-- or else the end of the run
 abbrev pub found_at_budget : Bool → Found
 found_at_budget halts = if halts then found.Break else found.End Budget
 
@@ -47,15 +48,15 @@ pub record HasNoStopAhead (stops : Stops) (bounds : Bounds) (budget : ℕ) (star
   pub no_end : place < last_step budget start
   pub no_change : IsChangeAt stops budget start place → ⊥
 
--- a forward move from the step `from` ends at the step `place` with this result, and does not stop before
+-- a forward move from the step `from` ends at the step `place` with this result, and has no stop in between
 pub record IsNextStop (stops : Stops) (bounds : Bounds) (budget : ℕ) (start : State) (from place : ℕ) (found : Found) : Type 0 where
   pub order : from ≤ place
   pub within : place ≤ last_step budget start
   pub meets : IsStopAhead stops bounds budget start from place found
   pub between : (j : ℕ) → from ≤ j → j < place → HasNoStopAhead stops bounds budget start from j
 
--- a single step from the step `from` ends at the step `place` with this result; at the end of the run, or if the step would trigger a
--- watchpoint, it does not move
+-- a single step forwards from the step `from` ends at the step `place` with this result; it does not move at the end of the run, or if it
+-- would trigger a watchpoint
 abbrev pub IsNextStep : Stops → ℕ → State → ℕ → ℕ → Found → Type 0
 IsNextStep stops budget start from place found.Done =
     (place ≡ from + 1) × (from < last_step budget start) × (IsChangeAt stops budget start from → ⊥)
@@ -67,13 +68,13 @@ IsNextStep stops budget start from place found.Interrupted = ⊥
 
 -- ---- backwards
 
--- the step that ended at the step `place` triggers a watchpoint
+-- the step that leads to the step `place` triggers a watchpoint
 pub record IsChangeBefore (stops : Stops) (budget : ℕ) (start : State) (place : ℕ) : Type 0 where
   pub before : ℕ
   pub place_is : place ≡ before + 1
   pub change : IsChangeAt stops budget start before
 
--- A backward move that began at the step `from` can end with this result at the step `place`: at a breakpoint, except where it began; after
+-- a backward move that began at the step `from` can end with this result at the step `place`: at a breakpoint, except where it began; after
 -- a step that triggers a watchpoint; or at step 0. An interrupted move is back where it began.
 abbrev pub IsStopBack : Stops → ℕ → State → ℕ → ℕ → Found → Type 0
 IsStopBack stops budget start from place found.Break = (place < from) × IsBreakAt stops start place
@@ -89,14 +90,14 @@ pub record HasNoStopBack (stops : Stops) (budget : ℕ) (start : State) (from pl
   pub no_break : place < from → IsBreakAt stops start place → ⊥
   pub no_change : IsChangeBefore stops budget start place → ⊥
 
--- a backward move from the step `from` ends at the step `place` with this result, and does not stop in between
+-- a backward move from the step `from` ends at the step `place` with this result, and has no stop in between
 pub record IsStopBefore (stops : Stops) (budget : ℕ) (start : State) (from place : ℕ) (found : Found) : Type 0 where
   pub order : place ≤ from
   pub meets : IsStopBack stops budget start from place found
   pub between : (j : ℕ) → place < j → j ≤ from → HasNoStopBack stops budget start from j
 
--- a single step back from the step `from` ends at the step `place` with this result; at step 0, or after a step that triggers a watchpoint,
--- it does not move
+-- a single step back from the step `from` ends at the step `place` with this result; it does not move at step 0, or after a step that
+-- triggers a watchpoint
 abbrev pub IsStepBefore : Stops → ℕ → State → ℕ → ℕ → Found → Type 0
 IsStepBefore stops budget start from place found.Done =
     (from ≡ place + 1) × (IsChangeAt stops budget start place → ⊥)

@@ -7,11 +7,11 @@ use Rattle.rv_history.specs.Stops.{TriggersWatch, is_break, is_halt}
 use Rattle.rv_history.specs.declared.bounds.Bounds.{Bounds}
 use Rattle.rv_history.specs.declared.stops.Stops.{Stops}
 
--- the last step of the run from `start` within the budget: how many steps it completes
+-- the number of steps that the run from `start` completes within the budget, which is also its last step
 abbrev pub last_step : ℕ → State → ℕ
 last_step budget start = (run_of budget start).steps
 
--- the run from `start` completes `place` steps, and `s` is its state then
+-- the run from `start` completes `place` steps, and `s` is its state after them
 pub record IsReached (start : State) (place : ℕ) (s : State) : Type 0 where
   pub completed : (run_of place start).steps ≡ place
   pub same : s ≡ state_after place start
@@ -24,7 +24,7 @@ IsBreakAt stops start place = is_break stops (state_after place start).pc ≡ tr
 abbrev pub IsHaltAt : Stops → Bounds → State → ℕ → Type 0
 IsHaltAt stops bounds start place = is_halt stops bounds (state_after place start).pc ≡ true
 
--- the step after the first `place` steps completes within the budget and triggers a watchpoint
+-- the run completes another step after its first `place` steps within the budget, and this step triggers a watchpoint
 pub record IsChangeAt (stops : Stops) (budget : ℕ) (start : State) (place : ℕ) : Type 0 where
   pub completes : place < last_step budget start
   pub changes : TriggersWatch stops (state_after place start) (state_after (place + 1) start)

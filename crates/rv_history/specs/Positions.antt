@@ -2,7 +2,7 @@
 use Rattle.std.specs.Prelude.{ℕ}
 use Rattle.rv_machine.specs.State.{State}
 
--- what callers see of a history: the start and the budget of its run, and the step `place` that it is at
+-- what contracts see of a history: the start and the budget of its run, and its current step `place`
 pub record Position : Type 0 where
   pub start : State
   pub budget : ℕ

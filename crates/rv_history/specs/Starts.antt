@@ -2,6 +2,6 @@
 use Rattle.rv_machine.specs.State.{State, at_reset}
 use Rattle.rv_history.specs.declared.start.Start.{Start}
 
--- the state of the hart at reset, with the bus, the entry address and the instruction set of a start
+-- the state at reset, with the bus, the entry address and the instruction set of a start
 abbrev pub start_of : Start → State
 start_of start = at_reset start.bus start.entry start.isa

@@ -7,7 +7,7 @@ use Rattle.rv_history.specs.declared.stepping.Stepped.{Stepped}
 use Rattle.rv_history.specs.declared.stepping.Stepped.TheVariants as stepped
 use Rattle.rv_history.specs.declared.stops.Stops.{Stops}
 
--- the result of a step from state `s` to state `t`: it ended the run, triggered a watchpoint, or did neither
+-- the result of a step from the state `s` to the state `t`: it ended the run, or it triggered a watchpoint, or it did neither
 abbrev pub IsStepped : Stops → State → State → Stepped → Type 0
 IsStepped stops s t (stepped.Ended ending) = (step_of s ≡ Err ending) × (t ≡ s)
 IsStepped stops s t stepped.Changed = (step_of s ≡ Ok t) × TriggersWatch stops s t

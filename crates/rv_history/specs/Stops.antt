@@ -35,15 +35,15 @@ is_outside (bounds.Within low high) pc = nat_lt pc low || nat_le high pc
 abbrev pub is_halt : Stops → Bounds → ℕ → Bool
 is_halt stops bounds pc = is_break stops pc || is_outside bounds pc
 
--- the bytes of a watchpoint's range; bytes outside the regions are left out
+-- the bytes of a watchpoint's range, without bytes outside the regions
 abbrev pub watch_bytes : Contents → Watch → List ℕ
 watch_bytes bus watch = filter_map (fin.get bus.memory) (range_with_len watch.address watch.count)
 
--- the bytes that are watched for changes, in the order of the watchpoints; bytes outside the regions are left out
+-- the bytes that are watched for changes, in the order of the watchpoints, without bytes outside the regions
 unfoldable pub watched_bytes : Stops → Contents → List ℕ
 watched_bytes stops bus = flat_map (watch_bytes bus) stops.watches
 
--- the address of the first watchpoint whose bytes differ between the two buses; none if none differ
+-- the address of the first watchpoint whose bytes differ between the two buses, or `None` if none differ
 unfoldable pub first_differing : List Watch → Contents → Contents → Option ℕ
 first_differing [] one other = None
 first_differing (watch ∷ rest) one other =
@@ -51,30 +51,32 @@ first_differing (watch ∷ rest) one other =
 
 -- ---- watchpoint hits
 
--- the address of the first watchpoint that an access hits
+-- the address of the first watchpoint that an access triggers, or `None` if it triggers none
 abbrev pub first_hit : Access → List Watch → Option ℕ
 first_hit access watches = option_map (λ (watch : Watch). watch.address) (find (is_hit access) watches)
 
--- the address of the first watchpoint that an access hits, if the access is a read
+-- the address of the first watchpoint that an access triggers, or `None` if the access is not a read or triggers none
 abbrev pub first_read : Access → List Watch → Option ℕ
 first_read access watches = if access.is_read then first_hit access watches else None
 
--- the hit of the watchpoint with this address, or `other` if there is none
+-- the result of `told` for the address, or `other` if there is no address
 abbrev pub reported_or : (ℕ → WatchHit) → Option ℕ → Option WatchHit → Option WatchHit
 reported_or told None other = other
 reported_or told (Some address) other = Some (told address)
 
--- the hit of the first read watchpoint, or else of the first access watchpoint, that an access hits
+-- the first read watchpoint, or else the first access watchpoint, that an access triggers, or `None` if there is no access or it triggers
+-- none
 abbrev pub touched_by : Stops → Option Access → Option WatchHit
 touched_by stops None = None
 touched_by stops (Some access) = reported_or set_off.Read (first_read access stops.reads)
     (reported_or set_off.Access (first_hit access stops.accesses) None)
 
--- the hit of the first read watchpoint, or else of the first access watchpoint, by the instruction at the pc
+-- the first read watchpoint, or else the first access watchpoint, that the instruction at the pc triggers, or `None` if it triggers none
 abbrev pub access_hit : Stops → State → Option WatchHit
 access_hit stops s = touched_by stops (access_at s)
 
--- the first watchpoint hit of a step from state `s` to state `t`: for changes, then for reads, then for accesses
+-- the first watchpoint that a step from the state `s` to the state `t` triggers, or `None`: watchpoints for changes come first, then for
+-- reads, then for accesses
 abbrev pub first_triggered : Stops → State → State → Option WatchHit
 first_triggered stops s t = reported_or set_off.Change (first_differing stops.watches s.bus t.bus) (access_hit stops s)
 

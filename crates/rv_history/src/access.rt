@@ -27,7 +27,8 @@ pub(crate) struct Access {
     pub count: u32,
 }
 
-/// Returns the bytes that the instruction at a machine's pc reads or writes; `None` if it does not access memory.
+/// Returns the bytes that the instruction at a machine's pc reads or writes, or `None` if it does not access memory or there is no
+/// instruction.
 pub(crate) fn access_at(machine: &Machine) -> Option<Access>
     ensures { result ≡ access_at (state_of machine.now) }
 {
@@ -36,7 +37,7 @@ pub(crate) fn access_at(machine: &Machine) -> Option<Access>
     access_by(machine, instr)
 }
 
-// Returns the bytes that an instruction of a machine reads or writes; `None` if it does not access memory.
+// Returns the bytes that an instruction of a machine reads or writes, or `None` if it does not access memory.
 fn access_by(machine: &Machine, instr: Instr) -> Option<Access>
     requires { IsWellFormed instr }
     ensures { result ≡ access_by (state_of machine.now) instr }
@@ -49,7 +50,7 @@ fn access_by(machine: &Machine, instr: Instr) -> Option<Access>
     })
 }
 
-// Returns how many bytes an instruction reads or writes; `None` if it does not access memory.
+// Returns whether an instruction reads or writes, and how many bytes, or `None` if it does not access memory.
 fn reach_of(op: Op) -> Option<Reach>
     ensures { result ≡ reach_of op }
 {

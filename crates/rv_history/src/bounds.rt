@@ -14,7 +14,7 @@ pub enum Bounds {
 }
 
 impl Bounds {
-    /// Whether the bounds contain all addresses.
+    /// Whether all addresses are within the bounds.
     pub(crate) fn are_all(self) -> bool
         ensures { IsTrue result ↔ (self ≡ All) }
     {

@@ -21,7 +21,8 @@ use crate::stops::Stops;
 use rv_machine::Machine;
 use std::alloc::{AllocError, Global};
 
-/// Returns where a forward move without bounds ends, if there are no watchpoints. Runs at full speed between breakpoints.
+/// Returns where a forward move without bounds ends, if there are no watchpoints, and the result of the move. Runs at full speed between
+/// breakpoints.
 pub(crate) fn next_break<I: Interrupt>(
     alloc: Global,
     track: &mut Checkpoints,
@@ -55,8 +56,8 @@ pub(crate) fn next_break<I: Interrupt>(
     Ok(leg.arrived(found))
 }
 
-/// Searches for the last breakpoint before the step `end`, back to the last stored state, if there are no watchpoints. Returns `None` if an
-/// interrupt ends the search.
+/// Searches the run from the last stored state up to the step `end` for its last breakpoint, if there are no watchpoints. Returns what it
+/// found, or `None` if an interrupt ends the search.
 pub(crate) fn search_breaks<I: Interrupt>(
     alloc: Global,
     track: &Checkpoints,
@@ -87,7 +88,7 @@ pub(crate) fn search_breaks<I: Interrupt>(
     Ok(Some(Part { begin, last }))
 }
 
-// Executes at most `most` steps, none of them at a breakpoint, and returns how many. Takes the time of a run.
+// Executes at most `most` steps, none of them at a breakpoint, and returns how many it executed. Takes the time of a run.
 fn run_between(machine: &mut Machine, stops: &Stops, most: u32) -> u32
     ensures ran { run_of result (state_of machine.old)
         ≡ record { ending = Budget; steps = result; state = state_of machine.new } }

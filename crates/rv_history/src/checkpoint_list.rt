@@ -32,7 +32,7 @@ impl Model for CheckpointList {
 }
 
 impl CheckpointList {
-    /// Creates an empty list with room for `most` states, but for at least one.
+    /// Returns an empty list with room for `most` states, but at least for one.
     pub(crate) fn new(alloc: Global, most: usize) -> CheckpointList
         ensures { result ≡ [] }
     {
@@ -47,7 +47,7 @@ impl CheckpointList {
         self.most <= self.items.len()
     }
 
-    /// Returns the last stored state at or before the step `place`.
+    /// Returns the last stored state at or before the step `place`, or `None` if there is none.
     pub(crate) fn last_up_to(&self, place: u32) -> Option<&MachineAt>
         ensures state { (start : State) → AreStates start self.now → IfSome result (λ at. IsAt start at.now) }
         ensures before { IfSome result (λ at. at.now.place ≤ place) }
@@ -70,7 +70,7 @@ impl CheckpointList {
         }
     }
 
-    /// Stores a state. Drops the states at or after its step, and the earliest one if there is no room.
+    /// Stores a state. Drops the states at its step and later ones, and the earliest state if there is no room.
     pub(crate) fn keep(&mut self, at: MachineAt) -> Result<(), AllocError>
         ensures { (start : State) → AreStates start self.old → IsAt start at → AreStates start self.new }
     {

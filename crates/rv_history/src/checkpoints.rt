@@ -72,7 +72,7 @@ impl Checkpoints {
     ghost use Rattle.rv_history.specs.Kept.{IsAt};
     ghost use Rattle.rv_history.specs.Starts.{start_of};
 
-    /// Creates a run without stored states except the start.
+    /// Returns a run that has stored no state except its start.
     pub(crate) fn new(alloc: Global, start: Start) -> Checkpoints
         ensures { result ≡ start_of start }
     {
@@ -112,7 +112,7 @@ impl Checkpoints {
         Ok(MachineAt { place: 0, machine })
     }
 
-    /// Returns the machine `at` or one with a stored state, whichever is later; neither is after the step `place`.
+    /// Returns `at` or a copy of the last stored state at or before the step `place`, whichever is later; `at` is not after that step.
     pub(crate) fn last_of(
         &self,
         alloc: Global,
@@ -130,7 +130,7 @@ impl Checkpoints {
         }
     }
 
-    // Returns the last stored state at or before the step `place`.
+    // Returns the last stored state at or before the step `place`, or `None` if only the start is.
     fn nearest(&self, place: u32) -> Option<&MachineAt>
         ensures state { IfSome result (λ at. IsAt self.now at.now) }
         ensures before { IfSome result (λ at. at.now.place ≤ place) }
@@ -153,8 +153,8 @@ impl Checkpoints {
         Ok(at.machine)
     }
 
-    /// Returns the machine at the step `place`, or at the end of the run if that comes first, and how a run up to there ends. Stores states
-    /// on the way.
+    /// Returns the machine after `place` steps, or at the end of the run if that comes first, and how a run of at most `place` steps ends.
+    /// Stores states on the way.
     pub(crate) fn reach(
         &mut self,
         alloc: Global,
@@ -176,7 +176,7 @@ impl Checkpoints {
         Ok((at, ending))
     }
 
-    /// Returns the machine at a step that the run reaches. Stores states on the way.
+    /// Returns the machine at the step `place`, which the run reaches. Stores states on the way.
     pub(crate) fn machine_at_step(
         &mut self,
         alloc: Global,
@@ -206,7 +206,7 @@ impl Checkpoints {
         self.keep(alloc, at)
     }
 
-    // Returns the next step after `at`, up to `place`, at which a state must be stored.
+    // Returns the next step after `at`, up to `place`, at which a state must be stored, or `None` if there is none.
     fn next_kept(&self, at: u32, place: u32) -> Option<u32>
         requires { at ≤ place }
         ensures { IfSome result (λ next. (at < next) × (next ≤ place)) }
@@ -240,8 +240,8 @@ impl Checkpoints {
     }
 }
 
-// Returns the empty lists of states for a machine with this bus, with as much room as the memory limit allows: one for multiples of the
-// interval, one for states before the ends of backward moves, seeks and moves to watchpoints.
+// Returns two empty lists of states for a machine with this bus, with as much room as the memory limit allows: the first for multiples of
+// the interval, the second for states before the ends of backward moves, seeks and moves to watchpoints.
 fn kept_states(alloc: Global, bus: &Bus, megabytes: u32) -> (CheckpointList, CheckpointList)
     ensures { (result.0 ≡ []) × (result.1 ≡ []) }
 {

@@ -18,7 +18,8 @@ pub enum Count {
     Taken,
 }
 
-/// Returns the first step at which a count has this value, if the run reaches one. Takes the time of the run up to there.
+/// Returns the first step at which a count has this value, or `None` if the run reaches no such step. Takes the time of the run up to
+/// there.
 pub(crate) fn first_with(
     alloc: Global,
     start: &Start,

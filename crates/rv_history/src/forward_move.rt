@@ -35,14 +35,14 @@ pub(crate) struct Arrived {
 }
 
 impl ForwardMove {
-    /// Ends the move at its current step with this result.
+    /// Returns the end of the move at its current step, with this result.
     pub(crate) fn arrived(self, found: Found) -> Arrived
         ensures { result ≡ record { at = self.at; found = found } }
     {
         Arrived { at: self.at, found }
     }
 
-    /// Whether the move is after its first step, and at a breakpoint or outside of the bounds.
+    /// Whether the move must stop at its current step: it is after its first step, and at a breakpoint or outside of the bounds.
     pub(crate) fn is_stopped(&self, stops: &Stops) -> bool
         ensures { result ≡ (nat_lt self.now.from self.now.at.place
             && is_halt stops.now self.now.bounds (state_of self.now.at.machine).pc) }
@@ -50,7 +50,8 @@ impl ForwardMove {
         self.from < self.at.place && is_halt(stops, self.bounds, self.at.machine.pc())
     }
 
-    /// Returns the result of the move if it has used up the budget without a stop.
+    /// Returns the result of a move that has used up the budget: that it is at a breakpoint or outside of the bounds, or else the end of
+    /// the run.
     pub(crate) fn found_at_budget(&self, stops: &Stops) -> Found
         ensures { result ≡ found_at_budget (nat_lt self.now.from self.now.at.place
             && is_halt stops.now self.now.bounds (state_of self.now.at.machine).pc) }
@@ -62,7 +63,7 @@ impl ForwardMove {
         }
     }
 
-    /// Returns whether an interrupt ends the move at its current step. At the end of a slice, its state may be stored, and the interrupt is
+    /// Returns whether an interrupt ends the move at its current step. At the end of a slice, the state may be stored, and the interrupt is
     /// polled if the move has lasted for at least a slice.
     pub(crate) fn store_and_poll<I: Interrupt>(
         &self,

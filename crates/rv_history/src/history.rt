@@ -53,7 +53,7 @@ impl History {
     ghost use Rattle.rv_history.specs.Starts.{start_of};
     ghost use Rattle.rv_history.specs.Stops.{first_triggered};
 
-    /// Creates a history at the start of a run.
+    /// Returns a history that is at the start of its run.
     pub fn new(alloc: Global, start: Start, budget: u32) -> Result<History, AllocError>
         ensures { IfOk result (λ history. history ≡ record { start = start_of start; budget = budget; place = 0 }) }
     {
@@ -74,7 +74,7 @@ impl History {
         self.track.set_memory(alloc, megabytes);
     }
 
-    /// Returns the current step: how many steps are completed.
+    /// Returns the current step, which is the number of completed steps.
     pub fn place(&self) -> u32
         ensures value { result ≡ self.now.place }
         ensures within { result ≤ last_step self.now.budget self.now.start }
@@ -89,8 +89,8 @@ impl History {
         &self.machine
     }
 
-    /// Moves forwards to the next stop or to the end of the run. The move does not stop at a breakpoint at its current step, and can begin
-    /// outside of the bounds. After an interrupt it is at a later step, up to which there is no stop.
+    /// Moves forwards to the next stop or to the end of the run, and returns why the move ended. It does not stop at a breakpoint at its
+    /// current step, and can begin outside of the bounds. After an interrupt it is at a later step, up to which there is no stop.
     pub fn go_on<I: Interrupt>(
         &mut self,
         alloc: Global,
@@ -119,7 +119,8 @@ impl History {
         Ok(arrived.found)
     }
 
-    /// Moves one step forwards. Does not move at the end of the run, or if the step would trigger a watchpoint.
+    /// Moves one step forwards, and returns why the move ended. Does not move at the end of the run, or if the step would trigger a
+    /// watchpoint.
     pub fn step(&mut self, alloc: Global, stops: &Stops) -> Result<Found, AllocError>
         ensures step { IfOk result (IsNextStep stops.now self.old.budget self.old.start self.old.place self.new.place) }
         ensures run { self.new ≡ record self.old { place = self.new.place } }
@@ -140,7 +141,8 @@ impl History {
         }
     }
 
-    /// Moves back to the previous stop, or to the start of the run. After an interrupt it is where it began.
+    /// Moves back to the previous stop, or to the start of the run, and returns why the move ended. After an interrupt it is where it
+    /// began.
     pub fn go_back<I: Interrupt>(
         &mut self,
         alloc: Global,
@@ -168,7 +170,8 @@ impl History {
         self.arrive(alloc, arrival)
     }
 
-    /// Moves one step back. Does not move at the start of the run, or after a step that triggers a watchpoint.
+    /// Moves one step back, and returns why the move ended. Does not move at the start of the run, or after a step that triggers a
+    /// watchpoint.
     pub fn step_back(&mut self, alloc: Global, stops: &Stops) -> Result<Found, AllocError>
         ensures step { IfOk result (IsStepBefore stops.now self.old.budget self.old.start self.old.place self.new.place) }
         ensures run { self.new ≡ record self.old { place = self.new.place } }
@@ -178,7 +181,7 @@ impl History {
         self.arrive(alloc, arrival)
     }
 
-    /// Moves to the step `place` if the run reaches it. Returns whether it does.
+    /// Moves to the step `place` if the run reaches it, and returns whether it does.
     pub fn seek(&mut self, alloc: Global, place: u32) -> Result<bool, AllocError>
         ensures granted { IfOk result
             (λ granted. IsTrue granted ↔ (place ≤ last_step self.old.budget self.old.start)) }
@@ -198,7 +201,7 @@ impl History {
         Ok(true)
     }
 
-    /// Moves to the first step at which a count has this value, if the run reaches one. Returns whether it does.
+    /// Moves to the first step at which a count has this value, if the run reaches one, and returns whether it does.
     pub fn seek_count(
         &mut self,
         alloc: Global,
@@ -221,7 +224,8 @@ impl History {
         }
     }
 
-    /// Returns the first watchpoint hit of the next step, if there is one. The next step must complete within the budget.
+    /// Returns the first watchpoint that the next step triggers, or `None` if it triggers none. The next step must complete within the
+    /// budget.
     pub fn watch_ahead(&self, alloc: Global, stops: &Stops) -> Result<Option<WatchHit>, AllocError>
         ensures { self.now.place < last_step self.now.budget self.now.start → IfOk result
             (λ found. found ≡ first_triggered stops.now (state_after self.now.place self.now.start)
@@ -232,7 +236,7 @@ impl History {
         stops.first_triggered(alloc, &self.machine, &ahead)
     }
 
-    /// Returns the first watchpoint hit of the preceding step, if there is one.
+    /// Returns the first watchpoint that the preceding step triggered, or `None` if it triggered none.
     pub fn watch_hit_by_last_step(
         &self,
         alloc: Global,

@@ -9,7 +9,7 @@ pub trait Interrupt {
     // Whether it requested an interrupt.
     ghost was_raised: { Self → Bool };
 
-    /// Returns whether the move must be interrupted.
+    /// Whether the current move must be interrupted.
     fn is_raised(&mut self) -> bool
         ensures { IsTrue result → was_raised self.new ≡ true };
 }

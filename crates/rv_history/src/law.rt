@@ -11,8 +11,8 @@ ghost use Rattle.rv_history.specs.declared.stops.Stops.{Stops};
 ghost use Rattle.rv_machine.specs.State.{State};
 ghost use Rattle.rv_trace.specs.Trace.{state_after};
 
-/// The result of a move that is not interrupted, and the step where it ends, are determined by the run, by the step where it begins and by
-/// the breakpoints and watchpoints.
+/// Proves that the result of a move that is not interrupted, and the step where it ends, depend only on the run, the step where it begins,
+/// and the breakpoints and watchpoints.
 pub fn moves_are_determined()
     ensures ahead { (stops : Stops) (bounds : Bounds) (budget from p q : ℕ) (start : State) (one other : Found)
         → IsNextStop stops bounds budget start from p one → IsNextStop stops bounds budget start from q other
@@ -28,7 +28,7 @@ pub fn moves_are_determined()
         → IsFirstWith count value budget start q → p ≡ q }
 {}
 
-/// The output at a step is a prefix of the output at every later step.
+/// Proves that the output at a step is a prefix of the output at every later step.
 pub fn printed_bytes_stay()
     ensures { (i j : ℕ) (start : State) → i ≤ j
         → Begins (state_after j start).bus.output (state_after i start).bus.output }

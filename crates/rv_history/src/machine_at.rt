@@ -17,7 +17,7 @@ pub(crate) struct MachineAt {
 }
 
 impl MachineAt {
-    /// Returns a copy with its own memory, which does not change when the original runs.
+    /// Returns a copy of the machine with its own memory, which does not change when the original runs.
     pub(crate) fn copied(&self, alloc: Global) -> Result<MachineAt, AllocError>
         ensures place { IfOk result (λ at. at.place ≡ self.now.place) }
         ensures state { IfOk result (λ at. state_of at.machine ≡ state_of self.now.machine) }
@@ -29,7 +29,7 @@ impl MachineAt {
         })
     }
 
-    /// Runs to the step `place`, or to the end of the run if that comes first. Returns how the run ended.
+    /// Runs the machine to the step `place`, or to the end of the run if that comes first. Returns how this run ended.
     pub(crate) fn go_to(&mut self, place: u32) -> Ending
         requires { self.old.place ≤ place }
         ensures ran { (start : State) → IsAt start self.old → run_of place start

@@ -19,7 +19,7 @@ use crate::stops::Stops;
 use rv_machine::Ending;
 use std::alloc::{AllocError, Global};
 
-/// Returns where a forward move ends, with the machine there. Stores states on the way.
+/// Returns where a forward move ends, with the machine there and the result of the move. Stores states on the way.
 pub(crate) fn next_stop<I: Interrupt>(
     alloc: Global,
     track: &mut Checkpoints,
@@ -45,7 +45,7 @@ pub(crate) fn next_stop<I: Interrupt>(
     next_watched(alloc, track, leg, stops, interrupt)
 }
 
-// Like [`next_stop`], but executes one step at a time.
+// Returns where a forward move ends, as [`next_stop`] does, but executes one step at a time.
 fn next_watched<I: Interrupt>(
     alloc: Global,
     track: &mut Checkpoints,
@@ -82,7 +82,8 @@ fn next_watched<I: Interrupt>(
     Ok(leg.arrived(found))
 }
 
-// Like [`next_stop`], for moves without breakpoints and watchpoints: goes to the end of the run, unless it is interrupted.
+// Returns where a forward move ends, as [`next_stop`] does, if there are no breakpoints, watchpoints or bounds: at the end of the run,
+// unless it is interrupted.
 fn run_to_end<I: Interrupt>(
     alloc: Global,
     track: &mut Checkpoints,

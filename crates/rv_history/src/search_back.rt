@@ -24,8 +24,8 @@ pub(crate) struct Part {
     pub last: Option<StopInfo>,
 }
 
-/// Returns where a backward move from the step `from` ends, for any budget within which the run reaches this step. Polls for an interrupt
-/// after each part of the search, once it has searched at least a slice.
+/// Returns where a backward move from the step `from` ends, and its result, for any budget within which the run reaches this step. Polls
+/// for an interrupt after each part of the search, once it has searched at least a slice.
 pub(crate) fn stop_before<I: Interrupt>(
     alloc: Global,
     track: &Checkpoints,
@@ -61,7 +61,8 @@ pub(crate) fn stop_before<I: Interrupt>(
     })
 }
 
-// Searches for the last stop before the step `end`, back to the last stored state. Returns `None` if an interrupt ends the search.
+// Searches the run from the last stored state up to the step `end` for its last stop. Returns what it found, or `None` if an interrupt ends
+// the search.
 fn search_part<I: Interrupt>(
     alloc: Global,
     track: &Checkpoints,
@@ -92,7 +93,8 @@ fn search_part<I: Interrupt>(
     Ok(Some(Part { begin, last }))
 }
 
-/// Returns the last stop once the search has passed the step `place`, given the last stop before.
+/// Returns the last stop after the search has passed the step `place`. `last` is the last stop before, `is_break` is whether there is a
+/// breakpoint at `place`, and `stepped` is the result of the step from there.
 pub(crate) fn last_stop_after(
     last: Option<StopInfo>,
     place: u32,
@@ -120,7 +122,7 @@ pub(crate) fn last_stop_after(
     }
 }
 
-/// Returns where a single step back from the step `from` ends, for any budget within which the run reaches this step.
+/// Returns where a single step back from the step `from` ends, and its result, for any budget within which the run reaches this step.
 pub(crate) fn step_before(
     alloc: Global,
     track: &Checkpoints,

@@ -10,12 +10,12 @@ pub(crate) fn is_slice_end(place: u32) -> bool {
     place % SLICE == 0
 }
 
-/// Whether there are at least as many steps as in a slice.
+/// Whether these are at least as many steps as a slice has.
 pub(crate) fn fill_a_slice(steps: u32) -> bool {
     SLICE <= steps
 }
 
-/// Returns the step where the slice of the step `place` ends, or `goal` if that comes first.
+/// Returns the first step after `place` at which a slice ends, or `goal` if that comes first.
 pub(crate) fn slice_end(place: u32, goal: u32) -> u32
     requires { place < goal }
     ensures ahead { place < result }

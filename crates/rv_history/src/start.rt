@@ -23,7 +23,7 @@ pub struct Start {
 impl Start {
     ghost use Rattle.rv_history.specs.Starts.{start_of};
 
-    /// Returns the machine at the start.
+    /// Returns a machine at the start of the run.
     pub(crate) fn machine(&self, alloc: Global) -> Result<Machine, AllocError>
         ensures { IfOk result (λ machine. state_of machine ≡ start_of self.now) }
     {

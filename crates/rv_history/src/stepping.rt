@@ -21,7 +21,8 @@ pub(crate) enum Stepped {
     Quiet,
 }
 
-/// Executes a step of a machine, and returns whether it triggered a watchpoint. After an error the step may have been executed.
+/// Executes a step of a machine, and returns whether it completed, and whether it triggered a watchpoint. After an error the step may have
+/// been executed.
 pub(crate) fn step_watched(
     alloc: Global,
     machine: &mut Machine,
@@ -33,7 +34,7 @@ pub(crate) fn step_watched(
     step_with_watched_bytes(alloc, machine, stops, &mut watched)
 }
 
-/// Like [`step_watched`], given the watched bytes, which are updated after the step.
+/// Executes a step of a machine, as [`step_watched`] does, given the watched bytes, which it updates after the step.
 pub(crate) fn step_with_watched_bytes(
     alloc: Global,
     machine: &mut Machine,

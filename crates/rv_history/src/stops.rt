@@ -59,7 +59,7 @@ impl Stops {
         self.watches.as_slice().is_empty() && self.have_no_access_watchpoints()
     }
 
-    /// Whether there are no watchpoints for reads or accesses.
+    /// Whether there are no watchpoints for reads and none for accesses.
     pub(crate) fn have_no_access_watchpoints(&self) -> bool
         ensures { IsTrue result ↔ ((self.now.reads ≡ []) × (self.now.accesses ≡ [])) }
     {
@@ -83,7 +83,7 @@ impl Stops {
         self.breaks.as_slice().contains(&pc)
     }
 
-    /// Returns the bytes that are watched for changes, in the order of the watchpoints; bytes outside the regions are left out.
+    /// Returns the bytes that are watched for changes, in the order of the watchpoints, without bytes outside the regions.
     #[tactic(auto, unfolding(crate::specs::Stops::watched_bytes))]
     pub(crate) fn watched_bytes(&self, alloc: Global, bus: &Bus) -> Result<Vec<u8>, AllocError>
         ensures { IfOk result (λ bytes. bytes.items ≡ watched_bytes self.now bus.now) }
@@ -95,7 +95,7 @@ impl Stops {
         Ok(bytes)
     }
 
-    /// Whether the bytes that are watched for changes equal these; bytes outside the regions are left out. Does not allocate.
+    /// Whether the bytes that are watched for changes equal `bytes`, without bytes outside the regions. Does not allocate.
     #[tactic(auto, unfolding(crate::specs::Stops::watched_bytes))]
     pub(crate) fn have_bytes(&self, bus: &Bus, bytes: &[u8]) -> bool
         ensures { IsTrue result ↔ (watched_bytes self.now bus.now ≡ bytes.now) }
@@ -110,7 +110,7 @@ impl Stops {
         seen == bytes.len()
     }
 
-    /// Returns the address of the first watchpoint whose bytes differ between the two buses; `None` if none differ.
+    /// Returns the address of the first watchpoint whose bytes differ between the two buses, or `None` if none differ.
     #[tactic(auto, using(crate::proofs::Differing::differing_at), unfolding(crate::specs::Stops::first_differing))]
     pub(crate) fn differing_watch(
         &self,
@@ -136,8 +136,8 @@ impl Stops {
 impl Watch {
     ghost use Rattle.rv_history.specs.Stops.{watch_bytes};
 
-    // Compares the bytes of the range that are in regions with `bytes`, from the index `from` on. Returns the index after them if they are
-    // equal, and `None` otherwise.
+    // Compares the bytes of the watchpoint's range that are in regions with the bytes after the index `from`. Returns the index after them
+    // if they are equal, or `None` otherwise.
     fn seen_in(&self, bus: &Bus, bytes: &[u8], from: usize) -> Option<usize>
         requires { from ≤ length bytes.now }
         ensures within { IfSome result (λ end. end ≤ length bytes.now) }
@@ -157,7 +157,7 @@ impl Watch {
         Some(seen)
     }
 
-    // Appends the bytes of the range that are in regions.
+    // Appends the bytes of the watchpoint's range that are in regions.
     fn push_bytes(&self, bytes: &mut Vec<u8>, bus: &Bus) -> Result<(), AllocError>
         ensures { OnOk result (bytes.new.items ≡ bytes.old.items ++ watch_bytes bus.now self.now) }
     {

@@ -12,7 +12,8 @@ use rv_machine::Machine;
 use std::alloc::{AllocError, Global};
 
 impl Stops {
-    /// Returns the hit of the first read watchpoint, or else of the first access watchpoint, by the instruction at a machine's pc.
+    /// Returns the first read watchpoint, or else the first access watchpoint, that the instruction at a machine's pc triggers, or `None`
+    /// if it triggers none.
     pub(crate) fn access_hit(&self, machine: &Machine) -> Option<WatchHit>
         ensures { result ≡ access_hit self.now (state_of machine.now) }
     {
@@ -28,8 +29,8 @@ impl Stops {
         Some(WatchHit::Access(address))
     }
 
-    /// Returns the first watchpoint hit of the step from the machine `one` to the machine `other`: for changes, then for reads, then for
-    /// accesses.
+    /// Returns the first watchpoint that the step from the machine `one` to the machine `other` triggers, or `None`: watchpoints for
+    /// changes come first, then for reads, then for accesses.
     pub(crate) fn first_triggered(
         &self,
         alloc: Global,
@@ -45,7 +46,7 @@ impl Stops {
     }
 }
 
-// Returns the address of the first watchpoint that an access hits, if the access is a read.
+// Returns the address of the first watchpoint that an access triggers, or `None` if the access is not a read or triggers none.
 fn first_read(access: Access, watches: &[Watch]) -> Option<u32>
     ensures { result ≡ first_read access watches.now }
 {
@@ -56,7 +57,7 @@ fn first_read(access: Access, watches: &[Watch]) -> Option<u32>
     }
 }
 
-// Returns the address of the first watchpoint that an access hits.
+// Returns the address of the first watchpoint that an access triggers, or `None` if it triggers none.
 fn first_hit(access: Access, watches: &[Watch]) -> Option<u32>
     ensures { result ≡ first_hit access watches.now }
 {
@@ -64,6 +65,7 @@ fn first_hit(access: Access, watches: &[Watch]) -> Option<u32>
     Some(watch.address)
 }
 
+// Returns the first watchpoint that an access triggers, or `None` if it triggers none.
 fn hit_watch(access: Access, watches: &[Watch]) -> Option<&Watch>
     ensures { option_map (λ watch. watch.now) result ≡ find (is_hit access) watches.now }
 {

@@ -11,14 +11,14 @@ pub data Extension : Type 0 where
   RV32M : Extension
   RV32C : Extension
 
--- whether an instruction set includes M
+-- whether an instruction set includes M, multiplication and division
 abbrev pub has_m : Isa → Bool
 has_m set.I = false
 has_m set.Im = true
 has_m set.Ic = false
 has_m set.Imc = true
 
--- whether an instruction set includes C
+-- whether an instruction set includes C, 16-bit instructions
 abbrev pub has_c : Isa → Bool
 has_c set.I = false
 has_c set.Im = false

@@ -2,9 +2,8 @@
 ghost use Rattle.rv_isa.specs.Bits.{field as bits_of, sign_extended};
 ghost use Rattle.std.specs.Prelude.{ℕ, ◌≡◌, ◌+◌, ◌*◌, ◌-◌, ◌<◌, ◌≤◌, ◌^◌};
 
-/// Returns the two's complement value of `value`, a number of `bits` bits.
-///
-/// `bits` must be from 1 to 32, and `value` must be below 2^`bits`.
+/// Returns the signed value of `value`, a two's complement number of `bits` bits. `bits` must be from 1 to 32, and `value` must be below
+/// 2^`bits`.
 #[inline]
 pub fn sign_extend(value: u32, bits: u32) -> i32
     requires some { 1 ≤ bits }
@@ -30,7 +29,7 @@ pub fn field(word: u32, high: u32, low: u32) -> u32
     (word >> low) & (u32::MAX >> (31 - (high - low)))
 }
 
-/// Returns the bits of `high` followed by the `width` bits of `low`.
+/// Returns the number whose low `width` bits are `low` and whose bits above are `high`.
 #[inline]
 pub fn join(high: u32, low: u32, width: u32) -> u32
     requires fits { low < 2 ^ width }

@@ -71,7 +71,7 @@ fn instr_of_half(half: u16, isa: Isa) -> Option<Instr>
     decode32(expand(half)?, Isa::Imc)
 }
 
-// Returns the 32-bit word equivalent to a halfword, if there is one, as [`expand`] does.
+// Returns a 32-bit word that decodes to the same instruction as a halfword, or `None` if the halfword matches no row, as [`expand`] does.
 #[tactic(auto, using(crate::proofs::ByQuadrant::quadrant_3))]
 fn expanded_word(half: u16) -> Option<u32>
     ensures { Expands half result }
@@ -85,7 +85,7 @@ fn expanded_word(half: u16) -> Option<u32>
     }
 }
 
-// Returns the 32-bit word equivalent to a halfword of quadrant 0 (low bits 00), if there is one.
+// Returns the 32-bit word equivalent to a halfword of quadrant 0 (low bits 00), or `None` if it matches no row.
 #[tactic(auto, using(crate::proofs::ByQuadrant::by_quadrant))]
 fn quadrant0_word(half: u32) -> Option<u32>
     requires { bits_of half 1 0 ≡ 0 }
@@ -101,7 +101,7 @@ fn quadrant0_word(half: u32) -> Option<u32>
     }
 }
 
-// Returns the 32-bit word equivalent to a halfword of quadrant 1 (low bits 01), if there is one.
+// Returns the 32-bit word equivalent to a halfword of quadrant 1 (low bits 01), or `None` if it matches no row.
 #[tactic(auto, using(crate::proofs::ByQuadrant::by_quadrant))]
 fn quadrant1_word(half: u32) -> Option<u32>
     requires { bits_of half 1 0 ≡ 1 }
@@ -140,7 +140,8 @@ fn lui_or_addi16sp_word(half: u32) -> Option<u32>
     }
 }
 
-// Returns the 32-bit word equivalent to a shift or an arithmetic instruction of quadrant 1 (bits 15 to 13 are 100), if there is one.
+// Returns the 32-bit word equivalent to a shift or an arithmetic instruction of quadrant 1 (bits 15 to 13 are 100), or `None` if the
+// halfword matches no row.
 #[tactic(auto, using(crate::proofs::ByQuadrant::by_quadrant))]
 fn misc_alu_word(half: u32) -> Option<u32>
     requires quadrant { bits_of half 1 0 ≡ 1 }
@@ -163,7 +164,7 @@ fn misc_alu_word(half: u32) -> Option<u32>
     }
 }
 
-// Returns the 32-bit word equivalent to a halfword of quadrant 2 (low bits 10), if there is one.
+// Returns the 32-bit word equivalent to a halfword of quadrant 2 (low bits 10), or `None` if it matches no row.
 #[tactic(auto, using(crate::proofs::ByQuadrant::by_quadrant))]
 fn quadrant2_word(half: u32) -> Option<u32>
     requires { bits_of half 1 0 ≡ 2 }

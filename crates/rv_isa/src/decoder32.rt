@@ -60,7 +60,7 @@ fn instr_of_word(word: u32, isa: Isa) -> Option<Instr>
     }
 }
 
-// Returns the conditional branch with this funct3, if there is one.
+// Returns the conditional branch with this funct3, or `None` if there is none.
 #[inline]
 fn branch_op(funct3: u32) -> Option<Op>
     ensures { result ≡ name_at branches funct3 }
@@ -76,7 +76,7 @@ fn branch_op(funct3: u32) -> Option<Op>
     }
 }
 
-// Returns the load with this funct3, if there is one.
+// Returns the load with this funct3, or `None` if there is none.
 #[inline]
 fn load_op(funct3: u32) -> Option<Op>
     ensures { result ≡ name_at loads funct3 }
@@ -91,7 +91,7 @@ fn load_op(funct3: u32) -> Option<Op>
     }
 }
 
-// Returns the store with this funct3, if there is one.
+// Returns the store with this funct3, or `None` if there is none.
 #[inline]
 fn store_op(funct3: u32) -> Option<Op>
     ensures { result ≡ name_at stores funct3 }
@@ -104,7 +104,7 @@ fn store_op(funct3: u32) -> Option<Op>
     }
 }
 
-// Returns the arithmetic instruction with an immediate that has this funct3, if there is one. The shifts are in `shift_op`.
+// Returns the arithmetic instruction with an immediate that has this funct3, or `None` if there is none. `shift_op` has the shifts.
 #[inline]
 fn immediate_op(funct3: u32) -> Option<Op>
     ensures { result ≡ name_at immediates funct3 }
@@ -120,7 +120,7 @@ fn immediate_op(funct3: u32) -> Option<Op>
     }
 }
 
-// Returns the shift by an immediate with this funct7 and funct3, if there is one.
+// Returns the shift by an immediate with this funct7 and funct3, or `None` if there is none.
 #[inline]
 fn shift_op(funct7: u32, funct3: u32) -> Option<Op>
     ensures { result ≡ (if funct7 == 0 then name_at shifts funct3
@@ -135,7 +135,7 @@ fn shift_op(funct7: u32, funct3: u32) -> Option<Op>
     }
 }
 
-// Returns the arithmetic instruction on two registers with this funct7 and funct3, if the instruction set has one.
+// Returns the arithmetic instruction on two registers with this funct7 and funct3, or `None` if the instruction set has none.
 #[inline]
 fn register_op(funct7: u32, funct3: u32, isa: Isa) -> Option<Op>
     ensures { result ≡ (if funct7 == 0 then name_at registers funct3
@@ -151,7 +151,7 @@ fn register_op(funct7: u32, funct3: u32, isa: Isa) -> Option<Op>
     }
 }
 
-// Returns the arithmetic instruction on two registers with funct7 0000000 and this funct3, if there is one.
+// Returns the arithmetic instruction on two registers with funct7 0000000 and this funct3, or `None` if there is none.
 #[inline]
 fn register_plain_op(funct3: u32) -> Option<Op>
     ensures { result ≡ name_at registers funct3 }
@@ -169,7 +169,7 @@ fn register_plain_op(funct3: u32) -> Option<Op>
     }
 }
 
-// Returns the arithmetic instruction on two registers with funct7 0100000 and this funct3, if there is one.
+// Returns the arithmetic instruction on two registers with funct7 0100000 and this funct3, or `None` if there is none.
 #[inline]
 fn register_alternate_op(funct3: u32) -> Option<Op>
     ensures { result ≡ name_at registers_alternate funct3 }
@@ -181,7 +181,7 @@ fn register_alternate_op(funct3: u32) -> Option<Op>
     }
 }
 
-// Returns the multiplication or division with this funct3, if there is one.
+// Returns the multiplication or division with this funct3, or `None` if there is none.
 #[inline]
 fn product_op(funct3: u32) -> Option<Op>
     ensures { result ≡ name_at products funct3 }
@@ -199,7 +199,7 @@ fn product_op(funct3: u32) -> Option<Op>
     }
 }
 
-// Returns the fence with this funct3, if there is one.
+// Returns the fence with this funct3, or `None` if there is none.
 #[inline]
 fn fence_op(funct3: u32) -> Option<Op>
     ensures { result ≡ name_at (fences ++ instruction_fences) funct3 }

@@ -130,7 +130,7 @@ pub fn j_word(offset: u32, rd: u32, opcode: u32) -> u32
     u_word(with_high, rd, opcode)
 }
 
-/// Sign-extends `value`, a two's complement number of `bits` bits, to `wider` bits.
+/// Returns `value`, a two's complement number of `bits` bits, sign-extended to `wider` bits.
 #[inline]
 pub fn widen(value: u32, bits: u32, wider: u32) -> u32
     requires some { 1 ≤ bits }

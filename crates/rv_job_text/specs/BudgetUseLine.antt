@@ -16,35 +16,35 @@ use Rattle.rv_text.specs.Words.{count_text}
 abbrev pub waiting_text : Bool → List ℕ
 waiting_text waits = if waits then codes ", waiting for input after the end of the script" else []
 
--- how often a loop repeats, in words
+-- the length of a loop, as in `step` for 1 and `5 steps` for 5
 abbrev pub period_text : ℕ → List ℕ
 period_text period = if period == 1 then codes "step" else count_text period (codes "step")
 
--- the line about a run that never ends: after how many steps it repeats, and how often
+-- the line about a run that never ends: after how many steps it begins to repeat, and the length of its loop
 unfoldable pub repetition_line : Repetition → List ℕ
 repetition_line r = line (codes "     never ends: after " ++ count_text r.begin (codes "step") ++ codes " it repeats every "
     ++ period_text r.period ++ waiting_text r.waits)
 
--- " its last " or " its ", by whether only the last steps or all steps of the run were searched
+-- `its ` if all steps of the run were searched, or else `its last `
 abbrev pub last_or_all_text : ℕ → ℕ → List ℕ
 last_or_all_text steps within = if within == steps then codes "its " else codes "its last "
 
--- the line about a run in which no endless loop was found: `within` of its `steps` steps were searched
+-- the line about a run in which no endless loop was found; the last `within` of its `steps` steps were searched
 unfoldable pub changes_line : ℕ → ℕ → List ℕ
 changes_line steps within = line (codes "     the budget may be too small: no endless loop was found in "
     ++ last_or_all_text steps within ++ count_text within (codes "step"))
 
--- the line about a used-up budget of a run with this many steps; empty if the run was not analysed
+-- the line about how a run of this many steps used up its budget; empty if the run was not analysed
 abbrev pub budget_use_line : ℕ → Option BudgetUse → List ℕ
 budget_use_line steps None = []
 budget_use_line steps (Some (Repeats r)) = repetition_line r
 budget_use_line steps (Some (Changes within)) = changes_line steps within
 
--- `found` is the analysis of the run, if it used up its budget; none for any other end
+-- `found` is an analysis of the run if it used up its budget, or `None` for any other end
 abbrev pub IsUseAfter : RowEnd → Planned → Job → ℕ → Option BudgetUse → Type 0
 IsUseAfter Budget plan job steps found = IsBudgetUseIn plan job steps found
 IsUseAfter _ plan job steps found = found ≡ None
 
--- `found` is the analysis of the run that the row describes, if it used up its budget; none for any other end
+-- `found` is an analysis of the run that the row describes if it used up its budget, or `None` for any other end
 abbrev pub IsUseOfRow : Planned → Job → Row → Option BudgetUse → Type 0
 IsUseOfRow plan job row found = IsUseAfter row.ending plan job row.steps found

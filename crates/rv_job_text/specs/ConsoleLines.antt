@@ -19,7 +19,7 @@ use Rattle.rv_job_text.specs.ConsoleTail.{is_feed}
 
 -- ---- lines
 
--- the lines of a text, each with its line feed, which the last one can lack
+-- the lines of a text, each with its line feed, which only the last one may lack
 unfoldable pub whole_lines : List ℕ → List (List ℕ)
 whole_lines [] = []
 whole_lines (byte ∷ rest) =
@@ -34,14 +34,14 @@ front_line (line ∷ lines) = line
 abbrev pub equal_line_count : List ℕ → List ℕ → ℕ
 equal_line_count actual expected = common_prefix_len bytes_eq (whole_lines actual) (whole_lines expected)
 
--- the number of leading lines that differ pairwise, at most the given number
+-- the number of leading lines that differ, each from the line with its number in the other text; at most the given number
 unfoldable pub differing_line_count : ℕ → List (List ℕ) → List (List ℕ) → ℕ
 differing_line_count zero actual expected = 0
 differing_line_count (suc most) actual expected =
     if bytes_eq (front_line actual) (front_line expected) then 0
     else 1 + differing_line_count most (drop 1 actual) (drop 1 expected)
 
--- the lines before index `place` are equal in both texts; at this index they differ, or one text has no line
+-- the lines before the index `place` are equal in both texts; at this index they differ, or one text has no line
 pub record DifferFirstAt (place : ℕ) (actual expected : List (List ℕ)) : Type 0 where
   pub before : take place actual ≡ take place expected
   pub there : front_line (drop place actual) ≢ front_line (drop place expected)
@@ -63,23 +63,24 @@ characters_len (suc most) (byte ∷ rest) =
 abbrev pub most_line_characters : ℕ
 most_line_characters = 160
 
--- how many bytes before the first difference a longer line is shown, at most
+-- the maximum number of bytes of a long line that are shown before its first difference
 abbrev pub bytes_before_difference : ℕ
 bytes_before_difference = 32
 
--- the offset from which a line with a difference at offset `place` is shown: 0, or for a longer line shortly before the difference
+-- the offset from which a line with a difference at the offset `place` is shown: 0, or, if the line is long, an offset shortly before the
+-- difference
 abbrev pub shown_begin : ℕ → List ℕ → ℕ
 shown_begin place text =
     if characters_len most_line_characters text == length text then 0
     else (place - bytes_before_difference
     + position_or_len begins_character (drop (place - bytes_before_difference) text))
 
--- a line from the offset `begin` on, after two dots unless the offset is 0
+-- a line without its first `begin` bytes, after two dots unless `begin` is 0, up to the maximum number of characters
 abbrev pub text_shown_from : ℕ → List ℕ → List ℕ
 text_shown_from begin text = (if begin == 0 then [] else codes "..")
     ++ printable_text (take (characters_len most_line_characters (drop begin text)) (drop begin text))
 
--- a line with a difference at offset `place`, of which only the part around the difference is shown if it is long
+-- a line that has a difference at the offset `place`; if it is long, only the part around the difference
 unfoldable pub shown_line : ℕ → List ℕ → List ℕ
 shown_line place text = text_shown_from (shown_begin place text) text
 
@@ -93,7 +94,8 @@ unfoldable pub side_line : List ℕ → List ℕ → List ℕ → List ℕ
 side_line margin own other =
     line (margin ++ shown_line (common_prefix_len nat_eq own other) (before_first is_feed own)) ++ feed_note own
 
--- the first lines `own` of one text, at most the given number, each shown around its difference from the other text's line
+-- at most the given number of the first lines `own` of one text, each after a margin and shown around its difference from the line of the
+-- other text
 unfoldable pub side_lines : List ℕ → ℕ → List (List ℕ) → List (List ℕ) → List ℕ
 side_lines margin zero own other = []
 side_lines margin (suc count) [] other = []
@@ -119,7 +121,7 @@ abbrev pub lines_heading : List ℕ → ℕ → ℕ → List ℕ
 lines_heading source number count = codes "     console differs from " ++ source ++ codes " at line "
     ++ decimal number ++ codes " of " ++ decimal count ++ codes ":\n"
 
--- the equal lines that are shown before the first difference: the last of the `equal` leading lines
+-- the last lines of the `equal` leading lines of a text, which are equal in both texts
 abbrev pub equal_lines : ℕ → List (List ℕ) → List ℕ
 equal_lines equal lines = let earlier = equal - most_equal_lines in
     side_lines (codes "       ") (equal - earlier) (drop earlier lines) []
@@ -139,7 +141,7 @@ console_lines source actual expected = let equal = equal_line_count actual expec
     lines_heading source (equal + 1) (larger (length (whole_lines actual)) (length (whole_lines expected)))
     ++ lines_around equal (whole_lines actual) (whole_lines expected)
 
--- whether a difference is shown line by line: both texts are present and are UTF-8
+-- whether a difference is shown line by line: no text is missing, and both are UTF-8
 abbrev pub is_shown_by_lines : Difference → List ℕ → List ℕ → Bool
 is_shown_by_lines difference.Absent actual expected = false
 is_shown_by_lines (difference.At place) actual expected = is_utf8 actual && is_utf8 expected
@@ -152,19 +154,19 @@ pub record NamedText : Type 0 where
   pub source : List ℕ
   pub text : List ℕ
 
--- the expected console text with its name: from the list, or from a file whose contents are `file`
+-- the expected console text and its name, or `None` if no console is expected; it is from the list, or from a file with the contents `file`
 abbrev pub expected_console : Option ExpectedConsole → Option (List ℕ) → Option NamedText
 expected_console None file = None
 expected_console (Some (console.Text text)) file = Some record { source = codes "the expected text"; text = text }
 expected_console (Some (console.File path)) file = Some record { source = printable_text path; text = unwrap_or file [] }
 
--- the expected text, if the difference from it is shown line by line
+-- the expected text, or `None` if there is none or the difference from it is not shown line by line
 abbrev pub shown_by_lines : Difference → List ℕ → Option NamedText → Option NamedText
 shown_by_lines difference actual None = None
 shown_by_lines difference actual (Some expected) =
     if is_shown_by_lines difference actual expected.text then Some expected else None
 
--- the expected text of an unmet expectation, if the difference from it is shown line by line
+-- the expected text of an unmet expectation of a console, or `None` if the difference from it is not shown line by line
 abbrev pub expected_by_lines : Sides → Unmet → Option NamedText
 expected_by_lines sides unmet.Exit = None
 expected_by_lines sides unmet.End = None
@@ -174,6 +176,6 @@ expected_by_lines sides (unmet.Signature difference) = None
 expected_by_lines sides (unmet.Same difference) = None
 expected_by_lines sides unmet.Nothing = None
 
--- the Rust value `ExpectedText` as the record that contracts use
+-- an `ExpectedText` of the code as contracts see it
 abbrev pub named_text_of : ExpectedText → NamedText
 named_text_of expected = record { source = span_text expected.source; text = expected.text.now }

@@ -19,7 +19,7 @@ text_lines [] = []
 text_lines (byte ∷ rest) =
     if is_feed byte then [] ∷ text_lines rest else onto_first byte (text_lines rest)
 
--- a line of a console, as it is shown after a margin
+-- a line of a console after a margin, with a line feed
 abbrev pub console_tail_line : List ℕ → List ℕ
 console_tail_line text = line (codes "     | " ++ printable_text text)
 
@@ -27,11 +27,11 @@ console_tail_line text = line (codes "     | " ++ printable_text text)
 abbrev pub most_tail_lines : ℕ
 most_tail_lines = 10
 
--- the number of bytes at a console's end from which the lines are taken
+-- the maximum number of bytes at a console's end from which the lines are taken
 abbrev pub most_tail_bytes : ℕ
 most_tail_bytes = 1024
 
--- the last lines of a console, out of its last bytes
+-- the last lines of a console, each after a margin, taken from its last bytes
 unfoldable pub console_tail : List ℕ → List ℕ
 console_tail console =
     flat_map console_tail_line (last_elements most_tail_lines (text_lines (last_elements most_tail_bytes console)))

@@ -21,13 +21,13 @@ use Rattle.rv_text.specs.Words.{word_digits}
 
 -- ---- addresses
 
--- the last of `count` addresses that start at `from`; `past ffffffff` if it does not fit in 32 bits
+-- the last of `count` addresses that start at `from`, or `past ffffffff` if it does not fit in 32 bits
 unfoldable pub last_address_text : ℕ → ℕ → List ℕ
 last_address_text from count =
     if nat_lt (from + (count - 1)) (2 ^ 32) then word_digits (from + (count - 1))
     else codes "past ffffffff"
 
--- the first and the last of `count` addresses that start at `from`, in words
+-- the first and the last of `count` addresses that start at `from`, as `FIRST to LAST`
 abbrev pub address_range_text : ℕ → ℕ → List ℕ
 address_range_text from count = word_digits from ++ codes " to " ++ last_address_text from count
 
@@ -41,15 +41,15 @@ regions_text regions = flat_map region_text regions
 
 -- ---- segments
 
--- the addresses of the part of a segment that does not fit: of its memory if the Bool says that its file bytes fit, and otherwise of its
--- file bytes
+-- the addresses of what does not fit of a segment: its bytes in memory if the Bool says that its file bytes fit, and otherwise its file
+-- bytes
 unfoldable pub outside_segment_text : Bool → LoadAt → Segment → List ℕ
 outside_segment_text true at segment =
     codes "a segment's bytes in memory, " ++ address_range_text segment.vaddr segment.memsz
 outside_segment_text false at segment =
     codes "a segment's bytes from the file, " ++ address_range_text (load_address at segment) segment.filesz
 
--- the message that a segment does not fit in one region, with the regions
+-- the reason that a segment does not fit in one region, with the regions, if the segment is known
 unfoldable pub unfit_segment_text : Job → Option Segment → List ℕ
 unfit_segment_text job None = codes "a segment does not fit in one region"
 unfit_segment_text job (Some segment) =
@@ -57,7 +57,7 @@ unfit_segment_text job (Some segment) =
     job.load segment
     ++ codes ", do not fit in one region:" ++ regions_text job.regions
 
--- the first segment that overlaps a later one, and the first later one that it overlaps; none if there is no overlap
+-- the first segment that overlaps a later one, and the first later one that it overlaps, or `None` if there is no overlap
 abbrev pub overlapping_segments : LoadAt → List Segment → Option (Segment × Segment)
 overlapping_segments at [] = None
 overlapping_segments at (one ∷ others) =
@@ -70,7 +70,7 @@ segment_pair_text at one other =
     address_range_text (load_address at one) one.filesz ++ codes " and "
     ++ address_range_text (load_address at other) other.filesz
 
--- the message that the file bytes of two segments overlap
+-- the reason that the file bytes of two segments overlap, with their addresses, if the segments are known
 unfoldable pub segment_overlap_text : LoadAt → Option (Segment × Segment) → List ℕ
 segment_overlap_text at None = codes "the file contents of two segments overlap"
 segment_overlap_text at (Some pair) =
@@ -78,7 +78,7 @@ segment_overlap_text at (Some pair) =
 
 -- ---- symbols
 
--- the message that the symbol of a signature is not defined
+-- the reason that a symbol of the signature is not defined, with its name if it is known
 unfoldable pub missing_symbol_text : Option (List ℕ) → List ℕ
 missing_symbol_text None = codes "a symbol of the signature is undefined"
 missing_symbol_text (Some name) = codes "symbol " ++ printable_text name ++ codes " is not defined"
@@ -92,12 +92,12 @@ symbol_address_text (Err why) = []
 unfoldable pub named_symbol_text : List ℕ → List ℕ → List ℕ
 named_symbol_text file name = printable_text name ++ symbol_address_text (symbol_of file name)
 
--- the names and addresses of the two symbols of a signature
+-- the names of the two symbols of a signature, each with its address if it is defined
 unfoldable pub signature_ends_text : List ℕ → Symbols → List ℕ
 signature_ends_text file names =
     named_symbol_text file names.begin ++ codes " to " ++ named_symbol_text file names.end
 
--- the message that a signature is not a sequence of words in one region, with its symbols and the regions
+-- the reason that a signature is not a sequence of words in one region, with its symbols and the regions
 unfoldable pub signature_range_text : List Region → List ℕ → Option Symbols → List ℕ
 signature_range_text regions file None = codes "the signature is not a sequence of words in one region"
 signature_range_text regions file (Some names) =
@@ -106,7 +106,7 @@ signature_range_text regions file (Some names) =
 
 -- ---- the reason
 
--- the message about a refused image without details
+-- the reason why an image is refused, without details
 unfoldable pub image_error_sentence : ImageError → List ℕ
 image_error_sentence image.ShortHeader = codes "the file is shorter than an ELF header"
 image_error_sentence image.BadMagic = codes "not an ELF file"
@@ -133,7 +133,7 @@ image_error_sentence image.NoEnd = codes "a symbol of the signature is undefined
 image_error_sentence image.SignatureRange = codes "the signature is not a sequence of words in one region"
 image_error_sentence image.OutOfMemory = codes "out of memory"
 
--- the message about a refused image that can be parsed, with details about its segments or symbols
+-- the reason why an image that can be parsed is refused, with details about its segments or symbols
 unfoldable pub image_details_text : Job → List ℕ → Image → ImageError → List ℕ
 image_details_text job file there image.SegmentMap =
     unfit_segment_text job (unfit_segment job.regions job.load there.segments)
@@ -147,7 +147,7 @@ image_details_text job file there image.NoEnd =
     missing_symbol_text (option_map (λ names. names.end) job.signature)
 image_details_text job file there why = image_error_sentence why
 
--- the message about a refused image: with details only if it can be parsed
+-- the reason why an image is refused, with details only if it can be parsed
 abbrev pub image_reason_text : Job → List ℕ → Result Image ImageError → ImageError → List ℕ
 image_reason_text job file (Ok there) why = image_details_text job file there why
 image_reason_text job file (Err other) why = image_error_sentence why

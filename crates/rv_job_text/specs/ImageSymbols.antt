@@ -12,34 +12,35 @@ use Rattle.rv_rows.specs.declared_row.RowEnd.TheVariants as ending
 
 -- ---- the symbol of a fault
 
--- the symbol at or before an address, with the offset from it; none if the file cannot be parsed as an image
+-- the symbol that an address belongs to, with the offset from it, or `None` if there is none or the file cannot be parsed as an image
 abbrev pub symbol_in_image : Result Image ImageError → List ℕ → ℕ → Option (List ℕ × ℕ)
 symbol_in_image (Ok image) file address = symbol_at image file address
 symbol_in_image (Err why) file address = None
 
--- the symbol at or before an address, with the offset from it; none if there is no file or it cannot be parsed as an image
+-- the symbol that an address belongs to, with the offset from it, or `None` if there is none, no file, or the file cannot be parsed as an
+-- image
 unfoldable pub symbol_in_file : Isa → Option (List ℕ) → ℕ → Option (List ℕ × ℕ)
 symbol_in_file isa None address = None
 symbol_in_file isa (Some file) address = symbol_in_image (image_of isa file) file address
 
--- the symbol at or before the pc of a fault, with the offset from it; none for any other end
+-- the symbol that the pc of a fault belongs to, with the offset from it, or `None` if there is none or the run did not end with a fault
 unfoldable pub fault_symbol : Isa → Option (List ℕ) → RowEnd → Option (List ℕ × ℕ)
 fault_symbol isa file (ending.Fault kind pc value) = symbol_in_file isa file pc
 fault_symbol isa file _ = None
 
 -- ---- the address of a signature
 
--- the value of a symbol, if it is defined
+-- the value of a symbol, or `None` if it is not defined
 abbrev pub value_if_defined : Result ℕ ImageError → Option ℕ
 value_if_defined (Ok address) = Some address
 value_if_defined (Err why) = None
 
--- the address at which a signature begins; none if the file cannot be parsed as an image or lacks the symbol
+-- the address at which a signature begins, or `None` if the file cannot be parsed as an image or does not define the symbol
 abbrev pub signature_begin_in_image : Result Image ImageError → List ℕ → Symbols → Option ℕ
 signature_begin_in_image (Ok image) file names = value_if_defined (symbol_of file names.begin)
 signature_begin_in_image (Err why) file names = None
 
--- the address at which a signature begins, if the job has one and it can be found in the file
+-- the address at which a signature begins, or `None` if the job has no signature or the symbol is not found in the file
 unfoldable pub signature_begin : Isa → Option (List ℕ) → Option Symbols → Option ℕ
 signature_begin isa None names = None
 signature_begin isa (Some file) None = None

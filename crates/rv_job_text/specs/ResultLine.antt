@@ -10,7 +10,7 @@ use Rattle.rv_expect.specs.Judgement.{Judged, failed, known, now_passes, passed}
 use Rattle.rv_text.specs.Printable.{printable_text}
 use Rattle.rv_text.specs.Symbol.{symbol_in_brackets}
 
--- a colon and the reason; empty without a reason
+-- a colon and the reason, or nothing if there is no reason
 abbrev pub optional_reason_text : Option (List ℕ) → List ℕ
 optional_reason_text None = []
 optional_reason_text (Some reason) = codes ": " ++ printable_text reason
@@ -19,7 +19,7 @@ optional_reason_text (Some reason) = codes ": " ++ printable_text reason
 abbrev pub after_steps_text : ℕ → List ℕ
 after_steps_text steps = codes " after " ++ count_text steps (codes "step")
 
--- how a run ended, with its steps; for a fault also the pc, with its symbol `place`, and the value; for a refusal the reason
+-- how a run ended, with its steps; for a fault, also the pc, with its symbol `place`, and the value; for a refusal, the reason
 unfoldable pub result_ending_text : RowEnd → ℕ → Option (List ℕ × ℕ) → Option (List ℕ) → List ℕ
 result_ending_text (ending.Exit code) steps place reason =
     codes "exit " ++ exit_code_text code ++ after_steps_text steps
@@ -30,14 +30,14 @@ result_ending_text ending.Budget steps place reason = codes "budget used up" ++ 
 result_ending_text (ending.Refused why) steps place reason =
     codes "refused " ++ refusal_name why ++ optional_reason_text reason
 
--- the first word of the line about a row: PASS, FAIL or KNOWN
+-- the first word of the line about a row with this judgement: `PASS `, `FAIL ` or `KNOWN `
 abbrev pub judged_word : Judged → List ℕ
 judged_word passed = codes "PASS "
 judged_word failed = codes "FAIL "
 judged_word (known why) = codes "KNOWN "
 judged_word (now_passes path) = codes "FAIL "
 
--- the reason of a known failure, in brackets; empty without a reason
+-- the reason of a known failure, in brackets, or nothing if there is no reason
 abbrev pub known_reason_text : List ℕ → List ℕ
 known_reason_text why = if length why == 0 then [] else codes " (" ++ printable_text why ++ codes ")"
 
@@ -45,7 +45,7 @@ known_reason_text why = if length why == 0 then [] else codes " (" ++ printable_
 abbrev pub now_passes_text : List ℕ → List ℕ
 now_passes_text path = codes "passes, but is listed as known to fail: remove it from " ++ printable_text path
 
--- how a run ended, with the reason of a known failure, or the message that a job known to fail passes
+-- how a run ended, with the reason of a known failure, or, for a job that passes although it is known to fail, that message instead
 abbrev pub judged_ending_text : Judged → Row → Option (List ℕ × ℕ) → Option (List ℕ) → List ℕ
 judged_ending_text passed row place reason = result_ending_text row.ending row.steps place reason
 judged_ending_text failed row place reason = result_ending_text row.ending row.steps place reason

@@ -27,7 +27,7 @@ use Rattle.rv_job_text.specs.TraceOptions.{optional_calls_text, optional_trace_t
 use Rattle.rv_job_text.specs.declared.end_trace.TraceOptions.{TraceOptions}
 use Rattle.rv_trace.specs.Trace.{image_bytes, trace_in}
 
--- how the rows of a plan are shown
+-- a reporter of the rows of a plan: what it knows about the jobs, and which rows it shows in which detail
 pub record RowReporter : Type 0 where
   pub plan : Planned
   -- the files that could not be read, with the reasons
@@ -39,7 +39,7 @@ pub record RowReporter : Type 0 where
   -- how many last instructions of a failed job are shown, if any
   pub last : Option ℕ
 
--- the Rust value `TextReporter` as the record that contracts use
+-- a `TextReporter` of the code as contracts see it
 abbrev pub reporter_of : TextReporter → RowReporter
 reporter_of reporter = record {
   plan = reporter.plan.now;
@@ -59,17 +59,17 @@ row_line plan unread judging job row =
     result_line (judgement judging row) row (fault_symbol job.isa (image_bytes plan.answers job) row.ending)
     (ending_reason plan.answers unread job row.ending)
 
--- the lines about how a run reached its end, with its last instructions, at most `last`
+-- the lines about how a run reached its end, with at most `last` of its last instructions
 unfoldable pub end_trace_lines : Planned → Job → Row → ℕ → List ℕ
 end_trace_lines plan job row last = optional_trace_text job.isa (image_bytes plan.answers job) row.ending
     (trace_in plan job row.steps last)
 
--- the lines about how a run reached its end; empty if they are not requested
+-- the lines about how a run reached its end; empty if the number of last instructions is `None`, which means that they are not requested
 abbrev pub end_trace_if_requested : Planned → Job → Row → Option ℕ → List ℕ
 end_trace_if_requested plan job row None = []
 end_trace_if_requested plan job row (Some last) = end_trace_lines plan job row last
 
--- the lines about the unmet expectations and, if `Detail` says so, about the met ones
+-- the lines about these unmet expectations and, if `Detail` says so, about the met ones
 abbrev pub compared_lines : Detail → Option ℕ → Sides → List Unmet → List ℕ
 compared_lines detail.Unmet address sides unmet = unmet_lines address sides unmet
 compared_lines detail.All address sides unmet =
@@ -106,12 +106,12 @@ row_lines reporter job row =
     then lines_below_failure reporter.plan job row reporter.last else [])
     else []
 
--- the lines about a row of this job, or none if there is no job
+-- the lines about a row of this job; empty if there is no job
 abbrev pub row_lines_of_job : RowReporter → Row → Option Job → List ℕ
 row_lines_of_job reporter row None = []
 row_lines_of_job reporter row (Some job) = row_lines reporter job row
 
--- the lines about a row of the job at index `place`
+-- the lines about a row of the job at index `place`; empty if there is no such job
 unfoldable pub row_lines_at : RowReporter → ℕ → Row → List ℕ
 row_lines_at reporter place row = row_lines_of_job reporter row (slice_get reporter.plan.jobs place)
 
@@ -127,12 +127,12 @@ outcome_text plan unread judging job row = row_line plan unread judging job row 
 
 -- ---- the explanation of a job
 
--- the line with the calls that have not returned when the job's run ended; empty if there are none
+-- the line with the calls that had not returned when the job's run ended; empty if all had returned
 unfoldable pub calls_lines : Planned → Job → List ℕ
 calls_lines plan job = optional_calls_text job.isa (image_bytes plan.answers job) (calls_in plan job)
 
 -- the lines that explain a run: its expectations, the end of its console, the use of its budget, how it reached its end, and the calls that
--- have not returned
+-- had not returned
 unfoldable pub run_explanation : Planned → Job → Row → TraceOptions → List ℕ
 run_explanation plan job row way =
     expectation_lines detail.All plan job row ++ (console_tail row.console

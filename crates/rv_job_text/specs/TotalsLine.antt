@@ -31,30 +31,30 @@ failure_kind_name failure.SameAs = codes "same_as"
 abbrev pub passed_count : Judging → List Row → ℕ
 passed_count judging rows = count_by (λ row. is_passed (judgement judging row)) rows
 
--- the number of rows that are failures
+-- the number of rows that count as failures
 abbrev pub failed_count : Judging → List Row → ℕ
 failed_count judging rows = count_by (fails judging) rows
 
--- the number of rows that are known failures
+-- the number of rows that failed and are listed as known failures
 abbrev pub known_count : Judging → List Row → ℕ
 known_count judging rows = count_by (λ row. is_known_failure (judgement judging row)) rows
 
--- the number of failures of this kind
+-- how many of the failures are of this kind
 abbrev pub failure_count : List FailureKind → FailureKind → ℕ
 failure_count failures kind = count_by (is_same_failure_kind kind) failures
 
--- the number of steps of all rows
+-- the sum of the steps of all rows
 abbrev pub total_steps : List Row → ℕ
 total_steps rows = sum_by (λ row. row.steps) rows
 
 -- ---- the line
 
--- a list whose only element has the number of failures of a kind and the name of the kind; empty if there are no such failures
+-- the number of failures of a kind and the name of the kind, as the only element of a list; an empty list if there are none
 abbrev pub failure_text : (FailureKind → ℕ) → FailureKind → List (List ℕ)
 failure_text count kind =
     if count kind == 0 then [] else (decimal (count kind) ++ codes " " ++ failure_kind_name kind) ∷ []
 
--- the numbers of failures by kind, for the kinds with an index below the given number
+-- the numbers and names of the kinds of failures whose index is below the given number; kinds without failures are left out
 unfoldable pub failure_texts_below : (FailureKind → ℕ) → ℕ → List (List ℕ)
 failure_texts_below count zero = []
 failure_texts_below count (suc index) = failure_texts_below count index ++ failure_text count (failure_kind_at index)

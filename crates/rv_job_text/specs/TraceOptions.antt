@@ -10,22 +10,22 @@ use Rattle.rv_rows.specs.declared_row.RowEnd.{RowEnd}
 use Rattle.rv_trace.specs.declared.trace.Trace.{Trace}
 use Rattle.rv_trace.specs.Text.{trace_text}
 
--- the text made with the symbols of a file; empty if the file cannot be parsed as an image
+-- the result of `text` for the image and the bytes of a file; empty if the file cannot be parsed as an image
 abbrev pub text_in_image : Result Image ImageError → List ℕ → (Image → List ℕ → List ℕ) → List ℕ
 text_in_image (Ok image) file text = text image file
 text_in_image (Err why) file text = []
 
--- the text made with the symbols of a file; empty if there is no file or it cannot be parsed as an image
+-- the result of `text` for the image and the bytes of a file; empty if there is no file or it cannot be parsed as an image
 unfoldable pub text_in_file : Isa → Option (List ℕ) → (Image → List ℕ → List ℕ) → List ℕ
 text_in_file isa None text = []
 text_in_file isa (Some file) text = text_in_image (image_of isa file) file text
 
--- the text of a trace; empty if there is none
+-- the text of a trace, with the symbols of the file; empty if there is no trace
 abbrev pub optional_trace_text : Isa → Option (List ℕ) → RowEnd → Option Trace → List ℕ
 optional_trace_text isa file end None = []
 optional_trace_text isa file end (Some trace) = text_in_file isa file (λ image bytes. trace_text image bytes trace end)
 
--- the text of the calls that have not returned; empty if there are none
+-- the text of the calls that had not returned, with the symbols of the file; empty if there are none
 abbrev pub optional_calls_text : Isa → Option (List ℕ) → Option Calls → List ℕ
 optional_calls_text isa file None = []
 optional_calls_text isa file (Some calls) = text_in_file isa file (λ image bytes. calls_text image bytes calls)

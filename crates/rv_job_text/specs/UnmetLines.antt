@@ -30,12 +30,12 @@ use Rattle.rv_job_text.specs.ConsoleLines.{NamedText, console_lines, expected_by
 
 -- ---- the exit code and the end
 
--- the expected exit code, in words
+-- the expected exit code as `exit CODE`
 unfoldable pub expected_exit_text : Option ℕ → List ℕ
 expected_exit_text None = codes "an exit"
 expected_exit_text (Some code) = codes "exit " ++ exit_code_text code
 
--- the expected end, in words
+-- the expected end: `budget used up`, or `fault KIND`
 unfoldable pub expected_end_text : Option ExpectedEnd → List ℕ
 expected_end_text None = codes "another end"
 expected_end_text (Some expected.Budget) = codes "budget used up"
@@ -47,7 +47,7 @@ expected_end_text (Some (expected.Fault kind)) = codes "fault " ++ fault_name ki
 abbrev pub quoted_value : List ℕ → List ℕ
 quoted_value value = codes "\"" ++ printable_value value ++ codes "\""
 
--- the first byte in which the actual text `actual` and the expected text `expected` differ, at offset `place`
+-- the offset `place` at which the actual text `actual` first differs from the expected text `expected`, and both texts from there
 unfoldable pub byte_difference_text : ℕ → List ℕ → List ℕ → List ℕ
 byte_difference_text place actual expected =
     codes " at byte " ++ decimal place ++ codes ": expected " ++ quoted_value (drop place expected)
@@ -58,7 +58,7 @@ unfoldable pub count_difference_text : ℕ → List ℕ → ℕ → List ℕ
 count_difference_text actual what expected =
     codes " in length: expected " ++ count_text expected what ++ codes ", found " ++ decimal actual
 
--- the first difference between the actual text `actual` and the expected text `expected`
+-- where the actual text `actual` first differs from the expected text `expected`, or that one of them is longer
 unfoldable pub bytes_difference_text : Difference → List ℕ → List ℕ → List ℕ
 bytes_difference_text (difference.At place) actual expected = byte_difference_text place actual expected
 bytes_difference_text difference.Lengths actual expected = count_difference_text (length actual) (codes "byte") (length expected)
@@ -81,17 +81,17 @@ console_difference_text (Some expected) file actual difference = expected_consol
 
 -- ---- words
 
--- the digits of the word of a signature at index `place`; empty if there is none
+-- the digits of the word at index `place` of a signature; empty if there is no such word
 unfoldable pub signature_word_digits : List ℕ → ℕ → List ℕ
 signature_word_digits words place =
     if nat_lt place (length words) then word_digits (slice_index words place) else []
 
--- the digits of the word of a signature file at index `place`; empty if there is none
+-- the digits of the word at index `place` of a signature file; empty if there is no such word
 unfoldable pub reference_digits_at : List ℕ → ℕ → List ℕ
 reference_digits_at text place =
     if nat_lt place (length text / 9) then slice_range text (place * 9) (place * 9 + 8) else []
 
--- the address of the word at index `place`, in brackets; empty if the address of the first word is not known
+-- the address of the word at index `place`, in brackets; empty if the address `first` of the first word is not known
 abbrev pub word_address_text : Option ℕ → ℕ → List ℕ
 word_address_text None place = []
 word_address_text (Some first) place =
@@ -105,12 +105,12 @@ word_place_text first place = codes " at word " ++ decimal place ++ word_address
 abbrev pub word_difference_text : Option ℕ → ℕ → List ℕ → List ℕ → List ℕ
 word_difference_text first place actual expected = word_place_text first place ++ expected ++ codes ", found " ++ actual
 
--- the message that a line of a signature file is invalid
+-- the message that the line with this number of a signature file is invalid, and what is expected
 unfoldable pub bad_reference_line_text : ℕ → List ℕ
 bad_reference_line_text number =
     codes ", which is invalid at line " ++ decimal number ++ codes ": expected eight lower-case hexadecimal digits and a newline"
 
--- the first difference between the words of a signature and the text of a signature file
+-- where the words of a signature first differ from the text of a signature file
 unfoldable pub reference_difference_text : Option ℕ → List ℕ → List ℕ → SignatureDifference → List ℕ
 reference_difference_text first words text (signature.Line number) = bad_reference_line_text number
 reference_difference_text first words text (signature.Word place) =
@@ -119,7 +119,7 @@ reference_difference_text first words text signature.Count =
     count_difference_text (length words) (codes "word") (length text / 9)
 reference_difference_text first words text signature.Absent = codes ", which was not read"
 
--- the message that a signature differs from the expected one; `bytes` is the text of the signature file
+-- the message that a signature differs from the expected one, and where; `bytes` are the contents of the signature file, if it was read
 unfoldable pub signature_difference_text : Option ℕ → Option (List ℕ) → Option (List ℕ) → Option (List ℕ)
     → SignatureDifference → List ℕ
 signature_difference_text first None words bytes difference = codes "no signature"
@@ -129,19 +129,19 @@ signature_difference_text first (Some path) words bytes difference =
 
 -- ---- the job that `same_as` names
 
--- how a run ended, as a clause about the job
+-- how a run ended, as in `ended with exit 0`
 unfoldable pub row_end_text : RowEnd → List ℕ
 row_end_text (ending.Exit code) = codes "ended with exit " ++ exit_code_text code
 row_end_text (ending.Fault kind pc value) = codes "ended with fault " ++ fault_name kind
 row_end_text ending.Budget = codes "used up its budget"
 row_end_text (ending.Refused why) = codes "was refused (" ++ refusal_name why ++ codes ")"
 
--- which of two signatures is missing: the actual one if it is none, and otherwise the expected one
+-- that the actual signature is missing if it is `None`, or else that the expected one is
 abbrev pub absent_signature_text : Option (List ℕ) → List ℕ
 absent_signature_text None = codes ": expected one, found none"
 absent_signature_text (Some words) = codes ": expected none, found one"
 
--- the first difference between the actual signature `words` and the expected one `others`; either may be missing
+-- where the actual signature `words` first differs from the expected one `others`; either may be missing
 unfoldable pub signatures_difference_text : Option ℕ → Option (List ℕ) → Option (List ℕ) → Difference → List ℕ
 signatures_difference_text first words others (difference.At place) =
     word_difference_text first place (signature_word_digits (signature_words_or_empty words) place)
@@ -150,7 +150,7 @@ signatures_difference_text first words others difference.Lengths =
     count_difference_text (length (signature_words_or_empty words)) (codes "word") (length (signature_words_or_empty others))
 signatures_difference_text first words others difference.Absent = absent_signature_text words
 
--- the first difference between the row of a job and the row `other` of the job that it names by `same_as`
+-- the first difference between the row of a job and the row `other` of the job that its `same_as` names
 unfoldable pub rows_difference_text : Option ℕ → Row → Row → SameDifference → List ℕ
 rows_difference_text first row other same.Ending =
     codes ", which " ++ row_end_text other.ending ++ codes "; this job "
@@ -161,7 +161,7 @@ rows_difference_text first row other (same.Signature difference) =
     codes ": signature differs" ++ signatures_difference_text first row.signature other.signature difference
 rows_difference_text first row other same.Absent = codes ", which was not run"
 
--- the message that the result of a job differs from that of the job that it names by `same_as`
+-- the message that the result of a job differs from the result of the job that its `same_as` names
 unfoldable pub same_difference_text : Option ℕ → Row → Option Row → SameDifference → List ℕ
 same_difference_text first row None difference = codes "the same result as another job, which was not run"
 same_difference_text first row (Some other) difference =
@@ -169,7 +169,7 @@ same_difference_text first row (Some other) difference =
 
 -- ---- the line
 
--- an unmet expectation, in words; `address` is the address of the signature's first word, if it is known
+-- the text of an unmet expectation, such as `exit 0`; `address` is the address of the signature's first word, if it is known
 unfoldable pub unmet_expectation_text : Option ℕ → Sides → Unmet → List ℕ
 unmet_expectation_text address sides unmet.Exit = expected_exit_text sides.job.expect_exit
 unmet_expectation_text address sides unmet.End = expected_end_text sides.job.expect_end
@@ -181,13 +181,13 @@ unmet_expectation_text address sides (unmet.Same difference) =
     same_difference_text address sides.row sides.other difference
 unmet_expectation_text address sides unmet.Nothing = codes "exit 0, since no expectation is set"
 
--- the text before an unmet expectation: five spaces, and `expected: ` unless the expectation says what differs
+-- the text before an unmet expectation in its line: five spaces, and `expected: ` unless the text itself says what differs
 abbrev pub unmet_margin : Unmet → List ℕ
 unmet_margin (unmet.Console difference) = codes "     "
 unmet_margin (unmet.Signature difference) = codes "     "
 unmet_margin _ = codes "     expected: "
 
--- the lines about an unmet expectation: line by line if the expected text is given, and otherwise a single line
+-- the lines about an unmet expectation: the differing lines if the expected text is given, and otherwise a single line
 abbrev pub unmet_line_by : Option ℕ → Sides → Unmet → Option NamedText → List ℕ
 unmet_line_by address sides unmet None =
     line (unmet_margin unmet ++ unmet_expectation_text address sides unmet)

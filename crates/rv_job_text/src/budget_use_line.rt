@@ -8,7 +8,7 @@ use rv_hang::{BudgetUse, Repetition};
 use rv_text::{Span, push_spans};
 use std::alloc::AllocError;
 
-/// Appends the line about a used-up budget of a run with this many steps; nothing if the run was not analysed.
+/// Appends the line about how a run of this many steps used up its budget, or nothing if the run was not analysed.
 pub(crate) fn push_budget_use_line(
     text: &mut Vec<u8>,
     steps: u32,
@@ -23,7 +23,7 @@ pub(crate) fn push_budget_use_line(
     }
 }
 
-// Appends the line about a run that never ends: after how many steps it repeats, and how often.
+// Appends the line about a run that never ends: after how many steps it begins to repeat, and the length of its loop.
 #[tactic(auto, unfolding(crate::specs::BudgetUseLine::repetition_line))]
 fn push_repetition_line(text: &mut Vec<u8>, repetition: Repetition) -> Result<(), AllocError>
     ensures { OnOk result (text.new.items ≡ text.old.items ++ repetition_line repetition) }
@@ -41,6 +41,7 @@ fn push_repetition_line(text: &mut Vec<u8>, repetition: Repetition) -> Result<()
     )
 }
 
+// Returns the length of a loop, as in `step` for 1 and `5 steps` for 5.
 fn period_span(period: u32) -> Span<'static>
     ensures { span_text result ≡ period_text period }
 {
@@ -51,7 +52,7 @@ fn period_span(period: u32) -> Span<'static>
     }
 }
 
-// Returns the note that a loop waits for input after the end of the script; empty if it does not.
+// Returns the note that a loop waits for input after the end of the script, or an empty text if it does not.
 fn waiting_text(waits: bool) -> &'static str
     ensures { result.now ≡ waiting_text waits }
 {
@@ -62,7 +63,7 @@ fn waiting_text(waits: bool) -> &'static str
     }
 }
 
-// Appends the line about a run in which no endless loop was found: `within` of its `steps` steps were searched.
+// Appends the line about a run in which no endless loop was found. The last `within` of its `steps` steps were searched.
 #[tactic(auto, unfolding(crate::specs::BudgetUseLine::changes_line))]
 fn push_changes_line(text: &mut Vec<u8>, steps: u32, within: u32) -> Result<(), AllocError>
     ensures { OnOk result (text.new.items ≡ text.old.items ++ changes_line steps within) }
@@ -78,7 +79,7 @@ fn push_changes_line(text: &mut Vec<u8>, steps: u32, within: u32) -> Result<(), 
     )
 }
 
-// Returns " its last " or " its ", by whether only the last steps or all steps of the run were searched.
+// Returns `its ` if all steps of the run were searched, or else `its last `.
 fn last_or_all_text(steps: u32, within: u32) -> &'static str
     ensures { result.now ≡ last_or_all_text steps within }
 {

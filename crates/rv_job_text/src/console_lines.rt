@@ -74,7 +74,7 @@ fn push_lines_heading(
     )
 }
 
-// Appends the last of the `equal` leading lines of a text.
+// Appends the last lines of the `equal` leading lines of a text, which are equal in both texts.
 fn push_equal_lines(bytes: &mut Vec<u8>, equal: usize, text: &[u8]) -> Result<(), AllocError>
     ensures { OnOk result (bytes.new.items ≡ bytes.old.items ++ equal_lines equal (whole_lines text.now)) }
 {
@@ -97,7 +97,7 @@ fn push_differing_lines(
     push_side_lines(bytes, "     + ", count, actual, expected)
 }
 
-// Appends the first `count` lines of one text, each shown around its difference from the other text's line.
+// Appends the first `count` lines of the text `own`, each after a margin and shown around its difference from the line of the text `other`.
 fn push_side_lines(
     bytes: &mut Vec<u8>,
     margin: &'static str,
@@ -121,7 +121,7 @@ fn push_side_lines(
     Ok(())
 }
 
-// Returns the text after its first `count` lines.
+// Returns the text after its first `count` lines, which is empty if there are not more.
 fn text_after_lines(text: &[u8], count: usize) -> &[u8]
     ensures { whole_lines result.now ≡ drop count (whole_lines text.now) }
 {
@@ -135,7 +135,7 @@ fn text_after_lines(text: &[u8], count: usize) -> &[u8]
     rest
 }
 
-// Skips the equal leading lines of both texts. Returns how many there are, and the rest of each text.
+// Returns how many leading lines are equal in both texts, and the rest of each text.
 fn skip_equal_lines<'a>(actual: &'a [u8], expected: &'a [u8]) -> Divergence<'a>
     ensures equal { result.equal ≡ equal_line_count actual.now expected.now }
     ensures within { result.equal ≤ length actual.now }
@@ -162,7 +162,7 @@ fn skip_equal_lines<'a>(actual: &'a [u8], expected: &'a [u8]) -> Divergence<'a>
     parting
 }
 
-// Returns how many leading lines differ pairwise, at most `most`.
+// Returns how many leading lines of two texts differ, each from the line with its number in the other text; at most `most`.
 fn differing_line_count(most: usize, actual: &[u8], expected: &[u8]) -> usize
     ensures { result ≡ differing_line_count most (whole_lines actual.now) (whole_lines expected.now) }
 {

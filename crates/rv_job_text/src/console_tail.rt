@@ -14,7 +14,7 @@ pub const TAIL_LINES: usize = 10;
 pub const TAIL_BYTES: usize = 1_024;
 
 /// Appends the last lines of a console, at most [`TAIL_LINES`] out of its last [`TAIL_BYTES`] bytes. Each line is written after a margin,
-/// as by [`push_printable_text`](rv_text::push_printable_text), and ends with a line feed, even if the console ends without one.
+/// by [`push_printable_text`](rv_text::push_printable_text), and ends with a line feed, even if the console ends without one.
 #[tactic(auto, unfolding(crate::specs::ConsoleTail::console_tail))]
 pub fn push_console_tail(bytes: &mut Vec<u8>, console: &[u8]) -> Result<(), AllocError>
     ensures { OnOk result (bytes.new.items ≡ bytes.old.items ++ console_tail console.now) }
@@ -24,7 +24,7 @@ pub fn push_console_tail(bytes: &mut Vec<u8>, console: &[u8]) -> Result<(), Allo
     push_later_lines(bytes, tail, earlier)
 }
 
-// Appends the lines of a text after the first `earlier` ones.
+// Appends all lines of a text but the first `earlier` ones, each after a margin.
 fn push_later_lines(bytes: &mut Vec<u8>, text: &[u8], earlier: usize) -> Result<(), AllocError>
     ensures { OnOk result (bytes.new.items
         ≡ bytes.old.items ++ flat_map console_tail_line (drop earlier (text_lines text.now))) }
@@ -42,6 +42,7 @@ fn push_later_lines(bytes: &mut Vec<u8>, text: &[u8], earlier: usize) -> Result<
     Ok(())
 }
 
+// Appends a line of a console after a margin, with a line feed.
 fn push_console_line(bytes: &mut Vec<u8>, line: &[u8]) -> Result<(), AllocError>
     ensures { OnOk result (bytes.new.items ≡ bytes.old.items ++ console_tail_line line.now) }
 {
@@ -51,6 +52,7 @@ fn push_console_line(bytes: &mut Vec<u8>, line: &[u8]) -> Result<(), AllocError>
     )
 }
 
+// Returns the number of lines of a text.
 fn line_count(text: &[u8]) -> usize
     ensures { result ≡ length (text_lines text.now) }
 {
@@ -63,7 +65,7 @@ fn line_count(text: &[u8]) -> usize
     count
 }
 
-// Returns the first line without its line feed, and the text after it; `None` if the text is empty.
+// Returns the first line without its line feed, and the text after it, or `None` if the text is empty.
 fn split_first_line(text: &[u8]) -> Option<(&[u8], &[u8])>
     ensures lines { MatchOption result (text_lines text.now ≡ []) (λ parts.
         text_lines text.now ≡ parts.0.now ∷ text_lines parts.1.now) }
@@ -76,7 +78,7 @@ fn split_first_line(text: &[u8]) -> Option<(&[u8], &[u8])>
     Some((&text[..len], tail_from(text, len + 1)))
 }
 
-// Returns the length of the first line in bytes, without its line feed.
+// Returns the length of the first line of a text in bytes, without its line feed.
 fn first_line_len(text: &[u8]) -> usize
     ensures len { result ≡ position_or_len is_feed text.now }
     ensures within { result ≤ length text.now }

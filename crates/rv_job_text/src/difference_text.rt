@@ -9,7 +9,8 @@ use rv_jobs::ExpectedConsole;
 use rv_text::{Span, actual_and_expected_from, push_spans, push_text};
 use std::alloc::AllocError;
 
-/// Appends the message that the console `actual` differs from the expected one; `file` is the text of the expectation file.
+/// Appends the message that the console `actual` differs from the expected one, and where. `file` has the contents of the file with the
+/// expected text, if the list names one.
 #[tactic(auto, unfolding(crate::specs::UnmetLines::console_difference_text, crate::specs::UnmetLines::expected_console_text))]
 pub(crate) fn push_console_difference(
     bytes: &mut Vec<u8>,
@@ -35,7 +36,7 @@ pub(crate) fn push_console_difference(
     }
 }
 
-/// Appends the text `before` and a name.
+/// Appends the text `before` and then a name.
 pub(crate) fn push_compared_name(
     bytes: &mut Vec<u8>,
     before: &'static str,
@@ -47,6 +48,7 @@ pub(crate) fn push_compared_name(
     push_spans(bytes, &[Span::Text(before), Span::Shown(name.as_bytes())])
 }
 
+// Returns the contents of a file, or no bytes if there are none.
 pub(crate) fn bytes_or_empty(file: Option<&[u8]>) -> &[u8]
     ensures { result.now ≡ unwrap_or (option_map (λ bytes. bytes.now) file.entry) [] }
 {
@@ -56,7 +58,7 @@ pub(crate) fn bytes_or_empty(file: Option<&[u8]>) -> &[u8]
     }
 }
 
-/// Appends the first difference between the actual text `actual` and the expected text `expected`.
+/// Appends where the actual text `actual` first differs from the expected text `expected`, or that one of them is longer.
 #[tactic(auto, unfolding(crate::specs::UnmetLines::bytes_difference_text))]
 pub(crate) fn push_bytes_difference(
     bytes: &mut Vec<u8>,
@@ -74,7 +76,7 @@ pub(crate) fn push_bytes_difference(
     }
 }
 
-// Appends the first byte in which the actual text `actual` and the expected text `expected` differ, at offset `place`.
+// Appends the offset `place` at which the actual text `actual` first differs from the expected text `expected`, and both texts from there.
 #[tactic(auto, unfolding(crate::specs::UnmetLines::byte_difference_text))]
 fn push_byte_difference<'a>(
     bytes: &mut Vec<u8>,
@@ -99,7 +101,7 @@ fn push_byte_difference<'a>(
     )
 }
 
-/// Appends the expected number `expected` and the actual number `actual` of bytes or words.
+/// Appends the expected number `expected` and the actual number `actual` of bytes or words. `what` is the noun.
 #[tactic(auto, unfolding(crate::specs::UnmetLines::count_difference_text))]
 pub(crate) fn push_count_difference(
     bytes: &mut Vec<u8>,

@@ -25,8 +25,8 @@ pub struct TraceOptions {
     pub budget_use: Option<BudgetUse>,
 }
 
-/// Analyses the run of the job at index `place` if it used up its budget, which takes the time of two more runs. Returns `None` for any
-/// other end.
+/// Returns an analysis of the run of the job at index `place`, which takes the time of two more runs, or `None` if it did not use up its
+/// budget.
 pub fn budget_use_at(
     alloc: Global,
     plan: &Plan,
@@ -52,7 +52,7 @@ pub fn budget_use_at(
 }
 
 impl<'a> JobRow<'a> {
-    /// Appends how the run reached its end, with its last instructions, at most `last`. Runs the job once more.
+    /// Appends the lines about how the run reached its end, with at most `last` of its last instructions. Runs the job once more.
     #[tactic(auto, unfolding(crate::specs::RowReporter::end_trace_lines))]
     pub(crate) fn push_end_trace(
         &self,
@@ -78,7 +78,8 @@ impl<'a> JobRow<'a> {
         }
     }
 
-    /// Appends the calls that have not returned when the run ended, if there are any. Runs the job once more, one instruction at a time.
+    /// Appends the line with the calls that had not returned when the run ended, or nothing if all had. Runs the job once more, one
+    /// instruction at a time.
     #[tactic(auto, unfolding(crate::specs::RowReporter::calls_lines))]
     pub(crate) fn push_calls(&self, alloc: Global, text: &mut Vec<u8>) -> Result<(), AllocError>
         ensures { OnOk result ((d : AJob) → text.new.items ≡ text.old.items
@@ -98,7 +99,7 @@ impl<'a> JobRow<'a> {
         }
     }
 
-    // Analyses the run, which used up its budget. Returns `None` if the job has no valid image.
+    // Returns an analysis of the run, which used up its budget, or `None` if the job has no valid image.
     fn used_budget(&self, alloc: Global) -> Result<Option<BudgetUse>, AllocError>
         ensures { IfOk result (λ found. (d : AJob) → IsBudgetUseIn self.now.plan.now
             (job_at self.now.plan.now self.now.place d) self.now.row.now.steps found) }

@@ -16,7 +16,7 @@ pub(crate) struct ExpectedText<'a> {
     pub(crate) text: &'a [u8],
 }
 
-/// Returns the expected text of an unmet expectation, if the difference from it is shown line by line.
+/// Returns the expected text of an unmet expectation of a console, or `None` if the difference from it is not shown line by line.
 pub(crate) fn expected_by_lines<'a>(
     comparison: &Comparison<'a, '_>,
     unmet: Unmet,
@@ -32,7 +32,8 @@ pub(crate) fn expected_by_lines<'a>(
     }
 }
 
-// Returns the expected console text with its name: from the list, or from a file whose contents are `file`.
+// Returns the expected console text and its name, or `None` if no console is expected. It is from the list, or from a file with the
+// contents `file`.
 fn expected_console<'a>(
     expected: &'a Option<ExpectedConsole>,
     file: Option<&'a [u8]>,
@@ -53,7 +54,7 @@ fn expected_console<'a>(
     }
 }
 
-// Returns the expected text, if the difference from it is shown line by line.
+// Returns the expected text, or `None` if there is none or the difference from it is not shown line by line.
 fn shown_by_lines<'a>(
     difference: Difference,
     actual: &[u8],
@@ -67,7 +68,7 @@ fn shown_by_lines<'a>(
     }
 }
 
-// Whether a difference is shown line by line: both texts are present and are UTF-8.
+// Whether a difference is shown line by line: no text is missing, and both are UTF-8.
 fn is_shown_by_lines(difference: Difference, actual: &[u8], expected: &[u8]) -> bool
     ensures { result ≡ is_shown_by_lines difference actual.now expected.now }
 {

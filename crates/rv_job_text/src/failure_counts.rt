@@ -9,7 +9,7 @@ use rv_expect::FailureKind;
 use rv_text::{Span, push_spans};
 use std::alloc::AllocError;
 
-/// Appends, in brackets, how many failures there are of each kind; nothing if there are none.
+/// Appends, in brackets, how many failures there are of each kind, or nothing if there are no failures.
 pub(crate) fn push_failure_counts(
     bytes: &mut Vec<u8>,
     failures: &[FailureKind],
@@ -32,7 +32,7 @@ pub(crate) fn push_failure_counts(
     Ok(())
 }
 
-// Returns the number of failures of this kind.
+// Returns how many of the failures are of this kind.
 fn failure_count(failures: &[FailureKind], kind: FailureKind) -> usize
     ensures { result ≡ failure_count failures.now kind }
 {
@@ -45,7 +45,8 @@ fn failure_count(failures: &[FailureKind], kind: FailureKind) -> usize
     count
 }
 
-// Appends the number of failures of a kind and its name, after a comma or an opening bracket.
+// Appends the number of failures of a kind and the name of the kind, after a comma if the bracket is already open, or else after an opening
+// bracket.
 fn push_failure_count(
     bytes: &mut Vec<u8>,
     is_open: bool,

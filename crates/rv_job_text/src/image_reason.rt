@@ -14,8 +14,8 @@ use rv_memory::Region;
 use rv_text::{Span, push_spans, push_text};
 use std::alloc::{AllocError, Global};
 
-/// Appends why the image of the job is refused: with the addresses of segments and regions or the name of a symbol, if the image can be
-/// parsed. Allocates the image once more.
+/// Appends the reason why the image of the job is refused. If the image can be parsed, the reason has the addresses of segments and
+/// regions, or the name of a symbol. Allocates the image once more.
 #[tactic(auto, unfolding(crate::specs::ImageReasons::image_reason))]
 pub(crate) fn push_image_reason(
     alloc: Global,
@@ -36,7 +36,7 @@ pub(crate) fn push_image_reason(
     }
 }
 
-// Appends the message about a refused image that can be parsed, with details about its segments or symbols.
+// Appends the reason why an image that can be parsed is refused, with details about its segments or symbols.
 #[tactic(auto, unfolding(crate::specs::ImageReasons::image_details_text))]
 fn push_image_details(
     bytes: &mut Vec<u8>,
@@ -66,7 +66,7 @@ fn push_image_details(
     }
 }
 
-// Returns the message about a refused image without details.
+// Returns the reason why an image is refused, without details.
 #[tactic(auto, unfolding(crate::specs::ImageReasons::image_error_sentence))]
 fn image_error_sentence(why: ImageError) -> &'static str
     ensures { result.now ≡ image_error_sentence why }
@@ -98,6 +98,7 @@ fn image_error_sentence(why: ImageError) -> &'static str
     }
 }
 
+// Returns the name of the symbol at which a signature begins, or `None` if there is no signature.
 fn begin_symbol_name(signature: &Option<Symbols>) -> Option<&[u8]>
     ensures { option_map (λ name. name.now) result
         ≡ option_map (λ names. names.begin) signature.now }
@@ -108,6 +109,7 @@ fn begin_symbol_name(signature: &Option<Symbols>) -> Option<&[u8]>
     }
 }
 
+// Returns the name of the symbol at which a signature ends, or `None` if there is no signature.
 fn end_symbol_name(signature: &Option<Symbols>) -> Option<&[u8]>
     ensures { option_map (λ name. name.now) result
         ≡ option_map (λ names. names.end) signature.now }
@@ -118,7 +120,7 @@ fn end_symbol_name(signature: &Option<Symbols>) -> Option<&[u8]>
     }
 }
 
-// Appends the message that the symbol of a signature is not defined.
+// Appends the reason that a symbol of the signature is not defined, with its name if it is known.
 #[tactic(auto, unfolding(crate::specs::ImageReasons::missing_symbol_text))]
 fn push_missing_symbol(bytes: &mut Vec<u8>, name: Option<&[u8]>) -> Result<(), AllocError>
     ensures { OnOk result (bytes.new.items ≡ bytes.old.items
@@ -137,7 +139,7 @@ fn push_missing_symbol(bytes: &mut Vec<u8>, name: Option<&[u8]>) -> Result<(), A
     }
 }
 
-// Appends the message that a signature is not a sequence of words in one region, with its symbols and the regions.
+// Appends the reason that a signature is not a sequence of words in one region, with its symbols and the regions.
 #[tactic(auto, unfolding(crate::specs::ImageReasons::signature_range_text))]
 fn push_signature_range(
     bytes: &mut Vec<u8>,
@@ -164,7 +166,7 @@ fn push_signature_range(
     }
 }
 
-// Appends the names and addresses of the two symbols of a signature.
+// Appends the names of the two symbols of a signature, each with its address if it is defined.
 #[tactic(auto, unfolding(crate::specs::ImageReasons::signature_ends_text, crate::specs::ImageReasons::named_symbol_text))]
 fn push_signature_ends(
     bytes: &mut Vec<u8>,

@@ -12,7 +12,7 @@ use rv_rows::RowEnd;
 use rv_trace::ElfFile;
 
 impl<'a> JobFile<'a> {
-    /// Returns the symbol at or before the pc of a fault; `None` for any other end.
+    /// Returns the symbol that the pc of a fault belongs to, or `None` if there is none or the run did not end with a fault.
     #[tactic(auto, unfolding(crate::specs::ImageSymbols::fault_symbol))]
     pub(crate) fn fault_symbol(&self, ending: RowEnd) -> Option<SymbolAt<'_>>
         ensures { option_map (λ s. (s.name.now, s.offset)) result
@@ -24,6 +24,7 @@ impl<'a> JobFile<'a> {
         }
     }
 
+    // Returns the symbol that a code address belongs to, or `None` if there is none or no valid image.
     fn symbol_at(&self, address: u32) -> Option<SymbolAt<'_>>
         ensures { option_map (λ s. (s.name.now, s.offset)) result
             ≡ symbol_in_file self.now.isa (option_map (λ bytes. bytes.now) self.now.bytes) address }
@@ -34,7 +35,7 @@ impl<'a> JobFile<'a> {
         }
     }
 
-    /// Returns the address of the first word of a signature, if it can be found in the image.
+    /// Returns the address of the first word of a signature, or `None` if there is no signature or the symbol is not found in the image.
     pub(crate) fn signature_begin(&self, names: &Option<Symbols>) -> Option<u32>
         requires { IfSome names.now (λ names. 0 < length names.begin) }
         ensures { result
@@ -50,7 +51,7 @@ impl<'a> JobFile<'a> {
     }
 }
 
-// Returns the value of the symbol at which a signature begins, if it is defined.
+// Returns the value of the symbol at which a signature begins, or `None` if it is not defined.
 fn begin_symbol_value(elf: &ElfFile<'_>, names: &Symbols) -> Option<u32>
     requires { 0 < length names.now.begin }
     ensures { result ≡ value_if_defined (symbol_of elf.now.bytes.now names.now.begin) }

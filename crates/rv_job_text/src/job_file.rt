@@ -23,7 +23,7 @@ pub(crate) struct JobFile<'a> {
 }
 
 impl<'a> JobFile<'a> {
-    /// Parses the image of the job at index `place`. Allocates the image.
+    /// Returns the image file of the job at index `place`, with its image if it is valid. Allocates the image.
     pub(crate) fn read(
         alloc: Global,
         plan: &'a Plan,
@@ -40,7 +40,7 @@ impl<'a> JobFile<'a> {
         Ok(JobFile { isa, bytes, image })
     }
 
-    /// Returns the file with its image; `None` if it was not read or is not a valid image.
+    /// Returns the file with its image, or `None` if the file was not read or is not a valid image.
     pub(crate) fn elf_file(&self) -> Option<ElfFile<'_>>
         ensures { MatchOption result
             (image_if_read self.now.isa (option_map (λ bytes. bytes.now) self.now.bytes) ≡ None)
@@ -61,6 +61,7 @@ impl<'a> JobFile<'a> {
     }
 }
 
+// Returns the image that these bytes encode, or `None` if there are no bytes or they are not a valid image.
 fn image_if_read(alloc: Global, isa: Isa, bytes: Option<&[u8]>) -> Result<Option<Image>, AllocError>
     ensures { IfOk result (λ image. image ≡ image_if_read isa (option_map (λ bytes. bytes.now) bytes.entry)) }
 {

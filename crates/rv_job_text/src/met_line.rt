@@ -12,7 +12,7 @@ use rv_rows::Row;
 use rv_text::{Span, push_spans, push_text};
 use std::alloc::AllocError;
 
-/// Appends a line for each expectation of a job that its run meets: for those that are not among the unmet ones.
+/// Appends a line for each expectation of a job that its run meets. `unmet` are the unmet expectations.
 #[tactic(auto, unfolding(crate::specs::MetLines::met_lines))]
 pub(crate) fn push_met_lines(
     bytes: &mut Vec<u8>,
@@ -37,6 +37,7 @@ pub(crate) fn push_met_lines(
     )
 }
 
+// Appends a line for each of these expectations that is met, in order.
 fn push_each_met_line(
     bytes: &mut Vec<u8>,
     comparison: &Comparison<'_, '_>,
@@ -52,7 +53,7 @@ fn push_each_met_line(
     Ok(())
 }
 
-// Appends the line about an expectation, if it is met; nothing otherwise.
+// Appends the line about an expectation, or nothing if it is not met.
 #[tactic(auto, unfolding(crate::specs::MetLines::met_line))]
 fn push_met_line(
     bytes: &mut Vec<u8>,
@@ -71,7 +72,7 @@ fn push_met_line(
     push_text(bytes, "\n")
 }
 
-// Appends a met expectation, in words.
+// Appends the text of a met expectation, such as `exit 0`.
 #[tactic(auto, unfolding(crate::specs::MetLines::met_expectation_text))]
 fn push_met_expectation(
     bytes: &mut Vec<u8>,
@@ -91,7 +92,7 @@ fn push_met_expectation(
     }
 }
 
-// Appends which expectation is met, with the path of its file if it has one.
+// Appends `what`, which names the expectation that is met, with the path of its file if it has one.
 fn push_met_file<'a>(
     bytes: &mut Vec<u8>,
     what: &'a str,
@@ -113,7 +114,7 @@ fn push_met_file<'a>(
     )
 }
 
-// Appends the expectation that a job has the same result as another job, in words.
+// Appends the text of the expectation that a job has the same result as the job of the row `other`.
 #[tactic(auto, unfolding(crate::specs::MetLines::same_as_job_text))]
 fn push_same_as_job(bytes: &mut Vec<u8>, other: Option<&Row>) -> Result<(), AllocError>
     ensures { OnOk result (bytes.new.items ≡ bytes.old.items

@@ -5,7 +5,7 @@ ghost use Rattle.rv_jobs.specs.Jobs.{console_path};
 
 use rv_jobs::Job;
 
-/// Returns the path of the file with the expected signature, if the job names one.
+/// Returns the path of the file with the expected signature, or `None` if the job names none.
 pub fn reference_path(job: &Job) -> Option<&str>
     ensures { option_map (λ path. path.now) result ≡ job.now.expect_signature }
 {
@@ -15,7 +15,7 @@ pub fn reference_path(job: &Job) -> Option<&str>
     }
 }
 
-/// Returns the path of the file with the expected console, if the job names one.
+/// Returns the path of the file with the expected console, or `None` if the job names none.
 pub fn console_path(job: &Job) -> Option<&str>
     ensures { option_map (λ path. path.now) result ≡ console_path job.now.expect_console }
 {

@@ -17,7 +17,7 @@ use rv_rows::{Refusal, RowEnd, expected_console_bytes, signature_reference_bytes
 use rv_trace::image_bytes;
 use std::alloc::{AllocError, Global};
 
-/// Returns why the job at index `place` is refused; `None` if it is not.
+/// Returns the reason why the job at index `place` is refused, or `None` if it is not refused.
 #[tactic(auto, unfolding(crate::specs::RefusalReasons::ending_reason))]
 pub fn ending_reason(
     alloc: Global,
@@ -36,7 +36,8 @@ pub fn ending_reason(
     }
 }
 
-// Returns the reason why a job is refused; `unread` says why files could not be read.
+// Returns the reason why a job is refused, or `None` if the file that the refusal concerns is not known. `unread` has the files that could
+// not be read, with the reasons.
 #[tactic(auto, unfolding(crate::specs::RefusalReasons::refusal_reason))]
 fn refusal_reason(
     alloc: Global,
@@ -64,6 +65,7 @@ fn refusal_reason(
     }
 }
 
+// Returns the reason that the file at a path could not be read, or `None` if there is no path.
 fn unread_file_reason(
     alloc: Global,
     unread: &[UnreadablePath],
@@ -78,6 +80,7 @@ fn unread_file_reason(
     }
 }
 
+// Returns the reason that the file at a path is too long, or `None` if there is no path.
 fn too_long_file_reason(alloc: Global, path: Option<&str>) -> Result<Option<Vec<u8>>, AllocError>
     ensures { IfOk result (λ reason. option_map (λ text. text.items) reason
         ≡ option_map too_long_file_text (option_map (λ path. path.now) path.entry)) }
@@ -88,7 +91,7 @@ fn too_long_file_reason(alloc: Global, path: Option<&str>) -> Result<Option<Vec<
     }
 }
 
-// Returns the reason why an image that was read is refused; `None` if it was not read.
+// Returns the reason why an image that was read is refused, or `None` if it was not read.
 fn image_refusal_text(
     alloc: Global,
     plan: &Plan,
@@ -107,7 +110,8 @@ fn image_refusal_text(
     Ok(Some(text))
 }
 
-// Returns the path of the first expectation file that was not read: of the signature, or else of the console.
+// Returns the path of the first of a job's expectation files that was not read: the file of the signature, or else the file of the console.
+// Returns `None` if there is no such file.
 #[tactic(auto, unfolding(crate::specs::RefusalReasons::unread_reference_path))]
 fn unread_reference_path(plan: &Plan, place: usize) -> Option<&str>
     requires { place < length plan.now.jobs }
@@ -121,7 +125,7 @@ fn unread_reference_path(plan: &Plan, place: usize) -> Option<&str>
     }
 }
 
-// Returns the path of a file, if its contents were not read.
+// Returns the path of a file, or `None` if its contents were read or there is no path.
 fn path_if_unread<'a>(bytes: Option<&[u8]>, path: Option<&'a str>) -> Option<&'a str>
     ensures { option_map (λ path. path.now) result
         ≡ path_if_unread (option_map (λ bytes. bytes.now) bytes.entry)

@@ -28,7 +28,7 @@ pub struct EndDetail<'a, 'b> {
 
 /// Appends the line about a row: `PASS`, `FAIL` or `KNOWN`, the job's name, and how the run ended. A known failure has its reason in
 /// brackets. For a job that passes although it is known to fail, the line names the file that lists it. The pc of a fault has its symbol,
-/// and a refusal its reason, if they are given. Texts from files are written as by [`push_printable_text`](rv_text::push_printable_text).
+/// and a refusal its reason, if they are given. Texts from files are written by [`push_printable_text`](rv_text::push_printable_text).
 #[tactic(auto, unfolding(crate::specs::ResultLine::result_line))]
 pub fn push_result_line(
     alloc: Global,
@@ -54,7 +54,7 @@ pub fn push_result_line(
     push_text(bytes, "\n")
 }
 
-// Returns the first word of the line about a row: PASS, FAIL or KNOWN.
+// Returns the first word of the line about a row with this judgement: `PASS `, `FAIL ` or `KNOWN `.
 fn judged_word(judgement: Judgement<'_>) -> &'static str
     ensures { result.now ≡ judged_word (judged_of judgement.entry) }
 {
@@ -65,7 +65,8 @@ fn judged_word(judgement: Judgement<'_>) -> &'static str
     }
 }
 
-// Appends how a run ended, with the reason of a known failure, or the message that a job known to fail passes.
+// Appends how a run ended, with the reason of a known failure, or, for a job that passes although it is known to fail, that message
+// instead.
 fn push_judged_ending(
     alloc: Global,
     bytes: &mut Vec<u8>,
@@ -90,7 +91,7 @@ fn push_judged_ending(
     }
 }
 
-// Appends the reason of a known failure, in brackets; nothing without a reason.
+// Appends the reason of a known failure, in brackets, or nothing if there is no reason.
 fn push_known_reason(bytes: &mut Vec<u8>, why: &[u8]) -> Result<(), AllocError>
     ensures { OnOk result (bytes.new.items ≡ bytes.old.items ++ known_reason_text why.now) }
 {
@@ -116,7 +117,8 @@ fn push_now_passes(bytes: &mut Vec<u8>, path: &str) -> Result<(), AllocError>
     )
 }
 
-// Appends how a run ended, with its steps; for a fault also the pc, with its symbol `place`, and the value; for a refusal the reason.
+// Appends how a run ended, with its steps. For a fault, also appends the pc, with its symbol `place`, and the value; for a refusal, the
+// reason.
 #[tactic(auto, unfolding(crate::specs::ResultLine::result_ending_text))]
 fn push_result_ending(
     alloc: Global,
@@ -143,6 +145,7 @@ fn push_result_ending(
     }
 }
 
+// Appends `exit CODE` and after how many steps.
 fn push_exit_ending(bytes: &mut Vec<u8>, code: u32, steps: u32) -> Result<(), AllocError>
     ensures { OnOk result (bytes.new.items ≡ bytes.old.items
         ++ (codes "exit " ++ exit_code_text code ++ after_steps_text steps)) }
@@ -190,6 +193,7 @@ fn push_fault_value(bytes: &mut Vec<u8>, value: u32, steps: u32) -> Result<(), A
     )
 }
 
+// Appends that the budget was used up and after how many steps.
 fn push_budget_ending(bytes: &mut Vec<u8>, steps: u32) -> Result<(), AllocError>
     ensures { OnOk result (bytes.new.items ≡ bytes.old.items
         ++ (codes "budget used up" ++ after_steps_text steps)) }
@@ -203,6 +207,7 @@ fn push_budget_ending(bytes: &mut Vec<u8>, steps: u32) -> Result<(), AllocError>
     )
 }
 
+// Appends `refused REFUSAL`, and the reason if there is one.
 fn push_refusal_ending(
     bytes: &mut Vec<u8>,
     why: Refusal,

@@ -14,7 +14,7 @@ use rv_memory::Region;
 use rv_text::{Span, push_spans, push_text};
 use std::alloc::AllocError;
 
-/// Appends the message that a segment does not fit in one region, with the regions.
+/// Appends the reason that a segment does not fit in one region, with the regions. `segment` is the segment, if it is known.
 #[tactic(auto, unfolding(crate::specs::ImageReasons::unfit_segment_text))]
 pub(crate) fn push_unfit_segment(
     bytes: &mut Vec<u8>,
@@ -33,7 +33,7 @@ pub(crate) fn push_unfit_segment(
     }
 }
 
-// Appends the addresses of the part of a segment that does not fit: of its memory if its file bytes fit, and otherwise of its file bytes.
+// Appends the addresses of what does not fit of a segment: its bytes in memory if its file bytes fit, and otherwise its file bytes.
 #[tactic(auto, unfolding(crate::specs::ImageReasons::outside_segment_text))]
 fn push_outside_segment(bytes: &mut Vec<u8>, job: &Job, segment: &Segment) -> Result<(), AllocError>
     ensures { OnOk result (bytes.new.items ≡ bytes.old.items
@@ -63,7 +63,7 @@ pub(crate) fn push_regions(bytes: &mut Vec<u8>, regions: &[Region]) -> Result<()
     Ok(())
 }
 
-// Appends the first and the last of `count` addresses that start at `from`, between two texts.
+// Appends the text `before`, the first and the last of `count` addresses that start at `from`, and the text `behind`.
 fn push_address_range(
     bytes: &mut Vec<u8>,
     before: &'static str,
@@ -86,7 +86,7 @@ fn push_address_range(
     )
 }
 
-// Returns the last of `count` addresses that start at `from`.
+// Returns the last of `count` addresses that start at `from`, or `past ffffffff` if it does not fit in 32 bits.
 #[tactic(auto, unfolding(crate::specs::ImageReasons::last_address_text))]
 fn last_address_span(from: u32, count: u32) -> Span<'static>
     ensures { span_text result ≡ last_address_text from count }
@@ -97,7 +97,7 @@ fn last_address_span(from: u32, count: u32) -> Span<'static>
     }
 }
 
-/// Appends the message that the file bytes of two segments overlap.
+/// Appends the reason that the file bytes of two segments overlap, with the first two that do.
 #[tactic(auto, unfolding(crate::specs::ImageReasons::segment_overlap_text))]
 pub(crate) fn push_segment_overlap(
     bytes: &mut Vec<u8>,
@@ -113,7 +113,7 @@ pub(crate) fn push_segment_overlap(
     }
 }
 
-// Appends the addresses to which the file bytes of two segments are loaded.
+// Appends the reason that the file bytes of two segments overlap, with the addresses to which they are loaded.
 #[tactic(auto, unfolding(crate::specs::ImageReasons::segment_pair_text))]
 fn push_segment_pair(
     bytes: &mut Vec<u8>,
@@ -142,7 +142,7 @@ fn push_segment_pair(
     )
 }
 
-// Returns the first segment that overlaps a later one, and the first later one that it overlaps; `None` if there is no overlap.
+// Returns the first segment that overlaps a later one, and the first later one that it overlaps, or `None` if there is no overlap.
 fn overlapping_segments(at: LoadAt, segments: &[Segment]) -> Option<(Segment, Segment)>
     ensures { result ≡ overlapping_segments at segments.now }
 {
@@ -156,7 +156,7 @@ fn overlapping_segments(at: LoadAt, segments: &[Segment]) -> Option<(Segment, Se
     None
 }
 
-// Returns the first of `others` that overlaps the segment `one`.
+// Returns the first of `others` that overlaps the segment `one`, or `None` if none does.
 fn first_overlapping_segment<'a>(
     at: LoadAt,
     one: &Segment,

@@ -33,7 +33,7 @@ pub(crate) fn push_side_line(
     push_feed_note(bytes, own, feed)
 }
 
-// Appends a note if a line has no line feed.
+// Appends a note if a line has no line feed, or else nothing. `feed` is the index of its first line feed, or its length.
 fn push_feed_note(bytes: &mut Vec<u8>, whole: &[u8], feed: usize) -> Result<(), AllocError>
     requires { feed ≡ position_or_len is_feed whole.now }
     ensures { OnOk result (bytes.new.items ≡ bytes.old.items ++ feed_note whole.now) }
@@ -45,7 +45,7 @@ fn push_feed_note(bytes: &mut Vec<u8>, whole: &[u8], feed: usize) -> Result<(), 
     }
 }
 
-// Appends a line with a difference at offset `place`; of a long line only the part around the difference.
+// Appends a line that has a difference at the offset `place`; if it is long, only the part around the difference.
 #[tactic(auto, unfolding(crate::specs::ConsoleLines::shown_line))]
 fn push_shown_line(bytes: &mut Vec<u8>, place: usize, text: &[u8]) -> Result<(), AllocError>
     ensures { OnOk result (bytes.new.items ≡ bytes.old.items ++ shown_line place text.now) }
@@ -53,6 +53,7 @@ fn push_shown_line(bytes: &mut Vec<u8>, place: usize, text: &[u8]) -> Result<(),
     push_text_from(bytes, shown_begin(place, text), text)
 }
 
+// Appends a line without its first `begin` bytes, after two dots unless `begin` is 0, up to the maximum number of characters.
 fn push_text_from(bytes: &mut Vec<u8>, begin: usize, text: &[u8]) -> Result<(), AllocError>
     ensures { OnOk result (bytes.new.items ≡ bytes.old.items ++ text_shown_from begin text.now) }
 {
@@ -63,7 +64,8 @@ fn push_text_from(bytes: &mut Vec<u8>, begin: usize, text: &[u8]) -> Result<(), 
     push_printable_text(bytes, &rest[..characters_len(LINE_CHARACTERS, rest)])
 }
 
-// Returns the offset from which a line with a difference at offset `place` is shown: 0, or for a longer line shortly before the difference.
+// Returns the offset from which a line with a difference at the offset `place` is shown: 0, or, if the line is long, an offset shortly
+// before the difference.
 fn shown_begin(place: usize, text: &[u8]) -> usize
     ensures { result ≡ shown_begin place text.now }
 {
@@ -87,7 +89,7 @@ fn first_character_begin(text: &[u8]) -> usize
     text.len()
 }
 
-// Returns the number of bytes in the first `most` characters of a text.
+// Returns the number of bytes in the first `most` characters of a text, or its length if it has fewer.
 fn characters_len(most: usize, text: &[u8]) -> usize
     ensures len { result ≡ characters_len most text.now }
     ensures within { result ≤ length text.now }

@@ -11,7 +11,8 @@ use rv_rows::{LINE, Words};
 use rv_text::{Span, push_spans, push_text};
 use std::alloc::AllocError;
 
-/// Appends the message that a signature differs from the expected one. `address` is the address of its first word, if it is known.
+/// Appends the message that a signature differs from the expected one, and where. `address` is the address of its first word, if it is
+/// known.
 #[tactic(auto, unfolding(crate::specs::UnmetLines::signature_difference_text))]
 pub(crate) fn push_signature_difference(
     bytes: &mut Vec<u8>,
@@ -34,7 +35,8 @@ pub(crate) fn push_signature_difference(
     push_reference_difference(bytes, address, words, reference, difference)
 }
 
-// Appends the first difference between the words of a signature and the text of a signature file.
+// Appends where the words of a signature first differ from the text of a signature file. `first` is the address of the first word, if it is
+// known.
 #[tactic(auto, unfolding(crate::specs::UnmetLines::reference_difference_text))]
 fn push_reference_difference(
     bytes: &mut Vec<u8>,
@@ -68,7 +70,7 @@ fn push_reference_difference(
     }
 }
 
-// Appends the message that a line of a signature file is invalid.
+// Appends the message that the line with this number of a signature file is invalid, and what is expected.
 #[tactic(auto, unfolding(crate::specs::UnmetLines::bad_reference_line_text))]
 fn push_bad_reference_line(bytes: &mut Vec<u8>, number: usize) -> Result<(), AllocError>
     ensures { OnOk result (bytes.new.items ≡ bytes.old.items ++ bad_reference_line_text number) }
@@ -83,7 +85,7 @@ fn push_bad_reference_line(bytes: &mut Vec<u8>, number: usize) -> Result<(), All
     )
 }
 
-/// Appends the first difference between the actual signature `words` and the expected one `others`; either may be missing.
+/// Appends where the actual signature `words` first differs from the expected one `others`; either may be missing.
 #[tactic(auto, unfolding(crate::specs::UnmetLines::signatures_difference_text))]
 pub(crate) fn push_signatures_difference(
     bytes: &mut Vec<u8>,
@@ -113,7 +115,7 @@ pub(crate) fn push_signatures_difference(
     }
 }
 
-// Returns which of two signatures is missing: the actual one if it is `None`, and otherwise the expected one.
+// Returns that the actual signature is missing if it is `None`, or else that the expected one is.
 fn absent_signature_text(words: &Option<Words>) -> &'static str
     ensures { result.now ≡ absent_signature_text words.now }
 {
@@ -162,13 +164,14 @@ fn push_word_place(bytes: &mut Vec<u8>, first: Option<u32>, place: usize) -> Res
     }
 }
 
+// Returns the address of the word at index `place`, if the first word is at the address `first`.
 fn word_address(first: u32, place: usize) -> u32
     ensures { result ≡ (first + 4 * place) % 2 ^ 32 }
 {
     ((first as u128 + 4 * place as u128) % 0x1_0000_0000) as u32
 }
 
-// Returns the digits of the word of a signature at index `place`; empty if there is none.
+// Returns the digits of the word at index `place` of a signature, or an empty text if there is no such word.
 #[tactic(auto, unfolding(crate::specs::UnmetLines::signature_word_digits))]
 fn signature_word_digits(words: &[u32], place: usize) -> Span<'static>
     ensures { span_text result ≡ signature_word_digits words.now place }
@@ -180,7 +183,7 @@ fn signature_word_digits(words: &[u32], place: usize) -> Span<'static>
     }
 }
 
-// Returns the digits of the word of a signature file at index `place`; empty if there is none.
+// Returns the digits of the word at index `place` of a signature file, or an empty text if there is no such word.
 #[tactic(auto, unfolding(crate::specs::UnmetLines::reference_digits_at))]
 fn reference_digits_at(text: &[u8], place: usize) -> &[u8]
     ensures { result.now ≡ reference_digits_at text.now place }

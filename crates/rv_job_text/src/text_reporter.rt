@@ -47,6 +47,7 @@ impl<'a> RowReporter for TextReporter<'a> {
 
     ghost line = { λ reporter place row. row_lines_at (reporter_of reporter) place row };
 
+    // Appends all lines about a row of the job at index `place`, or nothing if there is no such job or the row is not shown.
     #[tactic(auto, unfolding(crate::specs::RowReporter::row_lines_at))]
     fn push_row_text(
         &self,
@@ -63,7 +64,7 @@ impl<'a> RowReporter for TextReporter<'a> {
 }
 
 impl<'a> TextReporter<'a> {
-    // Appends all lines about a row of the job; nothing if the row is not shown.
+    // Appends all lines about a row of the job at index `place`, or nothing if the row is not shown.
     #[tactic(auto, unfolding(crate::specs::RowReporter::row_lines))]
     fn push_row_lines(
         &self,
@@ -97,7 +98,7 @@ impl<'a> TextReporter<'a> {
 
     /// Appends an explanation of the row of the job at index `place`, whatever the verbosity: the line about it and, if the job ran, its
     /// expectations with the unmet ones first, the end of its console, the use of its budget, how it reached its end with the registers and
-    /// last instructions, and the calls that have not returned.
+    /// last instructions, and the calls that had not returned.
     #[tactic(auto, unfolding(crate::specs::RowReporter::explanation_text))]
     pub fn push_job_explanation(
         &self,
@@ -209,6 +210,7 @@ impl<'a> TextReporter<'a> {
     }
 }
 
+// Returns the bytes of a reason, or `None` if there is no reason.
 fn reason_bytes(reason: &Option<Vec<u8>>) -> Option<&[u8]>
     ensures { option_map (λ bytes. bytes.now) result ≡ option_map (λ text. text.items) reason.now }
 {
@@ -240,7 +242,7 @@ impl<'a> JobRow<'a> {
     }
 
     // Appends the lines that explain a run: its expectations, the end of its console, the use of its budget, how it reached its end, and
-    // the calls that have not returned.
+    // the calls that had not returned.
     #[tactic(auto, unfolding(crate::specs::RowReporter::run_explanation))]
     fn push_run_explanation(
         &self,
@@ -274,7 +276,8 @@ impl<'a> JobRow<'a> {
         self.push_compared_expectations(alloc, named.as_ref(), detail, text)
     }
 
-    // Like `push_expectation_lines`, given the row of the job that `same_as` names.
+    // Appends the lines about the unmet expectations and, if `detail` says so, about the met ones. `other` is the row of the job that
+    // `same_as` names, if there is one.
     fn push_compared_expectations(
         &self,
         alloc: Global,
@@ -303,7 +306,7 @@ impl<'a> JobRow<'a> {
     }
 }
 
-// Appends the lines about the unmet expectations and, if `Detail` says so, about the met ones.
+// Appends the lines about these unmet expectations and, if `detail` says so, about the met ones.
 fn push_compared_lines(
     comparison: &Comparison<'_, '_>,
     address: Option<u32>,

@@ -12,8 +12,8 @@ use rv_rows::Row;
 use rv_text::{Span, push_spans, push_text};
 use std::alloc::AllocError;
 
-/// Appends the last line for the rows of a report: the number of jobs, how many passed and failed, how the failed ones ended, how many
-/// failures are known, and the total steps.
+/// Appends the last line for the rows of a report: the number of jobs, how many passed and failed, how the failed ones ended, how many are
+/// known failures, and the total steps.
 pub fn push_totals_line(
     bytes: &mut Vec<u8>,
     judge: &Judge<'_>,
@@ -35,8 +35,8 @@ pub struct RunRows<'a> {
     pub rows: &'a [Row],
 }
 
-/// Like [`push_totals_line`], for a run with these rows, in which `hidden` jobs have no row since a failure stopped it. Failures are
-/// counted by what did not match.
+/// Appends the last line of a run with these rows, in which `hidden` jobs have no row since a failure stopped it. It is the line of
+/// [`push_totals_line`], but it counts failures by their first unmet expectation, and adds how many jobs have no row.
 pub fn push_run_totals_line(
     bytes: &mut Vec<u8>,
     judge: &Judge<'_>,
@@ -106,7 +106,7 @@ pub fn job_word(count: usize) -> &'static str
     if count == 1 { " job" } else { " jobs" }
 }
 
-// Appends the number of known failures; nothing if there are none.
+// Appends the number of known failures, or nothing if there are none.
 fn push_known_count(bytes: &mut Vec<u8>, count: usize) -> Result<(), AllocError>
     ensures { OnOk result (bytes.new.items ≡ bytes.old.items ++ known_count_text count) }
 {
@@ -128,14 +128,14 @@ fn passed_count(judge: &Judge<'_>, rows: &[Row]) -> usize
         .count()
 }
 
-// Returns the number of rows that are failures.
+// Returns the number of rows that count as failures.
 fn failed_count(judge: &Judge<'_>, rows: &[Row]) -> usize
     ensures { result ≡ failed_count (judging_of judge.now) rows.now }
 {
     rows.iter().filter(|row| judge.fails(row)).count()
 }
 
-/// Returns the number of rows that are known failures.
+/// Returns the number of rows that failed and are listed as known failures.
 pub fn known_count(judge: &Judge<'_>, rows: &[Row]) -> usize
     ensures { result ≡ known_count (judging_of judge.now) rows.now }
 {
@@ -144,7 +144,7 @@ pub fn known_count(judge: &Judge<'_>, rows: &[Row]) -> usize
         .count()
 }
 
-// Returns the number of steps of all rows. A row has at most as many steps as a budget allows, so the sum does not overflow.
+// Returns the sum of the steps of all rows. A step count has 32 bits, so the sum does not overflow.
 fn total_steps(rows: &[Row]) -> u64
     requires { length rows.now < 2 ^ 32 }
     ensures { result ≡ total_steps rows.now }
@@ -152,7 +152,7 @@ fn total_steps(rows: &[Row]) -> u64
     rows.iter().map(|row| u64::from(row.steps)).sum()
 }
 
-// Appends how many jobs have no row; nothing if there are none.
+// Appends how many jobs have no row, or nothing if there are none.
 fn push_hidden_count(bytes: &mut Vec<u8>, hidden: usize) -> Result<(), AllocError>
     ensures { OnOk result (bytes.new.items ≡ bytes.old.items ++ hidden_text hidden) }
 {
@@ -170,7 +170,7 @@ fn push_hidden_count(bytes: &mut Vec<u8>, hidden: usize) -> Result<(), AllocErro
     )
 }
 
-// Appends the number of steps of all jobs.
+// Appends the sum of the steps of all jobs.
 fn push_total_steps(bytes: &mut Vec<u8>, steps: u64) -> Result<(), AllocError>
     ensures { OnOk result (bytes.new.items ≡ bytes.old.items
         ++ (codes ", " ++ count_text steps (codes "step"))) }

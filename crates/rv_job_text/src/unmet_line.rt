@@ -15,7 +15,7 @@ use rv_rows::{Row, RowEnd};
 use rv_text::{Span, push_spans, push_text};
 use std::alloc::AllocError;
 
-/// Appends the lines about the unmet expectations. `address` is the address of the signature's first word, if it is known.
+/// Appends the lines about these unmet expectations, in order. `address` is the address of the signature's first word, if it is known.
 pub(crate) fn push_unmet_lines(
     bytes: &mut Vec<u8>,
     comparison: &Comparison<'_, '_>,
@@ -31,7 +31,7 @@ pub(crate) fn push_unmet_lines(
     Ok(())
 }
 
-// Appends the lines about an unmet expectation: a console line by line if possible, and otherwise a single line.
+// Appends the lines about an unmet expectation: the differing lines of a console if these can be shown, and otherwise a single line.
 #[tactic(auto, unfolding(crate::specs::UnmetLines::unmet_line))]
 fn push_unmet_line(
     bytes: &mut Vec<u8>,
@@ -65,7 +65,7 @@ fn push_expected_line(
     push_text(bytes, "\n")
 }
 
-// Returns the text before an unmet expectation: five spaces, and `expected: ` unless the expectation says what differs.
+// Returns the text before an unmet expectation in its line: five spaces, and `expected: ` unless the text itself says what differs.
 fn unmet_margin(unmet: Unmet) -> &'static str
     ensures { result.now ≡ unmet_margin unmet }
 {
@@ -75,7 +75,7 @@ fn unmet_margin(unmet: Unmet) -> &'static str
     }
 }
 
-// Appends an unmet expectation, in words. `address` is the address of the signature's first word, if it is known.
+// Appends the text of an unmet expectation, such as `exit 0`. `address` is the address of the signature's first word, if it is known.
 #[tactic(auto, unfolding(crate::specs::UnmetLines::unmet_expectation_text))]
 fn push_unmet_expectation(
     bytes: &mut Vec<u8>,
@@ -115,7 +115,7 @@ fn push_unmet_expectation(
     }
 }
 
-/// Appends the expected exit code, in words.
+/// Appends the expected exit code as `exit CODE`.
 #[tactic(auto, unfolding(crate::specs::UnmetLines::expected_exit_text))]
 pub(crate) fn push_expected_exit(
     bytes: &mut Vec<u8>,
@@ -129,7 +129,7 @@ pub(crate) fn push_expected_exit(
     }
 }
 
-/// Appends the expected end other than an exit code, in words.
+/// Appends the expected end: `budget used up`, or `fault KIND`.
 #[tactic(auto, unfolding(crate::specs::UnmetLines::expected_end_text))]
 pub(crate) fn push_expected_end(
     bytes: &mut Vec<u8>,
@@ -146,7 +146,8 @@ pub(crate) fn push_expected_end(
     }
 }
 
-// Appends the message that the result of a job differs from that of the job that it names by `same_as`.
+// Appends the message that the result of a job differs from the result of the job that its `same_as` names. `other` is the row of that job,
+// if there is one.
 #[tactic(auto, unfolding(crate::specs::UnmetLines::same_difference_text))]
 fn push_same_difference(
     bytes: &mut Vec<u8>,
@@ -165,7 +166,7 @@ fn push_same_difference(
     push_rows_difference(bytes, first, row, other, difference)
 }
 
-// Appends the first difference between the row of a job and the row `other` of the job that it names by `same_as`.
+// Appends the first difference between the row of a job and the row `other` of the job that its `same_as` names.
 #[tactic(auto, unfolding(crate::specs::UnmetLines::rows_difference_text))]
 fn push_rows_difference(
     bytes: &mut Vec<u8>,
@@ -199,7 +200,7 @@ fn push_rows_difference(
     }
 }
 
-// Appends the text `before`, and how a run ended, as a clause about the job.
+// Appends the text `before`, and then how a run ended, as in `ended with exit 0`.
 #[tactic(auto, unfolding(crate::specs::UnmetLines::row_end_text))]
 fn push_row_end(bytes: &mut Vec<u8>, before: &'static str, ending: RowEnd) -> Result<(), AllocError>
     ensures { OnOk result (bytes.new.items ≡ bytes.old.items ++ (before.now ++ row_end_text ending)) }

@@ -8,7 +8,7 @@ use rv_jobs::limits::MOST_BYTES;
 use rv_text::{Span, text_of_spans};
 use std::alloc::{AllocError, Global};
 
-/// Returns the text that says why the file at this path could not be read.
+/// Returns the text `PATH: REASON` about a file that could not be read.
 #[tactic(auto, unfolding(crate::specs::UnreadFiles::unread_file_text))]
 pub fn unread_file_text(
     alloc: Global,
@@ -24,7 +24,7 @@ pub fn unread_file_text(
     )
 }
 
-/// Returns the text that the file at this path is too long.
+/// Returns the text that the file at this path is too large, with the limit.
 #[tactic(auto, unfolding(crate::specs::UnreadFiles::too_long_file_text))]
 pub fn too_long_file_text(alloc: Global, path: &str) -> Result<Vec<u8>, AllocError>
     ensures { IfOk result (λ text. text.items ≡ too_long_file_text path.now) }
@@ -40,14 +40,14 @@ pub fn too_long_file_text(alloc: Global, path: &str) -> Result<Vec<u8>, AllocErr
     )
 }
 
-// Returns the first entry for this path in the list of files that could not be read.
+// Returns the first entry for this path in the list of files that could not be read, or `None` if there is none.
 fn unread_note<'a>(unread: &'a [UnreadablePath], path: &str) -> Option<&'a UnreadablePath>
     ensures { option_map (λ one. one.now) result ≡ unread_note unread.now path.now }
 {
     unread.iter().find(|one| path == one.path.as_str())
 }
 
-// Returns why a file could not be read, in words.
+// Returns the reason why a file could not be read, or `cannot be read` if there is no entry for it.
 fn unread_note_text(noted: Option<&UnreadablePath>) -> &'static str
     ensures { result.now ≡ unread_note_text (option_map (λ one. one.now) noted.entry) }
 {

@@ -27,7 +27,7 @@ pub(crate) enum Detail {
 }
 
 impl Verbosity {
-    /// Whether a row with this judgement is shown.
+    /// Whether this verbosity shows a row with this judgement: no row, only failures, or every row.
     pub(crate) fn shows_row(self, judgement: Judgement<'_>) -> bool
         ensures { result ≡ shows_row self (is_failing (judged_of judgement.entry)) }
     {

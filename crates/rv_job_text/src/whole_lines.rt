@@ -7,7 +7,7 @@ ghost use Rattle.rv_job_text.specs.ConsoleTail.{is_feed};
 
 use rv_text::tail_from;
 
-/// Returns the first line with its line feed, which the last line can lack, and the text after it. Both are empty for an empty text.
+/// Returns the first line with its line feed, if it has one, and the text after it. Both are empty for an empty text.
 pub(crate) fn split_whole_line(text: &[u8]) -> (&[u8], &[u8])
     ensures some { 0 < length text.now → whole_lines text.now ≡ result.0.now ∷ whole_lines result.1.now }
     ensures full { 0 < length text.now → 0 < length result.0.now }
@@ -22,7 +22,7 @@ pub(crate) fn split_whole_line(text: &[u8]) -> (&[u8], &[u8])
     }
 }
 
-/// Returns the index of the first line feed, or the length of the text if there is none.
+/// Returns the index of the first line feed of a text, or the length of the text if there is none.
 pub(crate) fn first_feed(text: &[u8]) -> usize
     ensures place { result ≡ position_or_len is_feed text.now }
     ensures within { result ≤ length text.now }

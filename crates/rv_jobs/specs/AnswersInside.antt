@@ -11,11 +11,11 @@ use Rattle.rv_jobs.specs.Plans.{answers_with}
 abbrev pub paths_in : Inside → List (List ℕ)
 paths_in a = map (λ p. p.now) a.paths.items
 
--- the path and the result of each read, in order, as contracts see `Answers`
+-- the path and the result of each read, in order, which is what contracts see of `Answers`
 abbrev pub answers_of : Inside → List Answer
 answers_of a = answers_with (paths_in a) a.answers.items
 
--- the invariant of the fields of `Answers`: each path that was read has a result, and the map has the index of each path
+-- the invariant of the fields of `Answers`: there is one result for each path that was read, and the map has the index of each path
 pub record IsAnswersInside (a : Inside) : Type 0 where
   pub even : length (paths_in a) ≡ length a.answers.items
   pub places : (t : List ℕ)

@@ -7,12 +7,12 @@ use Rattle.rv_base.specs.Limits.{most_bytes}
 use Rattle.rv_jobs.specs.declared.kept.Kept.{Kept}
 use Rattle.rv_jobs.specs.declared.kept.Kept.TheVariants.{Content, TooLong, Unreadable}
 
--- whether a path could not be read, for another reason than the length of its file
+-- whether the result of reading a path is that it is unreadable, which does not include files that are too long
 abbrev pub is_unreadable : Kept → Bool
 is_unreadable Unreadable = true
 is_unreadable _ = false
 
--- the number of unreadable files after a read with this result, if it was `n` before
+-- the number of unreadable files after a read with this result, if it was `n` before the read
 abbrev pub faults_with : Kept → ℕ → ℕ
 faults_with kept n = if is_unreadable kept then one_more n else n
 

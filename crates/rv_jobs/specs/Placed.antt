@@ -7,7 +7,7 @@ use Rattle.rv_jobs.specs.declared.path_reading.Found.{Found}
 use Rattle.rv_base.specs.Names.{index_in}
 use Rattle.rv_lists.specs.Jobs.{console_path}
 
--- `at` has the index of each path of the job among `paths`, which have them all
+-- each path of the job is in `paths`, and `at` has its index there
 pub record ArePlaced (paths : List (List ℕ)) (job : Job) (at : Places) : Type 0 where
   pub image : index_in paths job.image ≡ Some at.image
   pub reference :
@@ -16,20 +16,20 @@ pub record ArePlaced (paths : List (List ℕ)) (job : Job) (at : Places) : Type 
       option_map (index_in paths) (console_path job.expect_console)
       ≡ option_map (λ k. Some k) at.console
 
--- for each job, `noted` has the indices of its paths among `paths`, or nothing
+-- each entry of `noted` has the indices in `paths` of the paths of one job, or is empty
 pub record AreNoted (paths : List (List ℕ)) (jobs : List Job)
     (noted : List (Option Places)) : Type 0 where
   pub many : length noted ≡ length jobs
   pub each : (i : ℕ) → IfSome (slice_index_or noted i None)
       (λ at. (d : Job) → ArePlaced paths (slice_index_or jobs i d) at)
 
--- `at` has the index of each path of the job among `paths`, or `None` for a path that is not among them
+-- `at` has, for each path of the job, its index in `paths`, or `None` if it is not in `paths`
 pub record IsFound (paths : List (List ℕ)) (job : Job) (at : Found) : Type 0 where
   pub image : index_in paths job.image ≡ at.image
   pub reference : option_and_then (index_in paths) job.expect_signature ≡ at.reference
   pub console : option_and_then (index_in paths) (console_path job.expect_console) ≡ at.console
 
--- for each job, `found` has the index of each of its paths among `paths`, or `None` for a path that is not among them
+-- `found` has, for each path of each job, its index in `paths`, or `None` if it is not in `paths`
 pub record AreFound (paths : List (List ℕ)) (jobs : List Job) (found : List Found) : Type 0 where
   pub many : length found ≡ length jobs
   pub each : (i : ℕ) (d : Job) (e : Found) → i < length jobs

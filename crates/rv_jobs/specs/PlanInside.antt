@@ -10,11 +10,11 @@ use Rattle.rv_jobs.specs.Plans.{Planned, paths_used, jobs_needed_for, answers_wi
 abbrev pub paths_read : Inside → List (List ℕ)
 paths_read a = paths_used (jobs_needed_for a.jobs a.chosen.items)
 
--- the plan that the fields represent, as contracts see it
+-- what contracts see of a plan with these fields
 abbrev pub plan_view : Inside → Planned
 plan_view a = record { jobs = a.jobs; answers = answers_with (paths_read a) a.answers.items }
 
--- the invariant of the fields of a plan: the jobs form a valid list, each path that was read has a result, and each job has the
+-- the invariant of the fields of a plan: the jobs form a valid list, there is one result for each path that was read, and each job has the
 -- indices of its results
 pub record IsPlanInside (a : Inside) : Type 0 where
   pub jobs : AreJobs a.jobs

@@ -18,22 +18,22 @@ use Rattle.rv_base.specs.Counts.{one_more}
 abbrev pub paths_of : List Answer → List (List ℕ)
 paths_of answers = map (λ (a : Answer). a.path) answers
 
--- each path with its result, in order
+-- the results, each with its path, in order
 abbrev pub answers_with : List (List ℕ) → List Kept → List Answer
 answers_with [] kept = []
 answers_with (p ∷ ps) [] = []
 answers_with (p ∷ ps) (k ∷ ks) = record { path = p; kept = k } ∷ answers_with ps ks
 
--- the paths, with `p` appended unless it is among them
+-- the paths with `p` appended, or unchanged if they have it already
 unfoldable pub with_path : List (List ℕ) → List ℕ → List (List ℕ)
 with_path paths p = if is_some (index_in paths p) then paths else paths ++ p ∷ []
 
--- the paths, with `p` appended if there is one and it is not among them
+-- the paths with `p` appended, or unchanged if there is no `p` or they have it already
 abbrev pub with_path_if : List (List ℕ) → Option (List ℕ) → List (List ℕ)
 with_path_if paths None = paths
 with_path_if paths (Some p) = with_path paths p
 
--- the paths, with those of the job appended that are not among them: its image, its expected signature, and the file with its expected
+-- the paths with those paths of the job appended that they do not have: its image, its expected signature, and the file with its expected
 -- console text
 abbrev pub with_job : List (List ℕ) → Job → List (List ℕ)
 with_job paths job =
@@ -44,21 +44,21 @@ with_job paths job =
 unfoldable pub paths_used : List Job → List (List ℕ)
 paths_used jobs = fold with_job [] jobs
 
--- the result for a path, or `None` if it has none
+-- the result for a path, or `None` if the path was not read
 abbrev pub result_of_path : List Answer → List ℕ → Option Kept
 result_of_path answers path =
     option_map (λ (a : Answer). a.kept) (find (λ (a : Answer). bytes_eq path a.path) answers)
 
--- the result for a path; a path without one counts as unreadable
+-- the result for a path; a path that was not read counts as unreadable
 abbrev pub result_for_path : List Answer → List ℕ → Kept
 result_for_path answers path = unwrap_or (result_of_path answers path) Unreadable
 
--- the job at an index in a list of one, or no job if there is no index; the index is that of a job's `same_as`
+-- the job that `same_as` of a job names, as a list, which is empty if there is no `same_as`; the argument is its index
 abbrev pub jobs_named_by : List Job → Option ℕ → List Job
 jobs_named_by jobs None = []
 jobs_named_by jobs (Some place) = slice_index_or jobs place (single_job [] 0 []) ∷ []
 
--- the jobs whose files are needed for the row of the job at an index: the job itself, and the one that its `same_as` names
+-- the jobs whose files are needed for the row of the job at an index: the job itself, and the job that its `same_as` names
 abbrev pub jobs_needed_at : List Job → ℕ → List Job
 jobs_needed_at jobs place =
     let job = slice_index_or jobs place (single_job [] 0 []) in job ∷ jobs_named_by jobs job.same_as
@@ -74,7 +74,7 @@ pub record HasAnswers (answers : List Answer) (job : Job) : Type 0 where
   pub console :
       IfSome (console_path job.expect_console) (λ path. IsTrue (is_some (result_of_path answers path)))
 
--- every result agrees with the contents of the files, if these are known
+-- each result agrees with the contents of the files, if these are known
 abbrev pub AgreeWithContents : Option FileContents → List Answer → Type 0
 AgreeWithContents known answers = All (λ (a : Answer). IsKeptOf known a.path a.kept) answers
 
@@ -82,7 +82,7 @@ AgreeWithContents known answers = All (λ (a : Answer). IsKeptOf known a.path a.
 abbrev pub unreadable_count : List Answer → ℕ
 unreadable_count answers = count_by (λ (a : Answer). is_unreadable a.kept) answers
 
--- the count `n` incremented `k` times, up to the maximum of `one_more`
+-- the count `n` after `k` increments by `one_more`, which stops at a maximum
 unfoldable pub one_more_times : ℕ → ℕ → ℕ
 one_more_times n zero = n
 one_more_times n (suc k) = one_more (one_more_times n k)

@@ -42,7 +42,7 @@ impl<'a> Model for Answers<'a> {
 }
 
 impl<'a> Answers<'a> {
-    /// Returns no results, with room to look up `room` paths.
+    /// Returns an empty list of results, with room to look up `room` paths.
     pub(crate) fn new(alloc: Global, room: usize) -> Result<Answers<'a>, AllocError>
         ensures { IfOk result (λ answers. answers ≡ []) }
     {
@@ -54,9 +54,8 @@ impl<'a> Answers<'a> {
         })
     }
 
-    /// Reads a path unless it has a result already, and returns the results with the index of this path's result.
-    ///
-    /// A new path is searched for only once: the search that would find it inserts it.
+    /// Reads a path, unless it already has a result, and returns the results with the index of this path's result. A new path is searched
+    /// for only once: the search that would find it inserts it.
     pub(crate) fn read_path_once<S: Store>(
         self,
         alloc: Global,
@@ -97,7 +96,7 @@ impl<'a> Answers<'a> {
         Ok((asked, next))
     }
 
-    /// Returns the index of a path's result, or `None` if it has none.
+    /// Returns the index of the result for a path, or `None` if it has none.
     pub(crate) fn place_of_path(&self, path: &str) -> Option<usize>
         ensures { result ≡ index_in (paths_of self.now) path.now }
     {

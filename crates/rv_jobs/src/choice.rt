@@ -7,7 +7,7 @@ ghost use Rattle.rv_jobs.specs.Choices.{selected_indices};
 
 use std::alloc::{AllocError, Global};
 
-/// Returns the indices of the selected jobs, in order, counted from 0. `marks` is whether each job is selected.
+/// Returns the indices of the selected jobs, in order, counted from 0. `marks` says for each job whether it is selected.
 pub fn selected_indices(alloc: Global, marks: &[bool]) -> Result<Vec<usize>, AllocError>
     ensures value { IfOk result (λ places. places.items ≡ selected_indices marks.now (length marks.now)) }
     ensures within { IfOk result (λ places. All (λ place. place < length marks.now) places.items) }

@@ -17,7 +17,7 @@ pub enum Kept {
     TooLong,
 }
 
-/// Reads a path, and returns the result.
+/// Reads the file at a path, and returns its contents, or that it is too long or unreadable.
 pub(crate) fn read_path<S: Store>(
     alloc: Global,
     store: &mut S,

@@ -30,7 +30,7 @@ pub(crate) struct Found {
     pub(crate) console: Option<usize>,
 }
 
-/// Returns an entry for each job, without indices, since no path has been read.
+/// Returns an empty entry for each job, since no path has been read.
 pub(crate) fn blank_job_places(
     alloc: Global,
     jobs: &[Job],
@@ -45,7 +45,7 @@ pub(crate) fn blank_job_places(
 }
 
 impl<'a> Answers<'a> {
-    /// Reads the paths that the row of the job at an index needs: its own, and those of the job that its `same_as` names.
+    /// Reads the paths that the row of the job at an index needs: the job's own paths, and the paths of the job that its `same_as` names.
     pub(crate) fn read_paths_for_row<S: Store>(
         self,
         alloc: Global,
@@ -73,7 +73,7 @@ impl<'a> Answers<'a> {
         }
     }
 
-    /// Reads the paths of the job at an index, and records the indices of their results. Does nothing if they are recorded already.
+    /// Reads the paths of the job at an index, and records the indices of their results. Does nothing if these are already recorded.
     fn read_paths_at_place<S: Store>(
         self,
         alloc: Global,
@@ -128,7 +128,7 @@ fn read_paths_of_job<'a, S: Store>(
     Ok((third, places))
 }
 
-/// Returns the path of a job's expected signature, if it has one.
+/// Returns the path of a job's expected signature, or `None` if it expects none.
 pub(crate) fn reference_path(job: &Job) -> Option<&str>
     ensures { option_map (λ path. path.now) result ≡ job.now.expect_signature }
 {
@@ -138,7 +138,7 @@ pub(crate) fn reference_path(job: &Job) -> Option<&str>
     }
 }
 
-/// Returns the path of the file with a job's expected console text, if it has one.
+/// Returns the path of the file with a job's expected console text, or `None` if it names none.
 pub(crate) fn console_path(job: &Job) -> Option<&str>
     ensures { option_map (λ path. path.now) result ≡ console_path job.now.expect_console }
 {
@@ -148,7 +148,7 @@ pub(crate) fn console_path(job: &Job) -> Option<&str>
     }
 }
 
-/// Reads a path, if there is one, and returns the index of its result.
+/// Reads a path, if there is one, and returns the index of its result, or `None` if there is no path.
 fn read_path_if_named<'a, S: Store>(
     alloc: Global,
     store: &mut S,
@@ -174,8 +174,8 @@ fn read_path_if_named<'a, S: Store>(
     }
 }
 
-/// Returns, for each job, the indices of the results for its paths: those that are recorded, or, for a job whose paths were not read, those
-/// of the paths that were read for other jobs.
+/// Returns, for each job, the indices of the results for its paths. If the job's paths were not read, only paths that were read for other
+/// jobs have an index.
 pub(crate) fn result_indices(
     alloc: Global,
     asked: &Answers,
@@ -192,7 +192,8 @@ pub(crate) fn result_indices(
     Ok(found)
 }
 
-/// Returns the indices of the results for a job's paths: those that are recorded, or else those of the paths that were read for other jobs.
+/// Returns the indices of the results for a job's paths. If `noted` does not have them, only paths that were read for other jobs have an
+/// index.
 fn answer_places_of_job(asked: &Answers, job: &Job, noted: Option<Places>) -> Found
     requires { IfSome noted (λ places. ArePlaced (paths_of asked.now) job.now places) }
     ensures { IsFound (paths_of asked.now) job.now result }

@@ -57,8 +57,8 @@ pub fn gather<S: Store>(alloc: Global, jobs: JobList, store: &mut S) -> Result<P
     gather_jobs(alloc, jobs, places, store)
 }
 
-/// Reads only the paths that the rows of the jobs at `places` need, and returns the plan with the results: each distinct path of these
-/// jobs, and of those that they name by `same_as`, once, in order of first use.
+/// Reads only the paths that the rows of the jobs at `places` need, and returns the plan with the results. Each distinct path of these
+/// jobs, and of the jobs that they name by `same_as`, is read once, in order of first use.
 pub fn gather_jobs<S: Store>(
     alloc: Global,
     jobs: JobList,
@@ -160,7 +160,7 @@ impl Plan {
         }
     }
 
-    // Returns the result at an index, or the result of an unreadable path if there is no index.
+    // Returns the result at an index, or an unreadable result if there is no index.
     fn kept_or_unread(&self, at: Option<usize>) -> &Kept
         requires { IfSome at (λ k. k < length self.now.answers) }
         ensures { (path : List ℕ) → index_in (paths_of self.now.answers) path ≡ at

@@ -17,7 +17,7 @@ use Rattle.rv_junit.specs.Pieces.{attribute, number_attribute}
 
 -- ---- a case
 
--- the text before an offset, or the whole text without an offset
+-- the text before this offset, or the whole text if there is no offset
 abbrev pub text_up_to : Option ℕ → List ℕ → List ℕ
 text_up_to (Some place) text = take place text
 text_up_to None text = text
@@ -36,7 +36,7 @@ problem_text row lines =
     codes "<" ++ problem_element_name row ++ attribute (codes "message") (first_line lines) ++ codes ">"
     ++ xml_text Element lines ++ codes "</" ++ problem_element_name row ++ codes ">\n"
 
--- the XML attribute with the reason of a known failure; empty without a reason
+-- the XML attribute with the reason of a known failure; empty if there is no reason
 abbrev pub reason_attribute : List ℕ → List ℕ
 reason_attribute why = if length why == 0 then [] else attribute (codes "message") why
 
@@ -44,7 +44,7 @@ reason_attribute why = if length why == 0 then [] else attribute (codes "message
 unfoldable pub skipped_text : List ℕ → List ℕ
 skipped_text why = codes "<skipped" ++ reason_attribute why ++ codes "/>\n"
 
--- the XML element in the test case of a row: for a failure, for a job that passes although it is known to fail, or for a known failure;
+-- the XML element with the judgement of a row: for a failure, for a job that passes although it is known to fail, or for a known failure;
 -- empty if the row passed
 abbrev pub judged_text : Judged → Row → List ℕ → List ℕ
 judged_text passed row lines = []
@@ -64,7 +64,7 @@ test_case_text class judging row lines =
     codes "<testcase" ++ attribute (codes "classname") class ++ attribute (codes "name") row.name
     ++ codes ">\n" ++ judged_text (judgement judging row) row lines ++ output_text row ++ codes "</testcase>\n"
 
--- the test case of the job at index `index` and its row, whose lines `line` makes
+-- the test case of the job at this index, with its row and the lines that `line` makes of both
 abbrev pub case_text : List ℕ → Judging → (ℕ → Row → List ℕ) → ℕ → Row → List ℕ
 case_text class judging line index row = test_case_text class judging row (line index row)
 

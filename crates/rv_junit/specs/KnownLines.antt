@@ -5,17 +5,17 @@ use Rattle.rv_expect.specs.Judgement.{Judging, fails}
 use Rattle.rv_rows.specs.declared_row.Row.{Row}
 use Rattle.rv_stream.specs.declared.reported_row.ReportedRow.{ReportedRow}
 
--- for each row, `texts` has the lines that `line` makes of the row and its job's index, or `None` if they are not known
+-- each entry of `texts` has the lines that `line` makes of a row and the index of its job, or is `None` if the lines are not known
 abbrev pub AreLinesOf : (ℕ → Row → List ℕ) → List ℕ → List Row → List (Option (Vec ℕ Global)) → Type 0
 AreLinesOf line indices rows texts = (k : ℕ) (any : Row) → k < length rows → IfSome (slice_index_or texts k None)
     (λ text. text.items ≡ line (slice_index_or indices k 0) (slice_index_or rows k any))
 
--- the reported row is a failure, and this is its text
+-- the reported row counts as a failure, and this is its text
 pub record IsFailureText (judging : Judging) (reported : ReportedRow) (text : List ℕ) : Type 0 where
   pub failed : fails judging reported.row ≡ true
   pub text_is : text ≡ reported.text.items
 
--- the texts that are kept of reported rows, each at the number of its row; none if they are closed
+-- the texts that an observer keeps of these reported rows: one entry for each row, in order, or no entries once it is closed
 pub record AreFailureTexts (judging : Judging) (is_closed : Bool) (texts : List (Option (Vec ℕ Global))) (reported : List ReportedRow) : Type 0 where
   pub all : is_closed ≡ false → length texts ≡ length reported
   pub none : is_closed ≡ true → texts ≡ []

@@ -30,7 +30,7 @@ pub struct Cases<'a, T: RowReporter> {
 }
 
 impl<T: RowReporter> Cases<'_, T> {
-    // Returns the lines about the row with this number, if they are known.
+    // Returns the lines about the row with this number, counted from 0, or `None` if they are not known.
     fn known_lines(&self, number: usize) -> Option<&[u8]>
         requires number { number < length self.now.rows.now }
         requires known { AreLinesOf (T.line self.now.reporter.now) self.now.places.now self.now.rows.now self.now.texts.now }
@@ -46,7 +46,7 @@ impl<T: RowReporter> Cases<'_, T> {
         }
     }
 
-    // Appends the test case of the row with this number.
+    // Appends the test case of the row with this number, counted from 0.
     fn push_case(
         &self,
         alloc: Global,

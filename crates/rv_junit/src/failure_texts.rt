@@ -29,7 +29,7 @@ pub struct FailureTexts<'k, J: StreamSpec> {
 }
 
 impl<'k, J: StreamSpec> FailureTexts<'k, J> {
-    /// Creates an observer that has seen no rows, and keeps texts only if they are needed. Allocates nothing.
+    /// Returns an observer that has seen no rows. It keeps texts only if `is_needed` is true. Allocates nothing.
     pub fn new(alloc: Global, judge: Judge<'k>, is_needed: bool) -> FailureTexts<'k, J>
         requires judging { judging_of judge ≡ J.judging }
         requires needed { is_needed ≡ J.keeps }
@@ -53,7 +53,7 @@ impl<'k, J: StreamSpec> FailureTexts<'k, J> {
         self.texts
     }
 
-    // Returns a copy of a row's text, if it is to be kept.
+    // Returns a copy of a row's text, or `None` if the row is not a failure, or there is no room or memory for the text.
     fn text_to_keep(&self, made: &ReportedRow) -> Option<Vec<u8>>
         ensures { IfSome result (λ text. IsFailureText J.judging made.now text.items) }
     {
@@ -71,6 +71,7 @@ impl<J: StreamSpec> Observer<ReportedRow> for FailureTexts<'_, J> {
 
     ghost stops = { λ _. ⊥ };
 
+    // Keeps the text of a row that is a failure. If an allocation fails, drops all texts and keeps no more.
     fn see(&mut self, made: &ReportedRow) -> Flow {
         if self.is_closed {
             return Flow::GoOn;
@@ -86,6 +87,7 @@ impl<J: StreamSpec> Observer<ReportedRow> for FailureTexts<'_, J> {
         Flow::GoOn
     }
 
+    // Lets the run continue: keeping texts needs no pause.
     fn pause(&mut self) -> Flow {
         Flow::GoOn
     }

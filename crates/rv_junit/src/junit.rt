@@ -44,7 +44,7 @@ pub(crate) fn push_suite_begin(
     push_steps_properties(alloc, text, rows)
 }
 
-// Appends the number of skipped test cases; nothing if there are none.
+// Appends the attribute with the number of skipped test cases, or nothing if there are none.
 fn push_skipped_attribute(text: &mut String, count: usize) -> Result<(), AllocError>
     ensures { OnOk result (string_bytes text.new ≡ string_bytes text.old ++ skipped_attribute count) }
 {
@@ -63,6 +63,7 @@ fn push_steps_properties(alloc: Global, text: &mut String, rows: &[Row]) -> Resu
     text.push_str("</properties>\n")
 }
 
+// Appends the XML property with the steps of each row, in order.
 fn push_each_steps_property(
     alloc: Global,
     text: &mut String,
@@ -95,6 +96,7 @@ fn push_steps_property(alloc: Global, text: &mut String, row: &Row) -> Result<()
     )
 }
 
+// Returns `steps.NAME`, the name of the property with the steps of a row.
 fn steps_name(alloc: Global, row: &Row) -> Result<Vec<u8>, AllocError>
     ensures { IfOk result (λ name. name.items ≡ codes "steps." ++ row.now.name) }
 {
@@ -104,12 +106,14 @@ fn steps_name(alloc: Global, row: &Row) -> Result<Vec<u8>, AllocError>
     Ok(name)
 }
 
+// Returns the number of rows that count as failures and whose jobs ran.
 fn failure_count(judge: &Judge<'_>, rows: &[Row]) -> usize
     ensures { result ≡ count_by (is_failure (judging_of judge.now)) rows.now }
 {
     rows.iter().filter(|row| is_failure(judge, row)).count()
 }
 
+// Returns the number of rows that count as failures and whose jobs were refused.
 fn error_count(judge: &Judge<'_>, rows: &[Row]) -> usize
     ensures { result ≡ count_by (is_error (judging_of judge.now)) rows.now }
 {
@@ -152,8 +156,8 @@ pub(crate) fn push_test_case<'a>(
     )
 }
 
-// Appends the XML element in the test case of a row: for a failure, for a job that passes although it is known to fail, or for a known
-// failure; nothing if the row passed.
+// Appends the XML element with the judgement of a row: for a failure, for a job that passes although it is known to fail, or for a known
+// failure. Appends nothing if the row passed.
 fn push_judged(
     alloc: Global,
     text: &mut String,
@@ -181,7 +185,7 @@ fn push_skipped(alloc: Global, text: &mut String, why: &[u8]) -> Result<(), Allo
     text.push_str("/>\n")
 }
 
-// Appends the XML attribute with the reason of a known failure; nothing without a reason.
+// Appends the XML attribute with the reason of a known failure, or nothing if there is no reason.
 fn push_reason_attribute(alloc: Global, text: &mut String, why: &[u8]) -> Result<(), AllocError>
     ensures { OnOk result (string_bytes text.new ≡ string_bytes text.old ++ reason_attribute why.now) }
 {
@@ -235,6 +239,7 @@ fn first_line(text: &[u8]) -> &[u8]
     }
 }
 
+// Returns the offset of the first line feed, or `None` if there is none.
 fn line_feed_place(text: &[u8]) -> Option<usize>
     ensures { result ≡ position is_feed text.now }
 {

@@ -10,14 +10,14 @@ ghost use Rattle.rv_expect.specs.Problem.{is_error, is_failure};
 ghost use Rattle.rv_junit.specs.Junit.{AreReasonsBytes, IsWrittenRow, junit_text};
 ghost use Rattle.rv_text.specs.Xml.{IsXmlCharacters};
 
-/// A document is the UTF-8 encoding of XML 1.0 characters, whatever bytes its names, lines, reasons and consoles have.
+/// Proves that a document is the UTF-8 encoding of XML 1.0 characters, whatever bytes its names, lines, reasons and consoles have.
 pub fn documents_are_xml_characters()
     ensures { (class : List ℕ) (judging : Judging) (texts : List (List ℕ)) (rows : List Row)
         → IsBytes class → AreReasonsBytes judging → AllByRecursion IsBytes texts → AllByRecursion IsWrittenRow rows
         → length rows < 2 ^ 64 → IsXmlCharacters (junit_text class judging texts rows) }
 {}
 
-/// Each row is counted exactly once: as a failure, as an error, as skipped, or as passed.
+/// Proves that each row is counted exactly once: as a failure, as an error, as skipped, or as passed.
 pub fn each_row_is_counted_once()
     ensures { (judging : Judging) (rows : List Row)
         → count_by (is_failure judging) rows + count_by (is_error judging) rows + known_count judging rows

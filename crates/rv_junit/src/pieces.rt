@@ -39,7 +39,7 @@ pub(crate) fn push_pieces(
     Ok(())
 }
 
-// Appends a piece of a document, as it is written.
+// Appends a piece of a document: a text, a count with its noun, an attribute, or an escaped text.
 fn push_piece(alloc: Global, text: &mut String, piece: Piece<'_>) -> Result<(), AllocError>
     ensures { OnOk result (string_bytes text.new
         ≡ string_bytes text.old ++ piece_text piece.entry) }
@@ -53,6 +53,7 @@ fn push_piece(alloc: Global, text: &mut String, piece: Piece<'_>) -> Result<(), 
     }
 }
 
+// Appends a number and a noun, in the singular for 1 and in the plural otherwise.
 #[tactic(auto, unfolding(rv_text::specs::Words::count_text))]
 fn push_count(text: &mut String, number: u64, noun: &str) -> Result<(), AllocError>
     ensures { OnOk result (string_bytes text.new ≡ string_bytes text.old ++ count_text number noun.now) }
@@ -61,6 +62,7 @@ fn push_count(text: &mut String, number: u64, noun: &str) -> Result<(), AllocErr
     text.push_str(if number == 1 { "" } else { "s" })
 }
 
+// Appends an XML attribute with a name and a text as its value, which is escaped.
 #[tactic(auto, unfolding(crate::specs::Pieces::attribute))]
 pub(crate) fn push_attribute(
     alloc: Global,

@@ -12,7 +12,7 @@ use Rattle.rv_list_errors.specs.Explanation.{first_kinds_text, letters_words, se
 
 -- ---- expectations
 
--- the words for the value that a path must have
+-- the text that says what is expected of a path
 abbrev pub path_words : List ℕ
 path_words = codes "expected a path of 1 to " ++ (decimal most_path ++ codes " bytes")
 
@@ -25,12 +25,12 @@ abbrev pub is_negative : Option ℤ → Bool
 is_negative None = false
 is_negative (Some number) = int_lt number (pos 0)
 
--- how to write a negative exit code, which is an unsigned number in a list
+-- how a list must write a negative exit code, which is an unsigned number there; nothing if the code is not negative
 abbrev pub negative_words : Bool → List ℕ
 negative_words false = codes ""
 negative_words true = codes "; write -1 as 4294967295"
 
--- given the number of `expect_exit`
+-- the explanation of a bad `expect_exit`, given its number, if it is one: the key whose value is shown, and the words
 abbrev pub exit_explanation : Option ℤ → Option (List ℕ) × List ℕ
 exit_explanation number = (
   Some (codes "expect_exit"),
@@ -44,8 +44,8 @@ kinds_explanation = (
   codes "expected \"budget\" or a fault kind: " ++ first_kinds_text (length fault_kinds),
 )
 
--- the explanation of a bad `expect_end` with this text: the key whose value is shown, if any, and the words; for `exit`, that `expect_exit`
--- is the key to use
+-- the explanation of a bad `expect_end`, given its text: the key whose value is shown, or `None`, and the words; for `exit`, they say that
+-- `expect_exit` is the key to use
 abbrev pub end_explanation : Option (List ℕ) → Option (List ℕ) × List ℕ
 end_explanation None = kinds_explanation
 end_explanation (Some end) =
@@ -53,7 +53,7 @@ end_explanation (Some end) =
     then (None, codes "expect_end = \"exit\": to expect an exit, set \"expect_exit\" to its code") else kinds_explanation
 
 -- the explanation of a bad `expect_console`, `expect_console_file` or `expect_end`, given the texts at these keys: the key whose value is
--- shown, if any, and the words
+-- shown, or `None`, and the words
 abbrev pub console_explanation : Option (List ℕ) → Option (List ℕ) → Option (List ℕ) → Option (List ℕ) × List ℕ
 console_explanation (Some text) (Some path) end =
     (None, codes "\"expect_console\" and \"expect_console_file\" cannot both be set")
@@ -75,7 +75,7 @@ reference_explanation asked (Some path) rest =
       codes "cannot be used without \"signature\"",
     )
 
--- the explanation of a job's bad `expect_console`, `expect_console_file` or `expect_end`: the key whose value is shown, if any, and the
+-- the explanation of a job's bad `expect_console`, `expect_console_file` or `expect_end`: the key whose value is shown, or `None`, and the
 -- words
 abbrev pub console_explanation_of : Members → Option (List ℕ) × List ℕ
 console_explanation_of ms = console_explanation (text_at_key (codes "expect_console") ms)

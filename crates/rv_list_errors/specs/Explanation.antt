@@ -24,7 +24,7 @@ use Rattle.rv_list_errors.specs.declared.message.Message.{Message}
 
 -- ---- a message that grows by a text that is only partly known
 
--- unless an allocation failed, the message went from `before` to `after` by appending a text that satisfies the predicate
+-- either an allocation failed, or the message went from `before` to `after` by appending a text that satisfies the predicate
 abbrev pub AddsSome : Message → Message → (List ℕ → Type 0) → Type 0
 AddsSome before after IsSo = OnOk after.grown
     (IsOk before.grown × ((text : List ℕ) × IsSo text × (after.bytes.items ≡ before.bytes.items ++ text)))
@@ -36,7 +36,7 @@ abbrev pub IsShownValue : Data → List ℕ → Type 0
 IsShownValue value shown = MatchOption (as_str value)
     ((text : List ℕ) × IsValueText false value text × (shown ≡ printable_value text)) (λ text. shown ≡ quoted text)
 
--- the text that a key is missing
+-- the text that this key is missing
 abbrev pub missing_key_text : List ℕ → List ℕ
 missing_key_text key = codes "missing key \"" ++ (key ++ codes "\"")
 
@@ -67,7 +67,7 @@ elf_magic = 0x7f ∷ 0x45 ∷ 0x4c ∷ 0x46 ∷ []
 abbrev pub is_elf_file : List ℕ → Bool
 is_elf_file text = starts_with nat_eq text elf_magic
 
--- an image given as a list
+-- the explanation that a list is an ELF file
 abbrev pub elf_file_text : List ℕ
 elf_file_text = codes ": error: this is an ELF file, not a job list"
 
@@ -83,13 +83,13 @@ is_key_of_owner owner.List key = is_list_key key
 is_key_of_owner owner.Job key = is_job_key key
 is_key_of_owner owner.Region key = is_region_key key
 
--- the first key of a table that is not known, or `None` if all are known
+-- the first key of a table that does not satisfy `known`, or `None` if all keys do
 unfoldable pub first_unknown_key : (List ℕ → Bool) → Members → Option (List ℕ)
 first_unknown_key known no_members = None
 first_unknown_key known (member key value members) =
     if known key then first_unknown_key known members else Some key
 
--- the text that a key is unknown
+-- the text that this key is unknown
 abbrev pub unknown_key_text : List ℕ → List ℕ
 unknown_key_text key = codes "unknown key " ++ quoted key
 
@@ -99,7 +99,8 @@ region_number_text place = codes "region " ++ decimal (place + 1)
 
 -- ---- names
 
--- the suggestion for an unknown job name: the name that is probably meant, or else all of these names
+-- the suggestion for an unknown job name: the given name, if one is near, or else all the names in the list, which belong to the earlier
+-- jobs
 abbrev pub nearest_job_text : List (Option (List ℕ)) → Option (List ℕ) → List ℕ
 nearest_job_text names (Some name) = codes "; a similar name exists: " ++ quoted name
 nearest_job_text names None = codes "; the earlier jobs are " ++ names_text (present names)
@@ -117,7 +118,7 @@ kind_text place =
     (if place == 0 then [] else if place + 1 == length fault_kinds then codes " or " else codes ", ")
     ++ quoted (fault_name (slice_index_or fault_kinds place fault.FetchAccess))
 
--- the names of the first kinds of faults, as a sentence lists them
+-- the names of the first kinds of faults, as a sentence lists them; the number is how many there are
 unfoldable pub first_kinds_text : ℕ → List ℕ
 first_kinds_text zero = []
 first_kinds_text (suc count) = first_kinds_text count ++ kind_text count
@@ -133,7 +134,7 @@ abbrev pub explained_words : Explanation → List ℕ
 explained_words (told.Text text) = text.now
 explained_words (told.Expected wanted) = wanted.now.before.now ++ (rest_words wanted.now.rest ++ wanted.now.behind.now)
 
--- the words for the value that a key must have, given the error, or `None` if they depend on more than the error
+-- the text that says what is expected of the bad value, given the error, or `None` if it depends on more than the error
 abbrev pub key_words : What → Option (List ℕ)
 key_words what.Name =
     Some (codes "expected 1 to " ++ (decimal most_name ++ codes " ASCII letters, digits, \".\", \"_\" or \"-\""))
@@ -147,7 +148,7 @@ key_words _ = None
 
 -- ---- instruction sets
 
--- the known instruction sets
+-- the text that lists the known instruction sets
 abbrev pub sets_words : List ℕ
 sets_words = codes "expected \"rv32i\", \"rv32im\", \"rv32ic\" or \"rv32imc\""
 
@@ -155,7 +156,7 @@ sets_words = codes "expected \"rv32i\", \"rv32im\", \"rv32ic\" or \"rv32imc\""
 abbrev pub is_unsimulated : ℕ → Bool
 is_unsimulated letter = not (letter == 105 || letter == 109 || letter == 99)
 
--- the explanation of an unknown instruction set, given its first letter that is not simulated: A, F and D are named
+-- the explanation of an unknown instruction set, given its first letter that is not simulated, if any: the A, F and D extensions are named
 abbrev pub letter_words : Option ℕ → List ℕ
 letter_words None = sets_words
 letter_words (Some letter) =

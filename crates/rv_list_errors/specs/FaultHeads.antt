@@ -20,7 +20,7 @@ abbrev pub element_name : Data → Option (List ℕ)
 element_name (table ms) = text_at_key (codes "name") ms
 element_name _ = None
 
--- the name of each element of `job`, if it has one
+-- for each element of `job`, its name, or `None` if it has none
 unfoldable pub element_names : Items → List (Option (List ℕ))
 element_names no_items = []
 element_names (item d ds) = element_name d ∷ element_names ds
@@ -29,13 +29,13 @@ element_names (item d ds) = element_name d ∷ element_names ds
 abbrev pub elements_of_job : Members → Items
 elements_of_job ms = unwrap_or (array_at_key (codes "job") ms) no_items
 
--- the name of each job of a document, if it has one
+-- for each job of a document, its name, or `None` if it has none
 abbrev pub job_names : Members → List (Option (List ℕ))
 job_names ms = element_names (elements_of_job ms)
 
 -- ---- where a job begins
 
--- the text `:NUMBER` of a line number, or nothing if there is none
+-- `:NUMBER` for a line number, or nothing if there is none
 abbrev pub line_text : Option ℕ → List ℕ
 line_text None = []
 line_text (Some number) = codes ":" ++ decimal number
@@ -45,39 +45,40 @@ abbrev pub name_text : Option (List ℕ) → List ℕ
 name_text None = []
 name_text (Some name) = codes " \"" ++ (printable_value name ++ codes "\"")
 
--- the part `: error: job NUMBER "NAME": ` of a line, for the job with this number, counted from 1
+-- `: error: job NUMBER "NAME": ` for the job with this number, counted from 1, given the names of all jobs
 abbrev pub job_number_and_name : List (Option (List ℕ)) → ℕ → List ℕ
 job_number_and_name names number =
     codes ": error: job " ++ (decimal number ++ (name_text (slice_index_or names (number - 1) None) ++ codes ": "))
 
--- the part of a line for the job with this number: the line on which it begins, its number, and its name
+-- `:LINE: error: job NUMBER "NAME": ` for the job with this number, given the lines on which the jobs begin and their names
 abbrev pub job_heading : List ℕ → List (Option (List ℕ)) → ℕ → List ℕ
 job_heading lines names number = line_text (slice_get lines (number - 1)) ++ job_number_and_name names number
 
--- the part of a line for an error of the job with this number, or of the whole list if the number is 0
+-- the text between the path and the explanation of an error: the heading of the job with this number, or `: error: ` if the number is 0
 abbrev pub fault_place : List ℕ → List (Option (List ℕ)) → ℕ → List ℕ
 fault_place lines names number = if number == 0 then codes ": error: " else job_heading lines names number
 
--- the part of a line for an error of the job with this number, given the list's text and its document; empty if the text is not a document
+-- the text between the path and the explanation of an error of the job with this number, given the list's text and its document; empty if
+-- the text is not a document
 abbrev pub place_in_document : List ℕ → Option Members → ℕ → List ℕ
 place_in_document text None number = []
 place_in_document text (Some ms) number = fault_place (job_lines text) (job_names ms) number
 
--- the beginning of the line that reports this error of the list with this path and text
+-- the path of the list and the location of this error, with which the line that reports the error begins
 abbrev pub fault_head : List ℕ → List ℕ → JobError → List ℕ
 fault_head path text fault = path ++ place_in_document text (document_of text) fault.job
 
 -- ---- values of the code
 
--- the name that a reference points to, if there is one
+-- the name that a reference points to, or `None` if there is no reference
 abbrev pub borrowed_name : Option (Bor (List ℕ)) → Option (List ℕ)
 borrowed_name name = option_map (λ text. text.now) name
 
--- the name that each reference points to, if there is one
+-- for each reference in the list, the name that it points to, or `None` if there is no reference
 abbrev pub borrowed_names : List (Option (Bor (List ℕ))) → List (Option (List ℕ))
 borrowed_names names = map borrowed_name names
 
--- the part of a line for an error of the job with this number, given the list as it was found by parsing its text again
+-- the text between the path and the explanation of an error of the job with this number, given the list as it was parsed again
 abbrev pub location_in_view : FaultView → ℕ → List ℕ
 location_in_view (look.NoToml text error) number = []
 location_in_view (look.List list) number = fault_place list.lines.items (borrowed_names list.names.items) number

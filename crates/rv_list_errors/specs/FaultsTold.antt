@@ -6,12 +6,12 @@ use Rattle.rv_lists.specs.declared.error.JobError.{JobError}
 use Rattle.rv_list_errors.specs.FaultHeads.{elements_of_job, fault_head, job_names}
 use Rattle.rv_list_errors.specs.JobFaults.{EndsSo, TellsJobFault, element_at}
 
--- `told` explains this error of a document, if it is an error of a job, by the values of that job
+-- `told` explains this error of a document from the values of the bad job; an error of the whole list may have any explanation
 abbrev pub TellsFaultOfDocument : Members → JobError → List ℕ → Type 0
 TellsFaultOfDocument ms fault told = 0 < fault.job → TellsJobFault
     (job_names ms) (element_at (elements_of_job ms) (fault.job - 1)) fault.what told
 
--- `told` explains this error of a document by the values of the job, if there is a document
+-- `told` explains this error of a document from the values of the bad job; without a document, any text will do
 abbrev pub TellsFaultIn : Option Members → JobError → List ℕ → Type 0
 TellsFaultIn None fault told = ⊤
 TellsFaultIn (Some ms) fault told = TellsFaultOfDocument ms fault told

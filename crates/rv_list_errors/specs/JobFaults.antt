@@ -56,7 +56,7 @@ HasAddress region address = (region.base ≤ address) × (address < region.base 
 abbrev pub AreApart : Region → Region → Type 0
 AreApart one other = (address : ℕ) → HasAddress one address → HasAddress other address → ⊥
 
--- this is the first address that the two regions share
+-- `address` is the first address that the two regions share
 pub record IsFirstShared (one other : Region) (address : ℕ) : Type 0 where
   pub of_one : HasAddress one address
   pub of_other : HasAddress other address
@@ -70,7 +70,7 @@ no_region = record { base = 0; size = 0; writable = false }
 abbrev pub region_at : List Region → ℕ → Region
 region_at regions place = slice_index_or regions place no_region
 
--- the regions at the indices `place` and `later` share an address, and this is the first address that they share
+-- the regions at the indices `place` and `later` overlap, and `address` is the first address that they share
 pub record IsOverlap (regions : List Region) (place later address : ℕ) : Type 0 where
   pub before : place < later
   pub within : later < length regions
@@ -86,8 +86,8 @@ abbrev pub IsApartBefore : List Region → ℕ → ℕ → Type 0
 IsApartBefore regions place later = (between : ℕ) → place < between → between < later
     → AreApart (region_at regions place) (region_at regions between)
 
--- the regions at the indices `place` and `later` are the first two that overlap, ordered by the first index and then by the second; this is
--- the first address that they share
+-- the regions at the indices `place` and `later` are the first two that overlap, ordered by the first index and then by the second, and
+-- `address` is the first address that they share
 pub record IsFirstOverlap (regions : List Region) (place later address : ℕ) : Type 0 where
   pub overlaps : IsOverlap regions place later address
   pub first : (other : ℕ) → other < place → IsDisjointFromRest regions other
@@ -118,11 +118,11 @@ ExplainsRegions told = BeginsWith (codes "region") told ⊎ BeginsWith (codes "t
 abbrev pub are_digit_pairs : List ℕ → Bool
 are_digit_pairs digits = list_all is_ascii_hexdigit digits && length digits % 2 == 0
 
--- the words for the maximum length of a script
+-- the text of the maximum length of a script
 abbrev pub most_script_words : List ℕ
 most_script_words = codes "expected at most " ++ (decimal most_script ++ codes " bytes")
 
--- the explanation of a bad script, given the texts of `input` and `input_hex`: the key whose value is shown, if any, and the words
+-- the explanation of a bad script, given the texts of `input` and `input_hex`: the key whose value is shown, or `None`, and the words
 abbrev pub script_explanation : Option (List ℕ) → Option (List ℕ) → Option (List ℕ) × List ℕ
 script_explanation (Some text) (Some digits) = (None, codes "\"input\" and \"input_hex\" cannot both be set")
 script_explanation (Some text) None = (Some (codes "input"), most_script_words)
@@ -132,24 +132,24 @@ script_explanation None (Some digits) = (
 )
 script_explanation None None = (None, codes "input")
 
--- the explanation of a job's bad script: the key whose value is shown, if any, and the words
+-- the explanation of a job's bad script: the key whose value is shown, or `None`, and the words
 abbrev pub script_explanation_of : Members → Option (List ℕ) × List ℕ
 script_explanation_of ms = script_explanation (text_at_key (codes "input") ms) (text_at_key (codes "input_hex") ms)
 
 -- ---- the explanation of one key
 
--- the key whose value an explanation shows, or `None` if it shows none
+-- the key whose value this explanation shows, or `None` if it shows none
 abbrev pub explained_key : Explanation → Option (List ℕ)
 explained_key (told.Text text) = None
 explained_key (told.Expected wanted) = Some wanted.now.key.now
 
--- the number of bytes that a text of this length represents, or 0 if it is not to be shown
+-- the number of bytes that a text of this length represents, or 0 if the number is never shown
 abbrev pub shown_byte_count : Bytes → ℕ → ℕ
 shown_byte_count bytes.Untold length = 0
 shown_byte_count bytes.Each length = length
 shown_byte_count bytes.Pairs length = length / 2
 
--- the number of bytes in parentheses, if it exceeds the maximum, or else nothing
+-- the number of bytes in parentheses, or nothing if it does not exceed the maximum or there is no maximum
 abbrev pub bytes_text : Rest → ℕ → List ℕ
 bytes_text (rest.Most most) count = if nat_lt most count then codes " (" ++ (decimal count ++ codes " bytes)") else []
 bytes_text _ count = []
@@ -159,7 +159,7 @@ abbrev pub text_length : Option (List ℕ) → ℕ
 text_length None = 0
 text_length (Some text) = length text
 
--- what is expected of the value of a key
+-- the text that says what is expected of the value of a key
 abbrev pub expected_words : Expected → List ℕ
 expected_words wanted = wanted.before.now ++ (rest_words wanted.rest ++ wanted.behind.now)
 
@@ -227,15 +227,15 @@ is_of_kind kind.Number = is_number
 is_of_kind kind.Texts = is_text_array
 is_of_kind kind.Regions = is_region_array
 
--- whether the value at a key exists and does not have the type of the key
+-- whether the job has this key, with a value that does not have the type of the key
 abbrev pub is_of_other_kind : Members → List ℕ × Kind → Bool
 is_of_other_kind ms known = not (absent_or (is_of_kind known.1) known.0 ms)
 
--- a key and its kind in the code, as contracts see them
+-- a key and its kind in the code's table, as contracts see them
 abbrev pub key_and_kind : Bor (List ℕ) × Kind → List ℕ × Kind
 key_and_kind known = (known.0.now, known.1)
 
--- whether the value at a key of the code's table exists and does not have the type of the key
+-- whether the job has this key of the code's table, with a value that does not have the type of the key
 abbrev pub is_known_of_other_kind : Members → Bor (List ℕ) × Kind → Bool
 is_known_of_other_kind ms known = is_of_other_kind ms (key_and_kind known)
 
@@ -250,7 +250,7 @@ ExplainsWrongRegionType ms told = ExplainsWrongKey ms (find (is_of_other_kind ms
 
 -- ---- errors of a job
 
--- the text that the job with this number has the name, or nothing if there is no number
+-- `, but job NUMBER has this name`, or nothing if there is no number
 abbrev pub job_of_name_text : Option ℕ → List ℕ
 job_of_name_text None = []
 job_of_name_text (Some number) = codes ", but job " ++ (decimal number ++ codes " has this name")
@@ -260,7 +260,7 @@ abbrev pub ExplainsName : List (Option (List ℕ)) → List ℕ → List ℕ →
 ExplainsName names key wanted ms told = (met : List ℕ) × IsKeyAndValue key (get_member key ms) met
     × (told ≡ met ++ (codes ": " ++ (wanted ++ job_of_name_text (number_of_name names (text_at_key key ms)))))
 
--- the words for the value that a name must have: one that no earlier job has
+-- the text that says what is expected of a job's name that an earlier job has
 abbrev pub free_words : List ℕ
 free_words = codes "expected a unique name"
 
@@ -269,7 +269,7 @@ abbrev pub ExplainsSameAs : List (Option (List ℕ)) → Members → List ℕ �
 ExplainsSameAs names ms told = (head : List ℕ)
     × ExplainsName names (codes "same_as") (codes "expected the name of an earlier job") ms head × BeginsWith head told
 
--- the explanation of a key belongs to this error of the job
+-- this explanation of a bad value belongs to this error of the job
 pub record IsToldOf (wrong : What) (ms : Members) (explained : Explanation) : Type 0 where
   -- the words are those of the error, if they depend on nothing else
   pub words : IfSome (key_words wrong) (λ words. explained_words explained ≡ words)
@@ -303,7 +303,7 @@ TellsJobFault names None wrong told = told ≡ what_name wrong
 TellsJobFault names (Some (table ms)) wrong told = TellsFaultOfTable names ms wrong told
 TellsJobFault names (Some value) wrong told = TellsNoTable value told
 
--- the element at an index, or `None` if there are not so many
+-- the element at an index, or `None` if there are too few elements
 abbrev pub element_at : Items → ℕ → Option Data
 element_at no_items place = None
 element_at (item d ds) zero = Some d
@@ -314,11 +314,11 @@ abbrev pub TellsFaultOfList : listed.List → JobError → List ℕ → Type 0
 TellsFaultOfList list fault told = 0 < fault.job → TellsJobFault
     (borrowed_names list.names.items) (element_at (items_view list.jobs.now) (fault.job - 1)) fault.what told
 
--- `told` explains this error of a list that was parsed again, if the list is a document
+-- `told` explains this error of a list that was parsed again; if it is not a document, any text will do
 abbrev pub TellsFoundFault : FaultView → JobError → List ℕ → Type 0
 TellsFoundFault (look.NoToml text error) fault told = ⊤
 TellsFoundFault (look.List list) fault told = TellsFaultOfList list fault told
 
--- the message is `head` followed by a text that satisfies the predicate
+-- the message is `head`, followed by a text that satisfies the predicate
 abbrev pub EndsSo : (List ℕ → Type 0) → List ℕ → List ℕ → Type 0
 EndsSo IsSo head message = (told : List ℕ) × IsSo told × (message ≡ head ++ told)

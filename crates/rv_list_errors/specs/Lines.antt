@@ -4,7 +4,7 @@ use Rattle.std.specs.List.{flat_map}
 use Rattle.rv_lists.specs.declared.error.JobError.{JobError}
 use Rattle.rv_text.specs.Printable.{printable_text}
 
--- a message as printable text for a terminal, with a line feed
+-- a message as a line of printable text for a terminal, with its line feed
 abbrev pub printable_line : List ℕ → List ℕ
 printable_line message = printable_text message ++ 10 ∷ []
 
@@ -18,7 +18,7 @@ TellEach Is [] [] = ⊤
 TellEach Is (fault ∷ faults) (message ∷ messages) = Is fault message × TellEach Is faults messages
 TellEach Is _ _ = ⊥
 
--- there is one message for each error, in order, and each begins with the head of its error
+-- there is one message for each error, in order, and each begins with the result of `head` for its error
 abbrev pub TellFaults : (JobError → List ℕ) → List JobError → List (List ℕ) → Type 0
 TellFaults head faults messages = TellEach (λ fault message. BeginsWith (head fault) message) faults messages
 
@@ -34,7 +34,8 @@ AppendsLineOfEach Is faults before after =
     (messages : List (List ℕ)) × TellEach Is faults messages
     × (after ≡ before ++ flat_map printable_line messages)
 
--- the text went from `before` to `after` by appending a line for each error, in order, whose message begins with the head of the error
+-- the text went from `before` to `after` by appending a line for each error, in order, whose message begins with the result of `head` for
+-- the error
 abbrev pub AppendsFaultLines : (JobError → List ℕ) → List JobError → List ℕ → List ℕ → Type 0
 AppendsFaultLines head faults before after =
     AppendsLineOfEach (λ fault message. BeginsWith (head fault) message) faults before after

@@ -11,7 +11,7 @@ use Rattle.rv_list_errors.specs.declared.message.Message.{Message}
 
 -- ---- a message that grows
 
--- unless an allocation failed, the message went from `before` to `after` by appending this text
+-- either an allocation failed, or the message went from `before` to `after` by appending this text
 abbrev pub Adds : Message → Message → List ℕ → Type 0
 Adds before after text = OnOk after.grown (IsOk before.grown × (after.bytes.items ≡ before.bytes.items ++ text))
 
@@ -21,7 +21,7 @@ Adds before after text = OnOk after.grown (IsOk before.grown × (after.bytes.ite
 abbrev pub text_distance : List ℕ → List ℕ → ℕ
 text_distance text other = levenshtein_row nat_eq (chars text) (chars other) (length (chars other))
 
--- the distance of a missing name, or of a text that is longer than a name may be
+-- the distance that stands for a missing name, or for a text or name that is too long
 abbrev pub farthest : ℕ
 farthest = 2 ^ 64 - 1
 
@@ -46,7 +46,7 @@ abbrev pub IsNearAt : List (Option (List ℕ)) → List ℕ → ℕ → Type 0
 IsNearAt names text place = (distance_at names text place < farthest)
     × IsNear (distance_at names text place) (unwrap_or (slice_index_or names place None) [])
 
--- the first of the nearest names is near the text, and is this name; `None` says that it is not near
+-- `Some name` is the nearest name, the first one if there are several, and is near the text; `None` means that the nearest name is not near
 abbrev pub IsNearName : List (Option (List ℕ)) → List ℕ → Option (List ℕ) → Type 0
 IsNearName names text None = (place : ℕ) → IsNearestName names text place → IsNearAt names text place → ⊥
 IsNearName names text (Some name) = (place : ℕ) × IsNearestName names text place × IsNearAt names text place
@@ -54,7 +54,7 @@ IsNearName names text (Some name) = (place : ℕ) × IsNearestName names text pl
 
 -- ---- lists of names
 
--- the names that exist, in order
+-- the names that are not `None`, in order
 unfoldable pub present : List (Option (List ℕ)) → List (List ℕ)
 present [] = []
 present (None ∷ names) = present names
@@ -77,10 +77,10 @@ unfoldable pub names_from : ℕ → ℕ → List (List ℕ) → List ℕ
 names_from count place [] = []
 names_from count place (name ∷ names) = separator count place ++ (quoted name ++ names_from count (place + 1) names)
 
--- how many more names there are than are listed, or nothing if all are listed
+-- ` and COUNT more` for the names that are not listed, or nothing if all are listed
 abbrev pub left_text : ℕ → List ℕ
 left_text count = if nat_lt most_listed_names count then codes " and " ++ (decimal (count - most_listed_names) ++ codes " more") else []
 
--- the first names in quotes, as a sentence lists them, and how many more there are
+-- the first names in quotes, up to the maximum, as a sentence lists them, and then how many more there are
 abbrev pub names_text : List (List ℕ) → List ℕ
 names_text names = names_from (length names) 0 (take most_listed_names names) ++ left_text (length names)

@@ -63,7 +63,7 @@ struct PlacedLines<'a> {
 }
 
 impl<'a> PlacedLines<'a> {
-    // Appends the lines of each error in turn.
+    // Appends the lines of each error in `faults`, in order: one line for an error of the whole list, and one or more for a bad job.
     fn push_fault_lines(
         &mut self,
         alloc: Global,
@@ -80,7 +80,8 @@ impl<'a> PlacedLines<'a> {
         Ok(())
     }
 
-    // Appends the line of an error of the whole list, or a line for each error of the bad job.
+    // Appends one line if the error concerns the whole list, and otherwise a line for each error of the bad job. `suggestion` says whether
+    // the nearest name or key is suggested.
     fn push_fault(
         &mut self,
         alloc: Global,
@@ -103,7 +104,7 @@ impl<'a> PlacedLines<'a> {
         self.push_found_faults(alloc, bytes, fault.job, found.as_slice())
     }
 
-    // Appends a line for each of these errors of a job.
+    // Appends a line for each error in `found`, all of which are errors of the job with this number, counted from 1.
     fn push_found_faults(
         &mut self,
         alloc: Global,
@@ -127,7 +128,8 @@ impl<'a> PlacedLines<'a> {
         Ok(())
     }
 
-    // Returns the message on an error of a job: the path, the line and column, the job's number and name, and the explanation.
+    // Returns the message on an error of the job with this number, counted from 1: the path, the line and column, the job's number and
+    // name, and the explanation.
     fn placed_message(
         &mut self,
         alloc: Global,

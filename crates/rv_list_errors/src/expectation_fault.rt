@@ -29,7 +29,8 @@ pub(crate) fn expectation_explanation(table: &Table) -> Explanation
     }
 }
 
-/// Returns the explanation of a bad exit code, if the value is a number.
+/// Returns the explanation of a bad `expect_exit`. `number` is its value, or `None` if that is not an integer. For a negative number, the
+/// explanation says how to write it.
 pub(crate) fn exit_explanation(number: Option<i64>) -> Explanation
     ensures { (explained_key result, explained_words result) ≡ exit_explanation number }
 {
@@ -39,7 +40,8 @@ pub(crate) fn exit_explanation(number: Option<i64>) -> Explanation
     }
 }
 
-// Returns the explanation of a bad expectation other than the exit.
+// Returns the explanation of a job's first bad expectation other than `expect_exit`: a bad `expect_signature`, or else a bad
+// `expect_console`, `expect_console_file` or `expect_end`.
 fn reference_or_console_explanation(table: &Table) -> Explanation
     ensures { (explained_key result, explained_words result) ≡ reference_explanation_of (table_view table.now) }
 {
@@ -50,7 +52,8 @@ fn reference_or_console_explanation(table: &Table) -> Explanation
     )
 }
 
-// Returns the explanation of a bad `expect_signature`, or `rest` if it is missing or good. `is_asked` is whether the job has a signature.
+// Returns the explanation of a bad `expect_signature`, or `rest` if it is missing or good. `path` is its text, and `is_asked` is whether
+// the job has a signature.
 fn reference_explanation(is_asked: bool, path: Option<&str>, rest: Explanation) -> Explanation
     ensures { (explained_key result, explained_words result)
         ≡ reference_explanation is_asked (borrowed_name path.entry) (explained_key rest, explained_words rest) }
@@ -104,7 +107,8 @@ pub(crate) fn end_explanation(table: &Table) -> Explanation
     end_text_explanation(text_at_key(table, "expect_end"))
 }
 
-// Returns the explanation of a bad `expect_end` with this text.
+// Returns the explanation of a bad `expect_end`: for the text `exit`, that `expect_exit` is the key to use, and for another text or no
+// text, which texts are accepted.
 fn end_text_explanation(end: Option<&str>) -> Explanation
     ensures { (explained_key result, explained_words result) ≡ end_explanation (borrowed_name end.entry) }
 {

@@ -223,7 +223,7 @@ pub(crate) fn taken_texts(key: &str) -> Option<&'static Expected>
     }
 }
 
-/// Appends an explanation of a bad value of a job.
+/// Appends the text of an explanation of a bad value. `table` is the job: its value at the key is shown.
 pub(crate) fn push_explanation(message: &mut Message, table: &Table, told: Explanation)
     ensures { AddsSome message.old message.new (ExplainsKey told (table_view table.now)) }
 {
@@ -233,7 +233,7 @@ pub(crate) fn push_explanation(message: &mut Message, table: &Table, told: Expla
     }
 }
 
-// Appends a key, its value, and what is expected of it.
+// Appends the key of `wanted` with the job's value, or that the key is missing, and then what is expected of the value.
 fn push_expected(message: &mut Message, table: &Table, wanted: &Expected)
     ensures { AddsSome message.old message.new (ExplainsExpectedValue wanted.now (table_view table.now)) }
 {
@@ -241,7 +241,7 @@ fn push_expected(message: &mut Message, table: &Table, wanted: &Expected)
     push_expected_words(message, reported_byte_count(table, wanted), wanted);
 }
 
-// Appends the number of bytes, if it exceeds the maximum, and what is expected.
+// Appends the number of bytes in parentheses, if it exceeds the maximum, and then what is expected of the value.
 fn push_expected_words(message: &mut Message, bytes: u64, wanted: &Expected)
     ensures { Adds message.old message.new (bytes_text wanted.now.rest bytes ++ (codes ": " ++ expected_words wanted.now)) }
 {
@@ -252,7 +252,7 @@ fn push_expected_words(message: &mut Message, bytes: u64, wanted: &Expected)
     message.push(wanted.behind);
 }
 
-// Appends the number of bytes in parentheses, if it exceeds the maximum.
+// Appends the number of bytes in parentheses, if it exceeds the maximum, or else nothing.
 fn push_byte_count(message: &mut Message, bytes: u64, rest: Rest)
     ensures { Adds message.old message.new (bytes_text rest bytes) }
 {
@@ -262,7 +262,7 @@ fn push_byte_count(message: &mut Message, bytes: u64, rest: Rest)
     }
 }
 
-// Appends the text that is inserted after the first words.
+// Appends the text that completes what is expected of a value: nothing, a maximum, or the names of all kinds of faults.
 fn push_rest(message: &mut Message, rest: Rest)
     ensures { Adds message.old message.new (rest_words rest) }
 {
@@ -295,14 +295,16 @@ fn push_fault_kind(message: &mut Message, place: usize)
     message.push_quoted(FaultKind::ALL[place].name());
 }
 
-// Returns the number of bytes that the text at a key represents, or 0 if it is not to be shown.
+// Returns the number of bytes that the text at the key of `wanted` represents, or 0 if there is no text, or if `wanted` says that the
+// number is never shown.
 fn reported_byte_count(table: &Table, wanted: &Expected) -> u64
     ensures { result ≡ shown_byte_count wanted.now.bytes (text_length (text_at_key wanted.now.key.now (table_view table.now))) }
 {
     shown_byte_count(wanted.bytes, text_at_key(table, wanted.key))
 }
 
-// Returns the number of bytes that a text represents, or 0 if it is not to be shown.
+// Returns the number of bytes that a text represents: its length, or half of it for hexadecimal digits. Returns 0 if there is no text, or
+// if the number is never shown.
 fn shown_byte_count(bytes: Bytes, text: Option<&str>) -> u64
     ensures { result ≡ shown_byte_count bytes (text_length (borrowed_name text.entry)) }
 {

@@ -63,7 +63,8 @@ pub(crate) fn list_fault_message(
     Ok(message)
 }
 
-// Appends the location of an error of the job with this number, or nothing if the text is not a document.
+// Appends the text between the path and the explanation of an error of the job with this number, as `push_place_in_list` does, or nothing
+// if the list is not TOML.
 fn push_fault_place(message: &mut Vec<u8>, look: &FaultView<'_>, job: u32) -> Result<(), AllocError>
     ensures { OnOk result (message.new.items ≡ message.old.items ++ location_in_view look.now job) }
 {
@@ -73,7 +74,8 @@ fn push_fault_place(message: &mut Vec<u8>, look: &FaultView<'_>, job: u32) -> Re
     }
 }
 
-// Appends the location of an error of the job with this number, or of the whole list if the number is 0.
+// Appends `: error: ` if the number is 0, which stands for the whole list, and otherwise the line on which the job with this number begins,
+// its number, and its name.
 fn push_place_in_list(message: &mut Vec<u8>, list: &List<'_>, job: u32) -> Result<(), AllocError>
     ensures { OnOk result (message.new.items ≡ message.old.items
         ++ fault_place list.now.lines.items (borrowed_names list.now.names.items) job) }
@@ -85,7 +87,7 @@ fn push_place_in_list(message: &mut Vec<u8>, list: &List<'_>, job: u32) -> Resul
     }
 }
 
-// Appends the line on which a job begins, its number, and its name if it has one.
+// Appends the line on which the job with this number begins, its number, and its name if it has one.
 fn push_job_heading(message: &mut Vec<u8>, list: &List<'_>, number: u32) -> Result<(), AllocError>
     requires { 0 < number }
     ensures { OnOk result (message.new.items ≡ message.old.items
@@ -178,6 +180,7 @@ fn not_toml_explanation(alloc: Global, text: &[u8], error: &Error) -> Result<Vec
     }
 }
 
+// Returns the text that the file is an ELF file, not a job list.
 fn elf_file_explanation(alloc: Global) -> Result<Vec<u8>, AllocError>
     ensures { IfOk result (λ told. told.items ≡ elf_file_text) }
 {
@@ -186,6 +189,7 @@ fn elf_file_explanation(alloc: Global) -> Result<Vec<u8>, AllocError>
     Ok(text)
 }
 
+// Returns the line and column of a TOML error and its reason, with the duplicate key if that is the reason.
 fn syntax_explanation(alloc: Global, text: &[u8], error: &Error) -> Result<Vec<u8>, AllocError> {
     let mut message = Message::new(alloc);
     push_not_toml(&mut message, text, error);
@@ -195,7 +199,7 @@ fn syntax_explanation(alloc: Global, text: &[u8], error: &Error) -> Result<Vec<u
     message.finish()
 }
 
-// Returns the explanation of an error of a list that is a document.
+// Returns the explanation of an error of a list whose text is TOML.
 fn explanation_in_list(
     alloc: Global,
     list: &List<'_>,

@@ -67,7 +67,7 @@ fn push_fault_lines(
     Ok(())
 }
 
-/// Returns whether the nearest name or key is suggested in the error at an index.
+/// Returns `Nearest` for the first `NEAR_TOLD` errors, which suggest the nearest name or key, and `Nothing` for later errors.
 pub(crate) fn suggestion_for_fault(place: usize) -> Suggestion {
     if place < NEAR_TOLD {
         Suggestion::Nearest

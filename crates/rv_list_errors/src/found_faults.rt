@@ -24,7 +24,8 @@ pub(crate) struct FoundFault {
 }
 
 /// Returns all errors of a bad job. If no error is found at one of its keys, returns only the error that is already known. If there are
-/// very many, returns the first ones, followed by a note that the later keys are not checked. `jobs` are the texts from each job on.
+/// very many, returns the first ones, followed by a note that the later keys are not checked. `jobs` holds, for each job, the rest of the
+/// list's text from the place where the job begins.
 pub(crate) fn faults_of_job(
     alloc: Global,
     list: &List<'_>,
@@ -60,7 +61,7 @@ pub(crate) fn faults_of_job(
 }
 
 impl<'a> FaultyJob<'a> {
-    // Records the missing keys of a job at the offset where it begins.
+    // Adds an error to `found` for each required key that the job lacks, at the offset where the job begins.
     fn find_absent_keys(
         &self,
         alloc: Global,
@@ -78,7 +79,8 @@ impl<'a> FaultyJob<'a> {
         Ok(())
     }
 
-    // Records the keys with bad values, each at its first occurrence, until there are too many errors.
+    // Adds to `found` the error of each bad key, at its first occurrence. After `MOST_FAULTS` errors, adds a note that the later keys are
+    // not checked, and stops.
     fn find_bad_keys(
         &self,
         alloc: Global,
@@ -100,7 +102,7 @@ impl<'a> FaultyJob<'a> {
         Ok(())
     }
 
-    // Records that the job's keys from this one on are not checked, because there are too many errors.
+    // Adds a note to `found` that this key and the later keys of the job are not checked, because there are too many errors.
     fn stop_at_key(
         &self,
         alloc: Global,
@@ -115,7 +117,7 @@ impl<'a> FaultyJob<'a> {
         Ok(())
     }
 
-    // Records the error of a key's value, if it has one.
+    // Adds to `found` the error of a key or of its value, if it has one. `met` are the keys before it.
     fn find_key_fault(
         &self,
         alloc: Global,

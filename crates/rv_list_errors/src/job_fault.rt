@@ -55,14 +55,14 @@ pub(crate) fn push_job_fault(
     }
 }
 
-// Returns the element at an index, or `None` if there are not so many.
+// Returns the element at an index, or `None` if there are too few elements.
 fn element_at(elements: &[Value], place: usize) -> Option<&Value>
     ensures { option_map (λ element. view element.now) result ≡ element_at (items_view elements.now) place }
 {
     elements.get(place)
 }
 
-// Appends that an element is not a table.
+// Appends that a table was expected, and the element that was found instead.
 fn push_no_table(message: &mut Message, element: &Value)
     ensures { AddsSome message.old message.new (TellsNoTable (view element.now)) }
 {
@@ -142,7 +142,8 @@ pub(crate) fn isa_explanation(table: &Table) -> Explanation
     }
 }
 
-// Returns the explanation of an unknown instruction set with this name.
+// Returns the explanation of an unknown instruction set with this name: RV64 and unsimulated extensions are named, and the known sets are
+// listed.
 fn set_explanation(isa: &[u8]) -> Explanation
     ensures key { explained_key result ≡ Some (codes "isa") }
     ensures words { explained_words result ≡ set_words isa.now }
@@ -156,7 +157,8 @@ fn set_explanation(isa: &[u8]) -> Explanation
     }
 }
 
-// Returns the explanation of an unknown instruction set with these letters after `rv32`.
+// Returns the explanation of an unknown instruction set with these letters after `rv32`: an A, F or D extension is named, and the known
+// sets are listed.
 fn letters_explanation(letters: &[u8]) -> Explanation
     ensures key { explained_key result ≡ Some (codes "isa") }
     ensures words { explained_words result ≡ letters_words letters.now }
@@ -168,7 +170,7 @@ fn letters_explanation(letters: &[u8]) -> Explanation
     }
 }
 
-// Returns the first letter that is neither `i`, the base, nor `m` or `c`, the simulated extensions.
+// Returns the first letter that is neither `i`, the base, nor `m` or `c`, the simulated extensions, or `None` if there is none.
 fn unsimulated_letter(letters: &[u8]) -> Option<&u8>
     ensures { option_map (λ letter. letter.now) result ≡ find is_unsimulated letters.now }
 {
@@ -201,7 +203,7 @@ fn script_explanation(text: Option<&str>, digits: Option<&str>) -> Explanation
     }
 }
 
-// Returns the explanation of a bad `input_hex` with these digits.
+// Returns the explanation of a bad `input_hex`: that it is too long, if it consists of digit pairs, or else that digit pairs are expected.
 fn digits_explanation(digits: &str) -> Explanation
     ensures { (explained_key result, explained_words result) ≡ script_explanation None (Some digits.now) }
 {

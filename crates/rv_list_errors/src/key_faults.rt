@@ -30,7 +30,7 @@ pub(crate) struct FoundKeys<'k> {
 }
 
 impl<'k> FoundKeys<'k> {
-    /// Returns no keys. Does not allocate.
+    /// Returns an empty set of checked keys. Does not allocate.
     pub(crate) fn none(alloc: Global) -> FoundKeys<'k> {
         FoundKeys {
             names: BTreeMap::new(alloc),
@@ -49,7 +49,7 @@ impl<'k> FoundKeys<'k> {
     }
 }
 
-// Returns the index of a key among those that jobs have, or `None` if jobs do not have it.
+// Returns the index of a key in `JOB_KEYS`, the keys that jobs may have, or `None` if it is not one of them.
 fn place_of_key(name: &str) -> Option<usize>
     ensures { IfSome result (λ place. place < 16) }
 {
@@ -194,7 +194,8 @@ impl<'a> FaultyJob<'a> {
         }
     }
 
-    // Returns the explanation `both` if the other of two keys that exclude each other comes before and has a text.
+    // Returns `both`, the explanation that two keys cannot both be set, if the key `other` is in `met`, the keys before this one, and has a
+    // text; otherwise `None`.
     fn both_set_explanation(
         &self,
         other: &str,
@@ -208,7 +209,8 @@ impl<'a> FaultyJob<'a> {
         }
     }
 
-    // Returns the explanation of an invalid expectation, image, or other text at a key, or `None` if it is valid.
+    // Returns the explanation of an invalid expectation, path or other text at a key, or `None` if the text is valid. `met` are the keys
+    // before it.
     fn expectation_or_choice_fault(
         &self,
         key: &str,
@@ -238,7 +240,8 @@ impl<'a> FaultyJob<'a> {
         }
     }
 
-    // Returns the explanation of an invalid `expect_signature`, or `None` if it is valid.
+    // Returns the explanation of an `expect_signature` with this path, or `None` if it is valid: the job has a signature, and the path may
+    // be one.
     fn reference_fault(&self, path: &str) -> Option<Explanation> {
         if value_at_key(self.table, "signature").is_none() {
             Some(Explanation::Expected(&UNASKED))
@@ -263,7 +266,7 @@ impl<'a> FaultyJob<'a> {
     }
 }
 
-// Returns the error with this explanation, if there is one.
+// Returns the explanation as the error of a key, or `None` if there is no explanation.
 fn wanted(told: Option<Explanation>) -> Option<KeyFault> {
     match told {
         Some(told) => Some(KeyFault::Expected(told)),
@@ -307,7 +310,7 @@ fn is_path(text: &str) -> bool {
     1 <= text.len() && text.len() <= MOST_PATH
 }
 
-// Whether a text names an instruction set.
+// Whether a text is the name of a simulated instruction set.
 fn is_set(text: &str) -> bool {
     text == "rv32i" || text == "rv32im" || text == "rv32ic" || text == "rv32imc"
 }

@@ -25,7 +25,8 @@ pub(crate) enum Owner {
     Region,
 }
 
-/// Returns the first key of a table that its owner does not have, or `None` if there is none.
+/// Returns the first key of a table that is not valid in `owner`, which is the whole list, a job or a region, or `None` if all keys are
+/// valid.
 pub(crate) fn unknown_key(table: &Table, owner: Owner) -> Option<&str>
     ensures { option_map (λ key. key.now) result
         ≡ first_unknown_key (is_key_of_owner owner) (table_view table.now) }
@@ -36,7 +37,7 @@ pub(crate) fn unknown_key(table: &Table, owner: Owner) -> Option<&str>
     }
 }
 
-// Returns the first key of a table that its owner does not have, as a string of the table.
+// Returns the first key of a table that is not valid in `owner`, as a string of the table, or `None` if all keys are valid.
 fn first_unknown_key(table: &Table, owner: Owner) -> Option<&String>
     ensures { option_map (λ key. string_bytes key.now) result
         ≡ first_unknown_key (is_key_of_owner owner) (table_view table.now) }
@@ -46,7 +47,7 @@ fn first_unknown_key(table: &Table, owner: Owner) -> Option<&String>
         .find(|key| !is_key_of_owner(key.as_str(), owner))
 }
 
-// Whether the whole list, a job or a region has a key with this name.
+// Whether a key is valid in its owner, which is the whole list, a job or a region.
 fn is_key_of_owner(key: &str, owner: Owner) -> bool
     ensures { result ≡ is_key_of_owner owner key.now }
 {
@@ -57,21 +58,21 @@ fn is_key_of_owner(key: &str, owner: Owner) -> bool
     }
 }
 
-// Whether jobs have a key with this name.
+// Whether a job may have a key with this name.
 fn is_job_key(key: &str) -> bool
     ensures { result ≡ is_job_key key.now }
 {
     is_key_among(&JOB_KEYS, key)
 }
 
-// Whether one of these keys has this name.
+// Whether `name` is one of these keys.
 fn is_key_among(keys: &[(&str, Kind)], name: &str) -> bool
     ensures { result ≡ list_any (λ key. bytes_eq name.now key.0.now) keys.now }
 {
     keys.iter().any(|key| name == key.0)
 }
 
-// Whether regions have a key with this name.
+// Whether a region may have a key with this name.
 fn is_region_key(name: &str) -> bool
     ensures { result ≡ is_region_key name.now }
 {
@@ -103,7 +104,7 @@ pub(crate) fn push_unknown_job_key(message: &mut Message, table: &Table)
     }
 }
 
-/// Says that a job has this unknown key. If suggestions are requested, adds the nearest known key, or all known keys if none is near.
+/// Appends that a job has this unknown key. If suggestions are requested, adds the nearest known key, or all known keys if none is near.
 pub(crate) fn push_unknown_key_of_job(message: &mut Message, key: &str, suggestion: Suggestion)
     ensures { AddsSome message.old message.new (BeginsWith (unknown_key_text key.now)) }
 {
@@ -168,7 +169,7 @@ fn push_unknown_key_of_region(message: &mut Message, at: usize, key: &str)
     message.push(": valid keys are \"base\", \"size\" and \"write\"");
 }
 
-/// Whether a region of a job has an unknown key.
+/// Whether at least one region of a job has an unknown key.
 pub(crate) fn region_with_unknown_key(table: &Table) -> bool {
     for region in elements_at_key(table, "region") {
         if unknown_region_key(region).is_some() {
@@ -178,7 +179,7 @@ pub(crate) fn region_with_unknown_key(table: &Table) -> bool {
     false
 }
 
-// Returns the first unknown key of a region, or `None` if there is none.
+// Returns the first unknown key of a region, or `None` if there is none or the region is not a table.
 fn unknown_region_key(region: &Value) -> Option<&str> {
     match region {
         Value::Table(table) => unknown_key(table, Owner::Region),

@@ -50,7 +50,7 @@ fn first_key_of_other_kind<'k>(
         .find(|known| is_value_of_other_kind(table, known.0, known.1))
 }
 
-// Whether there is a value at a key, and it does not have the type of this kind.
+// Whether there is a value at a key and its type is not the one that this kind requires.
 fn is_value_of_other_kind(table: &Table, key: &str, kind: Kind) -> bool
     ensures { result ≡ not (absent_or (is_of_kind kind) key.now (table_view table.now)) }
 {
@@ -186,7 +186,7 @@ fn push_regions_of_wrong_kind(message: &mut Message, table: &Table, key: &str)
     }
 }
 
-// Returns the index of the first element that is not a table, or that has a value of the wrong type.
+// Returns the index of the first element that is not a table, or that has a value of the wrong type, or `None` if there is none.
 fn index_of_first_non_region(elements: &[Value]) -> Option<usize>
     ensures within { IfSome result (λ place. place < length elements.now) }
     ensures first { result ≡ position (λ v. not (is_region (view v))) elements.now }

@@ -50,7 +50,7 @@ impl<'a> List<'a> {
         })
     }
 
-    /// Returns the offset at which a suffix of the list's text begins.
+    /// Returns the offset in the list's text at which `rest`, a suffix of it, begins.
     pub(crate) fn place_of_rest(&self, rest: &str) -> usize {
         self.len.saturating_sub(rest.len())
     }
@@ -94,7 +94,7 @@ fn is_name_of(name: &str, other: Option<&str>) -> bool
     }
 }
 
-// Returns the name of each element of `job`, if it has one.
+// Returns, for each element of `job`, its name, or `None` if it has none.
 fn element_names(alloc: Global, jobs: &[Value]) -> Result<Vec<Option<&str>>, AllocError>
     ensures { IfOk result (λ names. borrowed_names names.items ≡ element_names (items_view jobs.now)) }
 {
@@ -105,7 +105,7 @@ fn element_names(alloc: Global, jobs: &[Value]) -> Result<Vec<Option<&str>>, All
     Ok(names)
 }
 
-// Returns the name of an element of `job`, if it is a table with a text at `name`.
+// Returns the name of an element of `job`, or `None` if it is not a table with a text at `name`.
 fn element_name(job: &Value) -> Option<&str>
     ensures { borrowed_name result ≡ element_name (view job.now) }
 {

@@ -17,7 +17,7 @@ use std::alloc::{AllocError, Global};
 use toml::Table;
 use toml::de::Error;
 
-/// Appends the line and column of a TOML error, and its reason.
+/// Appends the line and column of a TOML error, and its reason; only the reason if the error has no location.
 pub(crate) fn push_not_toml(message: &mut Message, text: &[u8], error: &Error)
     ensures { (IsMemory error.now → ⊥)
         → AddsSome message.old message.new (IsNotToml text.now (span_start error.now)) }
@@ -53,7 +53,7 @@ pub(crate) fn repeated_key_of_error<'a>(
     }
 }
 
-/// Appends the duplicate key of a text, and the line of its first occurrence, if that was found.
+/// Appends the duplicate key of a text, with the line of its first occurrence if that was found.
 pub(crate) fn push_repeated_key(message: &mut Message, text: &[u8], repeated: &RepeatedKey<'_>) {
     message.push(" \"");
     for part in &repeated.key.path {

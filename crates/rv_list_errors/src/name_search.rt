@@ -24,7 +24,7 @@ pub fn near_job(alloc: Global, jobs: &[Job], text: &str) -> Result<Option<usize>
     }
 }
 
-// Whether at most a third of the characters of the name of the job at an index differ from a text.
+// Whether a text is near the name of the job at an index: at most a third of the characters of that name differ.
 fn is_job_near(alloc: Global, jobs: &[Job], text: &str, place: usize) -> Result<bool, AllocError>
     requires { place < length jobs.now }
     ensures { IfOk result (λ near. IsTrue near

@@ -18,7 +18,8 @@ use crate::values::{push_key_and_value, text_at_key};
 use rv_lists::limits::MOST_NAME;
 use toml::Table;
 
-/// Appends the key and its value, then what is expected, and then the number of the first job with this name, if there is one.
+/// Appends a key for a name and its value, then `wanted`, which says what is expected, and then the number of the first job with this name,
+/// if there is one.
 pub(crate) fn push_name_fault(
     message: &mut Message,
     list: &List<'_>,
@@ -35,7 +36,7 @@ pub(crate) fn push_name_fault(
     push_job_of_name(message, list.job_number_of_name(text_at_key(table, key)));
 }
 
-// Appends that the job with this number has the name, or nothing if there is no number.
+// Appends `, but job NUMBER has this name`, or nothing if there is no number.
 fn push_job_of_name(message: &mut Message, number: Option<u64>)
     ensures { Adds message.old message.new (job_of_name_text number) }
 {
@@ -159,7 +160,7 @@ fn name_if_near(name: &str, distance: usize) -> Option<&str>
 // The maximum number of names listed.
 const MOST_TOLD: usize = 20;
 
-/// Appends the names that exist, in quotes: only the first ones if there are many, and how many more there are.
+/// Appends the names that are not `None`, in quotes: only the first ones if there are many, and then how many more there are.
 pub(crate) fn push_names(message: &mut Message, names: &[Option<&str>])
     ensures { Adds message.old message.new (names_text (present (borrowed_names names.now))) }
 {
@@ -170,14 +171,15 @@ pub(crate) fn push_names(message: &mut Message, names: &[Option<&str>])
     }
 }
 
-// Returns how many of the names exist.
+// Returns how many of the names are not `None`.
 fn present_count(names: &[Option<&str>]) -> usize
     ensures { result ≡ count_by is_some names.now }
 {
     names.iter().filter(|name| name.is_some()).count()
 }
 
-// Appends the first names that exist, up to the maximum, and returns how many were appended. `count` is the number of all names that exist.
+// Appends the first names that are not `None`, up to the maximum, and returns how many were appended. `count` is the number of all names
+// that are not `None`.
 fn push_first_names(message: &mut Message, names: &[Option<&str>], count: usize) -> usize
     ensures told { result ≡ min (length (present (borrowed_names names.now))) most_listed_names }
     ensures text { Adds message.old message.new (names_from count 0 (take most_listed_names (present (borrowed_names names.now)))) }

@@ -45,7 +45,7 @@ struct Overlap {
     address: u32,
 }
 
-/// Appends the first two regions that overlap, and where.
+/// Appends the numbers of the first two regions that overlap, and the first address that they share.
 pub(crate) fn push_region_overlap(message: &mut Message, regions: &[Region])
     ensures overlap { length regions.now < 2 ^ 64 → (AreAllApart regions.now → ⊥)
         → AddsSome message.old message.new (ExplainsOverlap regions.now) }
@@ -57,7 +57,7 @@ pub(crate) fn push_region_overlap(message: &mut Message, regions: &[Region])
     }
 }
 
-// Appends that two regions overlap, and where.
+// Appends the numbers of two regions that overlap, and the first address that they share.
 fn push_overlap(message: &mut Message, overlap: Overlap)
     ensures { overlap.at + 1 < 2 ^ 64 → overlap.later + 1 < 2 ^ 64
         → Adds message.old message.new (overlap_text overlap.at overlap.later overlap.address) }
@@ -98,7 +98,7 @@ fn overlap_with_later(regions: &[Region], at: usize) -> Option<Overlap>
     None
 }
 
-/// Appends the first region that has an address of the console, and the first such address.
+/// Appends the number of the first region that has an address of the console, and the first such address.
 pub(crate) fn push_console_overlap(message: &mut Message, regions: &[Region])
     ensures { length regions.now < 2 ^ 64 → AddsSome message.old message.new ExplainsRegions }
 {

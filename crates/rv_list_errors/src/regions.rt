@@ -23,7 +23,7 @@ pub(crate) fn push_region_number(message: &mut Message, at: usize)
     message.push_number_between("region ", (at as u64).saturating_add(1), "");
 }
 
-/// Whether the elements of `region` are the regions of a map.
+/// Whether the elements of `region` form a memory map.
 pub(crate) fn are_map(elements: &[Value]) -> bool {
     for element in elements {
         if region_of_element(element).is_none() {

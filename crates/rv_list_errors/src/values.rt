@@ -27,7 +27,7 @@ pub(crate) fn text_at_key<'a>(table: &'a Table, key: &str) -> Option<&'a str>
     }
 }
 
-/// Returns the number at a key.
+/// Returns the integer at a key, or `None` if there is no integer there.
 pub(crate) fn number_at_key(table: &Table, key: &str) -> Option<i64>
     ensures { result ≡ number_at_key key.now (table_view table.now) }
 {
@@ -37,7 +37,7 @@ pub(crate) fn number_at_key(table: &Table, key: &str) -> Option<i64>
     }
 }
 
-/// Returns the number at a key, if it has 32 bits.
+/// Returns the integer at a key, or `None` if there is none or it does not fit in 32 bits without a sign.
 pub(crate) fn word_at_key(table: &Table, key: &str) -> Option<u32> {
     match value_at_key(table, key) {
         Some(Value::Integer(number)) => u32::try_from(*number).ok(),

@@ -10,18 +10,18 @@ use Rattle.rv_list_locations.specs.LinesAndColumns.{line_at}
 abbrev pub BeginsWithJobHeader : List ℕ → Type 0
 BeginsWithJobHeader text = (rest : List ℕ) × (expression text ≡ Some ((([], codes "job"), array_table), rest))
 
--- a suffix of a list's text is inside an array `job = [..]`, at one of its elements or at the closing bracket
+-- a suffix of a list's text is in an array `job = [..]`, at one of its elements or at the closing bracket
 pub data IsInJobArray (list : List ℕ) : List ℕ → Type 0 where
   opened : (place : ℕ) (value : List ℕ) → key_equals (drop place list) ≡ Some (([], codes "job"), value) →
       first value ≡ left_bracket → IsInJobArray list (skip_blank (drop 1 value))
   behind : (element rest : List ℕ) → IsInJobArray list element → after_value element ≡ Some rest →
       IsInJobArray list (after_comma rest)
 
--- the text, a suffix of the list's text, begins with an element of an array `job = [..]`
+-- the text is a suffix of the list's text, and begins with an element of an array `job = [..]`
 abbrev pub BeginsWithElement : List ℕ → List ℕ → Type 0
 BeginsWithElement list text = IsInJobArray list text × (first text ≢ right_bracket)
 
--- on this line of the list's text, counted from 1, a header `[[job]]` or an element of an array `job = [..]` begins
+-- a header `[[job]]` or an element of an array `job = [..]` begins on this line of the list's text, counted from 1
 abbrev pub IsLineOfJob : List ℕ → ℕ → Type 0
 IsLineOfJob list line = (place : ℕ) × (line ≡ line_at place list)
     × (BeginsWithJobHeader (drop place list) ⊎ BeginsWithElement list (drop place list))

@@ -7,7 +7,7 @@ use Rattle.toml_parser.specs.Strings.{Key, key}
 abbrev pub first_part : Key → List ℕ
 first_part name = unwrap_or (slice_get name.0 0) name.1
 
--- the second part of a dotted key, or the last part if it has no more than two
+-- the second part of a dotted key, or the last part if the key has fewer than three parts
 abbrev pub second_part : Key → List ℕ
 second_part name = unwrap_or (slice_get name.0 1) name.1
 
@@ -15,7 +15,7 @@ second_part name = unwrap_or (slice_get name.0 1) name.1
 abbrev pub BeginsWithKey : List ℕ → List ℕ → Type 0
 BeginsWithKey name text = (read : Key × List ℕ) × (key text ≡ Some read) × (first_part read.0 ≡ name)
 
--- the text from the key of a header on, given the text from the header on
+-- the suffix of a text, which begins with a header, that begins with the key of the header
 unfoldable pub header_key : List ℕ → List ℕ
 header_key text = skip_ws (drop (if slice_index text 1 == left_bracket then 2 else 1) text)
 

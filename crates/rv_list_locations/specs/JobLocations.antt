@@ -19,11 +19,11 @@ o >>= f = option_and_then f o
 
 -- ---- after a value
 
--- whether a byte is in a word, given the next byte: a space may separate a date from a time
+-- whether a byte belongs to a word, given the next byte: a space does if it may separate a date from a time
 abbrev pub is_in_word : ℕ → ℕ → Bool
 is_in_word byte next = is_word byte || (byte == space && is_ascii_digit next)
 
--- the text after the bytes that are in a word
+-- the text without the leading bytes that belong to a word
 abbrev pub after_letters : List ℕ → List ℕ
 after_letters [] = []
 after_letters (byte ∷ rest) = if is_in_word byte (first rest) then after_letters rest else byte ∷ rest
@@ -56,7 +56,8 @@ after_token text = if is_sign (first text) then Some (drop 1 text) else after_st
 abbrev pub depth_after : ℕ → ℕ → ℕ
 depth_after depth byte = if is_opening byte then depth + 1 else if is_closing byte then depth - 1 else depth
 
--- the text after the bracket that closes the last open one, if at most `n` tokens are read; `depth` brackets are open before the text
+-- the text after the bracket that closes the outermost open one, or `None` if it is not found among the first `n` tokens; `depth` brackets
+-- are open before the text
 unfoldable pub after_brackets : ℕ → ℕ → List ℕ → Option (List ℕ)
 after_brackets zero depth text = None
 after_brackets (suc n) depth text = after_token text >>= (λ rest.
@@ -70,16 +71,16 @@ after_value text =
 
 -- ---- after a line
 
--- the text from the next header or entry on, after the rest of a line; empty if the rest of the line is not a comment
+-- the suffix of a text that begins with the next header or entry; empty if something other than a comment is left on the line
 unfoldable pub after_line : List ℕ → List ℕ
 after_line text = let rest = skip_ws text in
     if first rest == hash || first rest == line_feed || first rest == carriage_return then skip_blank rest else []
 
--- the text from the next element on, or from the bracket after the last element on
+-- the suffix of a text that begins with the next element, or with the bracket after the last element
 unfoldable pub after_comma : List ℕ → List ℕ
 after_comma text = let rest = skip_blank text in if first rest == comma then skip_blank (drop 1 rest) else rest
 
--- the text from the value of an entry on, given the text after its key; empty if no equals sign follows the key
+-- the suffix of a text that begins with the value of an entry; the text begins after the entry's key; empty if no equals sign is there
 unfoldable pub after_equals : List ℕ → List ℕ
 after_equals text = if first text == equals then skip_ws (drop 1 text) else []
 
@@ -89,50 +90,53 @@ after_equals text = if first text == equals then skip_ws (drop 1 text) else []
 abbrev pub is_job : Key → Bool
 is_job name = length name.0 == 0 && bytes_eq name.1 (codes "job")
 
--- a scanned header, entry or element: whether it is where a job begins, what comes next, and the text after it
+-- the result of scanning a header, an entry or an element: whether a job begins there, what comes next, and the text after it
 abbrev pub Step : Type 0
 Step = Bool × Next × List ℕ
 
--- the header of an array of tables that begins with `[[`, given the text after these brackets
+-- the result of scanning the header of an element of an array of tables, whose opening brackets are already skipped, or `None` if it is
+-- malformed
 unfoldable pub array_header : List ℕ → Option Step
 array_header inside = key (skip_ws inside) >>= (λ name.
     if first name.1 == right_bracket && slice_index name.1 1 == right_bracket
     then Some (is_job name.0, Table, after_line (drop 2 name.1)) else None)
 
--- the header of a table that begins with `[`, given the text after this bracket
+-- the result of scanning the header of a table, whose opening bracket is already skipped, or `None` if it is malformed
 unfoldable pub table_header : List ℕ → Option Step
 table_header inside = key (skip_ws inside) >>= (λ name.
     if first name.1 == right_bracket then Some (false, Table, after_line (drop 1 name.1)) else None)
 
--- the header that the text begins with, or `None` if it is malformed
+-- the result of scanning the header with which the text begins, or `None` if it is malformed
 abbrev pub header : List ℕ → Option Step
 header text =
     if slice_index text 1 == left_bracket then array_header (drop 2 text) else table_header (drop 1 text)
 
--- whether the scan is before the first header
+-- whether the scan has not reached the first header
 abbrev pub is_top : Next → Bool
 is_top Top = true
 is_top Table = false
 is_top Element = false
 
--- the entry that the text begins with; before the first header, an array `job` is the list, and its elements come next
+-- the result of scanning the entry with which the text begins, or `None` if it is malformed; before the first header, an array at the key
+-- `job` has the jobs, and its elements come next
 unfoldable pub keyed_entry : Next → List ℕ → Option Step
 keyed_entry next text = key text >>= (λ name. let value = after_equals name.1 in
     if (is_job name.0 && is_top next) && first value == left_bracket
     then Some (false, Element, skip_blank (drop 1 value))
     else option_map (λ rest. (false, next, after_line rest)) (after_value value))
 
--- the element that the text begins with, or the bracket after the last element
+-- the result of scanning the element with which the text begins, or the bracket after the last element; `None` if it is malformed
 unfoldable pub element : List ℕ → Option Step
 element text =
     if first text == right_bracket then Some (false, Top, after_line (drop 1 text))
     else option_map (λ rest. (true, Element, after_comma rest)) (after_value text)
 
--- the header or the entry that the text begins with
+-- the result of scanning the header or the entry with which the text begins, or `None` if it is malformed
 abbrev pub header_or_entry : Next → List ℕ → Option Step
 header_or_entry next text = if first text == left_bracket then header text else keyed_entry next text
 
--- the header, the entry or the element that the text begins with, or `None` if it is malformed; `next` is what the scan expects here
+-- the result of scanning the header, the entry or the element with which the text begins, or `None` if it is malformed; `next` is what the
+-- scan expects here
 unfoldable pub step : Next → List ℕ → Option Step
 step Element text = element text
 step Top text = header_or_entry Top text
@@ -140,19 +144,20 @@ step Table text = header_or_entry Table text
 
 -- ---- the list
 
--- the texts from each job on, given what was scanned at the beginning of this text; `jobs` are those of the text after it
+-- for each job, the suffix of the list's text that begins with it, given the result of scanning the beginning of this text; `jobs` returns
+-- the later ones
 abbrev pub jobs_of_step : (Next → List ℕ → List (List ℕ)) → List ℕ → Option Step → List (List ℕ)
 jobs_of_step jobs text None = []
 jobs_of_step jobs text (Some found) =
     if found.0 then text ∷ jobs found.1 found.2 else jobs found.1 found.2
 
--- the texts from each job on, if at most `n` headers, entries and elements are scanned
+-- for each job, the suffix of the list's text that begins with it, if at most `n` headers, entries and elements are scanned
 unfoldable pub jobs_from : ℕ → Next → List ℕ → List (List ℕ)
 jobs_from zero next text = []
 jobs_from (suc n) next text =
     if length text == 0 then [] else jobs_of_step (jobs_from n) text (step next text)
 
--- the texts from each job on, in a list's text without a byte order mark
+-- for each job, the suffix of the list's text that begins with it; the text has no byte order mark
 unfoldable pub jobs_of_text : List ℕ → List (List ℕ)
 jobs_of_text text = jobs_from (suc (length text)) Top (skip_blank text)
 

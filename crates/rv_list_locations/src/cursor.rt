@@ -18,7 +18,7 @@ pub struct Cursor<'a> {
 }
 
 impl<'a> Cursor<'a> {
-    /// Returns a cursor at the beginning of a text.
+    /// Returns a cursor that is at the beginning of a text.
     pub fn new(text: &'a [u8]) -> Cursor<'a>
         ensures text { result.text.now ≡ text.now }
         ensures counted { result.counted ≡ 0 }

@@ -39,8 +39,8 @@ pub(crate) struct KeyStep<'a> {
     pub(crate) rest: &'a str,
 }
 
-/// Returns the keys of the job that a text begins with, in order. A dotted key counts as its first part, and the header of a table in the
-/// job as the part after `job`, so a name may occur several times.
+/// Returns the keys of the job that a text begins with, in order. The name of a dotted key is its first part, and the name of a table in
+/// the job is the part of its header after `job`, so a name may occur several times.
 pub fn job_keys<'a>(alloc: Global, job: &'a str) -> Result<Vec<JobKey<'a>>, AllocError>
     ensures { IfOk result (λ keys. All IsNamedKey keys.items) }
 {
@@ -51,7 +51,7 @@ pub fn job_keys<'a>(alloc: Global, job: &'a str) -> Result<Vec<JobKey<'a>>, Allo
     }
 }
 
-// Appends the keys of the job that a text begins with.
+// Appends the keys of the job with which a text begins.
 fn push_job_keys<'a>(
     alloc: Global,
     job: &'a str,
@@ -76,7 +76,8 @@ fn push_job_keys<'a>(
     Ok(())
 }
 
-// Skips the header or bracket with which a job begins. Returns what comes next, and the text after it.
+// Skips the header or brace with which a job begins. Returns whether the job is a table or an inline table, and the text after what was
+// skipped.
 fn open_job(alloc: Global, job: &str) -> Result<(Inside, &str), ParseError> {
     if first(job) == b'{' {
         return Ok((Inside::Braces, skip_blank_lines(skip(job, 1))));
@@ -85,7 +86,7 @@ fn open_job(alloc: Global, job: &str) -> Result<(Inside, &str), ParseError> {
     Ok((Inside::Table, step.rest))
 }
 
-/// Scans an entry or a header in the text of a job.
+/// Scans an entry or a header in the text of a job. Returns its name, if it has one, and the text after it.
 pub(crate) fn scan_key_step(
     alloc: Global,
     here: &str,
@@ -109,7 +110,7 @@ pub(crate) fn scan_key_step(
     }
 }
 
-// Scans an entry of a job's table. The name is the first part of its key.
+// Scans an entry of a job's table. Returns the first part of its key, and the text after the entry.
 fn scan_job_entry(alloc: Global, here: &str) -> Result<KeyStep<'_>, ParseError>
     ensures named { IfOk result (λ step. IfSome step.name (λ name. BeginsWithName (string_bytes name) here.now)) }
     ensures shorter { IfOk result (λ step. length step.rest.now < length here.now) }
@@ -123,8 +124,8 @@ fn scan_job_entry(alloc: Global, here: &str) -> Result<KeyStep<'_>, ParseError>
     })
 }
 
-// Scans an entry of a job's inline table. The name is the first part of its key. Fails at the bracket after the last entry, which ends the
-// job.
+// Scans an entry of a job's inline table. Returns the first part of its key, and the text after the entry. Fails at the brace that closes
+// the table, which ends the job.
 fn scan_inline_entry(alloc: Global, here: &str) -> Result<KeyStep<'_>, ParseError>
     ensures named { IfOk result (λ step. IfSome step.name (λ name. BeginsWithName (string_bytes name) here.now)) }
     ensures shorter { IfOk result (λ step. length step.rest.now < length here.now) }
@@ -148,8 +149,8 @@ fn scan_name(alloc: Global, here: &str) -> Result<(String, &str), ParseError>
     Ok((name, behind))
 }
 
-// Scans a header after the beginning of a job: the header of the next job, which ends the job, or of a table in it, whose name is the part
-// after `job`.
+// Scans a header after the beginning of a job. The header of another job or table ends the job; the header of a table in the job has the
+// part after `job` as its name.
 fn scan_inner_header(alloc: Global, here: &str) -> Result<KeyStep<'_>, ParseError>
     requires { slice_index here.now 0 ≡ left_bracket }
     ensures named { IfOk result (λ step. IfSome step.name (λ name. BeginsWithName (string_bytes name) here.now)) }
@@ -185,7 +186,7 @@ fn scan_table_name(alloc: Global, header: &str) -> Result<Option<String>, ParseE
     }
 }
 
-/// Returns the text from the key of a header on, given the text from the header on.
+/// Returns the suffix of a text, which begins with a header, that begins with the key of the header.
 #[tactic(auto, unfolding(crate::specs::JobKeys::header_key))]
 pub(crate) fn after_brackets(header: &str) -> &str
     requires { slice_index header.now 0 ≡ left_bracket }

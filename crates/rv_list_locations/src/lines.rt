@@ -22,7 +22,7 @@ pub(crate) struct Lines<'a> {
 }
 
 impl<'a> Lines<'a> {
-    /// Returns no recorded lines of a text. Does not allocate.
+    /// Returns an empty record of lines of a text. Does not allocate.
     pub(crate) fn new(alloc: Global, text: &'a str) -> Lines<'a>
         ensures text { result.text.now ≡ text.now }
         ensures counted { result.counted ≡ 0 }
@@ -36,8 +36,7 @@ impl<'a> Lines<'a> {
         }
     }
 
-    /// Records the line of the byte with `left` bytes from it to the end of the text, or the line of the last recorded byte if that is
-    /// later.
+    /// Records the line of the byte before which the text has all but `left` bytes, or the line of the last recorded byte if that is later.
     pub(crate) fn push_line(&mut self, left: usize) -> Result<(), AllocError>
         ensures text { self.new.text.now ≡ self.old.text.now }
         ensures counted { self.new.counted ≡ max (length self.old.text.now - left) self.old.counted }

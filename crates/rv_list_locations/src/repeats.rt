@@ -24,7 +24,8 @@ struct Entries<'a> {
     inside: Inside,
 }
 
-/// Returns the key that is set for the second time where `left` bytes of the text remain, or `None` if no key is found there.
+/// Returns the key that a text sets for the second time, which begins where `left` bytes of the text remain, or `None` if no key is found
+/// there.
 pub fn repeated_key<'a>(
     alloc: Global,
     text: &'a str,
@@ -38,7 +39,7 @@ pub fn repeated_key<'a>(
 }
 
 // Scans the text, which has no byte order mark, up to the header, entry or element where `left` bytes remain, and returns the key that is
-// repeated there.
+// repeated there, or `None` if there is none.
 fn find_repeated_key<'a>(
     alloc: Global,
     text: &'a str,
@@ -61,8 +62,8 @@ fn find_repeated_key<'a>(
     Ok(None)
 }
 
-// Returns the repeated key of a header, an entry or an element: its own key if it begins where `left` bytes remain, or else a
-// repeated key of an inline table in it.
+// Returns the key that a header, an entry or an element repeats: its own key if it begins where `left` bytes remain, or else a key of an
+// inline table in it.
 fn repeated_in_step<'a>(
     alloc: Global,
     table: &'a str,
@@ -83,7 +84,7 @@ fn repeated_in_step<'a>(
     Ok(Some(repeated_entry(alloc, entries, step)?))
 }
 
-// Returns the repeated key in the innermost inline table that is open where `left` bytes remain.
+// Returns the key that is repeated in the innermost inline table that is open where `left` bytes remain, or `None` if there is none.
 fn repeated_in_braces<'a>(
     alloc: Global,
     step: &'a str,
@@ -114,7 +115,7 @@ fn repeated_in_braces<'a>(
     }
 }
 
-// Returns the key of an entry, with the first entry of its table whose key begins with all parts of that key.
+// Returns the key of an entry, with the first entry of its table whose key begins with all parts of the entry's key.
 fn repeated_entry<'a>(
     alloc: Global,
     entries: Entries<'a>,
@@ -140,7 +141,7 @@ fn repeated_entry<'a>(
     Ok(RepeatedKey { key, first: None })
 }
 
-// Whether the parts of a key begin with all parts of another key.
+// Whether the first parts of a key equal all parts of the key `parts`.
 fn begins_with_parts(key: &Key, parts: &Key) -> bool {
     let count = parts.path.len();
     if key.path.len() < count {

@@ -59,7 +59,7 @@ pub(crate) struct Step<'a> {
     pub(crate) rest: &'a str,
 }
 
-/// Returns the text of a list from each of its jobs on.
+/// Returns, for each job of a list, the suffix of the list's text that begins with the job.
 pub fn job_texts<'a>(alloc: Global, text: &'a str) -> Result<Vec<&'a str>, AllocError>
     ensures { IfOk result (λ jobs. now_texts jobs.items ≡ spec.jobs_of_text (skip_bom text.now)) }
 {
@@ -70,7 +70,7 @@ pub fn job_texts<'a>(alloc: Global, text: &'a str) -> Result<Vec<&'a str>, Alloc
     }
 }
 
-// Appends the text from each job on, for a list's text without a byte order mark.
+// Appends, for each job of a list, the suffix of the list's text that begins with the job. The text has no byte order mark.
 fn push_job_texts<'a>(
     alloc: Global,
     text: &'a str,
@@ -112,7 +112,7 @@ fn push_job_lines(alloc: Global, text: &str, lines: &mut Lines<'_>) -> Result<()
     Ok(())
 }
 
-/// Scans a header, an entry or an element.
+/// Scans a header, an entry or an element. Returns whether a job begins there, what comes next, and the text after it.
 #[tactic(auto, unfolding(crate::specs::JobLocations::step))]
 pub(crate) fn scan_step(alloc: Global, text: &str, next: Next) -> Result<Step<'_>, ParseError>
     ensures step { GivesStep result (spec.step next text.now) }
@@ -125,7 +125,7 @@ pub(crate) fn scan_step(alloc: Global, text: &str, next: Next) -> Result<Step<'_
     }
 }
 
-// Scans an element, or the bracket after the last element.
+// Scans an element, or the bracket after the last element. Returns whether a job begins there, what comes next, and the text after it.
 #[tactic(auto, unfolding(crate::specs::JobLocations::element))]
 fn scan_element(alloc: Global, text: &str) -> Result<Step<'_>, ParseError>
     ensures step { GivesStep result (spec.element text.now) }
@@ -146,7 +146,7 @@ fn scan_element(alloc: Global, text: &str) -> Result<Step<'_>, ParseError>
     })
 }
 
-// Scans a header, which begins with `[`.
+// Scans a header, which begins with `[`. Returns whether a job begins there, what comes next, and the text after it.
 fn scan_header(alloc: Global, text: &str) -> Result<Step<'_>, ParseError>
     requires { slice_index text.now 0 ≡ left_bracket }
     ensures step { GivesStep result (spec.header text.now) }
@@ -159,7 +159,8 @@ fn scan_header(alloc: Global, text: &str) -> Result<Step<'_>, ParseError>
     }
 }
 
-// Scans the header of an element of an array of tables, after its opening brackets. A job begins there if the key is `job`.
+// Scans the header of an element of an array of tables, whose opening brackets are already skipped. A job begins there if the key is `job`.
+// Returns whether it does, what comes next, and the text after the header.
 #[tactic(auto, unfolding(crate::specs::JobLocations::array_header))]
 fn scan_array_header(alloc: Global, inside: &str) -> Result<Step<'_>, ParseError>
     ensures step { GivesStep result (spec.array_header inside.now) }
@@ -177,7 +178,7 @@ fn scan_array_header(alloc: Global, inside: &str) -> Result<Step<'_>, ParseError
     }
 }
 
-// Scans the header of a table, after its opening bracket.
+// Scans the header of a table, whose opening bracket is already skipped. Returns what comes next, and the text after the header.
 #[tactic(auto, unfolding(crate::specs::JobLocations::table_header))]
 fn scan_table_header(alloc: Global, inside: &str) -> Result<Step<'_>, ParseError>
     ensures step { GivesStep result (spec.table_header inside.now) }
@@ -195,7 +196,8 @@ fn scan_table_header(alloc: Global, inside: &str) -> Result<Step<'_>, ParseError
     }
 }
 
-// Scans an entry. Before the first header, an array `job` is the list, and its elements come next.
+// Scans an entry. Before the first header, an array at the key `job` has the jobs, and its elements come next. Returns what comes next, and
+// the text after the entry or after the array's opening bracket.
 #[tactic(auto, unfolding(crate::specs::JobLocations::keyed_entry))]
 fn scan_entry(alloc: Global, text: &str, next: Next) -> Result<Step<'_>, ParseError>
     ensures step { GivesStep result (spec.keyed_entry next text.now) }
@@ -218,7 +220,8 @@ fn scan_entry(alloc: Global, text: &str, next: Next) -> Result<Step<'_>, ParseEr
     })
 }
 
-/// Returns the text from the value of an entry on, given the text after its key, or an empty text if no equals sign follows the key.
+/// Returns the suffix of a text that begins with the value of an entry. The text begins after the entry's key; without an equals sign
+/// there, returns an empty text.
 #[tactic(auto, unfolding(crate::specs::JobLocations::after_equals))]
 pub(crate) fn skip_equals_sign(text: &str) -> &str
     ensures text { result.now ≡ spec.after_equals text.now }
@@ -231,7 +234,7 @@ pub(crate) fn skip_equals_sign(text: &str) -> &str
     }
 }
 
-/// Returns the text from the next element on, or from the bracket after the last element on.
+/// Returns the suffix of a text that begins with the next element, or with the bracket after the last element.
 #[tactic(auto, unfolding(crate::specs::JobLocations::after_comma))]
 pub(crate) fn skip_comma(text: &str) -> &str
     ensures text { result.now ≡ spec.after_comma text.now }
@@ -245,7 +248,8 @@ pub(crate) fn skip_comma(text: &str) -> &str
     }
 }
 
-// Returns the text from the next header or entry on, or an empty text if the rest of the line is not a comment.
+// Returns the suffix of a text that begins with the next header or entry, or an empty text if something other than a comment is left on the
+// line.
 #[tactic(auto, unfolding(crate::specs::JobLocations::after_line))]
 fn skip_line_end(text: &str) -> &str
     ensures text { result.now ≡ spec.after_line text.now }

@@ -23,8 +23,8 @@ pub struct ValueSpan {
     pub end: usize,
 }
 
-/// Returns where the values of the jobs with a header `[[job]]` are, in order. Values in inline tables, at dotted keys and in tables below
-/// a job are not included. A text that is not TOML is scanned up to the first place that cannot be scanned.
+/// Returns the locations of the values of the jobs that have a header `[[job]]`, in order. Values in inline tables, at dotted keys and in
+/// tables below a job are not included. A text that is not TOML is scanned up to the first place that cannot be scanned.
 pub fn value_spans(alloc: Global, text: &str) -> Result<Vec<ValueSpan>, AllocError>
     ensures { IfOk result (λ spans. All (IsSpanIn text.now) spans.items) }
 {
@@ -35,7 +35,7 @@ pub fn value_spans(alloc: Global, text: &str) -> Result<Vec<ValueSpan>, AllocErr
     }
 }
 
-// Appends where the values of the jobs with a header `[[job]]` are.
+// Appends the locations of the values of the jobs that have a header `[[job]]`, in order.
 fn push_value_spans(alloc: Global, text: &str, spans: &mut Vec<ValueSpan>) -> Result<(), ParseError>
     requires { All (IsSpanIn text.now) spans.old.items }
     ensures { All (IsSpanIn text.now) spans.new.items }
@@ -60,7 +60,7 @@ fn push_value_spans(alloc: Global, text: &str, spans: &mut Vec<ValueSpan>) -> Re
     Ok(())
 }
 
-// Whether the text begins with a header.
+// Whether the text begins with a header. `what` is what the scan expects here.
 fn is_header(here: &str, what: Next) -> bool {
     match what {
         Next::Element => false,
@@ -68,7 +68,7 @@ fn is_header(here: &str, what: Next) -> bool {
     }
 }
 
-// Appends where the value of an entry is, given the text from the entry on. A dotted key is left out.
+// Appends the location of the value of an entry, with which the text `entry` begins, or nothing if the entry has a dotted key.
 fn push_value_span(
     alloc: Global,
     text: &str,

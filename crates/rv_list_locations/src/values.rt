@@ -11,7 +11,7 @@ use toml_parser::bytes::is_word;
 use toml_parser::text::{byte_at, first, skip, skip_blank};
 use toml_parser::{ErrorKind, ParseError, quoted, starts_string};
 
-/// Returns the text after a value.
+/// Returns the text after the value with which it begins.
 #[tactic(auto, unfolding(crate::specs::JobLocations::after_value))]
 pub(crate) fn skip_value(alloc: Global, text: &str) -> Result<&str, ParseError>
     ensures value { ReturnsText result (after_value text.now) }
@@ -24,7 +24,7 @@ pub(crate) fn skip_value(alloc: Global, text: &str) -> Result<&str, ParseError>
     }
 }
 
-// Returns the text after an array or an inline table: after the bracket that closes the last open one.
+// Returns the text after the array or inline table with which it begins, whose brackets may be nested.
 fn skip_brackets(alloc: Global, text: &str) -> Result<&str, ParseError>
     ensures value { ReturnsText result (after_brackets (suc (length text.now)) 0 text.now) }
     ensures shorter { IfOk result (λ rest. length rest.now < length text.now) }
@@ -41,7 +41,7 @@ fn skip_brackets(alloc: Global, text: &str) -> Result<&str, ParseError>
     }
 }
 
-// Returns the text after blanks, line ends and comments.
+// Returns the text after the blanks, line ends and comments with which it begins.
 pub(crate) fn skip_blank_lines(text: &str) -> &str
     ensures rest { result.now ≡ behind_blank text.now }
     ensures within { length result.now ≤ length text.now }
@@ -60,7 +60,7 @@ fn bracket_depth_after(depth: usize, byte: u8) -> usize
     }
 }
 
-/// Returns the text after a punctuation sign, a string or a word.
+/// Returns the text after the punctuation sign, string or word with which it begins.
 #[tactic(auto, unfolding(crate::specs::JobLocations::after_token))]
 pub(crate) fn skip_token(alloc: Global, text: &str) -> Result<&str, ParseError>
     ensures value { ReturnsText result (after_token text.now) }
@@ -73,7 +73,7 @@ pub(crate) fn skip_token(alloc: Global, text: &str) -> Result<&str, ParseError>
     }
 }
 
-// Returns the text after a string or a word.
+// Returns the text after the string or word with which it begins.
 #[tactic(auto, unfolding(crate::specs::JobLocations::after_string_or_word))]
 fn skip_string_or_word(alloc: Global, text: &str) -> Result<&str, ParseError>
     ensures value { ReturnsText result (after_string_or_word text.now) }
@@ -87,7 +87,7 @@ fn skip_string_or_word(alloc: Global, text: &str) -> Result<&str, ParseError>
     }
 }
 
-// Returns the text after a word, which is an unquoted key or a value that is not a string.
+// Returns the text after the word with which it begins, which is an unquoted key or a value that is not a string.
 fn skip_word(text: &str) -> Result<&str, ParseError>
     ensures value { ReturnsText result (after_word text.now) }
     ensures shorter { IfOk result (λ rest. length rest.now < length text.now) }

@@ -59,7 +59,7 @@ abbrev pub number_or_fault : ℕ → ℕ → What → ℤ → Result ℕ What
 number_or_fault low high fault (pos n) = if is_within low high n then Ok n else Err fault
 number_or_fault low high fault (negsuc n) = Err fault
 
--- the result of `f` for a value that must exist, or the error `fault` if there is none
+-- the result of `f` for the value, or the error `fault` if the value is missing
 abbrev pub required_value : {X Y : Type 0} → (X → Result Y What) → What → Option X → Result Y What
 required_value f fault None = Err fault
 required_value f fault (Some x) = f x
@@ -117,28 +117,28 @@ regions_from_elements (item d ds) = do
   regions ← regions_from_elements ds
   Ok (region ∷ regions)
 
--- these regions, or an error if they do not form a memory map, since `map_error` gives some error
+-- these regions, or an error if there is a `MapError`, because they do not form a memory map
 abbrev pub regions_if_map : List Region → Option MapError → Result (List Region) What
 regions_if_map regions None = Ok regions
 regions_if_map regions (Some e) = Err what.Region
 
--- the regions of the elements of `region`, if they form a memory map, or else an error
+-- the memory map that the elements of `region` form, or an error if one is invalid or they do not form one
 unfoldable pub map_from_elements : Items → Result (List Region) What
 map_from_elements ds = regions_from_elements ds >>= (λ regions. regions_if_map regions (map_error regions))
 
--- the regions of a job: those of `region`, or the default ones
+-- the memory map of a job: the regions of `region`, or the default ones if there is no such key
 unfoldable pub map_from_table : Members → Result (List Region) What
 map_from_table ms = reading_or_default map_from_elements default_regions (array_at_key (codes "region") ms)
 
 -- ---- where the image is loaded
 
--- whether segments are loaded at their physical or virtual addresses, from the value of `load`
+-- the addresses at which segments are loaded, from the value of `load`: `physical` or `virtual`; any other text is an error
 abbrev pub load_from_text : List ℕ → Result LoadAt What
 load_from_text t = if bytes_eq t (codes "physical") then Ok Physical
     else if bytes_eq t (codes "virtual") then Ok Virtual
     else Err what.Load
 
--- whether segments are loaded at their physical or virtual addresses; by default, at the physical ones
+-- the addresses at which a job's segments are loaded, physical or virtual; the default is physical
 unfoldable pub load_from_table : Members → Result LoadAt What
 load_from_table ms = reading_or_default load_from_text Physical (text_at_key (codes "load") ms)
 
@@ -174,7 +174,7 @@ exit_from_number z = number_or_fault 0 0xffff_ffff what.Expect z >>= (λ n. Ok (
 unfoldable pub exit_from_table : Members → Result (Option ℕ) What
 exit_from_table ms = reading_or_default exit_from_number None (number_at_key (codes "expect_exit") ms)
 
--- the path of the expected signature, or an error if it is invalid, or if the job has no signature, so that `has_signature` is false
+-- the path of the expected signature, or an error if it is invalid or the Bool says that the job has no signature
 abbrev pub reference_from_path : Bool → List ℕ → Result (Option (List ℕ)) What
 reference_from_path has_signature path = if has_signature && is_path path then Ok (Some path) else Err what.Expect
 
@@ -182,7 +182,7 @@ reference_from_path has_signature path = if has_signature && is_path path then O
 unfoldable pub reference_from_table : Bool → Members → Result (Option (List ℕ)) What
 reference_from_table has_signature ms = reading_or_default (reference_from_path has_signature) None (text_at_key (codes "expect_signature") ms)
 
--- the expected console with this text, or an error if the console cannot hold so many bytes
+-- the expected console with this text, or an error if the text is longer than a console can be
 abbrev pub console_from_text : List ℕ → Result (Option ExpectedConsole) What
 console_from_text text =
     if nat_le (length text) most_console then Ok (Some (Text text)) else Err what.Expect
@@ -191,7 +191,7 @@ console_from_text text =
 abbrev pub console_from_path : List ℕ → Result (Option ExpectedConsole) What
 console_from_path path = if is_path path then Ok (Some (File path)) else Err what.Expect
 
--- the expected console of a job from the values of `expect_console` and `expect_console_file`, of which at most one may be set
+-- the expected console of a job from the values of `expect_console` and `expect_console_file`; it is an error if both are set
 abbrev pub console_from_either : Option (List ℕ) → Option (List ℕ) → Result (Option ExpectedConsole) What
 console_from_either None None = Ok None
 console_from_either (Some text) None = console_from_text text
@@ -203,12 +203,12 @@ unfoldable pub console_from_table : Members → Result (Option ExpectedConsole) 
 console_from_table ms =
     console_from_either (text_at_key (codes "expect_console") ms) (text_at_key (codes "expect_console_file") ms)
 
--- the expected end by a fault of this kind, or an error if there is no kind
+-- the expected end by a fault of this kind, or an error if there is no such kind
 abbrev pub end_from_fault_kind : Option FaultKind → Result (Option ExpectedEnd) What
 end_from_fault_kind None = Err what.Expect
 end_from_fault_kind (Some kind) = Ok (Some (expected.Fault kind))
 
--- the expected end of a run from the value of `expect_end`: `budget`, or the name of a fault
+-- the expected end that a text names: `budget`, or the name of a fault; any other text is an error
 abbrev pub end_from_text : List ℕ → Result (Option ExpectedEnd) What
 end_from_text t = if bytes_eq t (codes "budget") then Ok (Some expected.Budget) else end_from_fault_kind (fault_named t)
 
@@ -220,7 +220,7 @@ end_from_table ms = reading_or_default end_from_text None (text_at_key (codes "e
 abbrev pub names_of_jobs : List Job → List (List ℕ)
 names_of_jobs jobs = map (λ (j : Job). j.name) jobs
 
--- the index of the job that `same_as` names, or an error if there is no index
+-- the index as the job of `same_as`, or an error if there is no index
 abbrev pub same_as_from_index : Option ℕ → Result (Option ℕ) What
 same_as_from_index None = Err what.SameAs
 same_as_from_index (Some k) = Ok (Some k)
@@ -229,7 +229,8 @@ same_as_from_index (Some k) = Ok (Some k)
 abbrev pub same_as_from_name : List (List ℕ) → List ℕ → Result (Option ℕ) What
 same_as_from_name earlier t = same_as_from_index (index_in earlier t)
 
--- the index of the job whose results a job must have, or `None` if there is no `same_as`; `earlier` are the names of the earlier jobs
+-- the index of the job that `same_as` of a job names, or `None` if there is no `same_as`; `earlier` are the names of the earlier jobs, and
+-- it is an error if none has the name
 unfoldable pub same_as_from_table : List (List ℕ) → Members → Result (Option ℕ) What
 same_as_from_table earlier ms = reading_or_default (same_as_from_name earlier) None (text_at_key (codes "same_as") ms)
 
@@ -247,13 +248,13 @@ isa_from_text t = if bytes_eq t (codes "rv32i") then Ok isa.I
 unfoldable pub isa_from_table : Members → Result Isa What
 isa_from_table ms = reading_or_default isa_from_text isa.Imc (text_at_key (codes "isa") ms)
 
--- whether misaligned accesses are rejected, from the value of `misaligned`
+-- what misaligned accesses do, from the value of `misaligned`: `fault` or `allow`; any other text is an error
 abbrev pub misaligned_from_text : List ℕ → Result Choice What
 misaligned_from_text t = if bytes_eq t (codes "fault") then Ok Fault
     else if bytes_eq t (codes "allow") then Ok Allow
     else Err what.Misaligned
 
--- whether misaligned accesses are rejected in a job's run; by default they are
+-- what misaligned accesses do in a job's run: they are faults, unless `misaligned` allows them
 unfoldable pub misaligned_from_table : Members → Result Choice What
 misaligned_from_table ms = reading_or_default misaligned_from_text Fault (text_at_key (codes "misaligned") ms)
 
@@ -303,8 +304,8 @@ job_from_element earlier _ = Err what.WrongType
 
 -- ---- the whole list
 
--- the jobs of the elements of `job`, or the first bad job with its error; `n` is the number of the first element, and `earlier` are the
--- names of the jobs before it
+-- the jobs of the elements of `job`, or the error of the first bad job, with its number; `n` is the number of the first element, and
+-- `earlier` are the names of the jobs before it
 unfoldable pub jobs_of_elements : ℕ → List (List ℕ) → Items → Result (List Job) JobError
 jobs_of_elements n earlier no_items = Ok []
 jobs_of_elements n earlier (item d ds) = do
@@ -323,7 +324,7 @@ abbrev pub has_too_many_jobs : Option Data → Bool
 has_too_many_jobs (Some (array ds)) = nat_lt most_jobs (item_count ds)
 has_too_many_jobs _ = false
 
--- the elements of a value that is an array, or else an error
+-- the elements of a value that is an array, or an error if it is not
 abbrev pub array_elements : Option Data → Result Items What
 array_elements (Some (array ds)) = Ok ds
 array_elements _ = Err what.WrongType
@@ -336,7 +337,7 @@ job_elements ms = do
   known ← fault_if (any_unknown_key is_list_key ms) what.UnknownKey
   array_elements (get_member (codes "job") ms)
 
--- the jobs of a TOML document, or the first error; `None` is a text that is not a TOML document
+-- the jobs of a TOML document, or the first error; `None` means that a text is not a TOML document
 unfoldable pub jobs_of_document : Option Members → Result (List Job) JobError
 jobs_of_document None = Err (record { job = 0; what = what.NotToml })
 jobs_of_document (Some ms) = numbered_reading 0 (job_elements ms) >>= jobs_of_elements 1 []
@@ -345,6 +346,6 @@ jobs_of_document (Some ms) = numbered_reading 0 (job_elements ms) >>= jobs_of_el
 abbrev pub document_of : List ℕ → Option Members
 document_of bytes = if is_utf8 bytes then parse_document bytes else None
 
--- the jobs of the list with this text, or the number of the first bad job and its error; the number is 0 for an error of the whole list
+-- the jobs of the list with this text, or the error of the first bad job, with its number; the number is 0 for an error of the whole list
 unfoldable pub job_list_of : List ℕ → Result (List Job) JobError
 job_list_of bytes = jobs_of_document (document_of bytes)

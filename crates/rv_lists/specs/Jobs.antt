@@ -32,11 +32,11 @@ pub record AreJobs (jobs : List Job) : Type 0 where
   pub few : length jobs ≤ most_jobs
   pub each : (k : ℕ) (d : Job) → k < length jobs → IsJob k (slice_index_or jobs k d)
 
--- the job with this budget instead of its own
+-- the job with its budget replaced by this one
 abbrev pub job_with_budget : ℕ → Job → Job
 job_with_budget steps job = record job { budget = steps }
 
--- the jobs, each with this budget instead of its own, if a budget is given
+-- the jobs with their budgets replaced by this one, or unchanged if no budget is given
 abbrev pub with_budget : Option ℕ → List Job → List Job
 with_budget None jobs = jobs
 with_budget (Some steps) jobs = map (job_with_budget steps) jobs

@@ -9,7 +9,7 @@ use Rattle.toml.specs.Data.{get_member, as_str, as_integer, as_bool, as_array}
 
 -- ---- values
 
--- whether some item satisfies the predicate `p`
+-- whether at least one item satisfies the predicate `p`
 unfoldable pub any_item : (Data → Bool) → Items → Bool
 any_item p no_items = false
 any_item p (item d ds) = p d || any_item p ds
@@ -42,12 +42,12 @@ array_at_key k ms = option_and_then as_array (get_member k ms)
 
 -- ---- keys, each with its type
 
--- a key, and whether a value has the type that the key requires
+-- a key: its name, and a predicate that is true of the values that have the required type
 pub record Key : Type 0 where
   pub name : List ℕ
   pub is_of_kind : Data → Bool
 
--- the key with this name and this predicate for the type of its value
+-- the key with this name, whose values must satisfy this predicate
 abbrev pub key : List ℕ → (Data → Bool) → Key
 key name is_of_kind = record { name = name; is_of_kind = is_of_kind }
 
@@ -59,7 +59,7 @@ absent_or p k ms = option_map_or p (get_member k ms) true
 abbrev pub has_kinds_of_keys : List Key → Members → Bool
 has_kinds_of_keys keys ms = list_all (λ (k : Key). absent_or k.is_of_kind k.name ms) keys
 
--- whether one of these keys has this name
+-- whether `name` is one of these keys
 abbrev pub is_key_among : List Key → List ℕ → Bool
 is_key_among keys name = list_any (λ (k : Key). bytes_eq name k.name) keys
 
@@ -120,39 +120,39 @@ job_keys =
     ∷ key (codes "misaligned") is_text
     ∷ []
 
--- whether a value of a job has another type than its key requires, also in a region or a signature
+-- whether a value of a job does not have the type that its key requires; this includes the values in regions and in a signature
 unfoldable pub has_wrong_kind : Members → Bool
 has_wrong_kind ms = not (has_kinds_of_keys job_keys ms)
 
 -- ---- unknown keys
 
--- whether jobs have a key with this name
+-- whether a job may have a key with this name
 abbrev pub is_job_key : List ℕ → Bool
 is_job_key name = is_key_among job_keys name
 
--- whether regions have a key with this name
+-- whether a region may have a key with this name
 abbrev pub is_region_key : List ℕ → Bool
 is_region_key name = is_key_among region_keys name
 
--- whether the whole list has a key with this name: only `job`
+-- whether the whole list may have a key with this name: only `job`
 abbrev pub is_list_key : List ℕ → Bool
 is_list_key name = bytes_eq name (codes "job")
 
--- whether a table has a key that is not known
+-- whether a table has a key that does not satisfy `known`
 unfoldable pub any_unknown_key : (List ℕ → Bool) → Members → Bool
 any_unknown_key known no_members = false
 any_unknown_key known (member k d ms) = not (known k) || any_unknown_key known ms
 
--- whether a value is a table with a key that regions do not have
+-- whether a value is a table with a key that regions may not have
 abbrev pub region_has_unknown_key : Data → Bool
 region_has_unknown_key (table ms) = any_unknown_key is_region_key ms
 region_has_unknown_key _ = false
 
--- whether some region of a job has a key that regions do not have
+-- whether at least one region of a job has a key that regions may not have
 abbrev pub regions_have_unknown_key : Members → Bool
 regions_have_unknown_key ms =
     option_map_or (any_item region_has_unknown_key) (array_at_key (codes "region") ms) false
 
--- whether a job has a key that jobs do not have, or one of its regions has a key that regions do not have
+-- whether a job has a key that jobs may not have, or one of its regions has a key that regions may not have
 unfoldable pub has_unknown_job_or_region_key : Members → Bool
 has_unknown_job_or_region_key ms = any_unknown_key is_job_key ms || regions_have_unknown_key ms

@@ -9,22 +9,22 @@ use Rattle.rv_lists.specs.declared.error.JobError.{JobError}
 use Rattle.rv_lists.specs.JobList.{name_from_table, job_from_element, job_elements, document_of}
 use Rattle.rv_base.specs.Names.{index_in}
 
--- the error of the job with the number `n`, if the result of reading it is an error, as a list of at most one
+-- a list with the error of the job with the number `n`, or an empty list if there is no error
 abbrev pub numbered_fault : {A : Type 0} → ℕ → Result A What → List JobError
 numbered_fault n (Ok x) = []
 numbered_fault n (Err w) = record { job = n; what = w } ∷ []
 
--- the name that was read, if it is valid and not among these names
+-- the name, or `None` if it is invalid or already among these names
 abbrev pub unused_name : List (List ℕ) → Result (List ℕ) What → Option (List ℕ)
 unused_name names (Ok name) = if is_some (index_in names name) then None else Some name
 unused_name names (Err fault) = None
 
--- the name that an element reserves, whether its job is good or bad: a valid name that is not among the reserved ones
+-- the name that an element reserves, whether its job is good or bad, or `None` if its name is missing, invalid or already reserved
 unfoldable pub name_taken_by_element : List (List ℕ) → Data → Option (List ℕ)
 name_taken_by_element names (table ms) = unused_name names (name_from_table ms)
 name_taken_by_element names _ = None
 
--- the reserved names, and the name that one more element reserves, if any
+-- the reserved names with one more name appended, or unchanged if there is no name
 abbrev pub names_with_taken : List (List ℕ) → Option (List ℕ) → List (List ℕ)
 names_with_taken names None = names
 names_with_taken names (Some name) = names ++ name ∷ []
@@ -41,7 +41,7 @@ abbrev pub faults_or_list_fault : Result Items What → List JobError
 faults_or_list_fault (Ok ds) = faults_of_elements 1 [] ds
 faults_or_list_fault (Err w) = record { job = 0; what = w } ∷ []
 
--- the errors of a TOML document; `None` is a text that is not a TOML document
+-- the errors of a TOML document; `None` means that a text is not a TOML document
 unfoldable pub faults_of_document : Option Members → List JobError
 faults_of_document None = record { job = 0; what = what.NotToml } ∷ []
 faults_of_document (Some ms) = faults_or_list_fault (job_elements ms)

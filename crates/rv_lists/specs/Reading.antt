@@ -7,12 +7,12 @@ use Rattle.rv_lists.specs.declared.error.JobError.{JobError}
 
 -- the second step, if the first succeeded
 infixl 10 ◌>>=◌
--- the result of the second step for the value of the first, or the error of the first
+-- the result of `f` for the value of the first step, or the error of the first step
 abbrev pub ◌>>=◌ : {F A B : Type 0} → Result A F → (A → Result B F) → Result B F
 (Ok x) >>= f = f x
 (Err e) >>= f = Err e
 
--- the error `fault` if the condition holds
+-- the error `fault` if the condition is true, or else success
 abbrev pub fault_if : Bool → What → Result (Unit {0}) What
 fault_if b fault = if b then Err fault else Ok tt
 
@@ -21,7 +21,7 @@ abbrev pub passing_value : {X : Type 0} → (X → Bool) → What → Option X �
 passing_value p fault None = Err fault
 passing_value p fault (Some x) = if p x then Ok x else Err fault
 
--- the result of `f` for a value that may be missing; the default `y` if it is
+-- the result of `f` for the value, or the default `y` if the value is missing
 abbrev pub reading_or_default : {X Y : Type 0} → (X → Result Y What) → Y → Option X → Result Y What
 reading_or_default f y None = Ok y
 reading_or_default f y (Some x) = f x

@@ -19,8 +19,9 @@ use rv_base::{Bytes, Text};
 use std::alloc::{AllocError, Global};
 use toml::{Table, Value};
 
-/// Returns all errors of a list: a single one of the whole list, with job 0, or the first error of each bad job, in list order. The name of
-/// a bad job is reserved if it is valid and not reserved before. Fails only if an allocation fails.
+/// Returns all errors of a list: a single error of the whole list, with job 0, or the first error of each bad job, in list order. A bad job
+/// reserves its name, if the name is valid and not already reserved, so that a later job with this name is bad. Fails only if an allocation
+/// fails.
 #[tactic(auto, unfolding(crate::specs::ListFaults::list_faults))]
 pub fn read_faults(alloc: Global, bytes: &[u8]) -> Result<Vec<JobError>, AllocError>
     ensures { IfOk result (λ faults. faults.items ≡ list_faults bytes.now) }
@@ -37,7 +38,7 @@ pub fn read_faults(alloc: Global, bytes: &[u8]) -> Result<Vec<JobError>, AllocEr
     }
 }
 
-/// Returns this error of the whole list as the only one.
+/// Returns a list with only this error, which is an error of the whole list.
 fn single_list_fault(alloc: Global, what: What) -> Result<Vec<JobError>, AllocError>
     ensures { IfOk result (λ faults. faults.items ≡ record { job = 0; what = what } ∷ []) }
 {
@@ -71,7 +72,7 @@ fn faults_of_elements(alloc: Global, elements: &[Value]) -> Result<Vec<JobError>
     Ok(faults)
 }
 
-/// Adds the job of an element to the jobs read so far, or, if it is bad, reserves its name and records its error.
+/// Adds the job of an element to the earlier jobs. If the element is bad, reserves its name and adds its error to `faults`.
 fn add_element_or_fault(
     alloc: Global,
     earlier: EarlierJobs,
@@ -96,8 +97,8 @@ fn add_element_or_fault(
     }
 }
 
-/// Reserves the name of a bad element, if it is valid and not reserved before: adds a job with this name and default values to the jobs
-/// read so far.
+/// Returns the earlier jobs with a job that reserves the name of a bad element, if the name is valid and not already reserved. This job has
+/// default values.
 fn reserve_bad_job_name(
     alloc: Global,
     earlier: EarlierJobs,
@@ -119,7 +120,8 @@ fn reserve_bad_job_name(
     }
 }
 
-/// Returns the name that an element reserves, whether its job is good or bad, or `None` if it has no valid name that is not reserved.
+/// Returns the name that an element reserves, whether its job is good or bad, or `None` if its name is missing, invalid or already
+/// reserved.
 #[tactic(auto, unfolding(crate::specs::ListFaults::name_taken_by_element))]
 fn name_taken_by_element<'a>(earlier: &EarlierJobs, element: &'a Value) -> Option<&'a str>
     ensures value { option_map (λ name. name.now) result

@@ -32,7 +32,7 @@ impl Model for EarlierJobs {
 }
 
 impl EarlierJobs {
-    /// Returns no jobs. Does not allocate.
+    /// Returns an empty list of jobs. Does not allocate.
     pub(crate) fn new(alloc: Global) -> EarlierJobs
         ensures { result ≡ [] }
     {
@@ -51,7 +51,7 @@ impl EarlierJobs {
         self.places.get(name).copied()
     }
 
-    /// Returns the jobs with one more, whose name no other job has.
+    /// Returns the jobs with one more job appended, whose name none of them has.
     pub(crate) fn append_job(self, alloc: Global, job: Job) -> Result<EarlierJobs, AllocError>
         requires fresh { index_in (names_of_jobs self) job.name ≡ None }
         requires good { IsJob (length self) job }

@@ -88,6 +88,7 @@ impl What {
 impl From<AllocError> for What {
     ghost from_gives = { λ _ w. w ≡ OutOfMemory };
 
+    // Returns the error for a failed allocation: out of memory.
     fn from(_error: AllocError) -> What {
         What::OutOfMemory
     }
@@ -96,6 +97,7 @@ impl From<AllocError> for What {
 impl<T: Drop> From<AllocFailed<T>> for What {
     ghost from_gives = { λ _ w. w ≡ OutOfMemory };
 
+    // Returns the error for a failed allocation: out of memory.
     fn from(_error: AllocFailed<T>) -> What {
         What::OutOfMemory
     }

@@ -17,7 +17,7 @@ use rv_machine::FaultKind;
 use std::alloc::Global;
 use toml::Table;
 
-/// Returns the expected exit code of a job, or `None` if it expects none.
+/// Returns the expected exit code of a job, or `None` if it expects none. A code that does not fit in 32 bits is an error.
 #[tactic(auto, unfolding(crate::specs::JobList::exit_from_table))]
 pub(crate) fn exit_from_table(table: &Table) -> Result<Option<u32>, What>
     ensures { result ≡ exit_from_table (table_view table.now) }
@@ -56,7 +56,7 @@ pub(crate) fn reference_from_table(
     }
 }
 
-/// Returns the expected console of a job, or `None` if it expects none.
+/// Returns the expected console of a job, or `None` if it expects none. It is an error if both keys are set or the value is invalid.
 #[tactic(auto, unfolding(crate::specs::JobList::console_from_table))]
 pub(crate) fn console_from_table(
     alloc: Global,
@@ -109,7 +109,7 @@ pub(crate) fn end_from_table(table: &Table) -> Result<Option<ExpectedEnd>, What>
     }
 }
 
-// Returns the expected end from the value of `expect_end`: `budget`, or the name of a fault.
+// Returns the expected end that a text names: `budget`, or the name of a fault. Any other text is an error.
 fn end_from_text(text: &str) -> Result<Option<ExpectedEnd>, What>
     ensures { result ≡ end_from_text text.now }
 {

@@ -169,7 +169,7 @@ impl JobList {
         JobList { items }
     }
 
-    /// Replaces the budget of each job, if a budget is given. Does not allocate.
+    /// Returns the list with this budget for each job, or unchanged if no budget is given. Does not allocate.
     pub fn with_budget(self, budget: Option<u32>) -> JobList
         ensures jobs { result ≡ with_budget budget self }
         ensures count { length result ≡ length self }
@@ -180,7 +180,7 @@ impl JobList {
         }
     }
 
-    // Replaces the budget of each job.
+    // Returns the list with this budget for each job.
     fn with_one_budget(self, steps: u32) -> JobList
         ensures { result ≡ map (job_with_budget steps) self }
     {
@@ -199,7 +199,7 @@ impl JobList {
         &self.items
     }
 
-    /// Removes the expectations of all jobs. Does not allocate.
+    /// Returns the list without the expectations of its jobs. Does not allocate.
     pub fn without_expectations(self) -> JobList
         ensures { result ≡ map without_expectations self }
     {

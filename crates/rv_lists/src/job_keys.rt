@@ -23,7 +23,7 @@ use rv_base::{Text, is_name};
 use std::alloc::Global;
 use toml::{Table, Value};
 
-/// Returns the job of an element of a list, or its first error, given the jobs read so far.
+/// Returns the job of an element of a list, or its first error. `earlier` are the jobs before it.
 #[tactic(auto, unfolding(crate::specs::JobList::job_from_element))]
 pub(crate) fn job_from_element(
     alloc: Global,
@@ -40,7 +40,7 @@ pub(crate) fn job_from_element(
     }
 }
 
-// Returns the job of a table, or its first error, given the jobs read so far.
+// Returns the job of a table, or its first error. `earlier` are the jobs before it.
 #[tactic(auto, unfolding(crate::specs::JobList::job_from_table))]
 fn job_from_table(alloc: Global, earlier: &EarlierJobs, table: &Table) -> Result<Job, What>
     ensures value { Gives result (job_from_table (names_of_jobs earlier.now) (table_view table.now)) }

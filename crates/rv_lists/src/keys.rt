@@ -89,14 +89,14 @@ pub(crate) fn array_at_key<'a>(table: &'a Table, key: &str) -> Option<&'a Array>
     }
 }
 
-/// Whether a job's table has an unknown key.
+/// Whether a job's table has a key that jobs may not have.
 pub(crate) fn has_unknown_job_key(table: &Table) -> bool
     ensures { result ≡ any_unknown_key is_job_key (table_view table.now) }
 {
     table.keys().any(|key| !is_job_key(key.as_str()))
 }
 
-/// Whether a region's table has an unknown key.
+/// Whether a region's table has a key that regions may not have.
 pub(crate) fn has_unknown_region_key(table: &Table) -> bool
     ensures { result ≡ any_unknown_key is_region_key (table_view table.now) }
 {
@@ -110,21 +110,21 @@ pub(crate) fn has_unknown_list_key(table: &Table) -> bool
     table.keys().any(|key| !(key.as_str() == "job"))
 }
 
-// Whether jobs have a key with this name.
+// Whether a job may have a key with this name.
 fn is_job_key(name: &str) -> bool
     ensures { result ≡ is_job_key name.now }
 {
     is_key_among(&JOB_KEYS, name)
 }
 
-// Whether one of these keys has this name.
+// Whether `name` is one of these keys.
 fn is_key_among(keys: &[(&str, Kind)], name: &str) -> bool
     ensures { result ≡ list_any (λ key. bytes_eq name.now key.0.now) keys.now }
 {
     keys.iter().any(|key| name == key.0)
 }
 
-// Whether regions have a key with this name.
+// Whether a region may have a key with this name.
 fn is_region_key(name: &str) -> bool
     ensures { result ≡ is_region_key name.now }
 {

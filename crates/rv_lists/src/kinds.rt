@@ -14,7 +14,7 @@ use crate::keys::{
 };
 use toml::{Table, Value};
 
-/// Whether a job has a key that jobs do not have, or one of its regions has a key that regions do not have.
+/// Whether a job has a key that jobs may not have, or one of its regions has a key that regions may not have.
 #[tactic(auto, unfolding(crate::specs::Keys::has_unknown_job_or_region_key))]
 pub(crate) fn has_unknown_job_or_region_key(table: &Table) -> bool
     ensures { result ≡ has_unknown_job_or_region_key (table_view table.now) }
@@ -22,7 +22,7 @@ pub(crate) fn has_unknown_job_or_region_key(table: &Table) -> bool
     has_unknown_job_key(table) || regions_have_unknown_key(table)
 }
 
-/// Whether a value of a job has another type than its key requires, also in a region or a signature.
+/// Whether a value of a job does not have the type that its key requires; this includes the values in regions and in a signature.
 #[tactic(auto, unfolding(crate::specs::Keys::has_wrong_kind))]
 pub(crate) fn has_wrong_kind(table: &Table) -> bool
     ensures { result ≡ has_wrong_kind (table_view table.now) }
@@ -30,7 +30,7 @@ pub(crate) fn has_wrong_kind(table: &Table) -> bool
     !has_kinds_of_job_keys(table)
 }
 
-// Whether some region of a job has a key that regions do not have.
+// Whether at least one region of a job has a key that regions may not have.
 fn regions_have_unknown_key(table: &Table) -> bool
     ensures { result ≡ regions_have_unknown_key (table_view table.now) }
 {
@@ -40,14 +40,14 @@ fn regions_have_unknown_key(table: &Table) -> bool
     }
 }
 
-// Whether one of these values is a table with a key that regions do not have.
+// Whether at least one of these values is a table with a key that regions may not have.
 fn any_region_has_unknown_key(regions: &[Value]) -> bool
     ensures { result ≡ list_any (λ v. region_has_unknown_key (view v)) regions.now }
 {
     regions.iter().any(|region| region_has_unknown_key(region))
 }
 
-// Whether a value is a table with a key that regions do not have.
+// Whether a value is a table with a key that regions may not have.
 fn region_has_unknown_key(region: &Value) -> bool
     ensures { result ≡ region_has_unknown_key (view region.now) }
 {

@@ -37,7 +37,7 @@ pub fn read_jobs(alloc: Global, bytes: &[u8]) -> Result<JobList, JobError>
     }
 }
 
-/// Returns this error of the whole list.
+/// Returns this error as an error of the whole list, with job 0.
 pub(crate) fn list_error(what: What) -> JobError
     ensures { result ≡ record { job = 0; what = what } }
 {
@@ -108,7 +108,7 @@ fn has_too_many_jobs(value: Option<&Value>) -> bool
     }
 }
 
-// Returns the jobs of the elements of `job`, or the first bad job with its error.
+// Returns the jobs of the elements of `job`, or the error of the first bad job, with its number.
 fn jobs_of_elements(alloc: Global, elements: &[Value]) -> Result<JobList, JobError>
     requires { length elements.now ≤ most_jobs }
     ensures { GivesJobs result (jobs_of_elements 1 [] (items_view elements.now)) }

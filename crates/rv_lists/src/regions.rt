@@ -13,7 +13,7 @@ use rv_memory::{Map, Region};
 use std::alloc::Global;
 use toml::{Table, Value};
 
-/// Returns the regions of a job: those of `region`, or the default map if there is no such key.
+/// Returns the memory map of a job: the regions of `region`, or the default map if there is no such key.
 #[tactic(auto, unfolding(crate::specs::JobList::map_from_table))]
 pub(crate) fn map_from_table(alloc: Global, table: &Table) -> Result<Map, What>
     ensures { Gives result (map_from_table (table_view table.now)) }
@@ -24,7 +24,7 @@ pub(crate) fn map_from_table(alloc: Global, table: &Table) -> Result<Map, What>
     }
 }
 
-// Returns the regions of the elements of `region`, or an error if one is invalid or they do not form a memory map.
+// Returns the memory map that the elements of `region` form, or an error if one is invalid or they do not form one.
 #[tactic(auto, unfolding(crate::specs::JobList::map_from_elements))]
 fn map_from_elements(alloc: Global, elements: &[Value]) -> Result<Map, What>
     ensures { Gives result (map_from_elements (items_view elements.now)) }
@@ -63,7 +63,7 @@ fn region_from_element(value: &Value) -> Result<Region, What>
     }
 }
 
-// Returns the region of a table. It is writable unless `write` is false.
+// Returns the region of a table, or an error if its base or size is missing or out of range. It is writable unless `write` is false.
 #[tactic(auto, unfolding(crate::specs::JobList::region_from_table))]
 fn region_from_table(table: &Table) -> Result<Region, What>
     ensures { result ≡ region_from_table (table_view table.now) }

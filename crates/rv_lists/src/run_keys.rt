@@ -23,7 +23,8 @@ pub(crate) struct RunOptions {
     pub(crate) misaligned: Misaligned,
 }
 
-/// Returns the values of the last four keys of a job, or the first error, given the jobs read so far.
+/// Returns the expected end, the job of `same_as`, the instruction set, and the treatment of misaligned accesses of a job, or the first
+/// error. `earlier` are the jobs before it.
 #[tactic(auto, unfolding(crate::specs::JobSteps::run_options_from_table))]
 pub(crate) fn run_options_from_table(
     earlier: &EarlierJobs,
@@ -45,7 +46,8 @@ pub(crate) fn run_options_from_table(
     })
 }
 
-// Returns the index of the job whose results a job must have, or `None` if there is no `same_as`.
+// Returns the index of the job that `same_as` of a job names, or `None` if there is no `same_as`. It is an error if no earlier job has the
+// name.
 #[tactic(auto, unfolding(crate::specs::JobList::same_as_from_table))]
 fn same_as_from_table(earlier: &EarlierJobs, table: &Table) -> Result<Option<usize>, What>
     ensures value { result ≡ same_as_from_table (names_of_jobs earlier.now) (table_view table.now) }
@@ -88,7 +90,7 @@ fn isa_from_text(text: &str) -> Result<Isa, What>
     }
 }
 
-// Returns whether misaligned accesses are rejected in a job's run. By default they are.
+// Returns what misaligned accesses do in a job's run: they are faults, unless `misaligned` allows them.
 #[tactic(auto, unfolding(crate::specs::JobList::misaligned_from_table))]
 fn misaligned_from_table(table: &Table) -> Result<Misaligned, What>
     ensures { result ≡ misaligned_from_table (table_view table.now) }
@@ -99,7 +101,7 @@ fn misaligned_from_table(table: &Table) -> Result<Misaligned, What>
     }
 }
 
-// Returns whether misaligned accesses are rejected, from the value of `misaligned`.
+// Returns what misaligned accesses do, from the value of `misaligned`: `fault` or `allow`. Any other text is an error.
 fn misaligned_from_text(text: &str) -> Result<Misaligned, What>
     ensures { result ≡ misaligned_from_text text.now }
 {

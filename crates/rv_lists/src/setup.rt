@@ -88,7 +88,7 @@ fn script_from_hex(alloc: Global, digits: &str) -> Result<Bytes, What>
     }
 }
 
-// Returns whether segments are loaded at their physical or virtual addresses. The default is the physical ones.
+// Returns the addresses at which a job's segments are loaded, physical or virtual. The default is physical.
 #[tactic(auto, unfolding(crate::specs::JobList::load_from_table))]
 fn load_from_table(table: &Table) -> Result<LoadAt, What>
     ensures { result ≡ load_from_table (table_view table.now) }
@@ -99,7 +99,7 @@ fn load_from_table(table: &Table) -> Result<LoadAt, What>
     }
 }
 
-// Returns whether segments are loaded at their physical or virtual addresses, from the value of `load`.
+// Returns the addresses at which segments are loaded, from the value of `load`: `physical` or `virtual`. Any other text is an error.
 fn load_from_text(text: &str) -> Result<LoadAt, What>
     ensures { result ≡ load_from_text text.now }
 {
