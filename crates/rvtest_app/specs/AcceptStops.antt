@@ -87,7 +87,7 @@ IsAcceptingStop known words jobs why = (why ≡ stop.OutOfMemory) ⊎ ((why ≡ 
 abbrev pub IsAcceptChosenStop : Option FileContents → AcceptArgs → List Job → Stop → Type 0
 IsAcceptChosenStop known words jobs why = IsAcceptOverwriteStop why ⊎ IsAcceptingStop known words jobs why
 
--- why `accept` stopped after it read a valid list: the choice of jobs was made, but the chosen jobs could not be accepted
+-- why `accept` stopped after it read a valid list: the jobs that it chose could not be accepted
 abbrev pub IsUnacceptedStop : Option FileContents → AcceptArgs → Stop → Type 0
 IsUnacceptedStop known words why = (text : List ℕ) × (IsTextAt known words.run.list.now text
     × ((jobs : List Job) × ((job_list_of text ≡ Ok jobs) × IsAcceptChosenStop known words jobs why)))

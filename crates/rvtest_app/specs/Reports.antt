@@ -74,8 +74,8 @@ pub record IsDiffOfReports (compare : Compare) (before after : SavedReport) (out
       (left_out_count before after)
   pub judged : status ≡ diff_status (counts_of_differing compare (compared_rows after before) (compared_rows before after))
 
--- `output`, `notes` and `status` are those of `diff` for the reports with the texts `old` and `new`; a note says how many rows a truncated
--- report has
+-- `output`, `notes` and `status` are the output, the notes and the exit status of `diff` for the reports with the texts `old` and `new`; a
+-- note says how many rows a truncated report has
 pub record IsDiffOf (words : DiffArgs) (old new output notes : List ℕ) (status : ℕ) : Type 0 where
   pub before : PartialReport
   pub before_is : IsReportRead words.partial old before
