@@ -40,8 +40,8 @@ pub record HasWholeRows (bytes : List ℕ) (report : SavedReport) (count : ℕ) 
 abbrev pub IsNotAReport : List ℕ → Type 0
 IsNotAReport bytes = (report : SavedReport) → IsSaved report → saved_text report ≡ bytes → ⊥
 
--- `read` is the result for a text that may be truncated: if the Boolean is false, the text is that of the report `read`; if it is true, the
--- text is not a report, and `read` has its complete rows
+-- `read` is the result for a text that may be truncated: if the Boolean is false, `read` is the report with this text; if it is true, no
+-- report has this text, and `read` has its complete rows
 abbrev pub IsReadAs : List ℕ → Bool → SavedReport → Type 0
 IsReadAs bytes false read = IsSaved read × (saved_text read ≡ bytes)
 IsReadAs bytes true read = IsNotAReport bytes
