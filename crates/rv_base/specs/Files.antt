@@ -8,7 +8,8 @@ use Rattle.rv_base.specs.declared.store.ReadError.TheVariants as error
 abbrev pub FileContents : Type 0
 FileContents = List ℕ → Option (List ℕ)
 
--- the number of unreadable files after a read failed with this error, if it was `n` before; only an unreadable file counts
+-- the number of unreadable files after a read failed with this error, if it was `n` before: one more if the file was unreadable, and `n`
+-- for any other error
 abbrev pub faults_after : ReadError → ℕ → ℕ
 faults_after error.Unreadable n = one_more n
 faults_after error.TooLong n = n

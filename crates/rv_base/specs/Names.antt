@@ -14,7 +14,7 @@ is_name_byte c = is_ascii_alphanumeric c || list_any (λ b. c == b) (codes "._-"
 unfoldable pub is_name : List ℕ → Bool
 is_name t = is_within 1 most_name (length t) && list_all is_name_byte t
 
--- the index of the first text in a list that equals `t`, or `None` if none does
+-- the index of the first text in the list that equals `t`, or `None` if none does
 unfoldable pub index_in : List (List ℕ) → List ℕ → Option ℕ
 index_in [] t = None
 index_in (x ∷ xs) t = if bytes_eq t x then Some 0 else option_map (λ k. k + 1) (index_in xs t)

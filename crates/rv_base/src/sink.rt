@@ -27,7 +27,7 @@ pub trait Sink {
         ensures kept { IfErr result (λ _. Keeps (taken self.old) (taken self.new)) }
         ensures failure { IfErr result (λ _. failed self.new ≡ one_more (failed self.old)) };
 
-    /// Returns the number of failures.
+    /// Returns the number of failed writes.
     fn failures(&self) -> u64
         ensures { result ≡ failed self.now };
 }

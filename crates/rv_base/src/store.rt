@@ -26,7 +26,7 @@ pub trait Store {
     // The number of unreadable files so far, saturating at `u64::MAX`.
     ghost faulted: { Self → ℕ };
 
-    /// Returns the bytes of a file, at most 16,777,216.
+    /// Returns the bytes of the file at a path, of which there are at most 16,777,216.
     fn read(&mut self, alloc: Global, path: &str) -> Result<Vec<u8>, ReadError>
         ensures same { contents self.new ≡ contents self.old }
         ensures within { IfOk result (λ bytes. length bytes.items ≤ most_bytes) }
@@ -37,7 +37,7 @@ pub trait Store {
         ensures counted { MatchResult result (λ _. faulted self.new ≡ faulted self.old)
             (λ error. faulted self.new ≡ faults_after error (faulted self.old)) };
 
-    /// Returns how often a file was unreadable.
+    /// Returns how many reads found a file unreadable.
     fn faults(&self) -> u64
         ensures { result ≡ faulted self.now };
 }

@@ -59,7 +59,7 @@ const DEPTHS: &str = "\
 9000 | 4096
 ";
 
-// Returns a machine that starts a program at `BASE`, with 4,096 bytes of memory from there on.
+// Returns a machine that starts a program at `BASE`, where it has 4,096 bytes of memory.
 fn machine_of(alloc: Global, isa: Isa, program: &str) -> Result<Machine, Fail> {
     let map = Map::of(&[Region {
         base: BASE,
@@ -75,7 +75,7 @@ fn machine_of(alloc: Global, isa: Isa, program: &str) -> Result<Machine, Fail> {
     Ok(Machine::new(alloc, bus, BASE, isa)?)
 }
 
-// Returns the frames at the end of a run within a budget, in the form of a row.
+// Returns the frames at the end of a run within a budget, in the form that a row has.
 fn told(alloc: Global, machine: Machine, budget: u32) -> Result<String, AllocError> {
     let mut text = String::new(alloc);
     let calls = calls_of_run(alloc, machine, budget)?;
@@ -87,7 +87,7 @@ fn told(alloc: Global, machine: Machine, budget: u32) -> Result<String, AllocErr
     Ok(text)
 }
 
-// Checks that the program of a row leaves the row's frames.
+// Checks that the run of the program in a row ends with the frames in the row.
 fn check(alloc: Global, row: &str) -> Result<(), Fail> {
     let isa = if cell_of(row, 1) == "im" {
         Isa::Im
@@ -99,7 +99,7 @@ fn check(alloc: Global, row: &str) -> Result<(), Fail> {
     agree(row, told(alloc, machine, budget)?.as_str(), cell_of(row, 4))
 }
 
-// Checks how many frames endless recursion leaves within the budget of a row.
+// Checks with how many frames an endless recursion ends within the budget in a row.
 fn check_depth(alloc: Global, row: &str) -> Result<(), Fail> {
     let machine = machine_of(alloc, Isa::Imc, "000000ef")?;
     let calls = calls_of_run(alloc, machine, cell_of(row, 0).parse::<u32>()?)?;
@@ -108,7 +108,7 @@ fn check_depth(alloc: Global, row: &str) -> Result<(), Fail> {
     agree(row, depth.as_str(), cell_of(row, 1))
 }
 
-// Each program leaves exactly the frames of the calls that have not returned.
+// The run of each program ends with exactly the frames of the calls that have not returned.
 #[test]
 fn frames_are_left_by_calls_that_have_not_returned(rt: HostRuntime) -> Result<(), Fail> {
     has_lines(RUNS, 28)?;
@@ -118,7 +118,7 @@ fn frames_are_left_by_calls_that_have_not_returned(rt: HostRuntime) -> Result<()
     Ok(())
 }
 
-// Endless recursion leaves at most 4,096 frames.
+// An endless recursion ends with at most 4,096 frames.
 #[test]
 fn frames_are_bounded(rt: HostRuntime) -> Result<(), Fail> {
     has_lines(DEPTHS, 5)?;

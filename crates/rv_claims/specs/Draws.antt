@@ -33,15 +33,15 @@ Within {A} xs ys = (x : A) → IsIn x xs → IsIn x ys
 
 -- ---- draws
 
--- the draw of a number by the pass with the index `place`
+-- the draw of `number` by the pass with the index `place`
 abbrev pub entry : ℕ → ℕ → Entry
 entry place number = record { place = place; number = number }
 
--- whether two draws have the same pass index and the same number
+-- whether two draws have equal pass indices and equal numbers
 abbrev pub is_entry : Entry → Entry → Bool
 is_entry e x = (x.place == e.place) && (x.number == e.number)
 
--- how often a draw occurs in a list
+-- how often the draw `e` occurs in the list
 abbrev pub entry_count : Entry → List Entry → ℕ
 entry_count e draws = count (is_entry e) draws
 
@@ -57,11 +57,11 @@ IsHistory h = (j : ℕ) (e : Entry) → get_elem? h j ≡ some e → e.number �
 abbrev pub numbers : List Entry → List ℕ
 numbers draws = map (λ (e : Entry). e.number) draws
 
--- whether a draw is past the last of `pieces` chunks
+-- whether the number of a draw is past the last of `pieces` chunks, that is, at least `pieces`
 abbrev pub is_past_last_piece : ℕ → Entry → Bool
 is_past_last_piece pieces e = nat_le pieces e.number
 
--- the number of draws past the last of `pieces` chunks
+-- the number of draws whose number is past the last of `pieces` chunks
 abbrev pub past_count : ℕ → List Entry → ℕ
 past_count pieces draws = count (is_past_last_piece pieces) draws
 
@@ -76,15 +76,15 @@ view pieces places draws noted =
 abbrev pub first_view : ℕ → View
 first_view pieces = view pieces (0 ∷ []) [] []
 
--- the view of a new seat, split from one with the view `v`: no pass index and no draws
+-- the view of a new seat that was split off from a seat with the view `v`: no pass index and no draws
 abbrev pub new_seat_view : View → View
 new_seat_view v = view v.pieces [] [] []
 
--- the view of a seat that carries a copy of the draws in the view `v`: no pass index, and these draws as noted ones
+-- the view of a seat that has noted the draws in the view `v`: no pass index, and no draws of its own
 abbrev pub note_of : View → View
 note_of v = view v.pieces [] [] v.draws
 
--- the view of the seat that two seats are joined into: the pass indices, draws and noted draws of both
+-- the view of a seat that two seats were joined into: the pass indices, draws and noted draws of both
 abbrev pub joined_view : View → View → View
 joined_view v w = view v.pieces (v.places ++ w.places) (v.draws ++ w.draws) (v.noted ++ w.noted)
 
@@ -94,8 +94,8 @@ empty_view = view 0 [] [] []
 
 -- ---- the rule
 
--- the view of a seat obeys the rule: its pass indices are below 64, each of its draws was made under one of them, it has at most one draw
--- past the last chunk per index, and the draws that it noted are in the history
+-- the view of a seat is valid: its pass indices are below 64, each of its draws was made under one of them, at most one draw for each index
+-- is past the last chunk, and the draws that it has noted are in the history
 pub record Fits (pieces : ℕ) (history : List Entry) (v : View) : Type 0 where
   pub places : (p : ℕ) → IsIn p v.places → p < 64
   pub own : (e : Entry) → IsIn e v.draws → IsIn e.place v.places
@@ -128,37 +128,37 @@ Sitting = Me (Unit {0}) View
 abbrev pub view_of : Sitting → View
 view_of me = me.0
 
--- the slots that a seat took; the table of a counter has no slots, so this list is always empty
+-- the slots that a seat took, which is always an empty list, since the table of a counter has no slots
 abbrev pub slots_of : Sitting → List (ℕ × Unit {0})
 slots_of me = me.1
 
--- the first of a seat's pass indices, under which it draws; a seat that draws has one
+-- the first of a seat's pass indices, which it uses for its draws; 0 if it has none, but then it does not draw
 abbrev pub first_place_of : List ℕ → ℕ
 first_place_of [] = 0
 first_place_of (p ∷ ps) = p
 
--- the view `v` after the draw of the number `n` under its first pass index
+-- the view `v` after the number `n` was drawn under its first pass index
 abbrev pub view_drawn : View → ℕ → View
 view_drawn v n = view v.pieces v.places (v.draws ++ entry (first_place_of v.places) n ∷ []) v.noted
 
--- the view `v` after its seat got one more pass index, added in front
+-- the view `v` after its seat got the pass index `place`, which is added in front
 abbrev pub view_seated : View → ℕ → View
 view_seated v place = view v.pieces (place ∷ v.places) v.draws v.noted
 
--- the step is a draw: afterwards the seat also holds the drawn number `n`, which is greater than every number that it held
+-- the step draws a number: afterwards the seat also has the draw of the number `n`, which is greater than all numbers that it had drawn
 pub record IsDraw (st : Step (Unit {0})) (me : Sitting) (n : ℕ) (after : Sitting) : Type 0 where
   pub drawn : view_of after ≡ view_drawn (view_of me) n
   pub slots : slots_of after ≡ slots_of me
   pub above : (e : Entry) → IsIn e (view_of me).draws → e.number < n
 
--- the step asks for the pass index whose word, one above the index, is `st.word`: if the word was 0, the seat gets the index; otherwise it
--- is assigned already
+-- the step requests the pass index `st.word` - 1: if its word was 0, the seat gets the index; otherwise another seat has it already
 pub record IsSeatRequest (st : Step (Unit {0})) (me : Sitting) (n : ℕ) (after : Sitting) : Type 0 where
   pub slots : slots_of after ≡ slots_of me
   pub free : n ≡ 0 → view_of after ≡ view_seated (view_of me) (st.word - 1)
   pub taken : n ≢ 0 → view_of after ≡ view_of me
 
--- the step reads word 0: the draws that the seat made and those that it noted are in one history, and it holds each pass index at most once
+-- the step reads word 0 and changes nothing: the draws of the seat and the draws that it has noted are in one history, and no pass index
+-- occurs twice in its view
 pub record IsLook (st : Step (Unit {0})) (me : Sitting) (n : ℕ) (after : Sitting) : Type 0 where
   pub same : after ≡ me
   pub history : List Entry

@@ -5,7 +5,7 @@ use Rattle.rv_claims.specs.declared.view.Entry.{Entry}
 use Rattle.rv_claims.specs.Draws.{numbers}
 use Rattle.rv_claims.specs.Passes.{PassView}
 
--- `q` is the pass `p` with further draws
+-- the pass `q` is the pass `p` after it made no, one or more further draws
 abbrev pub HasDrawnMore : PassView → PassView → Type 0
 HasDrawnMore p q = (q.draw ≡ p.draw) × (q.places ≡ p.places)
     × ((more : List Entry) × (q.draws ≡ p.draws ++ more))
@@ -14,6 +14,6 @@ HasDrawnMore p q = (q.draw ≡ p.draw) × (q.places ≡ p.places)
 abbrev pub pieces_among : ℕ → List Entry → List ℕ
 pieces_among pieces draws = filter (λ n. nat_lt n pieces) (numbers draws)
 
--- the numbers of the chunks that were drawn between the pass `p` and its later state `q`, in order
+-- the numbers of the chunks that the pass `p` drew until it became `q`, in order
 abbrev pub new_pieces : PassView → PassView → List ℕ
 new_pieces p q = pieces_among p.draw.pieces (drop (length p.draws) q.draws)

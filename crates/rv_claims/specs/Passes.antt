@@ -22,7 +22,7 @@ pub record PassView : Type 0 where
 abbrev pub pass_of : SharedDraw → List ℕ → List Entry → PassView
 pass_of d places draws = record { draw = d; places = places; draws = draws }
 
--- whether a pass has ended: it drew a number past the last chunk
+-- whether a pass has ended: it has drawn a number past the last chunk
 abbrev pub has_ended : PassView → Bool
 has_ended p = nat_lt 0 (past_count p.draw.pieces p.draws)
 
@@ -34,20 +34,20 @@ with_draw p n = pass_of p.draw p.places (p.draws ++ entry (first_place_of p.plac
 abbrev pub AllBelow : ℕ → List Entry → Type 0
 AllBelow n draws = (e : Entry) → IsIn e draws → e.number < n
 
--- the number if it is the number of one of `pieces` chunks, else `None`
+-- the number if it is below `pieces`, and so the number of a chunk; otherwise `None`
 abbrev pub piece_of : ℕ → ℕ → Option ℕ
 piece_of pieces n = cond (nat_lt n pieces) (Some n) None
 
--- both lists of draws are in one history
+-- the draws of both lists are in one history
 abbrev pub InOneHistory : List Entry → List Entry → Type 0
 InOneHistory xs ys = (history : List Entry) × IsHistory history
     × Within xs history × Within ys history
 
--- no number is in both lists
+-- no number is an element of both lists
 abbrev pub NoneInBoth : List ℕ → List ℕ → Type 0
 NoneInBoth xs ys = (n : ℕ) → IsIn n xs → IsIn n ys → ⊥
 
--- the draws are all draws of a history
+-- the list has exactly the draws of some history, in any order
 abbrev pub AreAll : List Entry → Type 0
 AreAll draws = (history : List Entry) × IsHistory history × HaveSameDraws draws history
 

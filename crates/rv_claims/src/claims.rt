@@ -59,8 +59,8 @@ impl Claims {
         Ok((Claims { table, pieces }, pass))
     }
 
-    /// Draws a number, and returns it if it is the number of a chunk. A number past the last chunk ends the pass; a pass that has ended
-    /// draws no more.
+    /// Draws a number, and returns it if it is the number of a chunk. If the number is past the last chunk, the pass has ended; `None` is
+    /// returned then and for every later draw.
     pub fn take(&self, pass: &mut Pass) -> Option<u64>
         requires { pass.old.draw ≡ self.now }
         ensures none { has_ended pass.old ≡ true → (result ≡ None) × (pass.new ≡ pass.old) }
@@ -80,7 +80,7 @@ impl Claims {
         }
     }
 
-    /// Returns the pass unchanged, and a second one with an index of its own and no draws. Fails if all indices are assigned.
+    /// Returns the pass unchanged, and a second one with its own index and no draws. Returns an error if all indices are assigned.
     pub fn split(&self, mut pass: Pass) -> Result<(Pass, Pass), SplitError>
         requires { pass.draw ≡ self.now }
         ensures ok { IfOk result (λ t. (t.0 ≡ pass)
@@ -95,8 +95,8 @@ impl Claims {
         }
     }
 
-    /// Merges two passes into one with the indices and draws of both, those of the first before those of the second. It has ended if either
-    /// has.
+    /// Merges two passes into one with the indices and draws of both, first those of `first`, then those of `second`. The result has ended
+    /// if one of the passes has.
     pub fn join(&self, mut first: Pass, second: Pass) -> Pass
         requires first { first.draw ≡ self.now }
         requires second { second.draw ≡ self.now }
@@ -152,8 +152,8 @@ impl Claims {
         all
     }
 
-    /// Returns a pass with an index that is not among the bits `taken`, for a seat that has no index yet, or `None` if all other indices
-    /// are assigned.
+    /// Returns a pass for a seat that has no index yet; its index is not among the bits `taken`. Returns `None` if all other indices are
+    /// assigned.
     fn take_seat(&self, mut seat: Seat<(), View>, taken: u64) -> Option<Pass>
         requires table { seat.table_id ≡ self.now.table }
         requires blank { seat.me ≡ (view self.now.pieces [] [] [], []) }
@@ -183,7 +183,7 @@ fn opening_words() -> [u64; 65]
     words
 }
 
-/// Whether each assigned index, whose word is 1, is among the bits.
+/// Whether every assigned index, whose word is 1, is among the bits `bits`.
 fn has_all_seats(closed: &Closed<(), Global>, bits: u64) -> bool
     requires { (slots_len closed.now.words ≡ 65) × IsFull closed.now.words }
     ensures held { result ≡ true → (p : ℕ) → p < 64

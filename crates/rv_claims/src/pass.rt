@@ -36,7 +36,7 @@ pub enum SplitError {
 }
 
 impl Pass {
-    /// Whether the pass drew a number past the last chunk. It draws no more then.
+    /// Whether the pass has ended: it has drawn a number past the last chunk, and draws no more.
     pub fn ended(&self) -> bool
         ensures { result ≡ has_ended self.now }
     {

@@ -8,11 +8,11 @@ use Rattle.clap.specs.declared.builder.arg.Arg.{Arg}
 use Rattle.clap.specs.declared.builder.command.Command.{Command}
 use Rattle.clap.specs.declared.builder.command.Command.TheViews.{out-Command}
 
--- the command has these rules, unless memory ran out
+-- the command has the rules `app`, unless memory ran out
 abbrev pub HasApp : App → Result Command AllocError → Type 0
 HasApp app built = IfOk built (λ command. app_of command ≡ app)
 
--- the command has these rules, and none of its arguments applies to its subcommands too, unless memory ran out
+-- the command has the rules `app`, and none of its arguments applies to its subcommands, too, unless memory ran out
 abbrev pub IsBuilt : App → Result Command AllocError → Type 0
 IsBuilt app built =
     IfOk built (λ command. (app_of command ≡ app) × ((out-Command command).has_globals ≡ false))
@@ -30,14 +30,14 @@ HasUsageOf text built =
 abbrev pub HasHelpEnd : List ℕ → Result Command AllocError → Type 0
 HasHelpEnd text built = IfOk built (λ command. IsSomeAnd (out-Command command).after_help (λ after. after.now ≡ text))
 
--- the rule of a required positional argument, such as `<LIST>`
+-- the rule of the required positional argument `name`, such as `<LIST>`
 abbrev pub word_rule : Text → Rule
 word_rule name = record (new_rule name) { required = true; value_names = 1 }
 
--- the rule of an option with one value
+-- the rule of the option `--name` with one value
 abbrev pub option_rule : Text → Rule
 option_rule name = record (new_rule name) { long = Some name; value_names = 1 }
 
--- the help shows the argument with this value name and this text
+-- the help shows the argument with the value name `value` and the description `text`
 abbrev pub IsShownAs : Bor Text → Bor Text → Arg → Type 0
 IsShownAs value text argument = (items_of argument.val_names ≡ value ∷ []) × (argument.help ≡ Some text)

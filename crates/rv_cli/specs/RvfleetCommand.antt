@@ -11,7 +11,7 @@ use Rattle.clap.specs.declared.builder.value_parser.ValueParser.TheVariants as v
 
 -- ---- the rules
 
--- the rule of `--budget <N>`, which is required: from 1 to the maximum budget of a job
+-- the rule of the required option `--budget <N>`, whose value is from 1 to the maximum budget of a job
 abbrev pub budget_rule : Rule
 budget_rule = record (new_rule (codes "budget")) {
   long = Some (codes "budget");
@@ -20,22 +20,22 @@ budget_rule = record (new_rule (codes "budget")) {
   parser = Some (value_parser.Signed (pos 1) (pos most_budget));
 }
 
--- the rule of `<IMAGE>`, which is required
+-- the rule of the required positional argument `<IMAGE>`
 abbrev pub image_rule : Rule
 image_rule = record (new_rule (codes "image")) { required = true; value_names = 1 }
 
--- the rule of `--input-hex <H>`
+-- the rule of the option `--input-hex <H>`
 abbrev pub input_rule : Rule
 input_rule = record (new_rule (codes "input-hex")) {
   long = Some (codes "input-hex");
   value_names = 1;
 }
 
--- the rule of `<JOBS>`, which is required
+-- the rule of the required positional argument `<JOBS>`
 abbrev pub jobs_rule : Rule
 jobs_rule = record (new_rule (codes "jobs")) { required = true; value_names = 1 }
 
--- the rule of `--workers <N>`: from 1 to 64, by default 1
+-- the rule of the option `--workers <N>`, whose value is from 1 to 64, by default 1
 abbrev pub workers_rule : Rule
 workers_rule = record (new_rule (codes "workers")) {
   long = Some (codes "workers");
@@ -44,7 +44,7 @@ workers_rule = record (new_rule (codes "workers")) {
   defaults = codes "1" ∷ [];
 }
 
--- the rule of `--group <N>`: from 1 to 4,096, by default 1
+-- the rule of the option `--group <N>`, whose value is from 1 to 4,096, by default 1
 abbrev pub group_rule : Rule
 group_rule = record (new_rule (codes "group")) {
   long = Some (codes "group");
@@ -53,69 +53,69 @@ group_rule = record (new_rule (codes "group")) {
   defaults = codes "1" ∷ [];
 }
 
--- the rules of `raw --budget <N>`
+-- the command `raw --budget <N>`
 abbrev pub raw_app : App
 raw_app = with_rule (new_app (codes "raw")) budget_rule
 
--- the rules of `one <IMAGE> --budget <N> [--input-hex <H>]`
+-- the command `one <IMAGE> --budget <N> [--input-hex <H>]`
 abbrev pub one_app : App
 one_app =
     with_rule (with_rule (with_rule (new_app (codes "one")) image_rule) budget_rule) input_rule
 
--- the rules of `run <JOBS> [--workers <N>] [--group <N>]`
+-- the command `run <JOBS> [--workers <N>] [--group <N>]`
 abbrev pub run_app : App
 run_app =
     with_rule (with_rule (with_rule (new_app (codes "run")) jobs_rule) workers_rule) group_rule
 
--- the rules of the command without its subcommands: one is required, and none is called `help`
+-- the command `rvfleet` before its subcommands are added: it requires a subcommand, and lets `clap` add no `help` subcommand
 abbrev pub top_app : App
 top_app = let app = new_app (codes "rvfleet") in
     record app {
       top = record app.top { subcommand_required = true; disable_help_subcommand = true };
     }
 
--- the rules of the whole command
+-- the command `rvfleet` with all its subcommands
 abbrev pub fleet_app : App
 fleet_app =
     with_subcommand (with_subcommand (with_subcommand top_app raw_app.top) one_app.top) run_app.top
 
 -- ---- the requests
 
--- A request: `raw` runs a flat image with a budget; `one` runs the image at a path with a budget and the hexadecimal digits of its input,
--- if any; `run` runs the job list at a path with a number of workers and a number of jobs in a chunk.
+-- a request: `raw` runs a flat image with a budget; `one` runs the image at a path with a budget and the hexadecimal digits of its input,
+-- if any; `run` runs the job list at a path with a number of workers and a number of jobs in a chunk
 pub data Request : Type 0 where
   raw : ℕ → Request
   one : Text → ℕ → Option Text → Request
   run : Text → ℕ → ℕ → Request
 
--- the budget that is given, if it is in the range of budgets
+-- the value of `--budget` among the matches of `clap`; `None` if it is not given, or not from 1 to `most_budget`
 abbrev pub requested_budget : List Row → Option ℕ
 requested_budget rows = number_value (codes "budget") 1 most_budget rows
 
--- the request of the subcommand `raw` with these values
+-- the request of the subcommand `raw` with these matches of `clap`; `None` without a valid budget
 abbrev pub raw_request : List Row → Option Request
 raw_request rows = option_map raw (requested_budget rows)
 
--- the request of the subcommand `one` with these values
+-- the request of the subcommand `one` with these matches of `clap`; `None` without a path or a valid budget
 abbrev pub one_request : List Row → Option Request
 one_request rows = option_and_then
     (λ path. option_map (λ budget. one path budget (first_of (codes "input-hex") rows))
     (requested_budget rows)) (first_of (codes "image") rows)
 
--- the request of the subcommand `run` with these values
+-- the request of the subcommand `run` with these matches of `clap`; `None` without a path or with an invalid number
 abbrev pub run_request : List Row → Option Request
 run_request rows = option_and_then (λ path. option_and_then
     (λ workers. option_map (run path workers) (number_value (codes "group") 1 most_group rows))
     (number_value (codes "workers") 1 most_workers rows)) (first_of (codes "jobs") rows)
 
--- the request of the subcommand with this name and these values
+-- the request of the subcommand `name` with these matches of `clap`; `None` if a required value is missing
 abbrev pub subcommand_request : Text → List Row → Option Request
 subcommand_request name rows = if bytes_eq name (codes "raw") then raw_request rows
     else if bytes_eq name (codes "one") then one_request rows
     else if bytes_eq name (codes "run") then run_request rows
     else None
 
--- the request of the subcommand and the values that `clap` defines as the matches for the arguments
+-- the request of the subcommand that `clap` matches in these arguments; `None` if there is none
 abbrev pub request_of : List Text → Option Request
 request_of words =
     option_and_then (λ found. subcommand_request found.0 found.1) (subcommand_of fleet_app words)
@@ -124,16 +124,16 @@ request_of words =
 unfoldable pub are_arguments_accepted : List Text → Bool
 are_arguments_accepted words = takes fleet_app words
 
--- the request, unless there are errors in the arguments
+-- the request, or `None` if the list of errors in the arguments is not empty
 abbrev pub request_unless_faults : Kinds → Option Request → Option Request
 request_unless_faults [] request = request
 request_unless_faults (fault ∷ more) request = None
 
--- the request of arguments in which the command finds no error
+-- the request that the arguments make; `None` if `clap` finds an error in them
 unfoldable pub faultless_request : List Text → Option Request
 faultless_request words = request_unless_faults (fault_of fleet_app words) (request_of words)
 
--- the command accepts the arguments, or finds no error in them and they make a request
+-- the program handles the arguments: `clap` accepts them, or finds no error in them and they make a request
 abbrev pub IsToAnswer : List Text → Type 0
 IsToAnswer words = (are_arguments_accepted words ≡ true) ⊎ (is_some (faultless_request words) ≡ true)
 

@@ -5,14 +5,14 @@ use Rattle.rv_cli.specs.declared.rvfleet.Request.{Request as Value}
 use Rattle.rv_cli.specs.declared.rvfleet.Request.TheVariants.{One, Raw, Run}
 use Rattle.rv_cli.specs.RvfleetCommand.{Request, one, raw, run}
 
--- the request that a value of the Rust type represents
+-- the request that contracts use for this value of the Rust type
 abbrev pub request : Value → Request
 request (Raw budget) = raw budget
 request (One image budget input_hex) =
     one image.now budget (option_map (λ text. text.now) input_hex)
 request (Run jobs workers group) = run jobs.now workers group
 
--- each number of the request is within the range of its argument
+-- each number in the request is within the range that the command line allows
 abbrev pub IsRequestInRange : Value → Type 0
 IsRequestInRange (Raw budget) = (1 ≤ budget) × (budget ≤ most_budget)
 IsRequestInRange (One image budget input_hex) = (1 ≤ budget) × (budget ≤ most_budget)

@@ -8,7 +8,7 @@ ghost use Rattle.rv_cli.specs.RvfleetCommand.{group_rule};
 use clap::{Arg, value_parser};
 use std::alloc::Global;
 
-/// Returns a required positional argument with this name, which the help shows with this value name and help text.
+/// Returns the required positional argument `name`; the help shows it with this value name and description.
 pub fn word_argument<'a>(alloc: Global, name: &'a str, value: &'a str, help: &'a str) -> Arg<'a>
     ensures rule { (rule_of result ≡ word_rule name.entry.now) × (result.global ≡ false) }
     // The help shows it with this value name and this text.
@@ -20,7 +20,7 @@ pub fn word_argument<'a>(alloc: Global, name: &'a str, value: &'a str, help: &'a
         .help(help)
 }
 
-/// Returns an option `--name` with one value, which the help shows with this value name and help text.
+/// Returns the option `--name` with one value; the help shows it with this value name and description.
 pub fn option_argument<'a>(alloc: Global, name: &'a str, value: &'a str, help: &'a str) -> Arg<'a>
     ensures rule { (rule_of result ≡ option_rule name.entry.now) × (result.global ≡ false) }
     // The help shows it with this value name and this text.

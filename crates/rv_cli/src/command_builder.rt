@@ -10,7 +10,7 @@ use std::alloc::AllocError;
 /// A command being built. It is passed through all calls as a result, because each `?` on a command costs the prover ten seconds.
 pub type Built<'a> = Result<Command<'a>, AllocError>;
 
-/// Adds the subcommand `below` to a command; an error of either is returned.
+/// Returns the command with the subcommand `below` added, or the error of either of them.
 pub fn with_subcommand<'a>(command: Built<'a>, below: Built<'a>) -> Built<'a>
     ensures { (app : App) → (under : App) → HasApp app command.entry → IsBuilt under below.entry
         → HasApp (with_subcommand app under.top) result }
@@ -19,7 +19,7 @@ pub fn with_subcommand<'a>(command: Built<'a>, below: Built<'a>) -> Built<'a>
     command.subcommand(below?)
 }
 
-/// Adds an argument to a command; an error of the command is returned.
+/// Returns the command with an argument added, or the error of the command.
 pub fn with_argument<'a>(command: Built<'a>, argument: Arg<'a>) -> Built<'a>
     ensures { (app : App) → (rule : Rule)
         → (rule_of argument.entry ≡ rule) × (argument.entry.global ≡ false)

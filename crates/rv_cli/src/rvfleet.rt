@@ -41,8 +41,8 @@ pub enum Request<'a> {
     },
 }
 
-/// Parses the arguments, the first of which is the program's name. Returns `None` if they name no request; arguments that the command
-/// accepts name one. An error is `clap`'s own; a request for help is one, of the kind `DisplayHelp`.
+/// Parses the arguments, the first of which is the program's name, and returns their request; `None` if they make none, which is never the
+/// case for arguments that `clap` accepts. An error is an error of `clap`; a request for help is one, of the kind `DisplayHelp`.
 pub fn read_words<'a, T: AsStr>(alloc: Global, words: &'a [T]) -> Result<Option<Request<'a>>, Error>
     // The result is the request that the arguments make.
     ensures value { IfOk result
@@ -147,7 +147,7 @@ fn workers_argument<'a>(alloc: Global) -> Arg<'a>
         .default_value("1")
 }
 
-// Returns the request of the subcommand with this name and these values; `None` if there is none.
+// Returns the request of the subcommand `name` with these values; `None` if a required value is missing.
 fn subcommand_request<'a>(name: &str, values: &ArgMatches<'a>) -> Option<Request<'a>>
     ensures value { option_map request result
         ≡ subcommand_request name.now (rows_of (found_of values.now)) }
@@ -164,7 +164,7 @@ fn subcommand_request<'a>(name: &str, values: &ArgMatches<'a>) -> Option<Request
     }
 }
 
-// Returns the request of the subcommand `raw` with these values.
+// Returns the request of the subcommand `raw` with these values; `None` without a valid budget.
 fn raw_request<'a>(values: &ArgMatches<'a>) -> Option<Request<'a>>
     ensures value { option_map request result ≡ raw_request (rows_of (found_of values.now)) }
     ensures within { IfSome result IsRequestInRange }
@@ -173,7 +173,7 @@ fn raw_request<'a>(values: &ArgMatches<'a>) -> Option<Request<'a>>
     Some(Request::Raw { budget })
 }
 
-// Returns the request of the subcommand `one` with these values.
+// Returns the request of the subcommand `one` with these values; `None` without a path or a valid budget.
 fn one_request<'a>(values: &ArgMatches<'a>) -> Option<Request<'a>>
     ensures value { option_map request result ≡ one_request (rows_of (found_of values.now)) }
     ensures within { IfSome result IsRequestInRange }
@@ -188,7 +188,7 @@ fn one_request<'a>(values: &ArgMatches<'a>) -> Option<Request<'a>>
     })
 }
 
-// Returns the request of the subcommand `run` with these values.
+// Returns the request of the subcommand `run` with these values; `None` without a path or with an invalid number.
 fn run_request<'a>(values: &ArgMatches<'a>) -> Option<Request<'a>>
     ensures value { option_map request result ≡ run_request (rows_of (found_of values.now)) }
     ensures within { IfSome result IsRequestInRange }
@@ -203,7 +203,7 @@ fn run_request<'a>(values: &ArgMatches<'a>) -> Option<Request<'a>>
     })
 }
 
-// Returns the budget that is given, if it is from 1 to 1,000,000,000.
+// Returns the value of `--budget`; `None` if it is not given, or not from 1 to 1,000,000,000.
 fn requested_budget(values: &ArgMatches<'_>) -> Option<u32>
     ensures value { result ≡ requested_budget (rows_of (found_of values.now)) }
     ensures within { IfSome result (λ number. (1 ≤ number) × (number ≤ MOST_BUDGET)) }

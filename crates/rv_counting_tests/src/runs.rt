@@ -52,7 +52,7 @@ two such loops, the one above first | imc | 9999 | 0240006f 12c00293 00c0006f ff
     80000028 1 0, 8000002c 200 0, 80000030 200 0, 80000034 201 0, 80000038 201 200, 8000003c 1 0
 ";
 
-// Returns a machine that starts a program at `BASE`, with 4,096 bytes of memory from there on.
+// Returns a machine that starts a program at `BASE`, where it has 4,096 bytes of memory.
 fn machine_of(alloc: Global, isa: Isa, program: &str) -> Result<Machine, Fail> {
     let map = Map::of(&[Region {
         base: BASE,
@@ -68,7 +68,7 @@ fn machine_of(alloc: Global, isa: Isa, program: &str) -> Result<Machine, Fail> {
     Ok(Machine::new(alloc, bus, BASE, isa)?)
 }
 
-// Returns the counts of a run within a budget, in the form of a row.
+// Returns the counts of a run within a budget, in the form that a row has.
 fn told(alloc: Global, machine: Machine, budget: u32) -> Result<String, AllocError> {
     let mut text = String::new(alloc);
     let addresses = count_run(alloc, machine, budget)?;
@@ -80,7 +80,7 @@ fn told(alloc: Global, machine: Machine, budget: u32) -> Result<String, AllocErr
     Ok(text)
 }
 
-// Checks that the run of a row has the row's counts.
+// Checks that the run described in a row has the counts in the row.
 fn check(alloc: Global, row: &str) -> Result<(), Fail> {
     let isa = if cell_of(row, 1) == "im" {
         Isa::Im

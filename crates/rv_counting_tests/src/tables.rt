@@ -26,6 +26,7 @@ impl Store for Files {
 
     ghost faulted = { λ s. s.faults };
 
+    // Returns the bytes of the file at a path, or an error for a path without a file.
     fn read(&mut self, alloc: Global, path: &str) -> Result<Vec<u8>, ReadError> {
         let text = match path {
             "a" | "b" | "line\nfeed" => "one",
@@ -42,6 +43,7 @@ impl Store for Files {
         }
     }
 
+    // Returns how many reads found a file unreadable.
     fn faults(&self) -> u64 {
         self.faults
     }
@@ -68,7 +70,7 @@ xxxxxxx | rvcounts 1/image 3d532673a6769bd4f209aaf85d6b5ee537f98383bacb4bda774fc
     80000004 4 0/80000008 4 3/8000000c 1 0/80000010 1 0/done 2 5/
 ";
 
-// Returns the marks of a selection, one for each letter of `choice`: true for `x`.
+// Returns the selection that `choice` describes with one letter for each job: `x` selects it.
 fn marks_of(alloc: Global, choice: &str) -> Result<Vec<bool>, AllocError> {
     let mut marks = Vec::new(alloc);
     for mark in choice.bytes() {
@@ -89,7 +91,7 @@ fn chosen(alloc: Global, plan: &Plan, choice: &str) -> Result<Vec<usize>, Fail>
     Ok(selected_indices(alloc, marks.as_slice())?)
 }
 
-// Returns the text of the table of the selected jobs, made by `workers` threads, with a slash for each line feed.
+// Returns the text of the table of the selected jobs, computed by `workers` threads, with a slash for each line feed.
 fn told<R: Threads + Wait + Sync>(
     rt: &R,
     alloc: Global,
@@ -110,7 +112,7 @@ fn told<R: Threads + Wait + Sync>(
     Ok(told)
 }
 
-// Checks the table of a row, made by one thread and by three.
+// Checks the table of a row, computed by one thread and by three.
 fn check<R: Threads + Wait + Sync>(
     rt: &R,
     alloc: Global,
@@ -124,7 +126,7 @@ fn check<R: Threads + Wait + Sync>(
     Ok(())
 }
 
-// The table of each selection of jobs is the expected one, made by one thread and by three.
+// The table of each selection of jobs is the expected one, whether one thread or three compute it.
 #[test]
 fn jobs_are_counted(rt: HostRuntime) -> Result<(), Fail> {
     let alloc = rt.alloc();

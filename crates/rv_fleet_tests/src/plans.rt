@@ -37,6 +37,7 @@ impl Store for Files {
 
     ghost faulted = { λ s. s.faults };
 
+    // Records the path, and returns the bytes of the file at it, or an error for a path without a file.
     fn read(&mut self, alloc: Global, path: &str) -> Result<Vec<u8>, ReadError> {
         if self.log.push_str(path).is_err() {
             return Err(ReadError::OutOfMemory);
@@ -53,12 +54,13 @@ impl Store for Files {
         vec![in alloc; letter; length].map_err(|_| ReadError::OutOfMemory)
     }
 
+    // Returns how many reads found a file unreadable.
     fn faults(&self) -> u64 {
         self.faults
     }
 }
 
-// Returns the marks of a selection, one for each letter of `choice`: true for `x`.
+// Returns the selection that `choice` describes with one letter for each job: `x` selects it.
 fn marks_of(alloc: Global, choice: &str) -> Result<Vec<bool>, AllocError> {
     let mut marks = Vec::new(alloc);
     for mark in choice.bytes() {
@@ -67,7 +69,7 @@ fn marks_of(alloc: Global, choice: &str) -> Result<Vec<bool>, AllocError> {
     Ok(marks)
 }
 
-// Returns the plan for the marked jobs of a list.
+// Returns the plan for the selected jobs of a list.
 fn chosen(alloc: Global, jobs: JobList, marks: &[bool], store: &mut Files) -> Result<Plan, Fail> {
     if marks.len() != jobs.as_slice().len() {
         return Err("a mark for each job".into());
@@ -76,7 +78,7 @@ fn chosen(alloc: Global, jobs: JobList, marks: &[bool], store: &mut Files) -> Re
     Ok(gather_jobs(alloc, jobs, places, store)?)
 }
 
-// Returns the plan for all jobs of a list (`all`), or for those that `choice` marks with `x`.
+// Returns the plan for all jobs of a list (`all`), or for the jobs that `choice` selects with `x`.
 fn plan_of(alloc: Global, list: &str, choice: &str, store: &mut Files) -> Result<Plan, Fail> {
     let jobs = read_jobs(alloc, list.as_bytes())?;
     if choice == "all" {
@@ -85,7 +87,8 @@ fn plan_of(alloc: Global, list: &str, choice: &str, store: &mut Files) -> Result
     chosen(alloc, jobs, &marks_of(alloc, choice)?, store)
 }
 
-// Appends what a plan keeps for a path: `none`, why there are no bytes, the only byte, or the number of bytes and the last one.
+// Appends the result that a plan has for a path: `none`, the reason why there are no bytes, the only byte, or the number of bytes and the
+// last one.
 fn tell_kept(text: &mut String, kept: Option<&Kept>) -> Result<(), AllocError> {
     match kept {
         Some(Kept::Content(bytes)) => tell_bytes(text, bytes.as_slice()),
@@ -105,7 +108,7 @@ fn tell_bytes(text: &mut String, bytes: &[u8]) -> Result<(), AllocError> {
     }
 }
 
-// Appends a job's name, and what is kept of its image, reference and console.
+// Appends a job's name, and the results that the plan has for its image, its reference and its console.
 fn tell_job(text: &mut String, plan: &Plan, place: usize) -> Result<(), AllocError>
     requires { place < length plan.now.jobs }
 {
@@ -117,7 +120,7 @@ fn tell_job(text: &mut String, plan: &Plan, place: usize) -> Result<(), AllocErr
     tell_kept(text, plan.console_reference(place))
 }
 
-// Returns the paths that were read, the number of the store's faults, and what is kept for each job.
+// Returns the paths that were read, the number of unreadable files, and the results that the plan has for each job.
 fn told(alloc: Global, plan: &Plan, store: &Files) -> Result<String, AllocError> {
     let (log, faults) = (store.log.as_str(), store.faults());
     let mut text = format!(in alloc; "'{log}' {faults} faults")?;
@@ -127,7 +130,7 @@ fn told(alloc: Global, plan: &Plan, store: &Files) -> Result<String, AllocError>
     Ok(text)
 }
 
-// Returns the text of the plan for all jobs of a list (`all`), or for those that `choice` marks with `x`.
+// Returns as text the plan for all jobs of a list (`all`), or for the jobs that `choice` selects with `x`.
 fn told_of(alloc: Global, list: &str, choice: &str) -> Result<String, Fail> {
     let mut store = Files {
         log: String::new(alloc),
@@ -137,7 +140,7 @@ fn told_of(alloc: Global, list: &str, choice: &str) -> Result<String, Fail> {
     Ok(told(alloc, &plan, &store)?)
 }
 
-// Checks that the plan of a list for the choice in each line is the one in the line.
+// Checks for each line of a table that the plan of a list for the choice in the line is the plan in the line.
 fn check(alloc: Global, list: &str, table: &str, lines: usize) -> Result<(), Fail> {
     has_lines(table, lines)?;
     for row in table.lines() {
@@ -203,7 +206,7 @@ x.x.x | 'brla' 5 faults: n0 b r none, n1 a none unreadable, n2 long none none, \
 xxxxx | 'braxly' 7 faults: n0 b r none, n1 a none unreadable, n2 long none none, \
     n3 unreadable none none, n4 b a none";
 
-// A plan reads each path that the selected jobs need exactly once, and keeps its bytes for every job that uses it.
+// A plan reads each path that the selected jobs need exactly once, and has its bytes for every job that uses it.
 #[test]
 fn paths_are_read_once_where_they_are_needed(rt: HostRuntime) -> Result<(), Fail> {
     check(rt.alloc(), PATHS, ALL_PATHS, 1)?;

@@ -18,8 +18,8 @@ mod recent;
 mod streams;
 mod workers;
 
-// Returns the sample image for a path: one with a signature of 16,000 words (`most-words`) or of one more (`more-words`), or else one that
-// exits with code 5 after two steps.
+// Returns the description of the sample image at a path: with a signature of 16,000 words (`most-words`) or of one word more
+// (`more-words`), and for any other path an image that exits with code 5 after two steps.
 fn sample_of(path: &str) -> &'static str {
     match path {
         "most-words" => "sign 168=8000fa28",
@@ -37,6 +37,7 @@ impl Store for Samples {
 
     ghost faulted = { λ _. 0 };
 
+    // Returns the sample image at a path.
     fn read(&mut self, alloc: Global, path: &str) -> Result<Vec<u8>, ReadError> {
         match sample_file(alloc, sample_of(path)) {
             Ok(bytes) if bytes.len() <= 0x100_0000 => Ok(bytes),
@@ -44,6 +45,7 @@ impl Store for Samples {
         }
     }
 
+    // Returns 0: every file is readable.
     fn faults(&self) -> u64 {
         0
     }
@@ -81,7 +83,7 @@ fn last_cell(line: &str) -> &str {
     line.rsplit_once('|').unwrap_or(("", line)).1.trim()
 }
 
-// Returns the marks of a selection, one for each letter of `choice`: true for `x`.
+// Returns the selection that `choice` describes with one letter for each job: `x` selects it.
 fn marks_of(alloc: Global, choice: &str) -> Result<Vec<bool>, AllocError> {
     let mut marks = Vec::new(alloc);
     for mark in choice.bytes() {
@@ -90,12 +92,12 @@ fn marks_of(alloc: Global, choice: &str) -> Result<Vec<bool>, AllocError> {
     Ok(marks)
 }
 
-// Returns the number in the cell of a line with this index, or 0 if there is none.
+// Returns the number in the cell `place` of a line; 0 if the cell has no number.
 fn number_in(line: &str, place: usize) -> u64 {
     cell_of(line, place).parse::<u64>().unwrap_or(0)
 }
 
-// Returns the number of workers and the number of jobs in a chunk that a line gives.
+// Returns the number of workers and the number of jobs in a chunk, as given in a line.
 fn crew_of(line: &str) -> (u32, u32)
     ensures workers { (0 < result.0) × (result.0 ≤ 64) }
     ensures group { (0 < result.1) × (result.1 ≤ 4096) }
@@ -105,7 +107,7 @@ fn crew_of(line: &str) -> (u32, u32)
     (workers as u32, group as u32)
 }
 
-// Returns the plan of a line, and the indices of its selected jobs.
+// Returns the plan that a line describes, and the indices of its selected jobs.
 fn chosen(alloc: Global, line: &str) -> Result<(Plan, Vec<usize>), Fail>
     ensures within { IfOk result (λ chosen. AreJobIndices chosen.0 chosen.1.items) }
     ensures rising { IfOk result (λ chosen. IsStrictlyIncreasing chosen.1.items) }
@@ -149,7 +151,7 @@ fn told<R: Threads + Wait + Sync>(
     }
 }
 
-// Checks that a table has `count` lines, and that the result for each is the one in its last cell.
+// Checks that a table has `count` lines, and that each has the expected result in its last cell.
 fn hold<R: Threads + Wait + Sync>(
     rt: &R,
     alloc: Global,

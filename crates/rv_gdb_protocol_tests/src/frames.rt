@@ -32,7 +32,7 @@ actions | vCont;c;C;s;S;r | $vCont;c;C;s;S;r#0f
 a register | f8000080 | $f8000080#c6
 ";
 
-// Appends what was received, in the form of a row.
+// Appends a received item, in the form that a row has.
 fn push_told(text: &mut String, heard: &Incoming) -> Result<(), Fail> {
     match heard {
         Incoming::Interrupt => text.push_str("^C")?,
@@ -51,7 +51,7 @@ fn push_told(text: &mut String, heard: &Incoming) -> Result<(), Fail> {
     Ok(())
 }
 
-// Returns what is received, in the form of a row, from bytes that arrive in pieces of this length.
+// Returns the items that are received from bytes that arrive in pieces of this length, in the form that a row has.
 fn told_in_pieces(alloc: Global, bytes: &[u8], length: usize) -> Result<String, Fail> {
     let mut reader = Reader::new(alloc);
     let mut text = String::new(alloc);
@@ -71,7 +71,7 @@ fn told_in_pieces(alloc: Global, bytes: &[u8], length: usize) -> Result<String, 
     Ok(text)
 }
 
-// Checks what is received from the bytes of a line, however they are divided into pieces.
+// Checks that the bytes of a line are received as the items of the line, however they are divided into pieces.
 fn check_heard(alloc: Global, line: &str) -> Result<(), Fail> {
     let mut bytes = Vec::new(alloc);
     for byte in cell_of(line, 1).as_bytes() {
@@ -87,7 +87,7 @@ fn check_heard(alloc: Global, line: &str) -> Result<(), Fail> {
     Ok(())
 }
 
-// Packets are received as sent, however their bytes are divided into pieces; bad input is recognised.
+// Packets are received as they were sent, however their bytes are divided into pieces; invalid input is recognised.
 #[test]
 fn packets_are_heard(rt: HostRuntime) -> Result<(), Fail> {
     has_lines(HEARD, 13)?;

@@ -140,14 +140,14 @@ vFile:setfs:0 | F0
 qSupported | PacketSize=4000;QStartNoAckMode+;ReverseStep+;ReverseContinue+;qXfer:features:read+;qXfer:exec-file:read+
 ";
 
-// Checks that the body of a line makes the request of the line.
+// Checks that the packet body in a line is parsed as the request in the line.
 fn check_asked(alloc: Global, line: &str) -> Result<(), Fail> {
     let request = parse_request(alloc, cell_of(line, 0).as_bytes())?;
     let told = format!(in alloc; "{request:?}")?;
     agree(line, told.as_str(), cell_of(line, 1))
 }
 
-// Checks that the body of a line has the fixed response of the line.
+// Checks that the request with the body in a line has the fixed response in the line.
 fn check_reply(alloc: Global, line: &str) -> Result<(), Fail> {
     let request = parse_request(alloc, cell_of(line, 0).as_bytes())?;
     agree(
@@ -157,7 +157,7 @@ fn check_reply(alloc: Global, line: &str) -> Result<(), Fail> {
     )
 }
 
-// Packets of gdb and LLDB make the expected requests.
+// Packets of gdb and LLDB are parsed as the expected requests.
 #[test]
 fn packets_ask(rt: HostRuntime) -> Result<(), Fail> {
     has_lines(ASKED, 55)?;
@@ -177,7 +177,7 @@ fn malformed_packets_are_refused(rt: HostRuntime) -> Result<(), Fail> {
     Ok(())
 }
 
-// Requests whose response is the same in every session have that response.
+// Requests that have the same response in every session have the expected response.
 #[test]
 fn replies_are_fixed(rt: HostRuntime) -> Result<(), Fail> {
     has_lines(FIXED, 10)?;
@@ -187,7 +187,7 @@ fn replies_are_fixed(rt: HostRuntime) -> Result<(), Fail> {
     Ok(())
 }
 
-// The parts of the target description, each requested from the end of the last, make up the whole description.
+// The parts of the target description, each requested from the end of the preceding one, make up the whole description.
 #[test]
 fn parts_are_the_whole(rt: HostRuntime) -> Result<(), Fail> {
     let mut whole = Vec::new(rt.alloc());

@@ -10,7 +10,7 @@ pub struct Alarm {
 }
 
 impl Alarm {
-    /// Creates an interrupt that is raised at the poll with this number.
+    /// Creates an interrupt that is raised when it is polled for the `rises_at`-th time.
     pub fn at(rises_at: u32) -> Alarm {
         Alarm {
             asked: 0,
@@ -28,6 +28,7 @@ impl Alarm {
 impl Interrupt for Alarm {
     ghost was_raised = { λ alarm. alarm.was_raised };
 
+    // Counts a poll, and returns whether the interrupt is raised at it.
     fn is_raised(&mut self) -> bool {
         self.asked = self.asked.saturating_add(1);
         self.was_raised = self.asked == self.rises_at;

@@ -32,7 +32,8 @@ enum Direction {
     Back,
 }
 
-// Returns a history at the step where a move in this direction begins: the start of the run, or its budget.
+// Returns a history at the step where a move in this direction begins: at the start of the run for a move forward, and at the end of its
+// budget for a move back.
 fn history_before_move(alloc: Global, direction: Direction, budget: u32) -> Result<History, Fail> {
     let mut history = history_of(alloc, CODE, budget)?;
     if let Direction::Back = direction {
@@ -41,7 +42,7 @@ fn history_before_move(alloc: Global, direction: Direction, budget: u32) -> Resu
     Ok(history)
 }
 
-// Moves a history in a direction, and returns as text the step at which the move ended, and why.
+// Moves a history in a direction, and returns as text the step at which the move ended and the reason.
 fn make_move(
     alloc: Global,
     history: &mut History,

@@ -94,7 +94,7 @@ pub fn history_of(alloc: Global, code: &str, budget: u32) -> Result<History, Fai
     Ok(History::new(alloc, start, budget)?)
 }
 
-/// Returns as text why a move ended.
+/// Returns as text the reason why a move ended.
 pub fn found_text(alloc: Global, found: Found) -> Result<String, AllocError> {
     match found {
         Found::Done => String::from_str(alloc, "done"),
@@ -108,8 +108,8 @@ pub fn found_text(alloc: Global, found: Found) -> Result<String, AllocError> {
     }
 }
 
-// Makes a move or a seek. Returns as text the step at which the move ended, and why; or whether the run has the step that was sought, and
-// the step after the seek.
+// Makes a move or a seek. Returns as text, for a move, the step at which it ended and the reason; for a seek, whether the run reaches the
+// requested step, and the step afterwards.
 fn moved(alloc: Global, history: &mut History, stops: &Stops, asked: &str) -> Result<String, Fail> {
     if let Some(place) = asked.strip_prefix("seek ") {
         let granted = history.seek(alloc, place.parse()?)?;
@@ -160,7 +160,7 @@ fn moves_stop(rt: HostRuntime) -> Result<(), Fail> {
     Ok(())
 }
 
-// After a seek, the history's machine is in the state at that step.
+// After a seek to a step, the history's machine is in the state at this step.
 #[test]
 fn registers_are_of_the_place(rt: HostRuntime) -> Result<(), Fail> {
     let alloc = rt.alloc();

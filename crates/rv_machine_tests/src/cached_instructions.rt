@@ -21,7 +21,7 @@ no budget | 80000000 | 80000000: 00500513 X | run 0 = 0; kept 80000000 = nothing
 many rounds | 80000000 | 80000000: 00000297 00028023 00011337 17030313 00000513 00a40433 01038393 00729923 0000100f fff30313 fe0314e3 00040513 X | run 2 = 2; kept 80000000 = Auipc 5 0 0 0, 4 bytes; run 1000000 = 490004; kept 80000000 = nothing
 ";
 
-// Returns a writable region.
+// Returns the writable region with this base and size.
 fn region(base: u32, size: u32) -> Region {
     Region {
         base,
@@ -50,7 +50,7 @@ fn load(alloc: Global, bus: &mut Bus, image: &str) -> Result<(), Fail> {
     Ok(())
 }
 
-// Returns a machine for all instructions, with memory at both ends and in the middle of the address space.
+// Returns a machine with RV32IMC, with memory at both ends and in the middle of the address space, and with this image loaded.
 fn machine_of(alloc: Global, entry: u32, image: &str) -> Result<Machine, Fail> {
     if entry % 2 != 0 {
         return Err("an entry".into());
@@ -65,7 +65,7 @@ fn machine_of(alloc: Global, entry: u32, image: &str) -> Result<Machine, Fail> {
     Ok(Machine::new(alloc, bus, entry, Isa::Imc)?)
 }
 
-// Returns the instruction that is cached for an address and its length as text, or `nothing`.
+// Returns as text the instruction in the cache for an address and its length, or `nothing`.
 fn cached_or_invalidated_at(
     alloc: Global,
     machine: &Machine,
@@ -79,7 +79,7 @@ fn cached_or_invalidated_at(
     format!(in alloc; "{op:?} {rd} {rs1} {rs2} {imm}, {length} bytes")
 }
 
-// Executes one step, and returns whether it `goes on` or `ends`.
+// Executes one step, and returns `goes on` if it completed and `ends` if it ended the run.
 fn step(machine: &mut Machine) -> &'static str {
     if machine.step().is_none() {
         "goes on"
@@ -88,7 +88,7 @@ fn step(machine: &mut Machine) -> &'static str {
     }
 }
 
-// Returns whether the four bytes from an address on are clean, as `yes` or `no`.
+// Returns `yes` if the four bytes at an address are clean, and `no` if not.
 fn clean(machine: &Machine, addr: u32) -> &'static str {
     if machine.bus().clean(addr, 4) {
         "yes"

@@ -46,24 +46,25 @@ word_at m a =
     byte_at m a + 0x100 * byte_at m (a + 1) + 0x1_0000 * byte_at m (a + 2)
     + 0x100_0000 * byte_at m (a + 3)
 
--- the number of bytes of an access of this width
+-- the number of bytes that an access of this width reads or writes
 abbrev pub size_of : Width → ℕ
 size_of Byte = 1
 size_of Half = 2
 size_of Word = 4
 
--- the little-endian value of the memory `m` at the address `a`, of the access's width
+-- the little-endian value in the bytes of the memory `m` at the address `a` that an access of this width reads
 abbrev pub value_at : fin.FinMap nat_cmp ℕ → ℕ → Width → ℕ
 value_at m a Byte = byte_at m a
 value_at m a Half = half_at m a
 value_at m a Word = word_at m a
 
--- whether an access is rejected because its address is misaligned: with `Fault`, if it is not a multiple of the width; with `Allow`, never
+-- whether an access of width `w` at the address `a` is rejected as misaligned: with `Fault`, if `a` is not a multiple of the width; with
+-- `Allow`, never
 abbrev pub refuses : Choice → ℕ → Width → Bool
 refuses Fault a w = not (a % size_of w == 0)
 refuses Allow a w = false
 
--- whether one of the `n` bytes from the address `a` on is among the console's 16, 0x1000_0000 to 0x1000_000f
+-- whether one of the `n` bytes at the address `a` is among the 16 bytes of the console, 0x1000_0000 to 0x1000_000f
 abbrev pub touches_console : ℕ → ℕ → Bool
 touches_console a n = nat_lt 0x1000_0000 (a + n) && nat_lt a 0x1000_0010
 
@@ -93,7 +94,7 @@ load_from c a w =
 abbrev pub with_stored_byte : Contents → ℕ → ℕ → Contents
 with_stored_byte c a b = record c { memory = fin.insert c.memory a b; stored = set.insert c.stored a }
 
--- the contents after the low bytes of `v` are stored from the address `a` on, lowest first
+-- the contents after the low bytes of `v`, as many as the width says, are stored at the address `a`, lowest first
 abbrev pub put : Contents → ℕ → Width → ℕ → Contents
 put c a Byte v = with_stored_byte c a (v % 0x100)
 put c a Half v = with_stored_byte (with_stored_byte c a (v % 0x100)) (a + 1) (v / 0x100 % 0x100)
@@ -120,7 +121,7 @@ store_to c a w v =
     else (if touches_console a (size_of w) then console_store c a w v
     else (if is_in_writable_region c.regions a (size_of w) then Ok (put c a w v) else Err Access))
 
--- whether one of the two bytes from the address `a` on was stored to since the last FENCE.I
+-- whether one of the two bytes at the address `a` was stored to since the last FENCE.I
 abbrev pub is_stale : Contents → ℕ → Bool
 is_stale c a = set.contains c.stored a || set.contains c.stored (a + 1)
 
@@ -141,7 +142,7 @@ fetch_word_from c a =
 abbrev pub is_clean_half : Contents → ℕ → Bool
 is_clean_half c a = is_ok (fetch_half_from c a)
 
--- whether a fetch of each halfword of the `n` bytes (2 or 4) from the address `a` on succeeds
+-- whether a fetch of each halfword in the `n` bytes (2 or 4) at the address `a` succeeds
 unfoldable pub clean_from : Contents → ℕ → ℕ → Bool
 clean_from c a n = is_clean_half c a && (not (n == 4) || is_clean_half c ((a + 2) % 0x1_0000_0000))
 
@@ -149,12 +150,12 @@ clean_from c a n = is_clean_half c a && (not (n == 4) || is_clean_half c ((a + 2
 abbrev pub without_stored : Contents → Contents
 without_stored c = record c { stored = set.empty }
 
--- the memory `m` after bytes are written one after another from the address `a` on
+-- the memory `m` after the bytes are written at the address `a` and the following addresses
 abbrev pub with_bytes_written : fin.FinMap nat_cmp ℕ → ℕ → List ℕ → fin.FinMap nat_cmp ℕ
 with_bytes_written m a [] = m
 with_bytes_written m a (b ∷ bs) = with_bytes_written (fin.insert m a b) (a + 1) bs
 
--- the contents after an image's bytes are written from the address `a` on; none of these addresses becomes stored to
+-- the contents after an image's bytes are written at the address `a` and the following addresses; none of these counts as stored to
 abbrev pub with_bytes : Contents → ℕ → List ℕ → Contents
 with_bytes c a bytes = record c { memory = with_bytes_written c.memory a bytes }
 

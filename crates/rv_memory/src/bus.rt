@@ -51,7 +51,8 @@ impl Model for Bus {
 }
 
 impl Bus {
-    /// Writes an image's bytes from an address on, even in read-only regions. None of these addresses becomes stored to.
+    /// Writes an image's bytes at an address and the following ones, even in read-only regions. None of these addresses counts as stored
+    /// to.
     pub fn place(&mut self, addr: u32, bytes: &[u8])
         requires { IsTrue (in_one self.old.regions addr (length bytes.now)) }
         ensures { self.new ≡ with_bytes self.old addr bytes.now }
@@ -65,7 +66,7 @@ impl Bus {
         self.bytes[place.at..place.at + bytes.len()].copy_from_slice(bytes);
     }
 
-    /// Performs a load: returns the unsigned value at an address, or why the load is rejected.
+    /// Performs a load: returns the unsigned value at an address, or the reason why the load is rejected.
     #[inline]
     pub fn load(&mut self, addr: u32, width: Width) -> Result<u32, BusFault>
         ensures narrow { IfOk result (λ v. v < 2 ^ (8 * size_of width)) }
@@ -87,7 +88,8 @@ impl Bus {
         Ok(read_value(&self.bytes, place.at, width))
     }
 
-    /// Performs a store: writes the low bytes of a value at an address and marks them as stored to, or returns why the store is rejected.
+    /// Performs a store: writes the low bytes of a value at an address and marks them as stored to, or returns the reason why the store is
+    /// rejected.
     #[inline]
     pub fn store(&mut self, addr: u32, width: Width, value: u32) -> Result<(), BusFault>
         // The contents after the store, or a fault that changes nothing.
@@ -115,7 +117,7 @@ impl Bus {
         Ok(())
     }
 
-    // Writes the low bytes of a value at an address whose place in memory is known, and marks them as stored to.
+    // Writes the low bytes of a value at an address, whose bytes in memory are at `place`, and marks them as stored to.
     #[inline(always)]
     fn put(&mut self, place: Place, addr: u32, width: Width, value: u32)
         requires { IsStoredAt self.old.regions addr (size_of width) place.at place.writable }
@@ -127,7 +129,7 @@ impl Bus {
         mark(&mut self.marks, place.at, width, self.generation);
     }
 
-    /// Fetches the halfword at an address, which may be odd, or returns why the fetch is rejected.
+    /// Returns the halfword at an address, which may be odd, or the reason why the fetch is rejected.
     #[inline]
     pub fn fetch_half(&self, addr: u32) -> Result<u16, FetchFault>
         ensures { result ≡ fetch_half_from self.now addr }
@@ -144,8 +146,8 @@ impl Bus {
         Ok(u16::from(self.bytes[place.at]) + 0x100 * u16::from(self.bytes[place.at + 1]))
     }
 
-    /// Fetches the word at an address, or returns `None` if its four bytes are not in one region, or if one of them was stored to since the
-    /// last FENCE.I. Its two halfwords are those that [`Bus::fetch_half`] returns.
+    /// Returns the word at an address, or `None` if its four bytes are not in one region, or if one of them was stored to since the last
+    /// FENCE.I. Its two halfwords equal the results of [`Bus::fetch_half`].
     #[inline]
     pub fn fetch_word(&self, addr: u32) -> Option<u32>
         ensures value { result ≡ fetch_word_from self.now addr }
@@ -160,7 +162,7 @@ impl Bus {
         Some(read_word(&self.bytes, place.at))
     }
 
-    /// Whether [`Bus::fetch_half`] succeeds for each halfword of the 2 or 4 bytes from an address on, which may be odd.
+    /// Whether [`Bus::fetch_half`] succeeds for each halfword in the 2 or 4 bytes at an address, which may be odd.
     #[tactic(auto, unfolding(crate::specs::Bus::clean_from))]
     pub fn clean(&self, addr: u32, len: u32) -> bool
         requires { (len ≡ 2) ⊎ (len ≡ 4) }

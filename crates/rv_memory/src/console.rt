@@ -21,7 +21,8 @@ impl Bus {
         &self.console
     }
 
-    /// Performs a load whose bytes are not in one region: a load from the console, or one that is rejected.
+    /// Performs a load whose bytes are not in one region: returns the value if it is a valid load from the console, and otherwise the
+    /// reason why it is rejected.
     #[inline]
     pub(crate) fn load_console(&mut self, addr: u32, width: Width) -> Result<u32, BusFault>
         ensures narrow { IfOk result (λ v. v < 2 ^ (8 * size_of width)) }
@@ -41,7 +42,7 @@ impl Bus {
         Err(BusFault::Access)
     }
 
-    // Reads the next byte of the script, and returns it, or all ones at the end of the script.
+    // Consumes the next byte of the script and returns it; at the end of the script, returns all ones.
     #[inline]
     fn take_script_byte(&mut self) -> u32
         ensures value { result ≡ next_of self.old.script }
@@ -55,7 +56,8 @@ impl Bus {
         u32::from(byte)
     }
 
-    /// Performs a store whose bytes are not in one region: a store to the console, or one that is rejected.
+    /// Performs a store whose bytes are not in one region: appends to the output if it is a valid store to the console, and otherwise
+    /// returns the reason why it is rejected.
     #[inline]
     pub(crate) fn store_console(
         &mut self,

@@ -38,7 +38,7 @@ impl Bus {
         })
     }
 
-    /// Creates the bus that [`Bus::new`] would, in the memory of `self` if it has the right number of bytes; otherwise that memory is freed
+    /// Creates a bus like [`Bus::new`], but in the memory of `self` if that has the right size; otherwise the memory of `self` is freed
     /// first.
     pub fn new_reusing(
         self,

@@ -27,7 +27,7 @@ pub(crate) fn mark(marks: &mut [u16], at: usize, width: Width, generation: u16)
     }
 }
 
-/// Whether one of the four bytes from an index on is marked as stored to in a generation.
+/// Whether one of the four marks at an index equals `generation`.
 #[inline]
 pub(crate) fn has_mark(marks: &[u16], at: usize, generation: u16) -> bool
     requires { at + 4 ≤ length marks.now }
@@ -39,7 +39,8 @@ pub(crate) fn has_mark(marks: &[u16], at: usize, generation: u16) -> bool
         || marks[at + 3] == generation
 }
 
-/// Returns the marks and the next generation, in which no byte is marked. If this was the last generation, all marks are reset.
+/// Returns the marks and the next generation, in which no byte is marked. After the last generation, all marks are reset and the first
+/// generation begins again.
 pub(crate) fn next_generation(mut marks: Vec<u16>, generation: u16) -> (Vec<u16>, u16)
     requires { (k : ℕ) → slice_index marks.items k ≤ generation }
     ensures length { length result.0.items ≡ length marks.items }

@@ -53,8 +53,8 @@ impl Map {
     }
 }
 
-// Returns where the `len` bytes from an address on are stored, or `None` if they are not in one of these regions. The bytes of the first
-// region begin at index `start`.
+// Returns where the `len` bytes at an address are stored, or `None` if none of these regions has all of them. The bytes of the first region
+// begin at index `start`.
 #[inline]
 fn search_regions(regions: &[Region], start: usize, addr: u32, len: u32) -> Option<Place>
     requires some { 0 < len }
@@ -76,8 +76,8 @@ fn search_regions(regions: &[Region], start: usize, addr: u32, len: u32) -> Opti
 }
 
 impl Region {
-    // Returns the offset of an address in the region, if the region has all of the `len` bytes from the address on. An address below the
-    // base wraps to an offset after every region's end.
+    // Returns the offset of an address in the region; `None` if the region does not have all of the `len` bytes at the address. An address
+    // below the base wraps to an offset after every region's end.
     #[inline]
     fn offset_of(&self, addr: u32, len: u32) -> Option<u32>
         requires some { 0 < len }
@@ -93,8 +93,8 @@ impl Region {
         None
     }
 
-    // Returns the offset of an address in the region, if the region has all bytes of an access there. The address must be a multiple of the
-    // width.
+    // Returns the offset of an address in the region; `None` if the region does not have all bytes of an access there. The address must be
+    // a multiple of the width.
     #[inline(always)]
     fn offset_of_aligned(&self, addr: u32, width: Width) -> Option<u32>
         requires aligned { is_aligned self.now ≡ true }

@@ -18,7 +18,7 @@ use Rattle.rv_merge.specs.Refusals.{IsNameTwice}
 
 -- ---- a part
 
--- the report of a shard, given as a part
+-- the saved report that a part was read from: the report of its shard, with its job numbers and rows
 abbrev pub report_of_part : Part → SavedReport
 report_of_part part = record {
   extent = extent.Shard part.shard;
@@ -31,13 +31,13 @@ pub record IsTextOf (report : SavedReport) (bytes : List ℕ) : Type 0 where
   pub saved : IsSaved report
   pub text : saved_text report ≡ bytes
 
--- the extent is not a shard: it is a whole list or chosen jobs, as the flaw says
+-- the extent is not a shard, but a whole list or chosen jobs; `flaw` says which of these it is
 abbrev pub IsOtherKind : Flaw → Extent → Type 0
 IsOtherKind flaw.Whole jobs = jobs ≡ extent.Whole
 IsOtherKind flaw.Choice jobs = (count : ℕ) × (jobs ≡ extent.Choice count)
 IsOtherKind _ jobs = ⊥
 
--- the two shards belong to different runs: they differ in the number of shards, the number of jobs or the stamp, as the flaw says
+-- the two shards belong to different runs: their number of shards, their number of jobs or their stamp differs; the flaw says which
 abbrev pub IsOtherRun : Flaw → Shard → Shard → Type 0
 IsOtherRun flaw.OtherShards first shard = first.shards ≡ shard.shards → ⊥
 IsOtherRun flaw.OtherJobs first shard = first.jobs ≡ shard.jobs → ⊥
@@ -46,7 +46,7 @@ IsOtherRun _ first shard = ⊥
 
 -- ---- slots
 
--- the slots after each row was written to the slot of its job number; `numbers` are the job numbers of the rows
+-- the slots after each row was written to the slot with the number of its job; `numbers` are the job numbers of the rows, in order
 abbrev pub filled_slots : {X : Type 0} → List ℕ → List X → List (Option X) → List (Option X)
 filled_slots [] rows slots = slots
 filled_slots (n ∷ ns) [] slots = slots
@@ -60,7 +60,7 @@ rows_from_slots (Some row ∷ slots) = row ∷ rows_from_slots slots
 
 -- ---- the gathered parts
 
--- the bytes are the text of a shard of the run, which has a source, and each of its rows is in the slot of its job
+-- the bytes are the report of a shard of the run; the shard has a source, and each row of the report is in the slot of its job
 pub record IsTaken (run : Run) (sources : List (Option ℕ)) (slots : List (Option Row))
     (bytes : List ℕ) : Type 0 where
   pub n : ℕ
@@ -69,7 +69,7 @@ pub record IsTaken (run : Run) (sources : List (Option ℕ)) (slots : List (Opti
   pub has :
       map (λ m. slice_index_or slots (m - 1) None) of.report.numbers ≡ map Some of.report.rows
 
--- the text at the index `at` is one of the first `count` texts, and is the report of the shard with the index `k` of the run
+-- the text at the index `at` is one of the first `count` texts, and is the report of shard `k` + 1 of the run
 pub record IsSource (run : Run) (texts : List (List ℕ)) (count k at : ℕ) : Type 0 where
   pub within : at < count
   pub of : IsReportOf (extent.Shard (shard_in run (k + 1))) (nth_text texts at)
@@ -86,13 +86,13 @@ pub record Holds (texts : List (List ℕ)) (count : ℕ) (shard : Shard)
   pub taken :
       (at : ℕ) → at < count → IsTaken (run_of_shard shard) sources slots (nth_text texts at)
 
--- the first `count` texts have been added to what is gathered
+-- the first `count` texts have been added to `g`
 abbrev pub HoldsIn : List (List ℕ) → ℕ → Gathered → Type 0
 HoldsIn texts count g = Holds texts count g.first g.sources.items g.slots.items
 
 -- ---- the end
 
--- each shard has a source
+-- each shard has a source, that is, the index of its text
 abbrev pub HaveSources : List (Option ℕ) → Type 0
 HaveSources sources =
     (k : ℕ) → k < length sources → is_some (slice_index_or sources k None) ≡ true
@@ -104,13 +104,13 @@ pub record IsComplete (sources : List (Option ℕ)) (slots : List (Option Row)) 
   pub are : rows ≡ rows_from_slots slots
   pub new : are_new [] (row_names rows) ≡ true
 
--- the shard with the number `n` has no source
+-- shard `n` has no source, that is, no text was found for it
 pub record IsWithout (sources : List (Option ℕ)) (n : ℕ) : Type 0 where
   pub low : 0 < n
   pub high : n ≤ length sources
   pub none : slice_index_or sources (n - 1) None ≡ None
 
--- the row of the job with the number `n` has the name of an earlier row, and the text of its shard is at the index `at`
+-- the row of job `n` has the name of an earlier row, and the text of its shard is at the index `at`
 pub record IsNamedTwice (sources : List (Option ℕ)) (slots : List (Option Row)) (n at : ℕ)
     : Type 0 where
   pub all : HaveSources sources
@@ -118,7 +118,7 @@ pub record IsNamedTwice (sources : List (Option ℕ)) (slots : List (Option Row)
   pub there : slice_index_or sources ((n - 1) % length sources) None ≡ Some at
   pub twice : IsNameTwice (rows_from_slots slots) (n - 1)
 
--- the error says why what is gathered is not a whole list: a shard has no text, or a name is repeated
+-- the error says why the gathered rows are not a whole list: a shard has no text, a name is repeated, or memory ran out
 abbrev pub IsUnfinished : List (Option ℕ) → List (Option Row) → MergeError → Type 0
 IsUnfinished sources slots error.OutOfMemory = Unit {0}
 IsUnfinished sources slots error.NoTexts = ⊥

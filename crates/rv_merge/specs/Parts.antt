@@ -11,15 +11,15 @@ use Rattle.rv_report.specs.declared.saved.Shard.{Shard}
 use Rattle.rv_report.specs.declared.saved.SavedReport.{SavedReport}
 use Rattle.rv_report.specs.Saved.{IsRow, IsSaved, are_new, row_names, saved_text}
 
--- the bytes of each text, which are passed by reference
+-- the texts that these references point to
 abbrev pub bytes_of_texts : List (Bor (List ℕ)) → List (List ℕ)
 bytes_of_texts texts = map (λ (text : Bor (List ℕ)). text.now) texts
 
--- the text at an index
+-- the text at the index `at`; empty if there is no such index
 abbrev pub nth_text : List (List ℕ) → ℕ → List ℕ
 nth_text texts at = slice_index_or texts at []
 
--- a run of a list in shards
+-- a run of a list that is divided into shards
 pub record Run : Type 0 where
   -- the number of jobs of the list
   pub jobs : ℕ
@@ -31,7 +31,7 @@ pub record Run : Type 0 where
 abbrev pub run_of_shard : Shard → Run
 run_of_shard shard = record { jobs = shard.jobs; shards = shard.shards; stamp = shard.stamp }
 
--- the shard with the number `n` of a run
+-- shard `n` of a run
 abbrev pub shard_in : Run → ℕ → Shard
 shard_in run n =
     record { jobs = run.jobs; number = n; shards = run.shards; stamp = run.stamp }
@@ -43,7 +43,7 @@ pub record IsReportOf (jobs : Extent) (bytes : List ℕ) : Type 0 where
   pub text : saved_text report ≡ bytes
   pub extent : report.extent ≡ jobs
 
--- the bytes are the text of the shard with the number `n` of a run, and have under each job number the row of that job among `rows`
+-- the bytes are the report of shard `n` of a run, which has under each job number the row of this job among `rows`
 pub record IsPart (rows : List Row) (run : Run) (n : ℕ) (bytes : List ℕ) : Type 0 where
   pub of : IsReportOf (extent.Shard (shard_in run n)) bytes
   pub has : map (λ m. slice_get rows (m - 1)) of.report.numbers ≡ map Some of.report.rows
@@ -55,7 +55,7 @@ pub record ArePartsIn (run : Run) (rows : List Row) (texts : List (List ℕ)) : 
   pub each : All (λ bytes. (n : ℕ) × IsPart rows run n bytes) texts
   pub all : (n : ℕ) → 0 < n → n ≤ run.shards → Any (IsPart rows run n) texts
 
--- the rows may be those of a list: there are at most `most_jobs`, all are valid, and no two have the same name
+-- the rows can be the rows of a list: there are at most `most_jobs`, all are valid, and no two have the same name
 pub record AreListed (rows : List Row) : Type 0 where
   pub few : length rows ≤ most_jobs
   pub good : AllByRecursion IsRow rows

@@ -18,18 +18,18 @@ use Rattle.rv_merge.specs.declared.error.MergeError.{MergeError}
 use Rattle.rv_merge.specs.declared.error.MergeError.TheVariants as error
 use Rattle.rv_merge.specs.Parts.{ArePartsIn, IsReportOf, Run, shard_in, nth_text}
 
--- the result is these rows, unless memory ran out
+-- the result is `rows`, or the error that memory ran out
 abbrev pub AnswersRows : List Row → Result (List Row) MergeError → Type 0
 AnswersRows rows (Ok found) = found ≡ rows
 AnswersRows rows (Err e) = e ≡ error.OutOfMemory
 
--- no report has these bytes as its text; they agree with a report before the error `place`
+-- the bytes are not the text of a report, but agree with one up to the error `place`
 pub record IsUnread (place : ReadError) (bytes : List ℕ) : Type 0 where
   pub none : (report : SavedReport) → IsSaved report → saved_text report ≡ bytes → ⊥
   pub begins : (report : SavedReport) × IsSaved report × BeginsAlike place (saved_text report) bytes
   pub told : IsSameReadError place (first_read_error (saved_text (lenient_report bytes)) bytes)
 
--- the two texts are those of shards that differ in `what`
+-- the two texts are reports of shards for which the function `what` has different values
 pub record Differ {X : Type 0} (what : Shard → X) (bytes others : List ℕ) : Type 0 where
   pub shard : Shard
   pub other : Shard
@@ -37,21 +37,20 @@ pub record Differ {X : Type 0} (what : Shard → X) (bytes others : List ℕ) : 
   pub of : IsReportOf (extent.Shard other) others
   pub differ : what shard ≡ what other → ⊥
 
--- the two texts are those of one shard, and differ
+-- the two texts are different reports of the same shard
 pub record AreTwo (bytes others : List ℕ) : Type 0 where
   pub shard : Shard
   pub is : IsReportOf (extent.Shard shard) bytes
   pub of : IsReportOf (extent.Shard shard) others
   pub differ : bytes ≡ others → ⊥
 
--- an earlier row has the name of the row at the index `place`
+-- the row at the index `place` has the name of an earlier row
 pub record IsNameTwice (rows : List Row) (place : ℕ) : Type 0 where
   pub row : Row
   pub at : slice_get rows place ≡ Some row
   pub twice : is_some (index_in (row_names (take place rows)) row.name) ≡ true
 
--- the texts are the parts of a run of some rows, of which the row of the job with the number `n` has the name of an earlier row, and is in
--- the text `bytes`
+-- the texts are the parts of a run of some rows; the row of job `n`, which is in the text `bytes`, has the name of an earlier row
 pub record HasNameTwice (texts : List (List ℕ)) (bytes : List ℕ) (n : ℕ) : Type 0 where
   pub rows : List Row
   pub run : Run
@@ -78,12 +77,12 @@ HasFlaw texts at (flaw.OtherText earlier) =
     (earlier < at) × AreTwo (nth_text texts earlier) (nth_text texts at)
 HasFlaw texts at (flaw.NameTwice n) = HasNameTwice texts (nth_text texts at) n
 
--- the bytes are the text of a shard of the run other than the one with the number `n`
+-- the bytes are the report of a shard of the run other than shard `n`
 abbrev pub IsOtherPart : Run → ℕ → List ℕ → Type 0
 IsOtherPart run n bytes =
     (other : ℕ) × IsReportOf (extent.Shard (shard_in run other)) bytes × (other ≡ n → ⊥)
 
--- each text is the report of a shard of one run, and none is the report of the shard with the number `n`
+-- each text is the report of a shard of one run, and none is the report of shard `n`
 pub record IsMissing (n : ℕ) (texts : List (List ℕ)) : Type 0 where
   pub run : Run
   pub low : 0 < n
@@ -91,7 +90,7 @@ pub record IsMissing (n : ℕ) (texts : List (List ℕ)) : Type 0 where
   pub each : All (IsOtherPart run n) texts
   pub some : 0 < length texts
 
--- the error is true of the texts
+-- the texts have this error, so that they are not the parts of one run; memory may always run out
 abbrev pub IsRefused : List (List ℕ) → MergeError → Type 0
 IsRefused texts error.OutOfMemory = Unit {0}
 IsRefused texts error.NoTexts = texts ≡ []

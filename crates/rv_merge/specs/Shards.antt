@@ -14,19 +14,19 @@ use Rattle.rv_report.specs.declared.saved.SavedReport.{SavedReport}
 use Rattle.rv_report.specs.Saved.{saved_text}
 use Rattle.rv_merge.specs.Parts.{Run, shard_in}
 
--- whether the shard with the number `n` of `shards` shards has the job at the index `place`, counted from 0
+-- whether shard `n` of `shards` shards has the job at the index `place`, counted from 0
 abbrev pub is_in_shard : ℕ → ℕ → ℕ → Bool
 is_in_shard shards n place = place % shards == n - 1
 
--- whether the shard with the number `n` of `shards` shards has each of these jobs, in list order
+-- for each of `jobs` jobs, in list order, whether shard `n` of `shards` shards has it
 abbrev pub shard_selection : ℕ → ℕ → ℕ → List Bool
 shard_selection shards n jobs = map (is_in_shard shards n) (range_with_len 0 jobs)
 
--- the indices of the jobs of the shard with the number `n` of `shards` shards, in a list with this many jobs
+-- the indices of the jobs that shard `n` of `shards` shards has, in a list with `jobs` jobs
 abbrev pub shard_places : ℕ → ℕ → ℕ → List ℕ
 shard_places shards n jobs = filter (is_in_shard shards n) (range_with_len 0 jobs)
 
--- the report of the shard with the number `n` of a run, which ran from this plan
+-- the report of shard `n` of a run, with the rows of its jobs in this plan
 abbrev pub shard_report : Run → ℕ → Planned → SavedReport
 shard_report run n plan = record {
   extent = extent.Shard (shard_in run n);
@@ -41,8 +41,7 @@ pub record IsRunOf (list : List Job) (run : Run) : Type 0 where
   pub few : run.shards ≤ most_jobs
   pub stamp : is_name run.stamp ≡ true
 
--- the bytes are the text of the report of the shard with the number `n`, which ran from a plan that has the same result as `answers` for
--- each path that its jobs need
+-- the bytes are the report of shard `n`, which ran from a plan that has the same result as `answers` for each path that its jobs need
 pub record IsTextFrom (list : List Job) (answers : List Answer) (run : Run) (n : ℕ)
     (bytes : List ℕ) : Type 0 where
   pub low : 0 < n

@@ -58,6 +58,7 @@ pub enum Flaw {
 impl From<AllocError> for MergeError {
     ghost from_gives = { λ _ error. error ≡ OutOfMemory };
 
+    // Returns `OutOfMemory`.
     fn from(_: AllocError) -> MergeError {
         MergeError::OutOfMemory
     }

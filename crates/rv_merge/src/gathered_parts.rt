@@ -25,7 +25,7 @@ pub(crate) struct Gathered {
     pub(crate) slots: Vec<Option<Row>>,
 }
 
-/// Returns what is gathered before the first text of a shard's run: no row.
+/// Returns the state before the first text is added: it has the run of this shard, and no row.
 pub(crate) fn no_parts_of_run(alloc: Global, shard: &Shard) -> Result<Gathered, AllocError>
     ensures first { IfOk result (λ g. g.first ≡ shard.now) }
     ensures sources { IfOk result (λ g. g.sources.items ≡ replicate shard.now.shards None) }
@@ -57,8 +57,8 @@ fn vacant_slots<T: Drop>(alloc: Global, count: u32) -> Result<Vec<Option<T>>, Al
     Ok(slots)
 }
 
-/// Adds the rows of the part whose text is at an index, unless its shard had an identical text before. Fails if it belongs to another run,
-/// or if its shard had another text.
+/// Adds the rows of a part, whose text is at an index, unless its shard already had an identical text. Returns an error if the part belongs
+/// to another run, or its shard already had a different text.
 pub(crate) fn add_part(
     gathered: &mut Gathered,
     texts: &[&[u8]],
@@ -87,7 +87,7 @@ pub(crate) fn add_part(
     }
 }
 
-// Returns how the run of a shard differs from that of the first text, or `None` if it is the same run.
+// Returns how the run of `shard` differs from the run of `first`, or `None` if it is the same run.
 fn other_run_flaw(first: &Shard, shard: &Shard) -> Option<Flaw>
     ensures { MatchOption result (run_of_shard shard.now ≡ run_of_shard first.now)
         (λ flaw. IsOtherRun flaw first.now shard.now) }

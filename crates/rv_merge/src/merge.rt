@@ -15,8 +15,8 @@ use crate::part::part_at;
 use rv_rows::{Row, Rows};
 use std::alloc::{AllocError, Global};
 
-/// Returns the rows of the list whose parts these texts are, in any order and possibly repeated, or why they are not the parts of one run.
-/// Takes memory for the rows, and for reading one text after another.
+/// Returns the rows of the list whose parts these texts are, in any order and possibly repeated, or the reason why they are not the parts
+/// of one run. Needs memory for the rows, and for reading one text after another.
 pub fn merge_parts(alloc: Global, texts: &[&[u8]]) -> Result<Rows, MergeError>
     // The texts are the parts of one run of these rows.
     ensures found { IfOk result (λ rows. AreParts rows (bytes_of_texts texts.now)) }
@@ -48,7 +48,7 @@ fn gather_parts(alloc: Global, texts: &[&[u8]]) -> Result<Gathered, MergeError>
     Ok(gathered)
 }
 
-// Returns the gathered rows, or an error if a shard has no text or a name is repeated.
+// Returns the gathered rows, or an error if a shard has no text or two rows have the same name.
 fn rows_of_parts(alloc: Global, gathered: Gathered) -> Result<Rows, MergeError>
     requires { 0 < length gathered.sources.items }
     ensures rows { IfOk result (λ rows. IsComplete gathered.sources.items gathered.slots.items
@@ -78,7 +78,7 @@ fn first_missing_shard(sources: &[Option<usize>]) -> Option<usize>
     None
 }
 
-// Returns the error for the row at an index, whose name an earlier row has.
+// Returns the error that the row at an index has the name of an earlier row.
 fn repeated_name_error(sources: &[Option<usize>], place: usize) -> MergeError
     requires some { 0 < length sources.now }
     requires place { place < usize.MAX }

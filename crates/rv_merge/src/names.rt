@@ -8,7 +8,7 @@ use rv_rows::Row;
 use std::alloc::{AllocError, Global};
 use std::collections::BTreeMap;
 
-/// Returns the index of the first row whose name an earlier row has, or `None` if there is none.
+/// Returns the index of the first row that has the name of an earlier row, or `None` if there is none.
 pub(crate) fn first_repeated_name(alloc: Global, rows: &[Row]) -> Result<Option<usize>, AllocError>
     ensures twice { IfOk result (λ place. MatchOption place (are_new [] (row_names rows.now) ≡ true)
         (IsNameTwice rows.now)) }

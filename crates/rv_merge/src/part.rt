@@ -18,7 +18,7 @@ pub(crate) struct Part {
     pub(crate) rows: Rows,
 }
 
-/// Parses the text at an index as a part, or returns what is wrong with it.
+/// Parses the text at an index as a part, or returns the error in it.
 pub(crate) fn part_at(alloc: Global, texts: &[&[u8]], at: usize) -> Result<Part, MergeError>
     requires { at < length texts.now }
     ensures found { IfOk result (λ part. IsTextOf (report_of_part part)
@@ -36,7 +36,7 @@ pub(crate) fn part_at(alloc: Global, texts: &[&[u8]], at: usize) -> Result<Part,
     }
 }
 
-// Returns the report of a shard as a part, or a flaw if it is not the report of a shard.
+// Returns the report as a part, or a flaw if it is not the report of a shard.
 fn part_of_report(report: SavedReport) -> Result<Part, Flaw>
     ensures part { IfOk result (λ part. report_of_part part ≡ report) }
     ensures other { IfErr result (λ flaw. IsOtherKind flaw report.extent) }

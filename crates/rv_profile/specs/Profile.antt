@@ -19,7 +19,7 @@ pub record Profiled : Type 0 where
   -- the number of calls
   pub arrivals : ℕ
 
--- the counts of a function with a name, in a call tree
+-- the counts in a call tree of the function with this name and address
 abbrev pub profiled : List Spot → FunctionName → Profiled
 profiled spots named = record {
   name = named.name;
@@ -29,11 +29,11 @@ profiled spots named = record {
   arrivals = arrivals_in named.function spots;
 }
 
--- whether a function comes before another in a profile: it has more own steps, or as many and a lower address
+-- whether `p` comes before `q` in a profile: it has more own steps, or equally many and a lower address
 abbrev pub goes_before : Profiled → Profiled → Bool
 goes_before p q = nat_lt q.own p.own || ((p.own == q.own) && nat_lt p.function q.function)
 
--- `found` has the counts of each function with a name in the call tree, once, sorted as `goes_before` says
+-- `found` has the counts of each named function in the call tree, once, in the order that `goes_before` defines
 pub record IsProfileOf (spots : List Spot) (names : List FunctionName) (found : List Profiled) : Type 0 where
   pub each : IsPermutation (map (profiled spots) names) found
   pub order : IsSortedBy goes_before found
@@ -52,7 +52,7 @@ AreWithin steps ps = All (IsWithin steps) ps
 
 -- ---- profiles as the code has them
 
--- the counts of a function in the code as contracts see them
+-- the counts of a function, converted from the Rust value to the record that contracts use
 abbrev pub profile_of : FunctionProfile → Profiled
 profile_of function = record {
   name = function.name.now;
@@ -62,6 +62,6 @@ profile_of function = record {
   arrivals = function.steps.arrivals;
 }
 
--- the counts of functions in the code as contracts see them, in order
+-- the counts of functions, converted from the Rust values to the records that contracts use, in order
 abbrev pub profiles_of : List FunctionProfile → List Profiled
 profiles_of functions = map profile_of functions

@@ -9,26 +9,26 @@ use Rattle.rv_profile.specs.Text.{first_of, image_lines}
 use Rattle.rv_profile.specs.declared.format.ProfileFormat.{ProfileFormat}
 use Rattle.rv_profile.specs.declared.sums.Sums.{Sums}
 
--- the profile of the image with this path: as CSV rows, or as lines
+-- the profile of the image with this path: CSV rows, or lines for people, as the format says
 abbrev pub image_text : ProfileFormat → List ℕ → Sums → List Profiled → List ℕ
 image_text format path sums ps = if format.csv then csv_rows path (first_of format.top ps) else image_lines format.top path sums ps
 
--- the header of the report, which only CSV has
+-- the header of the report: the column names if the format is CSV, and otherwise empty
 abbrev pub head_text : ProfileFormat → List ℕ
 head_text format = if format.csv then csv_head else []
 
--- the text is the profile of an image by a table's call tree
+-- `text` is the profile of the image, computed from its call tree in the table
 pub record IsImageProfileText (format : ProfileFormat) (table : CountTable) (image : FileImage) (text : List ℕ) : Type 0 where
   pub functions : List Profiled
   pub profile : IsProfileOf (spots_of table image.bytes) (names_of table image.bytes) functions
   pub shown : text ≡ image_text format image.path (sums_of (spots_of table image.bytes)) functions
 
--- the text is the profile of each image by a table's call trees, in order
+-- `text` is the profiles of these images, one after the other, computed from their call trees in the table
 abbrev pub AreImageProfileTexts : ProfileFormat → CountTable → List FileImage → List ℕ → Type 0
 AreImageProfileTexts format table [] text = text ≡ []
 AreImageProfileTexts format table (image ∷ images) text = (first : List ℕ) × (IsImageProfileText format table image first
     × ((rest : List ℕ) × (AreImageProfileTexts format table images rest × (text ≡ first ++ rest))))
 
--- the text is the profiles of all images, in order, after the CSV header if the format is CSV
+-- `text` is the profile report of these images: the CSV header if the format is CSV, and then the profile of each image, in order
 abbrev pub IsProfileText : ProfileFormat → CountTable → List FileImage → List ℕ → Type 0
 IsProfileText format table images text = (lines : List ℕ) × (AreImageProfileTexts format table images lines × (text ≡ head_text format ++ lines))

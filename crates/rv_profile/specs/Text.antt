@@ -11,11 +11,11 @@ use Rattle.rv_profile.specs.declared.sums.Sums.{Sums}
 
 -- ---- columns
 
--- the width of a column: `least`, or two more than the digits of its greatest number if that is more
+-- the width of a column whose greatest number is `greatest`: `least`, or two more than the number of its digits if that is more
 abbrev pub width : ℕ → ℕ → ℕ
 width least greatest = max least (2 + length (decimal greatest))
 
--- the widths of the columns of an image whose steps and calls have these sums
+-- the widths of the columns for an image, given the sums of its steps and calls
 abbrev pub columns_of : Sums → Columns
 columns_of sums = record {
   own = width 13 sums.steps;
@@ -23,11 +23,11 @@ columns_of sums = record {
   arrivals = width 10 sums.arrivals;
 }
 
--- a word with leading spaces up to a width of `width`
+-- the word, preceded by spaces up to `width` characters
 unfoldable pub right_word : ℕ → List ℕ → List ℕ
 right_word width word = replicate (width - length word) 32 ++ word
 
--- the header above a column of numbers and their percentages
+-- the header of a column of numbers, right-aligned, and of the column of their percentages
 unfoldable pub share_head : ℕ → List ℕ → List ℕ
 share_head width word = right_word width word ++ codes "       %"
 
@@ -38,21 +38,21 @@ columns_head c = share_head c.own (codes "self") ++ share_head c.inclusive (code
 
 -- ---- shares
 
--- the share of a part in a whole, in hundredths of a percent, rounded to the nearest, ties up; 0 if the whole is 0
+-- the ratio of `part` to `whole` in hundredths of a percent, rounded to the nearest, ties up; 0 if `whole` is 0
 abbrev pub hundredths : ℕ → ℕ → ℕ
 hundredths part whole = if whole == 0 then 0 else (20_000 * part + whole) / (2 * whole)
 
--- hundredths of a percent as a percentage with two decimals, eight characters wide
+-- a ratio, given in hundredths of a percent, as a percentage with two decimals, eight characters wide
 unfoldable pub percent : ℕ → List ℕ
 percent count = right 4 (count / 100) ++ codes "." ++ decimal (count / 10 % 10) ++ decimal (count % 10) ++ codes "%"
 
--- a part of a whole, right-aligned, and its percentage
+-- the number `part`, right-aligned in a column of this width, and its percentage of `whole`
 unfoldable pub share : ℕ → ℕ → ℕ → List ℕ
 share width part whole = right width part ++ percent (hundredths part whole)
 
 -- ---- lines
 
--- the word for steps after their number, with a line feed
+-- " step" if the count is 1, and otherwise " steps", followed by a line feed
 abbrev pub steps_word : ℕ → List ℕ
 steps_word count = if count == 1 then codes " step\n" else codes " steps\n"
 
@@ -69,28 +69,28 @@ function_line c steps p = share c.own p.own steps ++ share c.inclusive p.inclusi
 abbrev pub function_lines : Columns → ℕ → List Profiled → List ℕ
 function_lines c steps ps = flat_map (function_line c steps) ps
 
--- " more function" for one function, else " more functions", and a line feed
+-- " more function" if the count is 1, and otherwise " more functions", followed by a line feed
 abbrev pub functions_word : ℕ → List ℕ
 functions_word count = if count == 1 then codes " more function\n" else codes " more functions\n"
 
--- the line with the number of functions that have no line, or no line if there are none
+-- the line that says how many functions are not shown; empty if there are none
 abbrev pub more_line : ℕ → List ℕ
 more_line left = if left == 0 then [] else decimal left ++ functions_word left
 
 -- ---- an image
 
--- the first elements of a list, as many as the number says, or all if there is no number
+-- the first elements of a list, as many as the number says; the whole list if no number is given
 abbrev pub first_of : {X : Type 0} → Option ℕ → List X → List X
 first_of None xs = xs
 first_of (Some count) xs = take count xs
 
--- the lines below the image's own line: a header, the functions (only the first `top` if that is set), and how many more there are; nothing
--- if there are no functions
+-- the lines after the image's own line: a header, a line for each function (only the first `top` if a number is given), and how many
+-- functions are not shown; empty if there are no functions
 abbrev pub functions_text : Option ℕ → Sums → List Profiled → List ℕ
 functions_text top sums [] = []
 functions_text top sums (p ∷ ps) = columns_head (columns_of sums) ++ function_lines (columns_of sums) sums.steps (first_of top (p ∷ ps))
     ++ more_line (length (p ∷ ps) - length (first_of top (p ∷ ps)))
 
--- the lines of the image with this path, these sums and these functions, of which the first `top` are shown, or all
+-- the lines of the image with this path: its number of steps, and then its functions, only the first `top` of them if a number is given
 abbrev pub image_lines : Option ℕ → List ℕ → Sums → List Profiled → List ℕ
 image_lines top path sums ps = steps_line path sums.steps ++ functions_text top sums ps

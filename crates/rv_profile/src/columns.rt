@@ -15,7 +15,7 @@ pub(crate) struct Columns {
     pub(crate) arrivals: usize,
 }
 
-/// Returns the widths of the columns of an image whose steps and calls have these sums.
+/// Returns the widths of the columns for an image, given the sums of its steps and calls.
 pub(crate) fn columns_of(alloc: Global, sums: Sums) -> Result<Columns, AllocError>
     ensures { IfOk result (λ columns. columns ≡ columns_of sums) }
 {
@@ -26,7 +26,7 @@ pub(crate) fn columns_of(alloc: Global, sums: Sums) -> Result<Columns, AllocErro
     })
 }
 
-// Returns the width of a column: `least`, or two more than the digits of its greatest number if that is more.
+// Returns the width of a column whose greatest number is `greatest`: `least`, or two more than the number of its digits if that is more.
 fn width(alloc: Global, least: usize, greatest: u64) -> Result<usize, AllocError>
     ensures { IfOk result (λ count. count ≡ width least greatest) }
 {

@@ -9,7 +9,7 @@ use rv_cover_view::push_csv_field;
 use rv_text::{Span, push_spans, push_text};
 use std::alloc::AllocError;
 
-/// Appends the row of column names.
+/// Appends the first line of the CSV, with the column names.
 #[tactic(auto, unfolding(crate::specs::Csv::csv_head))]
 pub(crate) fn push_csv_head(bytes: &mut Vec<u8>) -> Result<(), AllocError>
     ensures { OnOk result (bytes.new.items ≡ bytes.old.items ++ csv_head) }
@@ -17,7 +17,7 @@ pub(crate) fn push_csv_head(bytes: &mut Vec<u8>) -> Result<(), AllocError>
     push_text(bytes, "image,function,address,self,inclusive,calls\n")
 }
 
-/// Appends the rows of the functions of the image with this path.
+/// Appends the CSV rows of these functions of the image with this path.
 pub(crate) fn push_csv_rows(
     bytes: &mut Vec<u8>,
     path: &[u8],
@@ -31,7 +31,7 @@ pub(crate) fn push_csv_rows(
     Ok(())
 }
 
-// Appends the row of a function of the image with this path.
+// Appends the CSV row of a function of the image with this path.
 #[tactic(auto, unfolding(crate::specs::Csv::csv_row))]
 fn push_csv_row(
     bytes: &mut Vec<u8>,
@@ -46,7 +46,7 @@ fn push_csv_row(
     push_csv_numbers(bytes, function)
 }
 
-// Appends the fields for the address and the counts of a function.
+// Appends the rest of a CSV row after the function's name: its address and its counts, each after a comma, and a line feed.
 #[tactic(auto, unfolding(crate::specs::Csv::csv_numbers))]
 fn push_csv_numbers(bytes: &mut Vec<u8>, function: &FunctionProfile<'_>) -> Result<(), AllocError>
     ensures { OnOk result (bytes.new.items ≡ bytes.old.items ++ csv_numbers (profile_of function.now)) }

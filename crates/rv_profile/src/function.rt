@@ -15,7 +15,8 @@ pub(crate) struct FunctionProfile<'a> {
     pub(crate) steps: FunctionSteps,
 }
 
-/// Returns the counts of a function with a name. Takes time linear in the number of nodes that end in the function.
+/// Returns the counts in a call tree of the function with this name and address. Takes time linear in the number of nodes that end in the
+/// function.
 pub(crate) fn profile_of_function<'a>(
     index: &SpotIndex<'_>,
     named: &'a FunctionName,

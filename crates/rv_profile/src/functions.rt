@@ -11,7 +11,7 @@ use rv_call_tree::SpotIndex;
 use std::alloc::{AllocError, Global};
 
 /// Returns the functions of an image with their counts in its call tree, sorted by own steps in descending order, and then by address.
-/// Takes the time to sort the nodes and the functions.
+/// Takes the time that sorting the nodes and the functions takes.
 pub(crate) fn functions_by_own_steps<'t>(
     alloc: Global,
     stacks: ImageStacks<'t>,

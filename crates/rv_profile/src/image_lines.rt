@@ -11,7 +11,8 @@ use crate::text::{push_columns_head, push_function_line, push_more_line, push_st
 use crate::top::first_of;
 use std::alloc::{AllocError, Global};
 
-/// Appends the lines of the image with this path, with its first `top` functions, or all.
+/// Appends the lines of the image with this path: its number of steps, and then its functions, only the first `top` of them if a number is
+/// given.
 pub(crate) fn push_image_lines(
     alloc: Global,
     bytes: &mut Vec<u8>,
@@ -26,7 +27,8 @@ pub(crate) fn push_image_lines(
     push_functions(alloc, bytes, top, profile)
 }
 
-// Appends a header, the lines of the first `top` functions, or all, and how many more there are. Appends nothing if there are no functions.
+// Appends a header, a line for each function (only the first `top` if a number is given), and how many functions are not shown. Appends
+// nothing if there are no functions.
 fn push_functions(
     alloc: Global,
     bytes: &mut Vec<u8>,

@@ -21,7 +21,7 @@ pub(crate) struct ImageStacks<'t> {
     ghost rising: { names_rise 0 names.now ≡ true },
 }
 
-/// Returns a table's call tree of the image with the digest of these bytes, which is empty if the table has no such image.
+/// Returns the call tree that the table has for the image with these bytes; empty if the table does not have this image.
 pub(crate) fn stacks_of<'t>(table: &'t CountTable, bytes: &[u8]) -> ImageStacks<'t>
     requires { IsTable table.now }
     ensures spots { result.spots.now ≡ spots_of table.now bytes.now }
@@ -60,7 +60,7 @@ fn no_stacks<'t>() -> ImageStacks<'t>
     }
 }
 
-/// Whether a table has a call tree for some image.
+/// Whether the table has a call tree for at least one image.
 pub fn has_stacks(table: &CountTable) -> bool
     ensures { result ≡ has_stacks table.now }
 {

@@ -17,7 +17,8 @@ use rv_count_tables::CountTable;
 use rv_cover_view::ImageFile;
 use std::alloc::{AllocError, Global};
 
-/// Returns the profile report of images by a table's call trees: CSV rows after a header for tools, or lines for people.
+/// Returns the profile report of these images, computed from their call trees in the table: CSV rows after a header for tools, or lines for
+/// people.
 pub fn profile_text(
     alloc: Global,
     format: ProfileFormat,
@@ -36,7 +37,7 @@ pub fn profile_text(
     Ok(text)
 }
 
-// Appends the header of the report, which only CSV has.
+// Appends the header of the report: the column names if the format is CSV, and otherwise nothing.
 fn push_head(text: &mut Vec<u8>, format: ProfileFormat) -> Result<(), AllocError>
     ensures { OnOk result (text.new.items ≡ text.old.items ++ head_text format) }
 {
@@ -47,7 +48,7 @@ fn push_head(text: &mut Vec<u8>, format: ProfileFormat) -> Result<(), AllocError
     }
 }
 
-// Appends the profile of an image by a table's call tree.
+// Appends the profile of an image, computed from its call tree in the table.
 fn push_image(
     alloc: Global,
     text: &mut Vec<u8>,
@@ -64,7 +65,7 @@ fn push_image(
     push_image_profile(alloc, text, format, image.path.as_bytes(), &profile)
 }
 
-// Appends the profile of the image with this path, as CSV rows or as lines.
+// Appends the profile of the image with this path: CSV rows, or lines for people, as the format says.
 fn push_image_profile(
     alloc: Global,
     text: &mut Vec<u8>,

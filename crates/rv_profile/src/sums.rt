@@ -13,7 +13,7 @@ pub(crate) struct Sums {
 }
 
 impl Sums {
-    // Returns the sums with the counts of one more node, or `None` if one of them does not fit in 64 bits.
+    // Returns the sums, to which the counts of one more node are added, or `None` if one of them does not fit in 64 bits.
     fn with_spot(self, spot: Spot) -> Option<Sums>
         ensures { result ≡ fitting (with_spot self spot) }
     {

@@ -30,7 +30,7 @@ pub(crate) fn push_steps_line(
     )
 }
 
-// Returns the word for steps after their number, with a line feed.
+// Returns " step" if the count is 1, and otherwise " steps", followed by a line feed.
 fn steps_word(count: u64) -> &'static str
     ensures { result.now ≡ steps_word count }
 {
@@ -48,7 +48,7 @@ pub(crate) fn push_columns_head(bytes: &mut Vec<u8>, columns: Columns) -> Result
     push_text(bytes, "  function\n")
 }
 
-// Appends the header above a column of numbers and their percentages.
+// Appends the header of a column of numbers, right-aligned, and of the column of their percentages.
 #[tactic(auto, unfolding(crate::specs::Text::share_head))]
 fn push_share_head(bytes: &mut Vec<u8>, width: usize, word: &str) -> Result<(), AllocError>
     ensures { OnOk result (bytes.new.items ≡ bytes.old.items ++ share_head width word.now) }
@@ -57,7 +57,7 @@ fn push_share_head(bytes: &mut Vec<u8>, width: usize, word: &str) -> Result<(), 
     push_text(bytes, "       %")
 }
 
-// Appends a word with leading spaces up to a width of `width`.
+// Appends the word, preceded by spaces up to `width` characters.
 #[tactic(auto, unfolding(crate::specs::Text::right_word))]
 fn push_right_word(bytes: &mut Vec<u8>, width: usize, word: &str) -> Result<(), AllocError>
     ensures { OnOk result (bytes.new.items ≡ bytes.old.items ++ right_word width word.now) }
@@ -92,7 +92,7 @@ pub(crate) fn push_function_line(
     )
 }
 
-// Appends a part of a whole, right-aligned, and its percentage.
+// Appends the number `part`, right-aligned in a column of this width, and its percentage of `whole`.
 #[tactic(auto, unfolding(crate::specs::Text::share))]
 fn push_share(
     alloc: Global,
@@ -108,7 +108,7 @@ fn push_share(
     push_percent(alloc, bytes, hundredths(part, whole))
 }
 
-// Returns the share of a part in a whole, in hundredths of a percent.
+// Returns the ratio of `part` to `whole` in hundredths of a percent, rounded to the nearest, ties up; 0 if `whole` is 0.
 fn hundredths(part: u64, whole: u64) -> u64
     requires { part ≤ whole }
     ensures { result ≡ hundredths part whole }
@@ -120,7 +120,7 @@ fn hundredths(part: u64, whole: u64) -> u64
     ((20_000 * part + whole) / (2 * whole)) as u64
 }
 
-// Appends hundredths of a percent as a percentage with two decimals.
+// Appends a ratio, given in hundredths of a percent, as a percentage with two decimals, eight characters wide.
 #[tactic(auto, unfolding(crate::specs::Text::percent))]
 fn push_percent(alloc: Global, bytes: &mut Vec<u8>, count: u64) -> Result<(), AllocError>
     ensures { OnOk result (bytes.new.items ≡ bytes.old.items ++ percent count) }
@@ -137,7 +137,7 @@ fn push_percent(alloc: Global, bytes: &mut Vec<u8>, count: u64) -> Result<(), Al
     )
 }
 
-/// Appends the number of functions that have no line, if there are any.
+/// Appends the line that says how many functions are not shown; nothing if there are none.
 pub(crate) fn push_more_line(bytes: &mut Vec<u8>, left: usize) -> Result<(), AllocError>
     ensures { OnOk result (bytes.new.items ≡ bytes.old.items ++ more_line left) }
 {
@@ -148,7 +148,7 @@ pub(crate) fn push_more_line(bytes: &mut Vec<u8>, left: usize) -> Result<(), All
     push_text(bytes, functions_word(left))
 }
 
-// Returns " more function" for one function, else " more functions", and a line feed.
+// Returns " more function" if the count is 1, and otherwise " more functions", followed by a line feed.
 fn functions_word(count: usize) -> &'static str
     ensures { result.now ≡ functions_word count }
 {

@@ -5,7 +5,7 @@ ghost use Rattle.rv_profile.specs.Text.{first_of};
 
 use crate::function::FunctionProfile;
 
-/// Returns the first `top` functions, or all.
+/// Returns the first `top` functions; all functions if no number is given.
 pub(crate) fn first_of<'f, 't>(
     top: Option<u32>,
     functions: &'f [FunctionProfile<'t>],

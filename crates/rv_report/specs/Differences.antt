@@ -14,21 +14,22 @@ count_of_line_feeds (b ∷ bs) = if b == 10 then count_of_line_feeds bs + 1 else
 
 -- ---- how much of the first word of a line has been read
 
--- how much of the first word of a line has been read after one more letter of the line
+-- how much of the first word of a line has been read, given how much had been read before one more letter of the line
 abbrev pub word_after_letter : FirstWord → FirstWord
 word_after_letter word.Ahead = word.Begun
 word_after_letter word.Begun = word.Begun
 word_after_letter word.Ended = word.Ended
 
--- how much of the first word of a line has been read after one more byte: a line feed begins a new line, and a space ends the first word
+-- how much of the first word of a line has been read, given how much had been read before the byte `b`: a line feed begins a new line, and
+-- a space ends the first word
 abbrev pub word_after_byte : FirstWord → ℕ → FirstWord
 word_after_byte met b = if b == 10 then word.Ahead else if b == 32 then word.Ended else word_after_letter met
 
--- whether the last line of a report, `done ..` or `part ..`, begins with this byte
+-- whether the last line of a report, which is `done ..` or `part ..`, can begin with this byte
 abbrev pub begins_last_line : ℕ → Bool
 begins_last_line b = (b == 100) || (b == 112)
 
--- whether a row, which begins with `job `, can begin with this text, as far as the text goes
+-- whether the text agrees with the beginning of a row, `job `, as far as the text goes
 abbrev pub begins_row : List ℕ → Bool
 begins_row text = bytes_eq (take 4 text) (take (length text) (codes "job "))
 
@@ -47,12 +48,12 @@ abbrev pub read_error_at : ℕ → FirstWord → ℕ → List ℕ → ReadError
 read_error_at line met other rest =
     if can_begin_report_line met other rest && (count_of_line_feeds rest == 0) then CutOff else Line line
 
--- the number of the line after one more byte
+-- the number of the line after the byte `b`: one more if `b` is a line feed, and otherwise `line`
 abbrev pub line_after_byte : ℕ → ℕ → ℕ
 line_after_byte line b = if b == 10 then line + 1 else line
 
--- the error at the first difference of bytes from a text; `line` and `met` are the number of the line and how much of its first word has
--- been read before them
+-- the error at the first difference between the bytes and a text; before them, `line` was the number of the line, and `met` is how much of
+-- its first word had been read
 unfoldable pub read_error_from : ℕ → FirstWord → List ℕ → List ℕ → ReadError
 read_error_from line met text [] = CutOff
 read_error_from line met [] (b ∷ bs) = Line line
@@ -60,12 +61,12 @@ read_error_from line met (t ∷ ts) (b ∷ bs) =
     if b == t then read_error_from (line_after_byte line b) (word_after_byte met b) ts bs
     else read_error_at line met t (b ∷ bs)
 
--- the error at the first difference of the bytes from a whole text: a line, counted from 1, or `CutOff`
+-- the error at the first difference between the bytes and a whole text: a line, counted from 1, or `CutOff`
 abbrev pub first_read_error : List ℕ → List ℕ → ReadError
 first_read_error text bytes = read_error_from 1 word.Ahead text bytes
 
--- the bytes and the text agree before the error: on all lines before the one in the error, or on all bytes up to some point in the last
--- line of the bytes
+-- the bytes and the text agree before the error: on all lines before the line that the error names or, for `CutOff`, on all bytes up to
+-- some point in the last line of the bytes
 abbrev pub BeginsAlike : ReadError → List ℕ → List ℕ → Type 0
 BeginsAlike OutOfMemory text bytes = Unit {0}
 BeginsAlike (Line line) text bytes = (common more other : List ℕ) × (bytes ≡ common ++ more)
@@ -73,12 +74,12 @@ BeginsAlike (Line line) text bytes = (common more other : List ℕ) × (bytes �
 BeginsAlike CutOff text bytes = (common more other : List ℕ) × (bytes ≡ common ++ more)
     × (text ≡ common ++ other) × (count_of_line_feeds more ≡ 0)
 
--- the result is `x`, unless memory ran out
+-- the result is `x`, or the error that memory ran out
 abbrev pub AnswersUnlessMemory : {X : Type 0} → X → Result X ReadError → Type 0
 AnswersUnlessMemory x (Ok y) = y ≡ x
 AnswersUnlessMemory x (Err e) = e ≡ OutOfMemory
 
--- the first error equals the second, unless memory ran out
+-- the first error is that memory ran out, or it equals the second error
 abbrev pub IsSameReadError : ReadError → ReadError → Type 0
 IsSameReadError OutOfMemory place = Unit {0}
 IsSameReadError (Line line) place = place ≡ Line line

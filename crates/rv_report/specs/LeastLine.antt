@@ -16,12 +16,14 @@ first_lines count (b ∷ bs) =
 abbrev pub BeginsReport : List ℕ → Type 0
 BeginsReport bytes = (report : SavedReport) × (rest : List ℕ) × IsSaved report × (saved_text report ≡ bytes ++ rest)
 
--- the line is the first invalid one: some report begins with the lines before it, but no report begins with these lines and this one
+-- `line` is the number of the first invalid line: some report begins with the lines before it, but no report begins with these lines and
+-- this one
 pub record IsLeastRefusedLine (line : ℕ) (bytes : List ℕ) : Type 0 where
   pub before : BeginsReport (first_lines (line - 1) bytes)
   pub refused : BeginsReport (first_lines line bytes) → ⊥
 
--- the error names the first invalid line of the bytes; if it is `CutOff`, some report begins with all their lines that end with a line feed
+-- the error names the first invalid line of the bytes; if it is `CutOff`, some report begins with all complete lines of the bytes; memory
+-- may always run out
 abbrev pub IsLeast : ReadError → List ℕ → Type 0
 IsLeast OutOfMemory bytes = Unit {0}
 IsLeast (Line line) bytes = IsLeastRefusedLine line bytes

@@ -49,20 +49,20 @@ text_after_byte byte text = drop (index_of_byte byte text + 1) text
 
 -- ---- numbers and words; numbers saturate at 2^32 - 1
 
--- the greatest number that is read
+-- the greatest number that the lenient reader returns; greater numbers are read as this one
 abbrev pub most : ℕ
 most = 2 ^ 32 - 1
 
--- the number `value` with one more digit in this base, or `most` if that is too large
+-- the number `value` with one more digit in this base, or `most` if the number is greater than `most`
 abbrev pub with_digit : ℕ → ℕ → ℕ → ℕ
 with_digit base value digit = min (min (value * base) most + digit) most
 
--- the number that begins with the digits of `value` and continues with this text of decimal digits
+-- the number whose first decimal digits are the digits of `value`, and whose further digits are this text; at most `most`
 unfoldable pub decimal_number_on : ℕ → List ℕ → ℕ
 decimal_number_on value [] = value
 decimal_number_on value (b ∷ bs) = decimal_number_on (with_digit 10 value (b - 48)) bs
 
--- the number that a text of decimal digits is read as
+-- the number that the lenient reader returns for a text of decimal digits: its value, or `most` if that is greater
 abbrev pub decimal_number : List ℕ → ℕ
 decimal_number text = decimal_number_on 0 text
 
@@ -70,12 +70,12 @@ decimal_number text = decimal_number_on 0 text
 abbrev pub hex_digit_value : ℕ → ℕ
 hex_digit_value b = if nat_lt b 97 then b - 48 else b - 87
 
--- the number that begins with the digits of `value` and continues with this text of hexadecimal digits
+-- the number whose first hexadecimal digits are the digits of `value`, and whose further digits are this text; at most `most`
 unfoldable pub hex_number : ℕ → List ℕ → ℕ
 hex_number value [] = value
 hex_number value (b ∷ bs) = hex_number (with_digit 16 value (hex_digit_value b)) bs
 
--- the number `value` with this many hexadecimal zeros appended
+-- the number `value` with this many hexadecimal zeros appended; at most `most`
 unfoldable pub with_zero_digits : ℕ → ℕ → ℕ
 with_zero_digits zero value = value
 with_zero_digits (suc count) value = with_zero_digits count (with_digit 16 value 0)
@@ -103,7 +103,7 @@ abbrev pub bytes_if_decoded : Result (List ℕ) FromHexError → List ℕ
 bytes_if_decoded (Ok bytes) = bytes
 bytes_if_decoded (Err error) = []
 
--- the bytes that a text of hexadecimal digits is read as; an invalid text, such as a dash, is read as no bytes
+-- the bytes that a text of hexadecimal digits encodes; empty if the text is invalid, such as a dash
 unfoldable pub hex_bytes : List ℕ → List ℕ
 hex_bytes text = bytes_if_decoded (decode_of text)
 
@@ -113,12 +113,12 @@ hex_bytes text = bytes_if_decoded (decode_of text)
 abbrev pub name_or_dash : List ℕ → List ℕ
 name_or_dash text = if is_name text then text else codes "-"
 
--- the kind of fault, or an arbitrary one if there is none
+-- the kind of fault if it is given, and otherwise an arbitrary one
 abbrev pub fault_or_first : Option FaultKind → FaultKind
 fault_or_first (Some kind) = kind
 fault_or_first None = fault.FetchAccess
 
--- the refusal, or an arbitrary one if there is none
+-- the refusal if it is given, and otherwise an arbitrary one
 abbrev pub refusal_or_first : Option Refusal → Refusal
 refusal_or_first (Some why) = why
 refusal_or_first None = refusal.ImageUnreadable
@@ -157,7 +157,7 @@ verdict_of_line line =
     else if first == 112 then verdict.Pass
     else verdict.Fail
 
--- the shard in a text `SHARD/SHARDS stamp STAMP`, of a list with this many jobs
+-- the shard that a text `SHARD/SHARDS stamp STAMP` describes, for a list with `jobs` jobs
 unfoldable pub shard_of_text : ℕ → List ℕ → Extent
 shard_of_text jobs text =
     let shards = text_after_byte 47 text in
@@ -168,7 +168,7 @@ shard_of_text jobs text =
       stamp = name_or_dash (drop 6 (text_after_byte 32 shards));
     })
 
--- the extent in a line `part ROWS of JOBS`, which a shard continues with `shard SHARD/SHARDS stamp STAMP`
+-- the extent that a line `part ROWS of JOBS` describes: chosen jobs, or a shard if the line continues with `shard SHARD/SHARDS stamp STAMP`
 unfoldable pub part_extent_of_line : List ℕ → Extent
 part_extent_of_line line =
     let jobs = drop 3 (text_after_byte 32 (drop 5 line)) in
@@ -178,7 +178,8 @@ part_extent_of_line line =
 
 -- ---- the values of all lines
 
--- the rows that were read so far with the numbers of their jobs, the extent in the last line, and the values of the unfinished row
+-- the state of the lenient reader: the finished rows and their job numbers, the extent in the last line, and the values of the unfinished
+-- row
 pub record Gathered : Type 0 where
   pub numbers : List ℕ
   pub rows : List Row
@@ -196,7 +197,7 @@ pub record Gathered : Type 0 where
   -- which line comes next
   pub stage : Stage
 
--- these rows with the numbers of their jobs and this extent, without an unfinished row
+-- the state with these finished rows, their job numbers and this extent, and without an unfinished row
 unfoldable pub gathering_between_rows : List ℕ → List Row → Extent → Gathered
 gathering_between_rows numbers rows extent = record {
   numbers = numbers;
@@ -214,12 +215,12 @@ gathering_between_rows numbers rows extent = record {
   stage = stage.Between;
 }
 
--- the words of a signature, with zeros for missing ones up to `count`, so that a truncated signature differs from its report only after the
+-- the words of a signature, followed by zeros up to `count` words, so that a truncated signature differs from its report only after the
 -- truncation
 unfoldable pub padded_words : ℕ → List ℕ → List ℕ
 padded_words count words = words ++ replicate (count - length words) 0
 
--- the unfinished row, finished with this verdict
+-- the row that has the values of the unfinished row and this verdict
 unfoldable pub row_so_far : Verdict → Gathered → Row
 row_so_far verdict g = record {
   name = g.name;
@@ -289,7 +290,7 @@ at_words line g =
     with_finished_row (verdict_of_line line) g
     else with_stage_over g
 
--- the state after one more line at this stage
+-- the state after one more line, given the stage, which says what the line should have
 abbrev pub with_line_at : Stage → List ℕ → Gathered → Gathered
 with_line_at stage.Between line g = at_job_or_last_line line g
 with_line_at stage.Ending line g = at_ending line g
@@ -308,7 +309,7 @@ unfoldable pub with_lines : List (List ℕ) → Gathered → Gathered
 with_lines [] g = g
 with_lines (line ∷ lines) g = with_lines lines (with_line line g)
 
--- the state after an unfinished row is finished, if there is one
+-- the state after the unfinished row, if there is one, is finished with the verdict `none` and added to the rows
 unfoldable pub with_unfinished_row : Gathered → Gathered
 with_unfinished_row g =
     if g.is_in_row then with_finished_row verdict.Unasked (record g { words = padded_words g.count g.words }) else g
@@ -331,11 +332,12 @@ count_before_repeated_name earlier [] = 0
 count_before_repeated_name earlier (text ∷ texts) =
     if is_some (index_in earlier text) then 0 else count_before_repeated_name (earlier ++ text ∷ []) texts + 1
 
--- the extent `e` if the job numbers fit it, or else `Choice most_jobs`, which all increasing job numbers fit
+-- the extent `e` if it has these job numbers, and otherwise `Choice most_jobs`, which can have any increasing job numbers
 unfoldable pub extent_or_choice : Extent → List ℕ → Extent
 extent_or_choice e numbers = if matches_job_numbers e numbers then e else extent.Choice most_jobs
 
--- the report that is read from a text leniently: its rows up to the first whose job number does not increase or whose name is repeated
+-- the report that the lenient reader returns for a text: its rows before the first whose job number does not increase or whose name is
+-- repeated
 unfoldable pub lenient_report : List ℕ → SavedReport
 lenient_report text =
     let g = gather_rows text in

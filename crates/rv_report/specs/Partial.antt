@@ -15,8 +15,8 @@ BeginsWith text beginning = (rest : List ℕ) × (text ≡ beginning ++ rest)
 abbrev pub whole_lines : List ℕ → List ℕ
 whole_lines bytes = first_lines (count_of_line_feeds bytes) bytes
 
--- the report of chosen jobs with the first `count` rows; since a truncated report may not say how many jobs its list has, this is taken to
--- be `most_jobs`
+-- the report of chosen jobs with the first `count` rows; its list is taken to have `most_jobs` jobs, since a truncated report may not say
+-- how many it has
 abbrev pub first_rows : ℕ → SavedReport → SavedReport
 first_rows count report = record {
   extent = extent.Choice most_jobs;
@@ -28,7 +28,7 @@ first_rows count report = record {
 abbrev pub first_rows_text : ℕ → SavedReport → List ℕ
 first_rows_text count report = numbered_text (take count report.numbers) (take count report.rows)
 
--- this report begins with the complete lines of the bytes, and exactly its first `count` rows are complete in the bytes
+-- the report's text begins with the complete lines of the bytes, and exactly its first `count` rows are complete in the bytes
 pub record HasWholeRows (bytes : List ℕ) (report : SavedReport) (count : ℕ) : Type 0 where
   pub saved : IsSaved report
   pub begun : BeginsWith (saved_text report) (whole_lines bytes)
@@ -36,12 +36,12 @@ pub record HasWholeRows (bytes : List ℕ) (report : SavedReport) (count : ℕ) 
   pub there : BeginsWith bytes (first_rows_text count report)
   pub most : count < length report.rows → BeginsWith bytes (first_rows_text (count + 1) report) → ⊥
 
--- no report has this text
+-- the bytes are not the text of a report
 abbrev pub IsNotAReport : List ℕ → Type 0
 IsNotAReport bytes = (report : SavedReport) → IsSaved report → saved_text report ≡ bytes → ⊥
 
--- `read` is the result for bytes that may be cut off: if the Boolean is false, the report with this text; if it is true, no report has this
--- text, and `read` has its complete rows
+-- `read` is the result for a text that may be truncated: if the Boolean is false, `read` is the report with this text; if it is true, no
+-- report has this text, and `read` has its complete rows
 abbrev pub IsReadAs : List ℕ → Bool → SavedReport → Type 0
 IsReadAs bytes false read = IsSaved read × (saved_text read ≡ bytes)
 IsReadAs bytes true read = IsNotAReport bytes

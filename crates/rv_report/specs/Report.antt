@@ -21,7 +21,7 @@ use Rattle.rv_report.specs.declared.row.Verdict.TheVariants as verdict
 abbrev pub line : List ℕ → List ℕ
 line text = text ++ 10 ∷ []
 
--- the name of a refusal in a report; no row is refused for lack of memory, so the name of that image error never occurs here
+-- the name of a refusal in a report; the image error for lack of memory is never a refusal, so its name does not matter
 abbrev pub refusal_name : Refusal → List ℕ
 refusal_name refusal.ImageUnreadable = codes "image-unreadable"
 refusal_name refusal.ImageTooLong = codes "image-too-long"
@@ -60,11 +60,11 @@ dash_if_empty text = if length text == 0 then codes "-" else text
 unfoldable pub console_line : List ℕ → List ℕ
 console_line bytes = line (codes "console " ++ dash_if_empty (encode_lower bytes))
 
--- the line of a word of a signature
+-- the line of a word of a signature: its eight hexadecimal digits
 abbrev pub word_line : ℕ → List ℕ
 word_line word = line (word_digits word)
 
--- the line `signature ..` with the number of words and a line for each word, or with a dash if no signature is requested
+-- the line `signature ..` with the number of words, followed by a line for each word; the line `signature -` if no signature is requested
 unfoldable pub signature_lines : Option (List ℕ) → List ℕ
 signature_lines None = line (codes "signature -")
 signature_lines (Some words) = line (codes "signature " ++ decimal (length words))
@@ -76,7 +76,7 @@ verdict_name verdict.Unasked = codes "none"
 verdict_name verdict.Pass = codes "pass"
 verdict_name verdict.Fail = codes "fail"
 
--- the text of a row at an index of the list; the index counts from 0, and the printed job number from 1
+-- the text of the row of the job at the index `place` of the list, counted from 0; the text has the job's number, counted from 1
 unfoldable pub row_text : ℕ → Row → List ℕ
 row_text place row = line (codes "job " ++ decimal (place + 1) ++ codes " " ++ row.name)
     ++ end_line row.ending
@@ -85,7 +85,7 @@ row_text place row = line (codes "job " ++ decimal (place + 1) ++ codes " " ++ r
     ++ signature_lines row.signature
     ++ line (codes "verdict " ++ verdict_name row.verdict)
 
--- the text of rows, of which the first is at the index `place` of the list
+-- the text of consecutive rows of a list, of which the first is at the index `place`
 unfoldable pub rows_text : ℕ → List Row → List ℕ
 rows_text place [] = []
 rows_text place (row ∷ rows) = row_text place row ++ rows_text (place + 1) rows

@@ -25,7 +25,7 @@ unfoldable pub are_rising : ℕ → ℕ → List ℕ → Bool
 are_rising before last [] = true
 are_rising before last (n ∷ ns) = nat_lt before n && (nat_le n last && are_rising n last ns)
 
--- whether the job numbers are `next` and each number that is `step` greater than the one before, up to `last`
+-- whether the job numbers are `next`, `next` + `step`, `next` + 2 `step` and so on, up to `last`
 unfoldable pub are_evenly_spaced : ℕ → ℕ → ℕ → List ℕ → Bool
 are_evenly_spaced next step last [] = nat_lt last next
 are_evenly_spaced next step last (n ∷ ns) =
@@ -37,7 +37,8 @@ unfoldable pub is_valid_shard : Shard → Bool
 is_valid_shard s = nat_le 1 s.number && (nat_le s.number s.shards && (nat_le s.shards most_jobs
     && (nat_le s.jobs most_jobs && is_name s.stamp)))
 
--- whether job numbers fit an extent: they are those of a whole list, of some jobs of a list, or of a shard
+-- whether a report with this extent can have these job numbers: all numbers of a whole list, increasing numbers of chosen jobs, or the
+-- numbers of a shard
 unfoldable pub matches_job_numbers : Extent → List ℕ → Bool
 matches_job_numbers extent.Whole ns = are_evenly_spaced 1 1 (length ns) ns
 matches_job_numbers (extent.Choice jobs) ns = nat_le jobs most_jobs && are_rising 0 jobs ns
@@ -45,22 +46,22 @@ matches_job_numbers (extent.Shard s) ns = is_valid_shard s && are_evenly_spaced 
 
 -- ---- the text
 
--- the text of rows under the numbers of their jobs
+-- the text of rows, given the numbers of their jobs
 unfoldable pub numbered_text : List ℕ → List Row → List ℕ
 numbered_text (n ∷ ns) (row ∷ rows) = row_text (n - 1) row ++ numbered_text ns rows
 numbered_text [] rows = []
 numbered_text (n ∷ ns) [] = []
 
--- the words `part ROWS of JOBS`, with the number of rows and the number of jobs of the list
+-- the text `part ROWS of JOBS`, with the number of rows and the number of jobs in the list
 abbrev pub part_words : ℕ → ℕ → List ℕ
 part_words count jobs = codes "part " ++ decimal count ++ codes " of " ++ decimal jobs
 
--- the words ` shard SHARD/SHARDS stamp STAMP`
+-- the text ` shard SHARD/SHARDS stamp STAMP` of this shard
 abbrev pub shard_words : Shard → List ℕ
 shard_words s = codes " shard " ++ decimal s.number ++ codes "/" ++ decimal s.shards
     ++ codes " stamp " ++ s.stamp
 
--- the last line of a report with this extent and this many rows
+-- the last line of a report with this extent and `count` rows
 unfoldable pub extent_line : Extent → ℕ → List ℕ
 extent_line extent.Whole count = done_line count
 extent_line (extent.Choice jobs) count = line (part_words count jobs)
@@ -76,7 +77,7 @@ saved_text r = numbered_text r.numbers r.rows ++ extent_line r.extent (length r.
 abbrev pub IsWord : ℕ → Type 0
 IsWord word = word < 2 ^ 32
 
--- the ending may be in a row: its numbers have 32 bits, and it is not a refusal for lack of memory
+-- the ending can be in a row: its numbers have 32 bits, and it is not a refusal for lack of memory
 abbrev pub IsEnd : RowEnd → Type 0
 IsEnd (ending.Exit code) = IsWord code
 IsEnd (ending.Fault kind pc value) = IsWord pc × IsWord value
@@ -87,7 +88,7 @@ IsEnd (ending.Refused why) = why ≡ refusal.Image image.OutOfMemory → ⊥
 abbrev pub most_words : ℕ
 most_words = 65536
 
--- the signature, if there is one, has at most `most_words` words of 32 bits each
+-- the signature has at most `most_words` words of 32 bits each, or is not given
 abbrev pub AreWords : Option (List ℕ) → Type 0
 AreWords None = Unit {0}
 AreWords (Some words) = (length words ≤ most_words) × AllByRecursion IsWord words
@@ -100,7 +101,7 @@ pub record IsRow (row : Row) : Type 0 where
   pub console : IsBytes row.console
   pub signature : AreWords row.signature
 
--- whether no text in a list equals an earlier one or one of `earlier`
+-- whether each text in a list differs from the earlier ones and from each of `earlier`
 unfoldable pub are_new : List (List ℕ) → List (List ℕ) → Bool
 are_new earlier [] = true
 are_new earlier (text ∷ texts) =
@@ -110,7 +111,8 @@ are_new earlier (text ∷ texts) =
 abbrev pub row_names : List Row → List (List ℕ)
 row_names rows = map (λ (row : Row). row.name) rows
 
--- the rows are those of at most `most_jobs` jobs: they have increasing job numbers that fit the extent, and valid names without repetitions
+-- the rows belong to different jobs of one list of at most `most_jobs` jobs: their job numbers increase and fit the extent, and their names
+-- are valid and distinct
 pub record IsListed (r : SavedReport) : Type 0 where
   pub counted : length r.numbers ≡ length r.rows
   pub rising : are_rising 0 most_jobs r.numbers ≡ true
@@ -118,7 +120,7 @@ pub record IsListed (r : SavedReport) : Type 0 where
   pub names : list_all is_name (row_names r.rows) ≡ true
   pub new : are_new [] (row_names r.rows) ≡ true
 
--- the report is valid: its rows are those of jobs of one list, and each row is valid
+-- the report is valid: its rows belong to different jobs of one list, and each row is valid
 pub record IsSaved (r : SavedReport) : Type 0 where
   pub listed : IsListed r
   pub rows : AllByRecursion IsRow r.rows

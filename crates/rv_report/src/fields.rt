@@ -47,7 +47,7 @@ pub(crate) fn text_after_byte(byte: u8, text: &[u8]) -> &[u8]
     tail_from(text, index_of_byte(byte, text) + 1)
 }
 
-/// Returns the number that a text of decimal digits is read as. A number that is too large is read as `u32::MAX`.
+/// Returns the value of a text of decimal digits, or `u32::MAX` if it is greater.
 pub(crate) fn decimal_number(text: &[u8]) -> u32
     ensures { result ≡ decimal_number text.now }
 {
@@ -80,7 +80,7 @@ pub(crate) fn hex_word(text: &[u8]) -> u32
     value
 }
 
-// Returns the number that a text of hexadecimal digits is read as.
+// Returns the value of a text of hexadecimal digits, or `u32::MAX` if it is greater.
 fn hex_number(digits: &[u8]) -> u32
     ensures { result ≡ hex_number 0 digits.now }
 {
@@ -119,7 +119,7 @@ fn are_hex_digits(text: &[u8]) -> bool
     true
 }
 
-/// Returns the bytes that a text of hexadecimal digits is read as. An invalid text, such as a dash, is read as no bytes.
+/// Returns the bytes that a text of hexadecimal digits encodes; no bytes if the text is invalid, such as a dash.
 #[tactic(auto, unfolding(crate::specs::LenientReport::hex_bytes))]
 pub(crate) fn hex_bytes(alloc: Global, text: &[u8]) -> Result<Vec<u8>, AllocError>
     ensures { IfOk result (λ bytes. bytes.items ≡ hex_bytes text.now) }

@@ -56,7 +56,8 @@ pub(crate) enum Stage {
 /// The maximum number of words in a signature.
 const MOST_WORDS: u32 = 65_536;
 
-/// Reads all lines of a text, up to the first that cannot come next. A row that is unfinished at the end is included.
+/// Reads the lines of a text up to the first that cannot come next, and returns their rows. A row that is unfinished at the end is
+/// included.
 #[tactic(auto, unfolding(crate::specs::LenientReport::gather_rows))]
 pub fn gather_rows(alloc: Global, text: &[u8]) -> Result<Gathering, AllocError>
     ensures { IfOk result (λ g. gathering_view g ≡ gather_rows text.now) }
@@ -212,7 +213,7 @@ fn add_word_or_verdict_line(
     }
 }
 
-// Finishes an unfinished row, if there is one.
+// If there is an unfinished row, finishes it with the verdict `none` and adds it to the rows.
 #[tactic(auto, unfolding(crate::specs::LenientReport::with_unfinished_row))]
 fn close_unfinished_row(alloc: Global, gathering: &mut Gathering) -> Result<(), AllocError>
     ensures { OnOk result (gathering_view gathering.new ≡ with_unfinished_row (gathering_view gathering.old)) }
@@ -224,7 +225,7 @@ fn close_unfinished_row(alloc: Global, gathering: &mut Gathering) -> Result<(), 
     close_row(alloc, gathering, Verdict::Unasked)
 }
 
-// Appends zeros for missing words, up to `count`.
+// Appends zeros up to `count` words.
 #[tactic(auto, unfolding(crate::specs::LenientReport::padded_words))]
 fn pad_signature_words(words: &mut Vec<u32>, count: u32) -> Result<(), AllocError>
     ensures { OnOk result (words.new.items ≡ padded_words count words.old.items) }
@@ -246,7 +247,7 @@ fn close_row(alloc: Global, gathering: &mut Gathering, verdict: Verdict) -> Resu
     Ok(())
 }
 
-// Returns the unfinished row, finished with this verdict, and leaves no unfinished row.
+// Returns the row that has the values of the unfinished row and this verdict; afterwards there is no unfinished row.
 #[tactic(auto, unfolding(crate::specs::LenientReport::gathering_between_rows, crate::specs::LenientReport::row_so_far))]
 fn take_row(alloc: Global, gathering: &mut Gathering, verdict: Verdict) -> Result<Row, AllocError>
     ensures row { IfOk result (λ row. row ≡ row_so_far verdict (gathering_view gathering.old)) }

@@ -12,7 +12,8 @@ use crate::saved::{Extent, Numbers, SavedReport};
 use rv_base::limits::MOST_JOBS;
 use std::alloc::{AllocError, Global};
 
-/// Reads a report from a text leniently: its rows up to the first whose job number does not increase or whose name is repeated.
+/// Reads a report from a text leniently, and returns its rows before the first whose job number does not increase or whose name is
+/// repeated.
 #[tactic(auto, unfolding(crate::specs::LenientReport::lenient_report))]
 pub(crate) fn lenient_report(alloc: Global, text: &[u8]) -> Result<SavedReport, AllocError>
     ensures value { IfOk result (λ report. report ≡ lenient_report text.now) }
@@ -33,7 +34,8 @@ pub(crate) fn lenient_report(alloc: Global, text: &[u8]) -> Result<SavedReport, 
     })
 }
 
-// Returns the given extent if the job numbers fit it, and otherwise `Extent::Choice(MOST_JOBS)`, which all job numbers fit.
+// Returns the given extent if it has these job numbers, and otherwise `Extent::Choice(MOST_JOBS)`, which can have any increasing job
+// numbers.
 #[tactic(auto, unfolding(crate::specs::LenientReport::extent_or_choice))]
 fn extent_or_choice(extent: Extent, numbers: &[u32]) -> Extent
     requires { length numbers.now ≤ most_jobs }

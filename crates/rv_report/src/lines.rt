@@ -56,7 +56,7 @@ fn fault_ending_of_text(text: &[u8]) -> RowEnd
     RowEnd::Fault(kind, pc, value)
 }
 
-// Returns the refusal with this name, or an arbitrary one if there is none.
+// Returns the refusal with this name, or an arbitrary one if no refusal has it.
 fn refusal_or_unreadable(name: &[u8]) -> Refusal
     ensures { result ≡ refusal_or_first (refusal_named name.now) }
 {
@@ -75,7 +75,8 @@ pub(crate) fn verdict_of_line(line: &[u8]) -> Verdict
     }
 }
 
-/// Returns the extent in a last line `part ROWS of JOBS`, which a shard continues with `shard SHARD/SHARDS stamp STAMP`.
+/// Returns the extent that a last line `part ROWS of JOBS` describes: chosen jobs, or a shard if the line continues with `shard
+/// SHARD/SHARDS stamp STAMP`.
 #[tactic(auto, unfolding(crate::specs::LenientReport::part_extent_of_line))]
 pub(crate) fn part_extent_of_line(alloc: Global, line: &[u8]) -> Result<Extent, AllocError>
     ensures { IfOk result (λ extent. extent ≡ part_extent_of_line line.now) }
@@ -90,7 +91,7 @@ pub(crate) fn part_extent_of_line(alloc: Global, line: &[u8]) -> Result<Extent, 
     }
 }
 
-// Returns the shard in a text `SHARD/SHARDS stamp STAMP`, of a list with this many jobs.
+// Returns the shard that a text `SHARD/SHARDS stamp STAMP` describes, for a list with `jobs` jobs.
 #[tactic(auto, unfolding(crate::specs::LenientReport::shard_of_text))]
 fn shard_of_text(alloc: Global, jobs: u32, text: &[u8]) -> Result<Extent, AllocError>
     ensures { IfOk result (λ extent. extent ≡ shard_of_text jobs text.now) }

@@ -62,7 +62,7 @@ fn read_whole_rows(alloc: Global, bytes: &[u8]) -> Result<SavedReport, AllocErro
     Ok(first_rows(said, count))
 }
 
-// Returns with how many whole rows of a report the bytes begin.
+// Returns the number of rows of a report that are complete in the bytes.
 fn whole_row_count(alloc: Global, report: &SavedReport, bytes: &[u8]) -> Result<usize, AllocError>
     requires { IsListed report.now }
     ensures within { IfOk result (λ count. count ≤ length report.now.rows) }

@@ -35,6 +35,7 @@ pub enum ReadError {
 impl From<AllocError> for ReadError {
     ghost from_gives = { λ _ error. error ≡ OutOfMemory };
 
+    // Returns `OutOfMemory`.
     fn from(_: AllocError) -> ReadError {
         ReadError::OutOfMemory
     }
@@ -69,7 +70,7 @@ pub fn read_report(alloc: Global, bytes: &[u8]) -> Result<SavedReport, ReadError
     }
 }
 
-// Returns the error at the first difference of the bytes from the text.
+// Returns the error at the first difference between the bytes and the text: a line, counted from 1, or `CutOff`.
 fn first_read_error(text: &[u8], bytes: &[u8]) -> ReadError
     ensures { result ≡ read_error_from 1 word.Ahead text.now bytes.now }
 {
@@ -90,7 +91,8 @@ fn first_read_error(text: &[u8], bytes: &[u8]) -> ReadError
     ReadError::CutOff
 }
 
-// Returns the error if the remaining bytes differ from a text, whose next byte is `other`, in their first byte.
+// Returns the error, given that the remaining bytes `rest` differ in their first byte from a text whose next byte is `other`: this line, or
+// `CutOff` if `rest` ends in this line, and the line can still be the beginning of a report's line.
 fn read_error_at(line: usize, met: FirstWord, other: u8, rest: &[u8]) -> ReadError
     ensures { result ≡ read_error_at line met other rest.now }
 {
@@ -122,7 +124,7 @@ pub(crate) enum FirstWord {
 }
 
 impl FirstWord {
-    // Returns how much of the first word of a line has been read after one more byte.
+    // Returns how much of the first word of a line has been read, given how much had been read before this byte.
     fn word_after_byte(self, b: u8) -> FirstWord
         ensures { result ≡ word_after_byte self b }
     {
@@ -133,7 +135,7 @@ impl FirstWord {
         }
     }
 
-    // Returns how much of the first word of a line has been read after one more letter of the line.
+    // Returns how much of the first word of a line has been read, given how much had been read before one more letter of the line.
     fn word_after_letter(self) -> FirstWord
         ensures { result ≡ word_after_letter self }
     {
@@ -155,14 +157,14 @@ impl FirstWord {
     }
 }
 
-// Whether the last line of a report begins with this byte.
+// Whether the last line of a report, which is `done ..` or `part ..`, can begin with this byte.
 fn begins_last_line(b: u8) -> bool
     ensures { result ≡ begins_last_line b }
 {
     b == b'd' || b == b'p'
 }
 
-// Whether a row can begin with this text, as far as the text goes.
+// Whether the text agrees with the beginning of a row, `job `, as far as the text goes.
 fn begins_row(text: &[u8]) -> bool
     ensures { result ≡ begins_row text.now }
 {

@@ -39,6 +39,7 @@ pub enum WriteError {
 impl From<AllocError> for WriteError {
     ghost from_gives = { λ _ error. error ≡ OutOfMemory };
 
+    // Returns `OutOfMemory`.
     fn from(_: AllocError) -> WriteError {
         WriteError::OutOfMemory
     }
@@ -47,6 +48,7 @@ impl From<AllocError> for WriteError {
 impl From<SinkFailed> for WriteError {
     ghost from_gives = { λ _ error. error ≡ Failed };
 
+    // Returns `Failed`.
     fn from(_: SinkFailed) -> WriteError {
         WriteError::Failed
     }
@@ -198,7 +200,7 @@ fn dash_if_empty(text: &str) -> &str
     if text.is_empty() { "-" } else { text }
 }
 
-// Returns the words of a row's signature, if it has one.
+// Returns the words of a row's signature; `None` if it has none.
 fn row_signature(row: &Row) -> Option<&[u32]>
     ensures { option_map (λ words. words.now) result ≡ row.now.signature }
 {
@@ -208,7 +210,7 @@ fn row_signature(row: &Row) -> Option<&[u32]>
     }
 }
 
-// Appends the line `signature ..` and a line for each word.
+// Appends the line `signature ..` with the number of words, and a line for each word; the line `signature -` without a signature.
 #[tactic(auto, unfolding(crate::specs::Report::signature_lines))]
 fn push_signature_lines(
     alloc: Global,

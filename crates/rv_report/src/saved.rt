@@ -101,7 +101,7 @@ fn are_rising(before: u32, last: u32, numbers: &[u32]) -> bool
     true
 }
 
-// Whether the job numbers are `first` and each number that is `step` greater than the one before, up to `last`.
+// Whether the job numbers are `first`, `first` + `step`, `first` + 2 `step` and so on, up to `last`.
 fn are_evenly_spaced(first: usize, step: usize, last: usize, numbers: &[u32]) -> bool
     requires first { first ≤ most_jobs }
     requires step { step ≤ most_jobs }

@@ -22,7 +22,7 @@ pub(crate) fn saved_text(alloc: Global, report: &SavedReport) -> Result<String, 
     Ok(text)
 }
 
-// Appends the text of rows under the numbers of their jobs.
+// Appends the text of rows, given the numbers of their jobs.
 fn push_numbered_rows(
     alloc: Global,
     text: &mut String,

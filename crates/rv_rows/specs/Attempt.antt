@@ -22,12 +22,12 @@ outcome_in_bus run = record {
   signature = option_map (signature_words_between run.bus) run.range;
 }
 
--- the signature of this result, if it is that of a run, can be read from its bus
+-- if the job was run, its signature, if one is requested, can be read from the bus of the run
 abbrev pub IsReadable : Attempt → Type 0
 IsReadable (Refused why) = ⊤
 IsReadable (Ran run) = HasSignature run
 
--- the outcome that a copy of this result has
+-- the outcome of this result of a job: of its ended run, or of its refusal
 abbrev pub outcome_of_attempt : Attempt → Outcome
 outcome_of_attempt (Refused why) = refused_outcome why
 outcome_of_attempt (Ran run) = outcome_in_bus run

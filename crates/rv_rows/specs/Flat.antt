@@ -36,12 +36,12 @@ flat_state bytes = at_reset (flat_contents bytes) 0x8000_0000 Imc
 abbrev pub flat_name : List ℕ
 flat_name = codes "raw"
 
--- the outcome of a flat image of these bytes within a step budget: a refusal if it is too large
+-- the outcome of a flat image with these bytes within a budget of steps, or a refusal if the image is too large
 abbrev pub flat_outcome_of : List ℕ → ℕ → Outcome
 flat_outcome_of bytes budget =
     if nat_lt image_room (length bytes) then refused_outcome refusal.ImageTooLong
     else outcome_of_run (run_of budget (flat_state bytes)) None
 
--- the row of a flat image of these bytes within a step budget
+-- the row of a flat image with these bytes within a budget of steps; it has no verdict
 unfoldable pub flat_row_of : List ℕ → ℕ → Row
 flat_row_of bytes budget = row_of_outcome flat_name (flat_outcome_of bytes budget) verdict.Unasked

@@ -6,7 +6,7 @@ use Rattle.rv_jobs.specs.Plans.{result_for_path}
 use Rattle.rv_report.specs.declared.row.Refusal.{Refusal}
 use Rattle.rv_rows.specs.Outcome.{outcome_of, refusal_in}
 
--- why a job is refused because of its image, given the results for paths, or `None` if it is not; files with expected results are
--- disregarded
+-- the reason why a job is refused because of its image, given the results for paths; `None` if its image is usable, whatever its other
+-- files are
 abbrev pub image_refusal_in : List Answer → Job → Option Refusal
 image_refusal_in answers job = refusal_in (outcome_of job (result_for_path answers job.image) None None).ending

@@ -11,13 +11,13 @@ use Rattle.rv_report.specs.declared.row.RowEnd.TheVariants.{Exit, Fault, Budget,
 abbrev pub widened_job : Job → Job
 widened_job job = record job { isa = Imc }
 
--- the jobs, where the one at an index has RV32IMC as its instruction set
+-- the jobs, of which the one at the index has RV32IMC as its instruction set instead of its own
 abbrev pub widened_jobs : ℕ → List Job → List Job
 widened_jobs place [] = []
 widened_jobs zero (job ∷ jobs) = widened_job job ∷ jobs
 widened_jobs (suc place) (job ∷ jobs) = job ∷ widened_jobs place jobs
 
--- the plan, where the job at an index has RV32IMC as its instruction set
+-- the plan in which the job at the index has RV32IMC as its instruction set instead of its own
 abbrev pub widened_plan : ℕ → Planned → Planned
 widened_plan place plan = record plan { jobs = widened_jobs place plan.jobs }
 

@@ -28,21 +28,21 @@ use Rattle.rv_report.specs.declared.row.RowEnd.TheVariants as ending
 
 -- ---- the files of a job
 
--- the bytes of a file, given the result of reading it, or the refusal if it is unreadable or too long
+-- the bytes of a file if it was read, or the first refusal if it is unreadable, or the second if it is too long
 abbrev pub content_or_refusal : Kept → Refusal → Refusal → Result (List ℕ) Refusal
 content_or_refusal (kept.Content bytes) unreadable long = Ok bytes
 content_or_refusal kept.Unreadable unreadable long = Err unreadable
 content_or_refusal kept.TooLong unreadable long = Err long
 
--- the bytes of a file with expected results, if the job names one, or the refusal if it was not read
+-- the bytes of a file with expected results, or the refusal if it was not read; `None` if the job names no file
 abbrev pub reference_or_refusal : Option Kept → Result (Option (List ℕ)) Refusal
 reference_or_refusal None = Ok None
 reference_or_refusal (Some kept) = do
   bytes ← content_or_refusal kept refusal.ReferenceUnreadable refusal.ReferenceTooLong
   Ok (Some bytes)
 
--- the bytes of a job's image, or the refusal of the first of its files that was not read: the image, the expected signature, and the
--- expected console
+-- the bytes of a job's image, or, if one of its files was not read, the refusal of the first such file: the image, the expected signature,
+-- or the expected console
 unfoldable pub image_file_or_refusal : Kept → Option Kept → Option Kept → Result (List ℕ) Refusal
 image_file_or_refusal image reference console = do
   file ← content_or_refusal image refusal.ImageUnreadable refusal.ImageTooLong
@@ -52,12 +52,13 @@ image_file_or_refusal image reference console = do
 
 -- ---- the image and the signature's range
 
--- the error of looking up the symbol at a signature's end, given that of `symbol_of`: a missing symbol is a missing end
+-- the error in looking up the symbol at the end of a signature, given the error of `symbol_of`: `NoEnd` instead of `NoBegin`, and any other
+-- error unchanged
 abbrev pub end_symbol_error : ImageError → ImageError
 end_symbol_error image.NoBegin = image.NoEnd
 end_symbol_error why = why
 
--- the address of the symbol at a signature's end, or why there is none
+-- the address of the symbol at the end of a signature, or the error in looking it up, given the result of `symbol_of`
 abbrev pub end_of_signature : Result ℕ ImageError → Result ℕ ImageError
 end_of_signature (Ok address) = Ok address
 end_of_signature (Err why) = Err (end_symbol_error why)
@@ -70,7 +71,7 @@ signature_range file regions names = do
   unit ← signature_check begin end regions
   Ok (record { begin = begin; end = end })
 
--- the addresses of the two symbols of a signature, if one is requested, or why they are not valid
+-- the addresses of the two symbols of a signature, or the error that makes them invalid; `None` if no signature is requested
 abbrev pub range_if_asked : List ℕ → List Region → Option Symbols
     → Result (Option SignatureRange) ImageError
 range_if_asked file regions None = Ok None
@@ -100,17 +101,17 @@ loaded_contents job file image =
 abbrev pub loaded_state : Job → List ℕ → Image → State
 loaded_state job file image = at_reset (loaded_contents job file image) image.entry job.isa
 
--- how a job's run ended, given the ending of the machine
+-- the ending of a job's run in its row, given the ending of the machine
 abbrev pub row_end : Ending → RowEnd
 row_end (machine.Exit code) = ending.Exit code
 row_end (machine.Fault kind pc value) = ending.Fault kind pc value
 row_end machine.Budget = ending.Budget
 
--- the words of a signature in memory
+-- the words of memory in the range of a signature
 abbrev pub signature_words_between : Contents → SignatureRange → List ℕ
 signature_words_between bus range = words_of bus.memory range.begin range.end
 
--- the outcome of a run, whose signature, if one is requested, is read in its final state
+-- the outcome of a run, with the signature read from its final state if one is requested
 abbrev pub outcome_of_run : Ran → Option SignatureRange → Outcome
 outcome_of_run ran range = record {
   ending = row_end ran.ending;
@@ -124,12 +125,12 @@ abbrev pub refused_outcome : Refusal → Outcome
 refused_outcome why =
     record { ending = ending.Refused why; steps = 0; console = []; signature = None }
 
--- the refusal of a job, given how it ended, or `None` if it ran
+-- the refusal of a job, given its ending; `None` if it ran
 abbrev pub refusal_in : RowEnd → Option Refusal
 refusal_in (ending.Refused why) = Some why
 refusal_in _ = None
 
--- the outcome of a job, given its image and signature range, or their error
+-- the outcome of a job with these bytes of its image, given its image and signature range, or the error for which it is refused
 abbrev pub outcome_if_loadable : Job → List ℕ → Result Loadable ImageError → Outcome
 outcome_if_loadable job file (Ok loadable) =
     outcome_of_run (run_of job.budget (loaded_state job file loadable.image)) loadable.range
@@ -139,7 +140,7 @@ outcome_if_loadable job file (Err why) = refused_outcome (refusal.Image why)
 unfoldable pub file_outcome_of : Job → List ℕ → Outcome
 file_outcome_of job file = outcome_if_loadable job file (loadable_image job file)
 
--- the outcome of a job, given the bytes of its image's file, or the refusal of a file
+-- the outcome of a job, given the bytes of its image, or the refusal of one of its files
 abbrev pub outcome_if_readable : Job → Result (List ℕ) Refusal → Outcome
 outcome_if_readable job (Ok file) = file_outcome_of job file
 outcome_if_readable job (Err why) = refused_outcome why
@@ -150,17 +151,17 @@ outcome_of job image reference console = outcome_if_readable job (image_file_or_
 
 -- ---- the state in which a run begins
 
--- the state in which the run of a job begins, given its image and signature range, or why it is refused
+-- the state in which the run of a job begins, given its image and signature range, or the refusal
 abbrev pub start_if_loadable : Job → List ℕ → Result Loadable ImageError → Result State Refusal
 start_if_loadable job file (Ok loadable) = Ok (loaded_state job file loadable.image)
 start_if_loadable job file (Err why) = Err (refusal.Image why)
 
--- the state in which the run of a job begins, given the bytes of its image's file, or why it is refused
+-- the state in which the run of a job begins, given the bytes of its image, or the refusal
 abbrev pub start_if_readable : Job → Result (List ℕ) Refusal → Result State Refusal
 start_if_readable job (Ok file) = start_if_loadable job file (loadable_image job file)
 start_if_readable job (Err why) = Err why
 
 -- the state in which the run of a job begins, given the results of reading its image, its expected signature, and the file with its
--- expected console text, or why it is refused
+-- expected console text, or the refusal
 unfoldable pub start_of : Job → Kept → Option Kept → Option Kept → Result State Refusal
 start_of job image reference console = start_if_readable job (image_file_or_refusal image reference console)

@@ -9,7 +9,7 @@ use Rattle.rv_rows.specs.Rows.{outcome_in}
 abbrev pub outcome_at : Planned → ℕ → Option Outcome
 outcome_at plan place = option_map (outcome_in plan.answers) (slice_get plan.jobs place)
 
--- each cached outcome is that of the job at its index
+-- each cached outcome is the outcome of the job at its index
 abbrev pub AreOutcomes : Planned → List CachedOutcome → Type 0
 AreOutcomes plan recent =
     All (λ (kept : CachedOutcome). outcome_at plan kept.place ≡ Some kept.outcome) recent

@@ -25,36 +25,36 @@ outcome_in answers job =
     outcome_of job (result_for_path answers job.image) (option_map (result_for_path answers) job.expect_signature)
     (option_map (result_for_path answers) (console_path job.expect_console))
 
--- the state in which the run of a job begins, given the results for the paths of a plan, or why the job is refused
+-- the state in which the run of a job begins, given the results for the paths of a plan, or the refusal
 abbrev pub start_in : List Answer → Job → Result State Refusal
 start_in answers job =
     start_of job (result_for_path answers job.image) (option_map (result_for_path answers) job.expect_signature)
     (option_map (result_for_path answers) (console_path job.expect_console))
 
--- the bytes of a file, if the job names one and it was read
+-- the bytes of a file; `None` if the job names no file, or it was not read
 abbrev pub content_if_read : Option Kept → Option (List ℕ)
 content_if_read (Some (kept.Content bytes)) = Some bytes
 content_if_read _ = None
 
--- the image of a file, if its bytes were read and are an image
+-- the image in the bytes of a file; `None` if the file was not read, or is not an image of this instruction set
 abbrev pub image_if_read : Isa → Option (List ℕ) → Option Image
 image_if_read isa None = None
 image_if_read isa (Some file) = result_ok (image_of isa file)
 
--- the image of a job, if its file was read and is an image
+-- the image of a job; `None` if its file was not read, or is not an image
 abbrev pub image_in : List Answer → Job → Option Image
 image_in answers job = image_if_read job.isa (content_if_read (Some (result_for_path answers job.image)))
 
--- the bytes of the file with a job's expected signature, if it names one and it was read
+-- the bytes of the file with a job's expected signature; `None` if the job names no file, or it was not read
 abbrev pub signature_reference_bytes : List Answer → Job → Option (List ℕ)
 signature_reference_bytes answers job = content_if_read (option_map (result_for_path answers) job.expect_signature)
 
--- the bytes of the file with a job's expected console text, if it names one and it was read
+-- the bytes of the file with a job's expected console text; `None` if the job names no file, or it was not read
 abbrev pub expected_console_bytes : List Answer → Job → Option (List ℕ)
 expected_console_bytes answers job =
     content_if_read (option_map (result_for_path answers) (console_path job.expect_console))
 
--- the outcome of the job that a job's `same_as` names, if it names one
+-- the outcome of the job that the `same_as` of this job names; `None` without `same_as`
 abbrev pub named_job_outcome : Planned → Job → Option Outcome
 named_job_outcome plan job =
     option_map (outcome_in plan.answers) (option_and_then (slice_get plan.jobs) job.same_as)

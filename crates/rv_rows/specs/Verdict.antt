@@ -26,40 +26,40 @@ expects_anything job =
 
 -- ---- kinds of faults
 
--- whether two faults are of one kind, compared with `==`
+-- whether two kinds of faults are equal, by the operator `==`
 abbrev pub is_same_kind : FaultKind → FaultKind → Bool
 is_same_kind kind other = sameb the_type kind other
 
 -- ---- the exit code
 
--- whether a run ended by the exit call with this code
+-- whether a run ended with an exit with this code
 abbrev pub exits_with : ℕ → RowEnd → Bool
 exits_with code (ending.Exit n) = n == code
 exits_with code (ending.Fault kind pc value) = false
 exits_with code ending.Budget = false
 exits_with code (ending.Refused why) = false
 
--- whether a run ended by the exit call with the expected code, if one is expected
+-- whether a run ended with an exit with the expected code; true if no code is expected
 abbrev pub has_expected_exit : Option ℕ → RowEnd → Bool
 has_expected_exit None end = true
 has_expected_exit (Some code) end = exits_with code end
 
 -- ---- the end
 
--- whether a run ended as expected: by using up its budget, or with a fault of this kind
+-- whether a run ended in the expected way: by using up its budget, or with a fault of the expected kind
 abbrev pub ends_by : ExpectedEnd → RowEnd → Bool
 ends_by expected.Budget ending.Budget = true
 ends_by (expected.Fault kind) (ending.Fault met pc value) = is_same_kind kind met
 ends_by _ _ = false
 
--- whether a run ended as expected, if an end is expected
+-- whether a run ended in the expected way; true if no end is expected
 abbrev pub has_expected_end : Option ExpectedEnd → RowEnd → Bool
 has_expected_end None end = true
 has_expected_end (Some how) end = ends_by how end
 
 -- ---- the console
 
--- whether a job ran, rather than being refused
+-- whether a job with this ending ran, that is, was not refused
 abbrev pub did_run : RowEnd → Bool
 did_run (ending.Refused why) = false
 did_run _ = true
@@ -68,8 +68,8 @@ did_run _ = true
 abbrev pub ran_with_console : List ℕ → Outcome → Bool
 ran_with_console bytes outcome = did_run outcome.ending && bytes_eq bytes outcome.console
 
--- whether the job ran and its console output is the expected text of the list, or that of the file, which was read; true if no console is
--- expected
+-- whether the job ran and its console output is the expected text, which is in the list or in a file with these bytes; true if no console
+-- is expected
 abbrev pub has_expected_console : Option ExpectedConsole → Option (List ℕ) → Outcome → Bool
 has_expected_console None bytes outcome = true
 has_expected_console (Some (Text text)) bytes outcome = ran_with_console text outcome
@@ -78,13 +78,13 @@ has_expected_console (Some (File path)) (Some bytes) outcome = ran_with_console 
 
 -- ---- the reference signature
 
--- the lines of a signature's words, one for each; none if there is no signature
+-- a line for each word of a signature; empty if there is no signature
 abbrev pub lines_of_signature : Option (List ℕ) → List ℕ
 lines_of_signature None = []
 lines_of_signature (Some words) = flat_map word_line words
 
--- whether the job ran and the bytes of the file with its expected signature, which was read, are the lines of its signature; true if none
--- is expected
+-- whether the job ran and the lines of its signature equal these bytes of the file with the expected signature; true if no signature is
+-- expected
 abbrev pub has_expected_signature : Option (List ℕ) → Option (List ℕ) → Outcome → Bool
 has_expected_signature None bytes outcome = true
 has_expected_signature (Some path) None outcome = false
@@ -93,7 +93,7 @@ has_expected_signature (Some path) (Some bytes) outcome = did_run outcome.ending
 
 -- ---- another job
 
--- whether two jobs ended alike: with one exit code, with one kind of fault, or both by using up their budgets
+-- whether two jobs ended alike: with equal exit codes, with faults of the same kind, or both by using up their budgets
 abbrev pub are_alike_endings : RowEnd → RowEnd → Bool
 are_alike_endings (ending.Exit m) (ending.Exit n) = m == n
 are_alike_endings (ending.Fault kind pc value) (ending.Fault other at met) = is_same_kind kind other
@@ -106,12 +106,14 @@ are_same_signatures None None = true
 are_same_signatures (Some words) (Some others) = bytes_eq words others
 are_same_signatures _ _ = false
 
--- whether two outcomes are equal except for steps, addresses and values of faults; a refusal equals no outcome, not even itself
+-- whether two outcomes are equal, except for steps and for addresses and values of faults; always false for a refusal, even compared with
+-- itself
 abbrev pub are_same_outcomes : Outcome → Outcome → Bool
 are_same_outcomes outcome other = are_alike_endings outcome.ending other.ending
     && (bytes_eq outcome.console other.console && are_same_signatures outcome.signature other.signature)
 
--- whether an outcome equals that of the job that `same_as` names, as `are_same_outcomes` compares them; true if there is no `same_as`
+-- whether an outcome equals the outcome `other` of the job that `same_as` names, as `are_same_outcomes` compares them; true if there is no
+-- `same_as`
 abbrev pub is_same_as_named : Option ℕ → Option Outcome → Outcome → Bool
 is_same_as_named None other outcome = true
 is_same_as_named (Some place) None outcome = false

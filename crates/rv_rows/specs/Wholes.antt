@@ -9,7 +9,7 @@ use Rattle.rv_jobs.specs.Plans.{Planned, result_for_path}
 abbrev pub plan_of_jobs : List Job → List Answer → Planned
 plan_of_jobs jobs answers = record { jobs = jobs; answers = answers }
 
--- both lists of results have the same result for each path of the job
+-- both lists of results have equal results for each path that the job names
 pub record HaveSameResults (some others : List Answer) (job : Job) : Type 0 where
   pub image : result_for_path some job.image ≡ result_for_path others job.image
   pub reference :

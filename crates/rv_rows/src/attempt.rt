@@ -22,8 +22,8 @@ use rv_memory::Map;
 use rv_report::{Refusal, RowEnd};
 use std::alloc::{AllocError, Global};
 
-/// Returns the bytes of a job's image, or the refusal of the first of its files that was not read, given the results of reading the image,
-/// the expected signature and the file with the expected console text.
+/// Returns the bytes of a job's image, or, if one of its files was not read, the refusal of the first such file: the image, the expected
+/// signature, or the expected console.
 #[tactic(auto, unfolding(crate::specs::Outcome::image_file_or_refusal))]
 pub(crate) fn image_file_or_refusal<'a>(
     image: &'a Kept,
@@ -44,7 +44,7 @@ pub(crate) fn image_file_or_refusal<'a>(
     Ok(file)
 }
 
-/// Returns why a job is refused, or `None` if it is not, given the results of reading its files. Runs nothing.
+/// Returns the reason why a job is refused, given the results of reading its files; `None` if it is not refused. Runs nothing.
 #[tactic(auto, unfolding(crate::specs::Outcome::outcome_of))]
 pub(crate) fn refusal_of_job(
     alloc: Global,
@@ -65,7 +65,7 @@ pub(crate) fn refusal_of_job(
     }
 }
 
-// Returns why a job is refused because of the bytes of its image, or `None` if it is not.
+// Returns the reason why a job is refused, given the bytes of its image; `None` if it is not refused.
 #[tactic(auto, unfolding(crate::specs::Outcome::file_outcome_of))]
 fn refusal_over_image(alloc: Global, job: &Job, file: &[u8]) -> Result<Option<Refusal>, AllocError>
     requires { IfSome job.now.signature (λ names. (0 < length names.begin)
@@ -80,8 +80,8 @@ fn refusal_over_image(alloc: Global, job: &Job, file: &[u8]) -> Result<Option<Re
     }
 }
 
-/// Returns the machine in which a job runs, before its first step, given the bytes of its image and the image read from them, or why the
-/// job is refused. Runs nothing.
+/// Returns the machine in which a job runs, before its first step, given the bytes of its image and the image read from them, or the
+/// refusal. Runs nothing.
 pub(crate) fn machine_over_image(
     alloc: Global,
     job: &Job,
@@ -103,7 +103,7 @@ pub(crate) fn machine_over_image(
     }
 }
 
-// Checks that a file with expected results was read, if the job names one.
+// Returns a refusal if the job names a file with expected results that was not read.
 fn check_file_was_read(file: Option<&Kept>) -> Result<(), Refusal>
     ensures { MatchResult result
         (λ _. IsOk (reference_or_refusal (option_map (λ kept. kept.now) file.entry)))
@@ -142,7 +142,7 @@ pub(crate) fn attempt_over_image(
     }
 }
 
-/// Returns the image of a job's file and the range of its signature, if one is requested, or the first error.
+/// Returns the image in the bytes of a file and the range of the job's signature, if one is requested, or the first error.
 #[tactic(auto, unfolding(crate::specs::Outcome::loadable_image))]
 pub(crate) fn loadable_image(alloc: Global, job: &Job, file: &[u8]) -> Result<Loadable, ImageError>
     requires { IfSome job.now.signature (λ names. (0 < length names.begin)
@@ -195,7 +195,7 @@ fn signature_range(
     Ok(SignatureRange { begin, end })
 }
 
-// Returns the address of the symbol at the end of a signature. If it is missing, the error is `NoEnd`.
+// Returns the address of the symbol at the end of a signature. The error is `NoEnd` if the image does not have this symbol.
 fn find_end_symbol(image: &Image, file: &[u8], name: &[u8]) -> Result<u32, ImageError>
     requires image { IsImageOf file.now image.now }
     requires named { 0 < length name.now }
@@ -233,7 +233,7 @@ fn copy_bytes(alloc: Global, bytes: &[u8]) -> Result<Vec<u8>, AllocError>
     bytes.to_vec(alloc)
 }
 
-/// Returns the ended run of this machine.
+/// Returns the ended run of this machine, with its ending, its steps and the range of its signature.
 pub(crate) fn ended_run(machine: Machine, ran: Outcome, range: Option<SignatureRange>) -> EndedRun
     requires { IfSome range
         (λ range. signature_check range.begin range.end (state_of machine).bus.regions ≡ accepted) }
@@ -249,7 +249,7 @@ pub(crate) fn ended_run(machine: Machine, ran: Outcome, range: Option<SignatureR
     }
 }
 
-// Returns how a job's run ended, given the ending of the machine.
+// Returns the ending of a job's run in its row, given the ending of the machine.
 fn row_end(ending: Ending) -> RowEnd
     ensures { result ≡ row_end ending }
 {

@@ -56,7 +56,7 @@ pub(crate) enum Attempt {
 }
 
 impl Attempt {
-    /// Returns a copy of the outcome.
+    /// Returns the outcome of this result, copied to memory of its own.
     pub(crate) fn outcome(&self, alloc: Global) -> Result<Outcome, AllocError>
         requires { IsReadable self.now }
         ensures { IfOk result (λ outcome. outcome ≡ outcome_of_attempt self.now) }
@@ -67,7 +67,7 @@ impl Attempt {
         }
     }
 
-    /// Returns the number of bytes that the console and the signature of a copy have.
+    /// Returns the size in bytes of the console and the signature of this result; 0 for a refusal.
     pub(crate) fn size(&self) -> usize {
         match self {
             Attempt::Refused(_) => 0,
@@ -77,7 +77,7 @@ impl Attempt {
 }
 
 impl EndedRun {
-    /// Returns a copy of the outcome.
+    /// Returns the outcome of this run, copied to memory of its own.
     pub(crate) fn outcome(&self, alloc: Global) -> Result<Outcome, AllocError>
         requires { HasSignature self.now }
         ensures { IfOk result (λ outcome. outcome ≡ outcome_in_bus self.now) }
@@ -92,7 +92,7 @@ impl EndedRun {
         })
     }
 
-    // Returns the number of bytes of the console and the signature.
+    // Returns the size in bytes of the console and the signature of this run.
     fn size(&self) -> usize {
         let words = match self.range {
             Some(range) => range.end.saturating_sub(range.begin) as usize,
@@ -103,7 +103,7 @@ impl EndedRun {
 }
 
 impl Outcome {
-    /// Returns the number of bytes of the console and the signature.
+    /// Returns the size in bytes of the console and the signature of this outcome.
     pub fn size(&self) -> usize {
         let words = match &self.signature {
             Some(words) => words.as_slice().len().saturating_mul(4),
@@ -130,7 +130,7 @@ impl Outcome {
     }
 }
 
-/// Returns the outcome of a refused job.
+/// Returns the outcome of a job that is refused for this reason: no steps, no console bytes and no signature.
 pub(crate) fn refused_outcome(alloc: Global, why: Refusal) -> Outcome
     ensures { result ≡ refused_outcome why }
 {
@@ -142,7 +142,7 @@ pub(crate) fn refused_outcome(alloc: Global, why: Refusal) -> Outcome
     }
 }
 
-// Returns the words of a signature in memory, if one is requested.
+// Returns the words of memory in the range of a signature; `None` if no signature is requested.
 fn signature_if_asked(
     alloc: Global,
     bus: &Bus,
@@ -158,7 +158,7 @@ fn signature_if_asked(
     }
 }
 
-// Returns the words of a signature in memory.
+// Returns the words of memory in the range of a signature.
 fn signature_words_between(
     alloc: Global,
     bus: &Bus,

@@ -59,7 +59,8 @@ pub fn row_at_with_recent(
     judged_row(alloc, plan, i, outcome, same)
 }
 
-/// Returns the row of the job at an index, given its outcome and whether that equals the outcome of the job that its `same_as` names.
+/// Returns the row of the job at an index with this outcome. `same` says whether the outcome equals the outcome of the job that `same_as`
+/// names.
 #[tactic(auto, unfolding(crate::specs::Rows::row_of))]
 pub(crate) fn judged_row(
     alloc: Global,
@@ -106,7 +107,7 @@ fn attempt_at(
     }
 }
 
-/// Returns why the job at an index is refused, or `None` if it is not. Runs nothing.
+/// Returns the reason why the job at an index is refused; `None` if it is not refused. Runs nothing.
 pub fn refusal_at(alloc: Global, plan: &Plan, i: usize) -> Result<Option<Refusal>, AllocError>
     requires { i < length plan.now.jobs }
     ensures { IfOk result (λ why. (d : AJob) → why
@@ -121,7 +122,8 @@ pub fn refusal_at(alloc: Global, plan: &Plan, i: usize) -> Result<Option<Refusal
     )
 }
 
-/// Returns why the job at an index is refused because of its image, or `None` if it is not. Its other files are disregarded. Runs nothing.
+/// Returns the reason why the job at an index is refused because of its image; `None` if its image is usable, whatever its other files are.
+/// Runs nothing.
 pub fn image_refusal_at(alloc: Global, plan: &Plan, i: usize) -> Result<Option<Refusal>, AllocError>
     requires { i < length plan.now.jobs }
     ensures { IfOk result (λ why. (d : AJob) → why
@@ -130,8 +132,8 @@ pub fn image_refusal_at(alloc: Global, plan: &Plan, i: usize) -> Result<Option<R
     refusal_of_job(alloc, plan.job(i), plan.image(i), None, None)
 }
 
-/// Returns the machine in which the job at an index runs, before its first step, or why the job is refused. `image` is the image that was
-/// read from the job's file. Runs nothing.
+/// Returns the machine in which the job at an index runs, before its first step, or the refusal. `image` is the image that was read from
+/// the job's file. Runs nothing.
 pub fn machine_at(
     alloc: Global,
     plan: &Plan,
@@ -172,7 +174,7 @@ pub fn machine_at_reusing(
     }
 }
 
-/// Whether an outcome equals that of the job that `same_as` names, or there is no `same_as`.
+/// Whether an outcome equals the outcome of the job that `same_as` names; true if there is no `same_as`.
 pub(crate) fn is_same_as_named(
     plan: &Plan,
     job: &Job,
@@ -192,7 +194,7 @@ pub(crate) fn is_same_as_named(
     }
 }
 
-// Whether an outcome equals that of the job at an index, which is run again unless its outcome is cached.
+// Whether an outcome equals the outcome of the job at an index, which is run again unless its outcome is cached.
 fn is_same_as_job_at(
     plan: &Plan,
     place: usize,
@@ -252,7 +254,7 @@ fn is_named_by_next_jobs(plan: &Plan, i: usize) -> bool
     false
 }
 
-/// Returns the bytes of the file with the expected signature of the job at an index, if it names one and it was read.
+/// Returns the bytes of the file with the expected signature of the job at an index; `None` if the job names no file, or it was not read.
 pub fn signature_reference_bytes(plan: &Plan, i: usize) -> Option<&[u8]>
     requires { i < length plan.now.jobs }
     ensures { (d : AJob) → option_map (λ bytes. bytes.now) result
@@ -261,7 +263,8 @@ pub fn signature_reference_bytes(plan: &Plan, i: usize) -> Option<&[u8]>
     content_if_read(plan.reference(i))
 }
 
-/// Returns the bytes of the file with the expected console text of the job at an index, if it names one and it was read.
+/// Returns the bytes of the file with the expected console text of the job at an index; `None` if the job names no file, or it was not
+/// read.
 pub fn expected_console_bytes(plan: &Plan, i: usize) -> Option<&[u8]>
     requires { i < length plan.now.jobs }
     ensures { (d : AJob) → option_map (λ bytes. bytes.now) result
@@ -270,7 +273,7 @@ pub fn expected_console_bytes(plan: &Plan, i: usize) -> Option<&[u8]>
     content_if_read(plan.console_reference(i))
 }
 
-// Returns the bytes of a file, if the job names one and it was read.
+// Returns the bytes of a file; `None` if the job names no file, or it was not read.
 fn content_if_read(kept: Option<&Kept>) -> Option<&[u8]>
     ensures { option_map (λ bytes. bytes.now) result
         ≡ content_if_read (option_map (λ one. one.now) kept.entry) }

@@ -51,7 +51,7 @@ impl Recent {
         *self.items.allocator()
     }
 
-    /// Returns the outcome of the job at an index, if it is cached.
+    /// Returns the outcome of the job at an index if it is cached; otherwise `None`.
     pub fn find(&self, place: usize) -> Option<&Outcome>
         ensures { (plan : Planned) → AreOutcomes plan self.now
             → IfSome result (λ found. outcome_at plan place ≡ Some found.now) }
@@ -64,8 +64,8 @@ impl Recent {
         None
     }
 
-    /// Returns whether an outcome whose console and signature have `size` bytes is small enough to be cached. If so, drops the oldest ones
-    /// until there is room for it.
+    /// Returns whether an outcome whose console and signature have `size` bytes is small enough to be cached. If so, drops the oldest
+    /// cached outcomes until there is room for it.
     pub fn make_room(&mut self, size: usize) -> bool
         ensures { (plan : Planned) → AreOutcomes plan self.old → AreOutcomes plan self.new }
     {
@@ -78,7 +78,7 @@ impl Recent {
         true
     }
 
-    /// Adds an outcome, for which room was made, to the cache.
+    /// Adds the outcome of the job at an index to the cache, which has room for it.
     pub fn keep(&mut self, place: usize, outcome: Outcome) -> Result<(), AllocError>
         ensures { (plan : Planned) → AreOutcomes plan self.old → outcome_at plan place
             ≡ Some outcome

@@ -11,7 +11,7 @@ pub trait RowReporter {
     // The text for the job at an index and its row.
     ghost line: { Self → ℕ → Row → List ℕ };
 
-    /// Appends the text for the job at an index and its row, which may be empty.
+    /// Appends the text about the job at an index, given its row. The text may be empty.
     fn push_row_text(
         &self,
         alloc: Global,

@@ -95,7 +95,7 @@ fn attempt_over_file(
     }
 }
 
-// Completes a run within a budget, of which `steps` steps have been executed.
+// Completes a run within a budget, of which `steps` steps have been executed, and returns the ended run.
 fn rest_of_run(machine: Machine, steps: u32, budget: u32, range: Option<SignatureRange>) -> EndedRun
     requires within { steps ≤ budget }
     requires range { IfSome range

@@ -15,7 +15,7 @@ pub struct Spare {
 }
 
 impl Spare {
-    /// Returns no bus.
+    /// Returns an empty store, which has no bus.
     pub fn new() -> Spare {
         Spare { bus: None }
     }
@@ -37,14 +37,14 @@ impl Spare {
         }
     }
 
-    /// Keeps the bus of an ended run, whose outcome is no longer needed, for the next run.
+    /// Stores the bus of an ended run, whose outcome is no longer needed, so that the next run can use its memory.
     pub(crate) fn keep(&mut self, attempt: Attempt) {
         if let Attempt::Ran(run) = attempt {
             self.keep_bus(run.bus);
         }
     }
 
-    /// Keeps a bus that is no longer needed for the next run.
+    /// Stores a bus that is no longer needed, so that the next run can use its memory.
     pub fn keep_bus(&mut self, bus: Bus) {
         self.bus = Some(bus);
     }

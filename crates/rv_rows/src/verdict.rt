@@ -11,8 +11,8 @@ use crate::outcome::{Attempt, EndedRun, Outcome};
 use rv_jobs::{ExpectedConsole, ExpectedEnd, Job, Text};
 use rv_report::{RowEnd, Verdict, Words, are_word_lines};
 
-/// Returns the verdict on the outcome of a job, given the bytes of the files with the expected signature and console, if they were read,
-/// and whether the outcome equals that of the job that `same_as` names.
+/// Returns the verdict on the outcome of a job. `reference` and `console` are the bytes of the files with the expected signature and
+/// console, if they were read; `same` says whether the outcome equals the outcome of the job that `same_as` names.
 #[tactic(auto, unfolding(crate::specs::Verdict::verdict_of))]
 pub(crate) fn verdict_of(
     job: &Job,
@@ -58,7 +58,7 @@ pub fn expects_anything(job: &Job) -> bool
         || job.same_as.is_some()
 }
 
-/// Whether a run ended by the exit call with the expected code, if one is expected.
+/// Whether a run ended with an exit with the expected code; true if no code is expected.
 pub fn has_expected_exit(expected: Option<u32>, ending: RowEnd) -> bool
     ensures { result ≡ has_expected_exit expected ending }
 {
@@ -68,7 +68,7 @@ pub fn has_expected_exit(expected: Option<u32>, ending: RowEnd) -> bool
     }
 }
 
-// Whether a run ended by the exit call with this code.
+// Whether a run ended with an exit with this code.
 fn exits_with(code: u32, ending: RowEnd) -> bool
     ensures { result ≡ exits_with code ending }
 {
@@ -80,7 +80,7 @@ fn exits_with(code: u32, ending: RowEnd) -> bool
     }
 }
 
-/// Whether a run ended as expected, if an end is expected.
+/// Whether a run ended in the expected way; true if no end is expected.
 pub fn has_expected_end(expected: Option<ExpectedEnd>, ending: RowEnd) -> bool
     ensures { result ≡ has_expected_end expected ending }
 {
@@ -90,7 +90,7 @@ pub fn has_expected_end(expected: Option<ExpectedEnd>, ending: RowEnd) -> bool
     }
 }
 
-// Whether a run ended as expected: by using up its budget, or with a fault of this kind.
+// Whether a run ended in the expected way: by using up its budget, or with a fault of the expected kind.
 fn ends_by(expected: ExpectedEnd, ending: RowEnd) -> bool
     ensures { result ≡ ends_by expected ending }
 {
@@ -101,7 +101,8 @@ fn ends_by(expected: ExpectedEnd, ending: RowEnd) -> bool
     }
 }
 
-// Whether the job ran and its console output is the expected text of the list or the file. True if no console is expected.
+// Whether the job ran and its console output is the expected text, which is in the list or in a file with these bytes. True if no console
+// is expected.
 fn has_expected_console(
     expected: &Option<ExpectedConsole>,
     file: Option<&[u8]>,
@@ -125,7 +126,8 @@ fn ran_with_console(bytes: &[u8], outcome: &Outcome) -> bool
     did_run(outcome.ending) && bytes == outcome.console.as_slice()
 }
 
-// Whether the job ran and the bytes of the file with its expected signature are the lines of its signature. True if none is expected.
+// Whether the job ran and the lines of its signature equal the bytes of the file with the expected signature. True if no signature is
+// expected.
 fn has_expected_signature(
     expected: &Option<Text>,
     reference: Option<&[u8]>,
@@ -144,14 +146,14 @@ fn has_expected_signature(
     did_run(outcome.ending) && are_signature_lines(bytes, &outcome.signature)
 }
 
-/// Whether a job ran, rather than being refused.
+/// Whether a job with this ending ran, that is, was not refused.
 pub fn did_run(ending: RowEnd) -> bool
     ensures { result ≡ did_run ending }
 {
     !matches!(ending, RowEnd::Refused(_))
 }
 
-// Whether these bytes are the lines of a signature's words. Without a signature there are no lines.
+// Whether these bytes are a line for each word of the signature; without a signature, whether there are no bytes.
 fn are_signature_lines(bytes: &[u8], signature: &Option<Words>) -> bool
     ensures { result ≡ bytes_eq bytes.now (lines_of_signature signature.now) }
 {
@@ -161,7 +163,7 @@ fn are_signature_lines(bytes: &[u8], signature: &Option<Words>) -> bool
     }
 }
 
-/// Whether two outcomes are equal except for steps, addresses and values of faults. A refusal equals no outcome.
+/// Whether two outcomes are equal, except for steps and for addresses and values of faults. Always false for a refusal.
 pub fn are_same_outcomes(outcome: &Outcome, other: &Outcome) -> bool
     ensures { result ≡ are_same_outcomes outcome.now other.now }
 {
@@ -174,7 +176,7 @@ pub fn are_same_outcomes(outcome: &Outcome, other: &Outcome) -> bool
     are_same_signatures(&outcome.signature, &other.signature)
 }
 
-/// Whether an outcome equals that of a result which has not been copied, as [`are_same_outcomes`] compares them.
+/// Whether an outcome equals the outcome of a job's result, as [`are_same_outcomes`] compares them, without copying the latter.
 pub(crate) fn is_same_as_attempt(outcome: &Outcome, other: &Attempt) -> bool
     requires { IsReadable other.now }
     ensures { result ≡ are_same_outcomes outcome.now (outcome_of_attempt other.now) }
@@ -185,7 +187,7 @@ pub(crate) fn is_same_as_attempt(outcome: &Outcome, other: &Attempt) -> bool
     }
 }
 
-// Whether an outcome equals that of an ended run, as [`are_same_outcomes`] compares them.
+// Whether an outcome equals the outcome of an ended run, as [`are_same_outcomes`] compares them.
 fn has_same_outcome_as_run(outcome: &Outcome, run: &EndedRun) -> bool
     requires { HasSignature run.now }
     ensures { result ≡ are_same_outcomes outcome.now (outcome_in_bus run.now) }
@@ -213,7 +215,7 @@ fn has_run_signature(run: &EndedRun, signature: &Option<Words>) -> bool
     }
 }
 
-/// Whether two jobs ended alike: with one exit code, with one kind of fault, or both by using up their budgets.
+/// Whether two jobs ended alike: with equal exit codes, with faults of the same kind, or both by using up their budgets.
 pub fn are_alike_endings(ending: RowEnd, other: RowEnd) -> bool
     ensures { result ≡ are_alike_endings ending other }
 {

@@ -34,7 +34,7 @@ use Rattle.rv_session.specs.declared.session.Session.{Session}
 
 -- ---- requests that do not change the session
 
--- a count as a number of 32 bits, saturating
+-- the count, or 2^32 - 1 if it does not fit in 32 bits
 abbrev pub shown_count : ℕ → ℕ
 shown_count count = min count 4294967295
 
@@ -42,7 +42,7 @@ shown_count count = min count 4294967295
 abbrev pub script_bytes_consumed : Session → ℕ
 script_bytes_consumed session = session.script - length (here session).bus.script
 
--- the value of x0 to x31 by its number at the current step, or of the pc for any greater number
+-- the value at the current step of register x`number` if the number is below 32, and of the pc otherwise
 abbrev pub hart_value : Session → ℕ → ℕ
 hart_value session number = if nat_lt number 32 then register (here session) number else (here session).pc
 
@@ -53,19 +53,19 @@ value_of session reg.Steps = session.history.place
 value_of session reg.Printed = shown_count (length (here session).bus.output)
 value_of session reg.Taken = shown_count (script_bytes_consumed session)
 
--- x0 to x31 and the pc at the current step, as hexadecimal digits
+-- the values of x0 to x31 and the pc at the current step, as hexadecimal digits
 abbrev pub registers_here : Session → List ℕ
 registers_here session = registers_text (here session).registers (here session).pc
 
--- the reply with these bytes of memory; `E01` if there are none
+-- the reply with these bytes of memory as hexadecimal digits; `E01` if there are none
 abbrev pub memory_reply : List ℕ → Reply
 memory_reply bytes = if length bytes == 0 then refused refusal.Failed else with_body (encode_lower bytes)
 
--- the beginning of a file reply: `F`, a number of eight hexadecimal digits, and `;`
+-- the beginning of a reply about a file: `F`, the number as eight hexadecimal digits, and `;`
 abbrev pub counted : ℕ → List ℕ
 counted number = codes "F" ++ (encode_lower (to_be_bytes w32 number) ++ codes ";")
 
--- the maximum number of bytes in one part of the image file
+-- the maximum number of bytes of the image file in one reply
 abbrev pub most_file_part : ℕ
 most_file_part = 8180
 
@@ -73,11 +73,12 @@ most_file_part = 8180
 abbrev pub file_part : List ℕ → Part → List ℕ
 file_part image part = take (min most_file_part part.count) (drop part.offset image)
 
--- the reply with these bytes of the image file
+-- the reply with these bytes of the image file, preceded by their number
 abbrev pub file_reply : List ℕ → Reply
 file_reply bytes = with_body (counted (length bytes) ++ bytes)
 
--- the words of gdb's `struct stat`: the third is the mode of a readable file, the ninth the size
+-- the 16 words of gdb's `struct stat` for a file of this size: the third is the mode of a readable file, the ninth the size, and the others
+-- are 0
 abbrev pub stat_words : ℕ → List ℕ
 stat_words size = 0 ∷ 0 ∷ 0x8124 ∷ 0 ∷ 0 ∷ 0 ∷ 0 ∷ 0 ∷ size ∷ 0 ∷ 0 ∷ 0 ∷ 0 ∷ 0 ∷ 0 ∷ 0 ∷ []
 
@@ -85,7 +86,7 @@ stat_words size = 0 ∷ 0 ∷ 0x8124 ∷ 0 ∷ 0 ∷ 0 ∷ 0 ∷ 0 ∷ size ∷ 
 abbrev pub size_reply : ℕ → Reply
 size_reply size = with_body (counted 64 ++ flat_map (to_be_bytes w32) (stat_words (shown_count size)))
 
--- the reply that is equal in every session; empty if there is none for the request
+-- the reply to a request whose reply is the same in every session; an empty reply for any other request
 abbrev pub fixed_answer : Request → Reply
 fixed_answer request = with_body (unwrap_or (fixed_reply request) [])
 
@@ -109,7 +110,7 @@ shown_reply session request = fixed_answer request
 
 -- ---- commands
 
--- whether a `monitor` command moves to the start of the run
+-- whether the `monitor` command `text` moves to the start of the run: `reset` or `reset halt`
 abbrev pub is_reset : List ℕ → Bool
 is_reset text = bytes_eq text (codes "reset") || bytes_eq text (codes "reset halt")
 
@@ -124,28 +125,30 @@ command_text session text =
 
 -- ---- requests that change the session
 
--- if the Bool is true, `next` is the session at the first step at which `count` has this value; otherwise no step has it, and the session
--- is unchanged
+-- if the Bool is true, `next` is the session at the first step at which `count` has this value; if it is false, `count` never has it, and
+-- the session is unchanged
 abbrev pub IsSoughtAs : Bool → Session → Count → ℕ → Session → Type 0
 IsSoughtAs true session count value next =
     IsFirstWith count value session.history.budget session.history.start next.history.place
 IsSoughtAs false session count value next =
     IsFound count value session.history.budget session.history.start None × (next ≡ session)
 
--- a seek to the first step at which `count` has this value: the reply is `OK` if there is one, and a refusal otherwise
+-- a request to move to the first step at which `count` has this value: the reply is `OK` if there is such a step; otherwise it is a
+-- refusal, and the session is unchanged
 pub record IsSought (session : Session) (count : Count) (value : ℕ) (reply : Reply) (next : Session) : Type 0 where
   pub is_granted : Bool
   pub reply_is : reply ≡ granted_if is_granted refusal.NotReached
   pub sought : IsSoughtAs is_granted session count value next
   pub run : next ≡ at_place session next.history.place
 
--- a seek to the step `place`: the reply is `OK` if the run reaches it; otherwise it is a refusal, and the session is unchanged
+-- a request to move to the step `place`: the reply is `OK` if the run reaches it; otherwise it is a refusal, and the session is unchanged
 abbrev pub IsPlaceSought : Session → ℕ → Reply → Session → Type 0
 IsPlaceSought session place reply next =
     (reply ≡ granted_if (nat_le place (last_step session.history.budget session.history.start)) refusal.NotReached)
     × (next ≡ (if nat_le place (last_step session.history.budget session.history.start) then at_place session place else session))
 
--- a write to a register: one of the hart is granted only if the value does not change; a write to a count of the run is a seek
+-- a write to a register: if it is a register of the hart, the write is granted only if the value does not change; if it is a count of the
+-- run, the session moves to the first step at which the count has the value
 abbrev pub IsWritten : Session → Register → ℕ → Reply → Session → Type 0
 IsWritten session (reg.Hart number) value reply next =
     (reply ≡ granted_if (value_of session (reg.Hart number) == value) refusal.WouldChange) × (next ≡ session)
@@ -153,27 +156,30 @@ IsWritten session reg.Steps value reply next = IsPlaceSought session value reply
 IsWritten session reg.Printed value reply next = IsSought session count.Printed value reply next
 IsWritten session reg.Taken value reply next = IsSought session count.Taken value reply next
 
--- the reply to setting a stoppoint, and the session with the new stops; a refusal leaves the session unchanged
+-- the reply to a request to set a stoppoint, given its result: `OK`, and `next` has the new stops; or the refusal, and `next` is the
+-- unchanged session
 abbrev pub IsSet : Session → Result Stops Refusal → Reply → Session → Type 0
 IsSet session (Ok stops) reply next = (reply ≡ granted) × (next ≡ record session { stops = stops })
 IsSet session (Err refusal) reply next = (reply ≡ refused refusal) × (next ≡ session)
 
--- the reply to setting the stoppoint `place`, and the session after it
+-- `reply` is the reply to a request to set the stoppoint `place`, and `next` is the session after it
 pub record IsStoppointSet (session : Session) (place : Stoppoint) (reply : Reply) (next : Session) : Type 0 where
   pub outcome : Result Stops Refusal
   pub trapped : IsStoppointAdded session.stops (here session).bus place outcome
   pub set : IsSet session outcome reply next
 
--- the reply to a `monitor` command: its output, then `OK`
+-- the reply to a `monitor` command: `OK` for a reset, and otherwise its output followed by `OK`
 abbrev pub command_reply : Session → List ℕ → Reply
 command_reply session text = if is_reset text then granted else printing (command_text session text) (codes "OK")
 
--- the reply to a `monitor` command, and the session after it, which is at step 0 after a reset
+-- `reply` is the reply to the `monitor` command `text`, and `next` is the session after it: at step 0 after a reset, and unchanged
+-- otherwise
 abbrev pub IsCommanded : Session → List ℕ → Reply → Session → Type 0
 IsCommanded session text reply next =
     (reply ≡ command_reply session text) × (next ≡ (if is_reset text then at_place session 0 else session))
 
--- the reply to a request, and the session `next` after it; a move is only recorded, and its reply follows once it is made
+-- `reply` is the reply to the request, and `next` is the session after it; a requested move is only recorded, and its reply follows once it
+-- has been made
 abbrev pub IsAnswered : Session → Request → Reply → Session → Type 0
 IsAnswered session (ask.Move requested) reply next = (reply ≡ silent) × (next ≡ record session { requested = Some requested })
 IsAnswered session (ask.WriteRegister register value) reply next = IsWritten session register value reply next

@@ -8,7 +8,8 @@ use Rattle.rv_session.specs.declared.session.Session.{Session}
 abbrev pub printed_by : Session → List ℕ
 printed_by session = (state_at session (last_step session.history.budget session.history.start)).bus.output
 
--- `shown` is the output of the run that was sent to gdb so far: the first bytes of the whole output, as many as the session counts
+-- `shown` is the console output that was sent to gdb so far: a prefix of the output of the whole run, of the length that the session
+-- records
 pub record HasShown (session : Session) (shown : List ℕ) : Type 0 where
   pub first_bytes : shown ≡ take session.shown (printed_by session)
   pub within : session.shown ≤ length (printed_by session)

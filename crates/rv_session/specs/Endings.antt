@@ -6,7 +6,7 @@ use Rattle.rv_machine.specs.declared.ending.Ending.{Ending}
 use Rattle.rv_machine.specs.declared.ending.Ending.TheVariants as ending
 use Rattle.rv_gdb_protocol.specs.Stops.{Aborted, BadCall, BusError, Exited, FileTooLarge, IllegalInstruction, NoEnding, SegmentFault, Told, UsedUp, end_kind_of_fault}
 
--- the kind of end that a stop at this ending reports
+-- the kind of end that a stop reports if the run ended with this ending
 abbrev pub end_kind_of_ending : Ending → Told
 end_kind_of_ending (ending.Exit code) = Exited
 end_kind_of_ending (ending.Fault kind pc value) = end_kind_of_fault kind
@@ -21,7 +21,7 @@ end_kind_of_found found.Change = NoEnding
 end_kind_of_found found.Begin = NoEnding
 end_kind_of_found found.Interrupted = NoEnding
 
--- the text, if a stop reports an end of the run; empty otherwise
+-- the text if a stop reports an end of the run, and an empty text for `NoEnding`
 abbrev pub text_with : Told → List ℕ → List ℕ
 text_with NoEnding text = []
 text_with Exited text = text

@@ -19,15 +19,15 @@ use Rattle.rv_session.specs.declared.session.Session.{Session}
 
 -- ---- sent packets
 
--- the maximum number of console bytes in a packet, which has two digits for each
+-- the maximum number of console bytes in a packet; each byte takes two hexadecimal digits
 abbrev pub most_printed : ℕ
 most_printed = 8184
 
--- the console bytes of the packet with this number, counted from 0
+-- the bytes of the console output `printed` in its packet `number`, counted from 0
 abbrev pub printed_part : List ℕ → ℕ → List ℕ
 printed_part printed number = take most_printed (drop (number * most_printed) printed)
 
--- the packet with this number of the console output: `O` and the bytes as digits
+-- packet `number` of the console output: `O` and its bytes as hexadecimal digits
 abbrev pub printed_packet : List ℕ → ℕ → List ℕ
 printed_packet printed number = framed (79 ∷ encode_lower (printed_part printed number))
 
@@ -36,21 +36,21 @@ unfoldable pub printed_packets : List ℕ → List ℕ
 printed_packets printed =
     flat_map (printed_packet printed) (range_with_len 0 ((length printed + (most_printed - 1)) / most_printed))
 
--- the packet with the body of a reply; empty if there is no body
+-- the packet with this body; empty if there is no body
 abbrev pub body_packet : Option (List ℕ) → List ℕ
 body_packet (Some body) = framed body
 body_packet None = []
 
--- the packets of a reply: its console output, then the text about the run's end, then its body
+-- the packets of a reply: first its console output, then the text about the run's end, then its body
 abbrev pub packets_of : Reply → List ℕ
 packets_of reply = printed_packets reply.printed ++ (printed_packets reply.end_text ++ body_packet reply.body)
 
--- the last packet that was sent: the one with this body, or the earlier one if there is no body
+-- the last packet that was sent: the packet with this body, or `sent`, the earlier one, if there is no body
 abbrev pub last_packet_after : List ℕ → Option (List ℕ) → List ℕ
 last_packet_after sent (Some body) = framed body
 last_packet_after sent None = sent
 
--- the session after sending a reply, whose last packet it keeps in case gdb requests it again
+-- the session after a reply was sent; it stores the last packet in case gdb requests it again
 abbrev pub with_sent : Session → Reply → Session
 with_sent session reply = record session { sent = last_packet_after session.sent reply.body }
 
@@ -58,11 +58,11 @@ with_sent session reply = record session { sent = last_packet_after session.sent
 abbrev pub acknowledgement : Session → List ℕ
 acknowledgement session = if session.acknowledges then 43 ∷ [] else []
 
--- the last packet, if packets are acknowledged; empty otherwise
+-- the last packet that was sent, if packets are acknowledged; empty otherwise
 abbrev pub sent_again : Session → List ℕ
 sent_again session = if session.acknowledges then session.sent else []
 
--- `new` is `old` with bytes appended for which `IsSuch` holds
+-- `new` is `old` followed by some bytes that satisfy `IsSuch`
 pub record IsAppended (old new : List ℕ) (IsSuch : List ℕ → Type 0) : Type 0 where
   pub out : List ℕ
   pub new_is : new ≡ old ++ out
@@ -70,7 +70,8 @@ pub record IsAppended (old new : List ℕ) (IsSuch : List ℕ → Type 0) : Type
 
 -- ---- received items
 
--- a packet with this body is acknowledged, parsed and answered: `out` is sent, and the session becomes `next`
+-- a packet with this body is received: `out` is its acknowledgement, if packets are acknowledged, followed by the reply to its request, and
+-- `next` is the session after it
 pub record IsPacketAnswered (session : Session) (body out : List ℕ) (next : Session) : Type 0 where
   pub reply : Reply
   -- the session after the reply
@@ -79,7 +80,8 @@ pub record IsPacketAnswered (session : Session) (body out : List ℕ) (next : Se
   pub out_is : out ≡ acknowledgement session ++ packets_of reply
   pub next_is : next ≡ with_sent after_reply reply
 
--- what is sent for a packet: `-`, which requests it again, if the Bool says that it must be rejected; otherwise it is answered
+-- `out` is sent for a packet with this body: `-`, which requests it again, if the Bool says that its checksum must be rejected; otherwise
+-- its acknowledgement and the reply
 abbrev pub IsJudged : Session → Bool → List ℕ → List ℕ → Session → Type 0
 IsJudged session true body out next = (out ≡ 45 ∷ []) × (next ≡ session)
 IsJudged session false body out next = IsPacketAnswered session body out next
@@ -89,7 +91,7 @@ abbrev pub is_wrong_checksum : Checksum → Bool
 is_wrong_checksum verdict.Wrong = true
 is_wrong_checksum verdict.Right = false
 
--- what is sent for a received item, and the session after it; Ctrl-C has no effect, since no move is in progress
+-- `out` is sent for a received item, and `next` is the session after it; Ctrl-C has no effect, since no move is in progress
 abbrev pub IsResponse : Session → Incoming → List ℕ → Session → Type 0
 IsResponse session received.Interrupt out next = (out ≡ []) × (next ≡ session)
 IsResponse session received.Arrived out next = (out ≡ []) × (next ≡ session)
@@ -99,22 +101,25 @@ IsResponse session received.TooLong out next =
 IsResponse session (received.Packet body sum) out next =
     IsJudged session (session.acknowledges && is_wrong_checksum sum) body out next
 
--- what is sent for a received item, and the session after it; nothing if the Bool says that the session is over
+-- `out` is sent for a received item, and `next` is the session after it; if the Bool says that the session is over, nothing is sent and
+-- nothing changes
 abbrev pub IsResponseUnless : Bool → Session → Incoming → List ℕ → Session → Type 0
 IsResponseUnless true session received out next = (out ≡ []) × (next ≡ session)
 IsResponseUnless false session received out next = IsResponse session received out next
 
--- what is sent for a received item, and the session after it; nothing if no item is complete
+-- `out` is sent for a received item, and `next` is the session after it; if no item is complete (`None`), nothing is sent and nothing
+-- changes
 abbrev pub IsRespondedTo : Session → Option Incoming → List ℕ → Session → Type 0
 IsRespondedTo session None out next = (out ≡ []) × (next ≡ session)
 IsRespondedTo session (Some received) out next = IsResponseUnless session.is_over session received out next
 
--- what is sent when a byte is received, and the session after it
+-- `out` is sent when this byte is received, and `next` is the session after it
 abbrev pub IsByteReceived : Session → ℕ → List ℕ → Session → Type 0
 IsByteReceived session byte out next = IsRespondedTo (record session { reader = frame_after session.reader byte })
     (incoming_at session.reader byte) out next
 
--- the requested move is made: `out` is sent for it, and the session becomes `next`; `may_break` says whether it can be interrupted
+-- the session makes the requested move: `out` is sent for it, and `next` is the session after it; `may_break` says whether the move can be
+-- interrupted
 pub record IsRequestedMoveMade (end_text : List ℕ) (may_break : Bool) (session : Session) (out : List ℕ) (next : Session) : Type 0 where
   -- the requested move
   pub requested : Move
@@ -126,8 +131,8 @@ pub record IsRequestedMoveMade (end_text : List ℕ) (may_break : Bool) (session
   pub out_is : out ≡ packets_of reply
   pub next_is : next ≡ with_sent after_reply reply
 
--- whether a move that is made before these bytes can be interrupted: the first byte is 0x03, which gdb sends for Ctrl-C; without bytes, as
--- `behind` says
+-- whether a move can be interrupted that is made before these bytes are received: whether the first byte is 0x03, which gdb sends for
+-- Ctrl-C; without bytes, `behind`
 abbrev pub is_interrupted : List ℕ → Bool → Bool
 is_interrupted [] behind = behind
 is_interrupted (byte ∷ rest) behind = byte == 3
@@ -137,8 +142,8 @@ abbrev pub HasNoInterrupt : List ℕ → Type 0
 HasNoInterrupt [] = ⊤
 HasNoInterrupt (byte ∷ rest) = (byte ≢ 3) × HasNoInterrupt rest
 
--- `out` is sent while bytes are received one after another; a requested move is made before the next byte is received, and `behind` says
--- whether a move that the last byte requests can be interrupted
+-- `out` is sent while these bytes are received one after another, and the session changes accordingly; a requested move is made before the
+-- next byte is received, and `behind` says whether a move that the last byte requests can be interrupted
 pub data IsReceived (end_text : List ℕ) (behind : Bool) : Session → List ℕ → List ℕ → Session → Type 0 where
   no_bytes : (session : Session) → IsReceived end_text behind session [] [] session
   byte_first : (session between next : Session) (byte : ℕ) (rest out more : List ℕ) → session.requested ≡ None

@@ -31,7 +31,7 @@ is_forward (move.StepWithin low high) = true
 is_forward move.ContinueBack = false
 is_forward move.StepBack = false
 
--- a move from the step `from` of the run from `start` ends at the step `place` with the result `found`
+-- the move, made at step `from` of the run that starts in the state `start`, ends at the step `place` with the result `found`
 abbrev pub IsMoveResult : Move → Stops → ℕ → State → ℕ → ℕ → Found → Type 0
 IsMoveResult move.Continue stops budget start from place found = IsNextStop stops bounds.All budget start from place found
 IsMoveResult move.Step stops budget start from place found = IsNextStep stops budget start from place found
@@ -46,23 +46,25 @@ end_stop (ending.Exit code) = stop.Exit
 end_stop (ending.Fault kind pc value) = stop.Fault kind
 end_stop ending.Budget = stop.Budget
 
--- the stop that reports this watchpoint hit; a plain stop without a hit
+-- the stop that reports this watchpoint hit; a stop without a reason if there is no hit
 abbrev pub stop_of_watch_hit : Option WatchHit → Stop
 stop_of_watch_hit (Some (set_off.Change address)) = stop.Watch watch.Writes address
 stop_of_watch_hit (Some (set_off.Read address)) = stop.Watch watch.Reads address
 stop_of_watch_hit (Some (set_off.Access address)) = stop.Watch watch.Accesses address
 stop_of_watch_hit None = stop.Here
 
--- the first watchpoint that is hit on the way from step `one` to step `other`
+-- the first watchpoint that triggers between the states at the steps `one` and `other`; `None` if none does
 abbrev pub watch_between : Session → ℕ → ℕ → Option WatchHit
 watch_between session one other = first_triggered session.stops (state_at session one) (state_at session other)
 
--- the stop at step `place` for a watchpoint hit: by the next step after a forward move, by the preceding step after a backward move
+-- the stop for a watchpoint hit at step `place`: the step after it triggers the watchpoint if the move was forwards, and the step before it
+-- if it was backwards
 abbrev pub watch_stop : Session → Move → ℕ → Stop
 watch_stop session requested place = stop_of_watch_hit
     (if is_forward requested then watch_between session place (place + 1) else watch_between session (place - 1) place)
 
--- if a forward move found a watchpoint hit, the session is before the last step of its run
+-- if the move found a watchpoint hit and went forwards, the session is before the last step of its run, so that there is a step that
+-- triggered it
 abbrev pub CanReportHit : Session → Move → Found → Type 0
 CanReportHit session requested what = what ≡ found.Change → is_forward requested ≡ true
     → session.history.place < last_step session.history.budget session.history.start
@@ -76,15 +78,16 @@ stop_of session requested place (found.End ending) = end_stop ending
 stop_of session requested place found.Begin = stop.Beginning
 stop_of session requested place found.Interrupted = stop.Interrupt
 
--- the console output that is sent before the stop in state `s`: after a forward move all that was not sent before, else nothing
+-- the console output that is sent before the stop in the state `s`: after a forward move, all output that was not sent before; after a
+-- backward move, nothing
 abbrev pub printed_on : Session → Move → State → List ℕ
 printed_on session requested s = if is_forward requested then drop session.shown s.bus.output else []
 
--- the number of console bytes that have been sent when a move has stopped in the state `s`
+-- the number of console bytes that have been sent once a move has stopped in the state `s`
 abbrev pub shown_on : Session → Move → State → ℕ
 shown_on session requested s = if is_forward requested then max session.shown (length s.bus.output) else session.shown
 
--- the text about the end of the run, if the move reached it; empty otherwise
+-- `end_text`, the text about the end of the run, if the move reached the end; otherwise an empty text
 abbrev pub end_text_at : List ℕ → Found → List ℕ
 end_text_at end_text (found.End ending) = end_text
 end_text_at end_text found.Done = []
@@ -93,8 +96,8 @@ end_text_at end_text found.Change = []
 end_text_at end_text found.Begin = []
 end_text_at end_text found.Interrupted = []
 
--- the session made the move `requested`: its reply and the session after it; `end_text` is about the end of the run, and only if
--- `may_break` is true can the move have been interrupted
+-- the session makes the move `requested`: `reply` is the reply, and `next` is the session after it; `end_text` is the text about the end of
+-- the run, and `may_break` says whether the move can be interrupted
 pub record IsMoved (end_text : List ℕ) (may_break : Bool) (session : Session) (requested : Move) (reply : Reply) (next : Session)
     : Type 0 where
   pub place : ℕ

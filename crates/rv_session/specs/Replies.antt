@@ -12,7 +12,7 @@ with_body body = record { printed = []; end_text = []; body = Some body }
 abbrev pub printing : List ℕ → List ℕ → Reply
 printing printed body = record { printed = printed; end_text = []; body = Some body }
 
--- no reply
+-- the empty reply, for which nothing is sent
 abbrev pub silent : Reply
 silent = record { printed = []; end_text = []; body = None }
 
@@ -24,10 +24,10 @@ stopping printed end_text body = record { printed = printed; end_text = end_text
 abbrev pub granted : Reply
 granted = with_body (codes "OK")
 
--- the reply to a refused request
+-- the reply to a request that is refused for this reason
 abbrev pub refused : Refusal → Reply
 refused refusal = with_body (refusal_text refusal)
 
--- the reply `OK` if the request is granted, and the refusal otherwise
+-- the reply `OK` if the Bool is true, because the request is granted, and the refusal otherwise
 abbrev pub granted_if : Bool → Refusal → Reply
 granted_if is_granted refusal = if is_granted then granted else refused refusal

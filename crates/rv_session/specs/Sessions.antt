@@ -9,7 +9,7 @@ use Rattle.rv_trace.specs.Trace.{state_after}
 use Rattle.rv_session.specs.declared.program.Program.{Program}
 use Rattle.rv_session.specs.declared.session.Session.{Session}
 
--- the session at the start of a run within `budget`, before gdb has sent anything
+-- the session at step 0 of the run from `start` within `budget`, before gdb has sent anything
 abbrev pub at_first : Start → ℕ → Program → Session
 at_first start budget program = record {
   reader = between;
@@ -37,11 +37,11 @@ here session = state_at session session.history.place
 abbrev pub at_place : Session → ℕ → Session
 at_place session place = record session { history = record session.history { place = place } }
 
--- a session in which a move is requested is not over
+-- if a move is requested, the session is not over
 abbrev pub IsOpenIfRequested : Session → Type 0
 IsOpenIfRequested session = (session.requested ≡ None) ⊎ (session.is_over ≡ false)
 
--- both sessions debug one run: with the same start, budget, program and script
+-- both sessions debug the same run: they have equal starts, budgets, programs and scripts
 pub record IsSameRun (session next : Session) : Type 0 where
   pub start_is : next.history.start ≡ session.history.start
   pub budget_is : next.history.budget ≡ session.history.budget

@@ -16,8 +16,8 @@ pub trait EndText {
     // The text about the run's end.
     ghost end_text: { Self → List ℕ };
 
-    /// Appends the text about the run's end, given the machine after `place` steps of the run. The closer this is to the end, the less time
-    /// the call takes.
+    /// Appends the text about the run's end, given the machine after `place` steps of the run. The nearer the end of the run is, the less
+    /// time the call takes.
     fn push_end_text(
         &self,
         alloc: Global,

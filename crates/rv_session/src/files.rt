@@ -69,7 +69,7 @@ fn file_part(image: &[u8], part: Part) -> &[u8]
     &rest[..rest.len().min(count)]
 }
 
-// Returns the words of gdb's `struct stat`: the third is the mode, the ninth the size.
+// Returns the 16 words of gdb's `struct stat` for a file of this size: the third is the mode, the ninth the size, and the others are 0.
 fn stat_words(size: u32) -> [u32; 16]
     ensures { result ≡ stat_words size }
 {
@@ -93,6 +93,7 @@ fn stat_words(size: u32) -> [u32; 16]
     ]
 }
 
+// Appends these words, each as four big-endian bytes.
 fn push_words(body: &mut Vec<u8>, words: &[u32]) -> Result<(), AllocError>
     ensures { OnOk result (body.new.items ≡ body.old.items ++ flat_map (to_be_bytes w32) words.now) }
 {

@@ -10,7 +10,7 @@ ghost use Rattle.rv_session.specs.Moved.{IsMoved};
 ghost use Rattle.rv_session.specs.declared.reply.Reply.{Reply};
 ghost use Rattle.rv_session.specs.declared.session.Session.{Session};
 
-/// What is sent does not depend on whether bytes arrive in one read or in two.
+/// The bytes that are sent do not depend on whether the received bytes arrive in one read or in two.
 pub fn reads_can_be_split()
     ensures { (end_text : List ℕ) (behind : Bool) (session between next : Session) (front rest out more : List ℕ)
         → IsReceived end_text (is_interrupted rest behind) session front out between → IsReceived end_text behind between rest more next
@@ -25,7 +25,7 @@ pub fn answers_are_determined()
         → IsReceived end_text false session bytes more other → other.requested ≡ None → (out ≡ more) × (one ≡ other) }
 {}
 
-/// The console output that is sent before stops is a prefix of what the run prints: in order, and each byte once.
+/// The console output that is sent before stops is a prefix of the output of the run: it is sent in order, and each byte once.
 pub fn printed_bytes_go_out_once()
     ensures { (end_text : List ℕ) (may_break : Bool) (session next : Session) (requested : Move) (reply : Reply) (shown : List ℕ)
         → HasShown session shown → IsMoved end_text may_break session requested reply next

@@ -14,7 +14,7 @@ const HELP: &str =
     "when: how many steps were executed\nconsole: the output up to here\ninput: how much of the script was read\nreset, reset halt: go back to the start of the run\n";
 
 impl Session {
-    // Handles `qRcmd,`: runs a `monitor` command.
+    // Handles `qRcmd,`: runs a `monitor` command, and returns its output and `OK`.
     pub(crate) fn command(&mut self, alloc: Global, text: &[u8]) -> Result<Reply, AllocError>
         ensures { IfOk result (λ reply. IsCommanded self.old text.now reply self.new) }
     {
@@ -26,7 +26,7 @@ impl Session {
         Reply::printing(alloc, printed)
     }
 
-    // Returns the output of a command other than a reset.
+    // Returns the output of a `monitor` command other than a reset.
     fn command_text(&self, alloc: Global, text: &[u8]) -> Result<Vec<u8>, AllocError>
         ensures { IfOk result (λ printed. printed.items ≡ command_text self.now text.now) }
     {
@@ -41,6 +41,7 @@ impl Session {
         }
     }
 
+    // Returns the output of `monitor when`: the number of executed steps.
     fn steps_text(&self, alloc: Global) -> Result<Vec<u8>, AllocError>
         ensures { IfOk result (λ text. text.items ≡ decimal self.now.history.place ++ codes " steps executed\n") }
     {
@@ -48,6 +49,7 @@ impl Session {
         Ok(text.into_bytes())
     }
 
+    // Returns the output of the `monitor` command about the input script: how many of its bytes the program has consumed.
     fn input_text(&self, alloc: Global) -> Result<Vec<u8>, AllocError>
         ensures { IfOk result (λ text. text.items
             ≡ decimal (script_bytes_consumed self.now) ++ codes " of " ++ decimal self.now.script ++ codes " bytes read\n") }
@@ -58,7 +60,7 @@ impl Session {
     }
 }
 
-// Whether a `monitor` command moves to the start of the run.
+// Whether a `monitor` command moves to the start of the run: `reset` or `reset halt`.
 fn is_reset(text: &[u8]) -> bool
     ensures { result ≡ is_reset text.now }
 {

@@ -19,8 +19,8 @@ use rv_machine::Ending;
 use std::alloc::{AllocError, Global};
 
 impl Session {
-    /// Makes the requested move and returns the bytes to send for it. If the interrupt is raised, the move stops early and reports that.
-    /// After an error the session must be abandoned.
+    /// Makes the requested move, and returns the bytes to send for it. If the interrupt is raised, the move ends early and reports an
+    /// interruption. After an error the session must be abandoned.
     pub fn work<E: EndText, I: Interrupt>(
         &mut self,
         alloc: Global,
@@ -43,7 +43,7 @@ impl Session {
         Ok(out)
     }
 
-    // Handles `vCont;`, `c`, `s`, `bc` and `bs`: moves, and returns the reply with the stop.
+    // Handles `vCont;`, `c`, `s`, `bc` and `bs`: makes the move, and returns the reply that reports where it stopped.
     fn move_as<E: EndText, I: Interrupt>(
         &mut self,
         alloc: Global,
@@ -61,7 +61,7 @@ impl Session {
         self.stop_reply(alloc, requested, stop, text)
     }
 
-    // Makes a move, and returns its result.
+    // Makes a move, and returns why it ended.
     fn go<I: Interrupt>(
         &mut self,
         alloc: Global,
@@ -102,7 +102,8 @@ impl Session {
         }
     }
 
-    // Returns the stop for a watchpoint hit: by the next step after a forward move, by the preceding step after a backward move.
+    // Returns the stop for a watchpoint hit: the next step triggers the watchpoint if the move was forwards, and the preceding step if it
+    // was backwards.
     fn watch_stop(&self, alloc: Global, requested: Move) -> Result<Stop, AllocError>
         requires { CanReportHit self.now requested found.Change }
         ensures { IfOk result (λ stop. stop ≡ watch_stop self.now requested self.now.history.place) }
@@ -116,7 +117,7 @@ impl Session {
         }
     }
 
-    // Returns the text about the run's end, if the move reached it; empty otherwise.
+    // Returns the text about the run's end if the move reached the end; otherwise an empty text.
     fn end_text_at<E: EndText>(
         &self,
         alloc: Global,
@@ -160,7 +161,7 @@ impl Session {
         })
     }
 
-    // Returns the console output that was not sent yet, if the move went forwards; empty otherwise.
+    // Returns the console output that was not sent yet and counts it as sent, if the move was forwards; otherwise returns an empty text.
     fn show(&mut self, alloc: Global, requested: Move) -> Result<Vec<u8>, AllocError>
         ensures printed { IfOk result (λ printed. printed.items ≡ printed_on self.old requested (here self.old)) }
         ensures shown { IfOk result (λ printed. self.new ≡ record self.old { shown = shown_on self.old requested (here self.old) }) }
@@ -185,7 +186,7 @@ fn is_forward(requested: Move) -> bool
     }
 }
 
-// Returns the stop that reports this watchpoint hit; a plain stop without a hit.
+// Returns the stop that reports this watchpoint hit; a stop without a reason if there is no hit.
 fn stop_of_watch_hit(set_off: Option<WatchHit>) -> Stop
     ensures { result ≡ stop_of_watch_hit set_off }
 {

@@ -18,7 +18,7 @@ use std::alloc::{AllocError, Global};
 const MOST_BYTES: u32 = 8184;
 
 impl Session {
-    // Handles `g`: returns x0 to x31 and the pc.
+    // Handles `g`: returns the reply with the values of x0 to x31 and the pc.
     pub(crate) fn registers(&self, alloc: Global) -> Result<Reply, AllocError>
         ensures { IfOk result (λ reply. reply ≡ with_body (registers_here self.now)) }
     {
@@ -28,7 +28,7 @@ impl Session {
         Ok(Reply::with_body(alloc, body))
     }
 
-    // Handles `p`: returns the value of a register.
+    // Handles `p`: returns the reply with the value of a register.
     pub(crate) fn register(&self, alloc: Global, register: Register) -> Result<Reply, AllocError>
         ensures { IfOk result (λ reply. reply ≡ with_body (register_text (value_of self.now register))) }
     {
@@ -49,7 +49,7 @@ impl Session {
         }
     }
 
-    // Returns the value of x0 to x31 by its number, or of the pc for any greater number.
+    // Returns the value at the current step of register x`number` if the number is below 32, and of the pc otherwise.
     fn hart_value(&self, number: u32) -> u32
         ensures { result ≡ hart_value self.now number }
     {
@@ -69,7 +69,7 @@ impl Session {
         self.script.saturating_sub(left)
     }
 
-    // Handles `m`: returns the bytes of a range up to the first address that is in no region.
+    // Handles `m`: returns the reply with the bytes of a range before the first address that is in no region.
     pub(crate) fn memory(&self, alloc: Global, range: Range) -> Result<Reply, AllocError>
         ensures { IfOk result (λ reply. reply ≡ memory_reply (bytes_from (here self.now).bus range)) }
     {
@@ -90,14 +90,14 @@ pub(crate) fn are_same(one: &[u8], other: &[u8]) -> bool
     one == other
 }
 
-/// Returns a count as a number of 32 bits, saturating.
+/// Returns the count, or 2^32 - 1 if it does not fit in 32 bits.
 pub(crate) fn shown_count(count: usize) -> u32
     ensures { result ≡ shown_count count }
 {
     count.min(u32::MAX as usize) as u32
 }
 
-// Returns how many bytes of a range are read: as many as fit in a reply, and none past the last address.
+// Returns how many bytes of a range are read: at most as many as fit in a reply, and none after the last address.
 fn bytes_requested(range: Range) -> u32
     ensures { result ≡ bytes_requested range }
 {
@@ -106,7 +106,7 @@ fn bytes_requested(range: Range) -> u32
     u64::from(count).min(room) as u32
 }
 
-// Returns the bytes of a range up to the first address that is in no region.
+// Returns the bytes of a range before the first address that is in no region.
 fn bytes_from(alloc: Global, bus: &Bus, range: Range) -> Result<Vec<u8>, AllocError>
     ensures { IfOk result (λ bytes. bytes.items ≡ bytes_from bus.now range) }
 {

@@ -68,7 +68,7 @@ impl Session {
         }
     }
 
-    // Appends the last packet, if packets are acknowledged.
+    // Appends the last packet that was sent, if packets are acknowledged; otherwise nothing.
     fn send_again(&self, out: &mut Vec<u8>) -> Result<(), AllocError>
         ensures { OnOk result (out.new.items ≡ out.old.items ++ sent_again self.now) }
     {
@@ -78,7 +78,7 @@ impl Session {
         Ok(())
     }
 
-    // Acknowledges a packet that is too long, and appends the reply that refuses it.
+    // Appends the acknowledgement of a packet that is too long, and the reply that refuses it.
     fn refuse_long(&mut self, alloc: Global, out: &mut Vec<u8>) -> Result<(), AllocError>
         ensures out { OnOk result (out.new.items
             ≡ out.old.items ++ (acknowledgement self.old ++ packets_of (refused refusal.TooLong))) }
@@ -89,14 +89,14 @@ impl Session {
         self.send(alloc, out, &reply)
     }
 
-    // Whether a packet must be requested again. Without acknowledgements its checksum is not checked.
+    // Whether a packet must be rejected: its checksum is wrong, and packets are acknowledged.
     fn is_refused(&self, sum: Checksum) -> bool
         ensures { result ≡ (self.now.acknowledges && is_wrong_checksum sum) }
     {
         self.acknowledges && is_wrong_checksum(sum)
     }
 
-    // Acknowledges a packet, and appends the reply to it.
+    // Appends the acknowledgement of a packet, if packets are acknowledged, and the reply to its request.
     fn take_body(&mut self, alloc: Global, out: &mut Vec<u8>, body: &[u8]) -> Result<(), AllocError>
         ensures { OnOk result (IsAppended out.old.items out.new.items
             (λ told. IsPacketAnswered self.old body.now told self.new)) }
@@ -107,7 +107,7 @@ impl Session {
         self.send(alloc, out, &reply)
     }
 
-    // Appends `+` if packets are acknowledged.
+    // Appends `+` if packets are acknowledged; otherwise nothing.
     fn acknowledge(&self, out: &mut Vec<u8>) -> Result<(), AllocError>
         ensures { OnOk result (out.new.items ≡ out.old.items ++ acknowledgement self.now) }
     {
@@ -117,7 +117,7 @@ impl Session {
         Ok(())
     }
 
-    // Appends a reply's packets, and keeps the last one in case gdb requests it again.
+    // Appends a reply's packets, and stores the last one in case gdb requests it again.
     pub(crate) fn send(
         &mut self,
         alloc: Global,
@@ -135,7 +135,7 @@ impl Session {
         }
     }
 
-    // Appends the packet with this body, and keeps it in case gdb requests it again.
+    // Appends the packet with this body, and stores it in case gdb requests it again.
     fn send_body(&mut self, alloc: Global, out: &mut Vec<u8>, body: &[u8]) -> Result<(), AllocError>
         ensures out { OnOk result (out.new.items ≡ out.old.items ++ framed body.now) }
         ensures next { OnOk result (self.new ≡ record self.old { sent = framed body.now }) }
@@ -148,7 +148,7 @@ impl Session {
     }
 }
 
-// Appends `-`, which requests the last packet again.
+// Appends `-`, which asks gdb to send its last packet again.
 fn ask_again(out: &mut Vec<u8>) -> Result<(), AllocError>
     ensures { OnOk result (out.new.items ≡ out.old.items ++ 45 ∷ []) }
 {
@@ -178,7 +178,7 @@ fn push_printed_packets(alloc: Global, out: &mut Vec<u8>, printed: &[u8]) -> Res
     Ok(())
 }
 
-// Appends the packet with this number of the console output.
+// Appends packet `number` of the console output, counted from 0.
 fn push_printed_packet(
     alloc: Global,
     out: &mut Vec<u8>,
@@ -192,7 +192,7 @@ fn push_printed_packet(
     push_frame(alloc, out, body.as_slice())
 }
 
-// Returns the console bytes of the packet with this number, counted from 0.
+// Returns the bytes of the console output in its packet `number`, counted from 0.
 fn printed_part(printed: &[u8], number: usize) -> &[u8]
     ensures { result.now ≡ printed_part printed.now number }
 {

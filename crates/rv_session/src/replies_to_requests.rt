@@ -60,7 +60,7 @@ impl Session {
         }
     }
 
-    // Handles `?`: returns the last stop.
+    // Handles `?`: returns the reply with the last stop.
     fn last_stop(&self, alloc: Global) -> Result<Reply, AllocError>
         ensures { IfOk result (λ reply. reply ≡ with_body (stop_text self.now.last)) }
     {
@@ -69,7 +69,7 @@ impl Session {
         Ok(Reply::with_body(alloc, body))
     }
 
-    // Handles `Z`: sets a breakpoint or watchpoint.
+    // Handles `Z`: sets a breakpoint or watchpoint, and returns `OK` or a refusal.
     fn set(&mut self, alloc: Global, trap: Stoppoint) -> Result<Reply, AllocError>
         ensures { IfOk result (λ reply. IsStoppointSet self.old trap reply self.new) }
     {
@@ -83,7 +83,7 @@ impl Session {
         }
     }
 
-    // Handles `z`: clears a breakpoint or watchpoint.
+    // Handles `z`: clears a breakpoint or watchpoint, if it is set, and returns `OK`.
     fn clear(&mut self, alloc: Global, trap: Stoppoint) -> Result<Reply, AllocError>
         ensures { IfOk result (λ reply. (reply ≡ granted)
             × (self.new ≡ record self.old { stops = without_stoppoint self.old.stops trap })) }
@@ -93,7 +93,7 @@ impl Session {
         Ok(reply)
     }
 
-    // Handles `vRun`: moves to the start of the run.
+    // Handles `vRun`: moves to the start of the run, and returns the reply that reports a stop there.
     fn restart(&mut self, alloc: Global) -> Result<Reply, AllocError>
         ensures { IfOk result (λ reply. (reply ≡ with_body (stop_text stop.Here))
             × (self.new ≡ record (at_place self.old 0) { last = stop.Here })) }
@@ -103,7 +103,7 @@ impl Session {
         self.last_stop(alloc)
     }
 
-    // Handles `QStartNoAckMode`: later packets are not acknowledged.
+    // Handles `QStartNoAckMode`: returns `OK`, and no later packet is acknowledged.
     fn end_acknowledgements(&mut self, alloc: Global) -> Result<Reply, AllocError>
         ensures { IfOk result (λ reply. (reply ≡ granted) × (self.new ≡ record self.old { acknowledges = false })) }
     {
@@ -112,7 +112,7 @@ impl Session {
         Ok(reply)
     }
 
-    // Handles `D`: ends the session.
+    // Handles `D`: ends the session, and returns `OK`.
     fn detach(&mut self, alloc: Global) -> Result<Reply, AllocError>
         ensures { IfOk result (λ reply. (reply ≡ granted) × (self.new ≡ record self.old { is_over = true })) }
     {
@@ -121,7 +121,8 @@ impl Session {
         Ok(reply)
     }
 
-    // Handles `vCont;`, `c`, `s`, `bc` and `bs`: records the move, which is made before another byte is received.
+    // Handles `vCont;`, `c`, `s`, `bc` and `bs`: records the move, which must be made before another byte is received, and returns an empty
+    // reply.
     fn ask(&mut self, alloc: Global, requested: Move) -> Reply
         ensures reply { result ≡ silent }
         ensures next { self.new ≡ record self.old { requested = Some requested } }
@@ -130,7 +131,7 @@ impl Session {
         Reply::silent(alloc)
     }
 
-    // Handles `k`: ends the session without a reply.
+    // Handles `k`: ends the session, and returns an empty reply.
     fn end(&mut self, alloc: Global) -> Reply
         ensures reply { result ≡ silent }
         ensures next { self.new ≡ record self.old { is_over = true } }
@@ -140,14 +141,14 @@ impl Session {
     }
 }
 
-// Returns the reply that is equal in every session; empty if there is none for the request.
+// Returns the reply to a request whose reply is the same in every session; an empty reply for any other request.
 fn fixed(alloc: Global, request: &Request) -> Result<Reply, AllocError>
     ensures { IfOk result (λ reply. reply ≡ fixed_answer request.now) }
 {
     Reply::with_text(alloc, fixed_reply(request).unwrap_or(""))
 }
 
-// Returns the reply with a part of a text.
+// Returns the reply with the requested part of a text.
 fn part_of(alloc: Global, text: &[u8], part: Part) -> Result<Reply, AllocError>
     ensures { IfOk result (λ reply. reply ≡ with_body (part_text text.now part)) }
 {

@@ -31,7 +31,7 @@ impl Reply {
         }
     }
 
-    /// Creates an empty reply.
+    /// Creates an empty reply, for which nothing is sent.
     pub(crate) fn silent(alloc: Global) -> Reply
         ensures { result ≡ silent }
     {
@@ -68,14 +68,14 @@ impl Reply {
         Reply::with_text(alloc, "OK")
     }
 
-    /// Creates the reply to a refused request.
+    /// Creates the reply to a request that is refused for this reason.
     pub(crate) fn refusing(alloc: Global, refusal: Refusal) -> Result<Reply, AllocError>
         ensures { IfOk result (λ reply. reply ≡ refused refusal) }
     {
         Reply::with_text(alloc, refusal_text(refusal))
     }
 
-    /// Creates the reply `OK` if the request is granted, and the refusal otherwise.
+    /// Creates the reply `OK` if `is_granted` is true, and the refusal otherwise.
     pub(crate) fn granted_if(
         alloc: Global,
         is_granted: bool,

@@ -19,7 +19,8 @@ impl Session {
         Ok(())
     }
 
-    /// Handles `P21=`: moves to the step with this number. The reply is a refusal if the run does not reach it.
+    /// Handles `P21=`: moves to the step with this number, and returns `OK`. If the run does not reach this step, returns a refusal and
+    /// does not move.
     pub(crate) fn seek_place(&mut self, alloc: Global, place: u32) -> Result<Reply, AllocError>
         ensures { IfOk result (λ reply. IsPlaceSought self.old place reply self.new) }
     {
@@ -27,7 +28,8 @@ impl Session {
         Reply::granted_if(alloc, granted, Refusal::NotReached)
     }
 
-    /// Handles `P22=` and `P23=`: moves to the first step at which a count has this value. The reply is a refusal if there is none.
+    /// Handles `P22=` and `P23=`: moves to the first step at which a count has this value, and returns `OK`. If there is no such step,
+    /// returns a refusal and does not move.
     pub(crate) fn seek_count(
         &mut self,
         alloc: Global,

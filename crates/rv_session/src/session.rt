@@ -86,7 +86,7 @@ impl Session {
         self.requested.is_some()
     }
 
-    /// Whether gdb has ended the session. Nothing more is answered then.
+    /// Whether gdb has ended the session, after which no packet is answered.
     pub fn is_over(&self) -> bool
         ensures { result ≡ self.now.is_over }
     {

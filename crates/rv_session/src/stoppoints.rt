@@ -14,7 +14,7 @@ use std::alloc::{AllocError, Global};
 /// The maximum number of breakpoints and watchpoints together.
 const MOST_TRAPS: usize = 1024;
 
-/// Returns the stops with a stoppoint added, unless it is already set, or why it cannot be set.
+/// Returns the stops with this stoppoint, which are unchanged if it is already set, or the reason why it cannot be set.
 pub(crate) fn with_stoppoint(
     alloc: Global,
     stops: &Stops,
@@ -29,7 +29,7 @@ pub(crate) fn with_stoppoint(
     }
 }
 
-/// Returns the stops without a stoppoint, which need not be set.
+/// Returns the stops without this stoppoint; unchanged if it is not set.
 pub(crate) fn without_stoppoint(
     alloc: Global,
     stops: &Stops,
@@ -43,7 +43,7 @@ pub(crate) fn without_stoppoint(
     }
 }
 
-// Whether the maximum number of breakpoints and watchpoints is set.
+// Whether the number of breakpoints and watchpoints has reached its maximum.
 fn is_full(stops: &Stops) -> bool
     ensures { result ≡ is_full stops.now }
 {
@@ -54,6 +54,7 @@ fn is_full(stops: &Stops) -> bool
     (breaks + watches) + (reads + accesses) >= MOST_TRAPS
 }
 
+// Returns the stops with a breakpoint at this address, or the reason why it cannot be set.
 fn with_break(
     alloc: Global,
     stops: &Stops,
@@ -75,6 +76,7 @@ fn with_break(
     Ok(Ok(next))
 }
 
+// Returns the stops with a watchpoint of this kind for this range, or the reason why it cannot be set.
 fn with_watch(
     alloc: Global,
     stops: &Stops,
@@ -107,6 +109,7 @@ fn with_watch(
     Ok(Ok(with_watches(next, kind, watches)))
 }
 
+// Returns the stops without the breakpoint at this address; unchanged if it is not set.
 fn without_break(alloc: Global, stops: &Stops, address: u32) -> Result<Stops, AllocError>
     ensures { IfOk result (λ next. next ≡ without_stoppoint stops.now (trap.Break address)) }
 {
@@ -122,6 +125,7 @@ fn without_break(alloc: Global, stops: &Stops, address: u32) -> Result<Stops, Al
     Ok(next)
 }
 
+// Returns the stops without the watchpoint of this kind for this range; unchanged if it is not set.
 fn without_watch(
     alloc: Global,
     stops: &Stops,
@@ -162,12 +166,14 @@ fn with_watches(mut stops: Stops, kind: Watched, watches: Vec<Watch>) -> Stops
     stops
 }
 
+// Whether a breakpoint at this address is set.
 fn has_break(stops: &Stops, address: u32) -> bool
     ensures { result ≡ is_set stops.now (trap.Break address) }
 {
     stops.breaks.as_slice().contains(&address)
 }
 
+// Whether a watchpoint of this kind for exactly this range is set.
 fn has_watch(stops: &Stops, kind: Watched, range: Range) -> bool
     ensures { result ≡ is_set stops.now (trap.Watch kind range) }
 {
@@ -176,6 +182,7 @@ fn has_watch(stops: &Stops, kind: Watched, range: Range) -> bool
         .any(|watch| is_on(watch, range))
 }
 
+// Returns a copy of the stops.
 fn copied(alloc: Global, stops: &Stops) -> Result<Stops, AllocError>
     ensures { IfOk result (λ next. next ≡ stops.now) }
 {
@@ -198,7 +205,7 @@ fn is_on(watch: &Watch, range: Range) -> bool
     watch.address == range.address && watch.count == range.count
 }
 
-// Whether a byte of the range is in a region.
+// Whether at least one byte of the range is in a region.
 fn has_byte(bus: &Bus, range: Range) -> bool
     requires { range.address + range.count ≤ 2 ^ 32 }
     ensures { result ≡ has_byte bus.now range }

@@ -22,7 +22,7 @@ use std::alloc::{AllocError, Global};
 const END_OF_ADDRESSES: u64 = 0x1_0000_0000;
 
 impl Session {
-    // Handles `G`: grants the write only if it does not change a register.
+    // Handles `G`: returns `OK` if the write would change no register, and otherwise a refusal.
     pub(crate) fn write_registers(&self, alloc: Global, bytes: &[u8]) -> Result<Reply, AllocError>
         ensures { IfOk result (λ reply. reply
             ≡ granted_if (bytes_eq (registers_here self.now) (encode_lower bytes.now)) refusal.WouldChange) }
@@ -36,7 +36,8 @@ impl Session {
         Reply::granted_if(alloc, same, Refusal::WouldChange)
     }
 
-    // Handles `P`: grants a write to a register of the hart only if it does not change it; a write to a count of the run is a seek.
+    // Handles `P`: a write to a register of the hart is granted only if the value does not change; a write to a count of the run moves to
+    // the first step at which the count has this value.
     pub(crate) fn write_register(
         &mut self,
         alloc: Global,
@@ -56,7 +57,7 @@ impl Session {
         }
     }
 
-    // Handles `M` and `X`: grants the write only if it does not change memory.
+    // Handles `M` and `X`: returns `OK` if the write would change no byte of memory, and otherwise a refusal.
     pub(crate) fn write_memory(
         &self,
         alloc: Global,
@@ -71,7 +72,7 @@ impl Session {
     }
 }
 
-// Whether memory has these bytes from the address on, none of them past the last address.
+// Whether memory has these bytes at `address` and the following addresses, none of which is after the last address.
 fn has_bytes_at(bus: &Bus, address: u32, bytes: &[u8]) -> bool
     ensures { result ≡ has_bytes_at bus.now address bytes.now }
 {
@@ -83,14 +84,14 @@ fn has_bytes_at(bus: &Bus, address: u32, bytes: &[u8]) -> bool
     true
 }
 
-// Whether memory has this byte at the address, which can be past the last one.
+// Whether memory has this byte at `address`; false if the address is after the last one.
 fn has_byte_at(bus: &Bus, address: u64, byte: u8) -> bool
     ensures { result ≡ (nat_lt address end_of_addresses && is_byte (fin.get bus.now.memory address) byte) }
 {
     address < END_OF_ADDRESSES && is_byte(bus.byte(address as u32), byte)
 }
 
-// Whether there is a byte and it equals the given one.
+// Whether `found` has a value, and the value is `byte`.
 fn is_byte(found: Option<u8>, byte: u8) -> bool
     ensures { result ≡ is_byte found byte }
 {

@@ -3,6 +3,6 @@ use Rattle.std.specs.Prelude.{◌≡◌, false, is_some}
 use Rattle.rv_machine.specs.State.{State}
 use Rattle.rv_session.specs.declared.session.Session.{Session}
 
--- no move is requested, and the session's run starts in this state
+-- the session's run starts in the state `start`, and no move is requested
 abbrev pub IsReady : State → Session → Type 0
 IsReady start session = (start ≡ session.history.start) × (is_some session.requested ≡ false)

@@ -104,6 +104,7 @@ impl EndText for End {
 
     ghost end_text = { λ _. codes "end\n" };
 
+    // Appends the text that the tests use for the end of a run.
     fn push_end_text(
         &self,
         _alloc: Global,
@@ -124,6 +125,7 @@ impl Interrupt for Never {
 
     ghost was_raised = { λ _. false };
 
+    // Returns false: no move is interrupted.
     fn is_raised(&mut self) -> bool {
         false
     }
@@ -138,7 +140,8 @@ struct Talk {
     ghost unasked: { is_some session.requested ≡ false },
 }
 
-// Appends the response to a byte; if the byte completes the request for a move, makes the move and appends its response too.
+// Appends the bytes that are sent when a byte is received; if the byte completes the request for a move, makes the move and appends the
+// bytes sent for it, too.
 fn answer_byte(
     alloc: Global,
     session: &mut Session,
@@ -159,7 +162,7 @@ fn answer_byte(
     Ok(())
 }
 
-// Returns the response to bytes from a debugger.
+// Returns as text all that is sent when bytes from a debugger are received.
 fn answered(alloc: Global, session: &mut Session, end: &End, heard: &[u8]) -> Result<String, Fail>
     requires { IsReady (start_of end.now.start) session.old }
     ensures { OnOk result (IsReady (start_of end.now.start) session.new) }
@@ -190,7 +193,7 @@ fn bus_of(alloc: Global, code: &str) -> Result<Bus, Fail> {
     Ok(bus)
 }
 
-// Returns a new session for the run of code within a budget.
+// Returns a new session for the run of this code within a budget, with its end text.
 fn session_of(alloc: Global, code: &str, budget: u32) -> Result<Talk, Fail> {
     let bus = bus_of(alloc, code)?;
     let copy = bus.copied(alloc)?;
@@ -212,7 +215,8 @@ fn session_of(alloc: Global, code: &str, budget: u32) -> Result<Talk, Fail> {
     })
 }
 
-// Returns bodies, separated by ` & `, in their frames: `empty` represents a body without bytes, and `nothing` that there is no body.
+// Returns the packets with these bodies, which are separated by ` & `: `empty` stands for a body without bytes, and `nothing` for no
+// packet.
 fn framed(alloc: Global, bodies: &str) -> Result<Vec<u8>, Fail> {
     let mut out = Vec::new(alloc);
     for body in bodies.split(" & ") {

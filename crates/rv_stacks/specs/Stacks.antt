@@ -21,17 +21,18 @@ use Rattle.rv_call_tree.specs.Trees.{all_steps, arrivals_at, own_in, steps_at, H
 abbrev pub last_address : ℕ
 last_address = 0xffff_ffff
 
--- the number that represents code without a symbol, given the symbol at address 0: 0 if there is none, else the last address
+-- the number that stands for code without a symbol, given the symbol at address 0: 0 if there is no symbol there, and otherwise the last
+-- address
 abbrev pub no_function : Option (List ℕ × ℕ) → ℕ
 no_function None = 0
 no_function (Some symbol) = last_address
 
--- the start of the symbol at an address, or `none` if there is no symbol
+-- the start of the symbol that an address belongs to, or the number `none` if there is no symbol
 abbrev pub start_of : ℕ → ℕ → Option (List ℕ × ℕ) → ℕ
 start_of none address None = none
 start_of none address (Some symbol) = address - symbol.1
 
--- the function of a code address: the start of its symbol, or the number that represents code without a symbol
+-- the function that a code address belongs to: the start of its symbol, or without a symbol the number that `no_function` returns
 unfoldable pub function_at : Image → List ℕ → ℕ → ℕ
 function_at image file address = start_of (no_function (symbol_at image file 0)) address (symbol_at image file address)
 
@@ -41,21 +42,23 @@ path_at function frames pc = map (λ f. function f.call) frames ++ function pc �
 
 -- ---- entries into paths
 
--- where control is after the returns of a transfer: at the call of the outermost frame that it pops, or where it was if it pops none
+-- the address at which control is after the returns of a transfer: the call of the outermost frame that it pops, or its own address if it
+-- pops no frame
 abbrev pub back_at : List Frame → Transfer → ℕ
 back_at frames t = (slice_index_or frames (length (popped frames t)) (frame_of t)).call
 
--- where control continues in the frames that remain after the pops: at the call instruction if a frame is pushed, else at the target
+-- the address at which control continues in the frames that remain after the pops: the call instruction if the transfer pushes a frame, and
+-- otherwise its target
 abbrev pub goes_on_at : List Frame → Transfer → ℕ
 goes_on_at frames t = if is_pushed (popped frames t) t then t.from else t.to
 
--- whether a transfer enters `path` by continuing in another function, through a jump or by running into it; that function replaces the last
--- one of the path, so a tail call replaces its caller
+-- whether a transfer enters `path` by continuing in another function, by a jump or by running past the end of a function; the new function
+-- replaces the last one of the path, so a tail call replaces its caller
 abbrev pub jumps_to : (ℕ → ℕ) → List ℕ → List Frame → Transfer → Bool
 jumps_to function path frames t = not (function (back_at frames t) == function (goes_on_at frames t))
     && bytes_eq (path_at function (popped frames t) (goes_on_at frames t)) path
 
--- whether a transfer enters `path` by a call, which appends the function of its target
+-- whether a transfer enters `path` by a call, which appends the function of its target to the path
 abbrev pub calls_to : (ℕ → ℕ) → List ℕ → List Frame → Transfer → Bool
 calls_to function path frames t = is_pushed (popped frames t) t
     && bytes_eq (path_at function (after_transfer frames t) t.to) path
@@ -66,27 +69,28 @@ arrivals_by function path frames t = once_if (jumps_to function path frames t) +
 
 -- ---- a run
 
--- how many instructions are executed on a path within a budget of n steps from a state on, starting with some frames
+-- how many instructions a run of at most `n` steps from the state `s`, which begins with these frames, executes on a path
 unfoldable pub steps_in : (ℕ → ℕ) → List ℕ → ℕ → List Frame → State → ℕ
 steps_in function path zero frames s = 0
 steps_in function path (suc n) frames s =
     once_if (is_executed (fetch_at s) && bytes_eq (path_at function frames s.pc) path)
     + behind (step_of s) (λ t. steps_in function path n (after_transfer frames (transfer_of s t)) t)
 
--- how often a path is entered within a budget of n steps from a state on, starting with some frames
+-- how often a run of at most `n` steps from the state `s`, which begins with these frames, enters a path
 unfoldable pub arrivals_in : (ℕ → ℕ) → List ℕ → ℕ → List Frame → State → ℕ
 arrivals_in function path zero frames s = 0
 arrivals_in function path (suc n) frames s = behind (step_of s)
     (λ t. arrivals_by function path frames (transfer_of s t)
     + arrivals_in function path n (after_transfer frames (transfer_of s t)) t)
 
--- how many instructions are executed in function `f`, on all paths that end in it, within a budget of n steps from a state on
+-- how many instructions a run of at most `n` steps from the state `s` executes in the function `f`, on all paths that end with it
 unfoldable pub executed_in_function : (ℕ → ℕ) → ℕ → ℕ → State → ℕ
 executed_in_function function f zero s = 0
 executed_in_function function f (suc n) s =
     once_if (is_executed (fetch_at s) && (function s.pc == f)) + behind (step_of s) (λ t. executed_in_function function f n t)
 
--- `spots` are the call-tree nodes of a run of at most n steps from a state on, which begins without frames and so enters its first function
+-- `spots` are the call-tree nodes of the run of at most `n` steps from the state `s`, which begins without frames, and so by entering its
+-- first function
 pub record AreStacksOf (function : ℕ → ℕ) (n : ℕ) (s : State) (spots : List Spot) : Type 0 where
   pub tree : IsTree spots
   pub some : HasArrivals spots
@@ -96,7 +100,8 @@ pub record AreStacksOf (function : ℕ → ℕ) (n : ℕ) (s : State) (spots : L
   pub own : (f : ℕ) → own_in f spots ≡ executed_in_function function f n s
   pub all : all_steps spots ≡ executed_steps n s
 
--- the counts and the call tree of a job that begins in this state, within a budget of n steps; none if the job is refused
+-- the `Option` has the counts and the call tree of the job that begins in this state, within a budget of `n` steps; it is `None` if the job
+-- is refused
 abbrev pub AreCountsAndStacksOfJob : (ℕ → ℕ) → ℕ → Result State Refusal → Option (List AddressCounts × List Spot) → Type 0
 AreCountsAndStacksOfJob function n (Ok s) (Some both) = AreCountsOf n s both.0 × AreStacksOf function n s both.1
 AreCountsAndStacksOfJob function n (Ok s) None = ⊥
@@ -105,7 +110,7 @@ AreCountsAndStacksOfJob function n (Err why) None = Unit {0}
 
 -- ---- counts
 
--- how often the instructions at the addresses of function `f` were executed, by the counts of addresses
+-- how often the instructions of the function `f` were executed, according to the counts of addresses
 abbrev pub counts_of_function : (ℕ → ℕ) → ℕ → List AddressCounts → ℕ
 counts_of_function function f [] = 0
 counts_of_function function f (c ∷ cs) = (if function c.address == f then c.begun else 0) + counts_of_function function f cs

@@ -12,9 +12,9 @@ use std::marker::Brand;
 use std::sync::Wait;
 use std::thread::Threads;
 
-/// Returns the table of the counts and call trees of a batch's jobs, identical for every crew. There is none if two files with equal
-/// digests give a function different names; with so few jobs no number reaches 2^64. Each job is run once more, by the threads of the crew.
-/// Takes memory for the tables that wait to be added, and for two sums.
+/// Returns the table of the counts and call trees of a batch's jobs, which is the same for every crew. Returns an error if two files with
+/// equal digests give a function different names; with so few jobs no number reaches 2^64. Each job is run once more, by the threads of the
+/// crew. Needs memory for the tables that wait to be added, and for two sums.
 pub fn count_batch_with_stacks<R: Threads + Wait + Sync>(
     crew: &Crew<'_, R>,
     batch: &Batch<'_>,

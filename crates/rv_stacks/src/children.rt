@@ -80,7 +80,7 @@ impl Children {
         Ok(())
     }
 
-    /// Returns the number of the child of `parent` for this function; `None` if there is none.
+    /// Returns the number of the child of the node `parent` for this function; `None` if there is none.
     pub(crate) fn find(&self, nodes: &[Node], parent: usize, function: u32) -> Option<usize>
         ensures { IfSome result (λ number. IsChild parent function number nodes.now) }
     {
@@ -100,7 +100,8 @@ impl Children {
         }
     }
 
-    /// Returns the number of the next child of `parent` that a run entered and whose function is at or above `from`; `None` if none is.
+    /// Returns the number of the child of the node `parent` that a run entered and whose function is the lowest that is not below `from`;
+    /// `None` if there is none.
     pub(crate) fn next(&self, nodes: &[Node], parent: usize, from: u64) -> Option<usize>
         ensures { IfSome result (λ number. IsNext parent from number nodes.now) }
     {
@@ -116,7 +117,8 @@ impl Children {
         next
     }
 
-    // Returns the number of the next child of `parent` outside the chains whose function is at or above `from`.
+    // Returns the number of the next child of the node `parent` that is not in a chain and whose function is not below `from`; `None` if
+    // there is none.
     fn next_of_others(&self, nodes: &[Node], parent: usize, from: u64) -> Option<usize>
         ensures { IfSome result (λ number. IsNext parent from number nodes.now) }
     {
@@ -128,13 +130,13 @@ impl Children {
         }
     }
 
-    // Returns the links of the node with this number; no links if there is no such node.
+    // Returns the links of the node `number`; empty links if there is no such node.
     fn links_of(&self, number: usize) -> Links {
         self.links.get(number).copied().unwrap_or(UNLINKED)
     }
 }
 
-// Whether the node with this number is the child of `parent` for this function; its number is the greater one.
+// Whether the node `number` is the child of the node `parent` for this function; a child has a greater number than its parent.
 fn is_child(nodes: &[Node], parent: usize, function: u32, number: usize) -> bool
     ensures { result ≡ true → IsChild parent function number nodes.now }
 {
@@ -145,7 +147,7 @@ fn is_child(nodes: &[Node], parent: usize, function: u32, number: usize) -> bool
     node.parent == parent && node.function == function
 }
 
-// Whether the node with this number is a child of `parent` that a run entered, and its function is at or above `from`.
+// Whether the node `number` is a child of the node `parent` that a run entered, and its function is not below `from`.
 fn is_next(nodes: &[Node], parent: usize, from: u64, number: usize) -> bool
     ensures { result ≡ true → IsNext parent from number nodes.now }
 {
@@ -156,7 +158,7 @@ fn is_next(nodes: &[Node], parent: usize, from: u64, number: usize) -> bool
     node.parent == parent && from <= u64::from(node.function) && node.arrivals != 0
 }
 
-// Whether the node with this number has a lower function than the node `than`, or there is no such node.
+// Whether the node `number` has a lower function than the node `than`; true if `than` is `None`.
 fn is_lower(nodes: &[Node], number: usize, than: Option<usize>) -> bool {
     match than {
         Some(other) => function_of(nodes, number) < function_of(nodes, other),
@@ -164,12 +166,12 @@ fn is_lower(nodes: &[Node], number: usize, than: Option<usize>) -> bool {
     }
 }
 
-// Returns the function of the node with this number; `None` if there is no such node.
+// Returns the function of the node `number`; `None` if there is no such node.
 fn function_of(nodes: &[Node], number: usize) -> Option<u32> {
     Some(nodes.get(number.checked_sub(1)?)?.function)
 }
 
-// Returns the key of a node outside the chains. Keys are ordered by parent, then by function.
+// Returns the key of a node that is not in a chain. Keys are ordered by parent, then by function.
 fn key_of(parent: usize, function: u64) -> u64
     ensures { result ≡ ((parent * 2 ^ 32) % 2 ^ 64 + function) % 2 ^ 64 }
 {

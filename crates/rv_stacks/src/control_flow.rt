@@ -13,7 +13,7 @@ use rv_calls::{Frame, Transfer, frames_left, pass_control};
 use rv_elf::CodeSymbols;
 use std::alloc::AllocError;
 
-/// Moves the walk by a transfer of control, and applies the transfer to the frames.
+/// Moves the walk as a transfer of control says, and applies the transfer to the frames.
 pub(crate) fn follow(
     symbols: &CodeSymbols<'_>,
     known: &mut Vec<CachedFunction>,
@@ -42,8 +42,8 @@ pub(crate) fn follow(
     }
 }
 
-// Continues in `function`, which replaces the function after the first `depth` ones of the path. This counts as an entry only if the two
-// differ.
+// Continues the walk in `function`, which replaces the function after the first `depth` functions of the path. This counts as an entry only
+// if the two differ.
 fn go_on(walk: &mut Walk, depth: usize, function: u32) -> Result<(), AllocError>
     requires walk { IsWalk walk.old }
     requires depth { depth < length walk.old.path.items }

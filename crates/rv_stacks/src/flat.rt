@@ -23,7 +23,7 @@ pub struct Flat {
     pub from: u64,
 }
 
-/// Converts nodes to preorder. Allocates only the result.
+/// Returns the nodes in preorder. Allocates only the result.
 pub(crate) fn spots_of_nodes(
     alloc: Global,
     nodes: Vec<Node>,
@@ -44,14 +44,14 @@ pub(crate) fn spots_of_nodes(
     Err(AllocError)
 }
 
-// Whether no node has counts.
+// Whether all nodes have neither entries nor instructions.
 fn are_empty(nodes: &[Node]) -> bool
     ensures { result ≡ list_all is_empty nodes.now }
 {
     nodes.iter().all(is_empty)
 }
 
-// Whether a node has no counts.
+// Whether a node has neither entries nor instructions.
 fn is_empty(node: &Node) -> bool
     ensures { result ≡ is_empty node.now }
 {
@@ -73,7 +73,7 @@ impl Flat {
         })
     }
 
-    // Moves to the next child of the current node, or back to its parent.
+    // Moves to the next child of the current node, or back to its parent if there is no further child.
     fn turn(&mut self, left: &mut Vec<Node>, children: &Children) -> Result<(), AllocError>
         requires { IsFlat left.old.items self.old }
         ensures { OnOk result (Moves left.old.items self.old left.new.items self.new) }
@@ -88,7 +88,7 @@ impl Flat {
         }
     }
 
-    // Moves the counts of a child of the current node, and makes it the current one.
+    // Moves the counts of the node `number`, a child of the current node, to the preorder nodes, and makes it the current node.
     fn move_in(&mut self, left: &mut Vec<Node>, number: usize) -> Result<(), AllocError>
         requires flat { IsFlat left.old.items self.old }
         requires next { (d : ℕ) → IsNext (slice_index_or self.old.trail.items (length self.old.path.items) d) self.old.from number

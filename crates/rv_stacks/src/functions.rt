@@ -24,7 +24,7 @@ pub struct CachedFunction {
     pub function: u32,
 }
 
-/// Returns a new cache of functions, each entry of which has the function of this address.
+/// Returns a new cache of functions, in which every entry has this address and its function.
 pub(crate) fn new_function_cache(
     alloc: Global,
     symbols: &CodeSymbols<'_>,
@@ -38,7 +38,7 @@ pub(crate) fn new_function_cache(
     Ok(known)
 }
 
-/// Returns the function of a code address, from the cache or by a search, and caches it.
+/// Returns the function that a code address belongs to, from the cache or by a search, which is then cached.
 pub(crate) fn look_up(
     known: &mut Vec<CachedFunction>,
     symbols: &CodeSymbols<'_>,
@@ -58,8 +58,8 @@ pub(crate) fn look_up(
     function
 }
 
-/// Returns how many instructions, from a block's first one on, belong to its function and are followed in the block by an instruction of
-/// that function.
+/// Returns the number of leading instructions of a block that belong to the function of the first one, and after which the block continues
+/// with an instruction of this function.
 pub(crate) fn steps_in_function(
     known: &mut Vec<CachedFunction>,
     symbols: &CodeSymbols<'_>,
@@ -87,8 +87,8 @@ pub(crate) fn steps_in_function(
     block.steps - 1
 }
 
-/// Returns the function of a code address: the start of its symbol. Without a symbol it is 0, or the last address if there is a symbol at
-/// 0. Takes one or two searches of the symbols.
+/// Returns the function that a code address belongs to: the start of its symbol. Without a symbol it is 0, or the last address if there is
+/// a symbol at 0. Takes one or two searches of the symbols.
 #[tactic(auto, unfolding(crate::specs::Stacks::function_at))]
 pub fn function_of(symbols: &CodeSymbols<'_>, address: u32) -> u32
     ensures { result ≡ function_at symbols.now.image.now symbols.now.bytes.now address }
@@ -99,7 +99,7 @@ pub fn function_of(symbols: &CodeSymbols<'_>, address: u32) -> u32
     }
 }
 
-// Returns the number that represents code without a symbol: 0, or the last address if there is a symbol at 0.
+// Returns the number that stands for code without a symbol: 0, or the last address if there is a symbol at 0.
 fn no_function(symbols: &CodeSymbols<'_>) -> u32
     ensures { result ≡ no_function (symbol_at symbols.now.image.now symbols.now.bytes.now 0) }
 {

@@ -16,8 +16,8 @@ use rv_rows::machine_at;
 use rv_trace::JobImage;
 use std::alloc::{AllocError, Global};
 
-/// Returns the counts of a job's run within its budget, and its call tree by these symbols; `None` if the job is refused. The job is run
-/// once more. A table can hold the counts.
+/// Returns the counts of a job's run within its budget, and its call tree with the functions that the symbols define; `None` if the job is
+/// refused. The job is run once more. The counts fit into a table.
 pub fn count_job_with_stacks(
     alloc: Global,
     job: &JobImage<'_>,

@@ -28,7 +28,7 @@ pub fn run_has_one_list_of_spots()
     one_tree_has_these_counts();
 }
 
-/// The call-tree nodes that end in a function have as many instructions as the counts of the function's addresses.
+/// The instructions in the call-tree nodes whose paths end with a function are as many as the counts of the function's addresses say.
 pub fn own_steps_are_the_counts_of_addresses()
     ensures { (function : ℕ → ℕ) (f n : ℕ) (s : State) (cs : List AddressCounts) (spots : List Spot)
         → AreCountsOf n s cs → AreStacksOf function n s spots → own_in f spots ≡ counts_of_function function f cs }
@@ -40,8 +40,8 @@ pub fn jobs_have_one_table_with_stacks()
         → IsTableWithStacks plan places t → IsTableWithStacks plan others u → t ≡ u }
 {}
 
-/// However the indices of jobs are divided into parts, the tables of the parts, with call trees, add up to the table of all, and the sum
-/// has the text of that table.
+/// However the indices of jobs are divided into parts, the tables of the parts, with call trees, add up to the table of all indices; the
+/// sum has the same text as this table.
 pub fn tables_with_stacks_of_parts_sum_to_that_of_all()
     ensures table { (plan : Planned) (places : List ℕ) (parts : List (List ℕ)) (ts : List CountTable) (sum : CountTable)
         → IsPermutation (flat_map (λ part. part) parts) places → AreTablesWithStacksOfParts plan parts ts
@@ -51,7 +51,7 @@ pub fn tables_with_stacks_of_parts_sum_to_that_of_all()
         → SumsTo no_counts ts sum → IsTableWithStacks plan places whole → table_text sum ≡ table_text whole }
 {}
 
-/// The tables of all shards, with call trees, add up in any order to the table of all indices, and the sum has the text of that table. A
+/// The tables of all shards, with call trees, add up in any order to the table of all indices; the sum has the same text as this table. A
 /// shard has the indices with the same remainder modulo the number of shards.
 pub fn tables_with_stacks_of_shards_sum_to_that_of_all()
     ensures table { (plan : Planned) (shards : ℕ) (places numbers : List ℕ) (ts : List CountTable) (sum : CountTable)

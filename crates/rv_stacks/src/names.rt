@@ -18,8 +18,8 @@ use rv_counting::shown_text;
 use rv_elf::CodeSymbols;
 use std::alloc::{AllocError, Global};
 
-/// Returns the names of the functions in which the nodes end, each once. Takes a symbol lookup for each function, a sort of the nodes, and
-/// memory for a copy of them.
+/// Returns the names of the functions with which the paths of the nodes end, each once. Needs a symbol lookup for each function, a sort of
+/// the nodes, and memory for a copy of them.
 pub(crate) fn names_of_spots(
     alloc: Global,
     symbols: &CodeSymbols<'_>,
@@ -64,7 +64,7 @@ fn names_in_order(
     Ok(FunctionNames::new(names))
 }
 
-// Appends the name of a node's function, unless it is below `next`: those functions have their names already.
+// Appends the name of a node's function, unless the function is below `next`, since those functions have been named already.
 fn name_spot(
     alloc: Global,
     symbols: &CodeSymbols<'_>,
@@ -91,7 +91,7 @@ fn name_spot(
     Ok(())
 }
 
-// Returns the printable name of a function, as a table holds it.
+// Returns the printable name of a function, as it is in a table.
 #[tactic(auto, unfolding(crate::specs::StackTables::name_of_function))]
 fn shown_name(alloc: Global, symbols: &CodeSymbols<'_>, function: u32) -> Result<Text, AllocError>
     ensures value { IfOk result (λ text. text ≡ name_of_function symbols.now.image.now symbols.now.bytes.now function) }
@@ -101,7 +101,7 @@ fn shown_name(alloc: Global, symbols: &CodeSymbols<'_>, function: u32) -> Result
     shown_text(alloc, symbol_name(symbols, function))
 }
 
-// Returns the name of the symbol at a function's address; `?` for the last address or without a symbol.
+// Returns the name of the symbol at a function's address; `?` if there is no symbol or the function is the last address.
 fn symbol_name<'a>(symbols: &CodeSymbols<'a>, function: u32) -> &'a [u8]
     ensures { result.now ≡ name_in_file symbols.now.image.now symbols.now.bytes.now function }
 {

@@ -19,7 +19,7 @@ pub struct Node {
     pub steps: u64,
 }
 
-/// Returns the number of the child of `parent` for this function. Creates the child if there is none.
+/// Returns the number of the child of the node `parent` for this function, which is created if it does not exist.
 pub(crate) fn number_of_child(
     nodes: &mut Vec<Node>,
     children: &mut Children,
@@ -43,7 +43,7 @@ pub(crate) fn number_of_child(
     Ok(number)
 }
 
-/// Counts an entry into the node with this number.
+/// Counts an entry into the node `number`.
 pub(crate) fn count_arrival(nodes: &mut Vec<Node>, number: usize)
     requires some { 0 < number }
     requires within { number < length nodes.old.items + 1 }
@@ -59,7 +59,7 @@ pub(crate) fn count_arrival(nodes: &mut Vec<Node>, number: usize)
     };
 }
 
-/// Counts instructions in the node with this number.
+/// Counts `steps` instructions in the node `number`.
 pub(crate) fn count_steps(nodes: &mut Vec<Node>, number: usize, steps: u32)
     requires some { 0 < number }
     requires within { number < length nodes.old.items + 1 }

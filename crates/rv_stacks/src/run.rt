@@ -15,8 +15,8 @@ use rv_elf::CodeSymbols;
 use rv_machine::Machine;
 use std::alloc::{AllocError, Global};
 
-/// Returns the counts of a machine's run within a budget of steps, and its call tree by these symbols. Takes longer than the run alone, and
-/// memory for each address and each path that the run reaches.
+/// Returns the counts of a machine's run within a budget of steps, and its call tree with the functions that the symbols define. Takes
+/// longer than the run alone, and needs memory for each address and each path that the run reaches.
 pub fn count_with_stacks(
     alloc: Global,
     machine: Machine,
@@ -32,8 +32,8 @@ pub fn count_with_stacks(
     Ok((counter.into_addresses(), spots))
 }
 
-// Runs the machine and returns its counts and its call tree. A block within one function is executed as a unit, every other instruction by
-// itself.
+// Runs the machine, and returns its counts and its call tree. A block within one function is executed as a unit, and every other
+// instruction separately.
 fn follow_run(
     alloc: Global,
     machine: Machine,

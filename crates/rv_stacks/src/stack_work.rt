@@ -23,14 +23,17 @@ impl Work<JobTable> for StackWork<'_> {
 
     ghost is_worker_state = { λ _ _. Unit {0} };
 
+    // Returns the number of jobs in the batch.
     fn jobs(&self) -> usize {
         self.batch.places.len()
     }
 
+    // Creates the state that a worker reuses from job to job.
     fn new_worker_state(&self, alloc: Global) -> WorkerState {
         WorkerState::new(alloc)
     }
 
+    // Runs the job `number` of the batch, and returns its table.
     fn make(
         &self,
         alloc: Global,

@@ -15,7 +15,7 @@ use rv_jobs::Plan;
 use rv_trace::{JobImage, image_bytes, image_of_bytes};
 use std::alloc::{AllocError, Global};
 
-/// Runs the job at an index once more, and returns its table: the counts and the call tree of its run. A refused job has the table of no
+/// Runs the job at an index once more, and returns its table: the counts and the call tree of its run. The table of a refused job has no
 /// runs.
 pub(crate) fn stack_table_of_job(
     alloc: Global,

@@ -39,7 +39,8 @@ impl Walk {
         })
     }
 
-    /// Enters, by a call or a jump, the node of a function after the first `depth` functions of the path. Allocates if the node is new.
+    /// Enters, by a call or a jump, the node whose path is the first `depth` functions of the current path, followed by `function`.
+    /// Allocates if the node is new.
     pub fn arrive(&mut self, depth: usize, function: u32) -> Result<(), AllocError>
         requires walk { IsWalk self.old }
         requires depth { depth ≤ length self.old.path.items }
@@ -55,7 +56,7 @@ impl Walk {
         Ok(())
     }
 
-    /// Returns to the node with the first `depth` functions of the path.
+    /// Returns to the node whose path is the first `depth` functions of the current path.
     pub fn return_to(&mut self, depth: usize)
         requires walk { IsWalk self.old }
         requires depth { depth ≤ length self.old.path.items }
@@ -65,7 +66,7 @@ impl Walk {
         self.trail.truncate(depth + 1);
     }
 
-    /// Counts instructions in the current node.
+    /// Counts `steps` instructions in the current node.
     pub fn count_steps(&mut self, steps: u32)
         requires walk { IsWalk self.old }
         requires some { 0 < length self.old.path.items }
@@ -76,7 +77,7 @@ impl Walk {
         count_steps(&mut self.nodes, number, steps);
     }
 
-    /// Returns the nodes in preorder.
+    /// Returns the nodes of the walk in preorder.
     pub fn into_spots(self, alloc: Global) -> Result<Spots, AllocError>
         ensures { IfOk result (AreSpotsOf self.nodes.items) }
     {

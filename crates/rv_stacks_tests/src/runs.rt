@@ -48,7 +48,7 @@ switch by both links | 9 | 80000000 8000000c | 00c000ef X 000082e7 | \
     0 80000000 1 1, 1 8000000c 1 1, 0 8000000c 1 0, 1 80000000 1 2
 ";
 
-// Returns a machine that starts a program at `BASE`, with 4,096 bytes of memory from there on.
+// Returns a machine that starts a program at `BASE`, where it has 4,096 bytes of memory.
 fn machine_of(alloc: Global, program: &str) -> Result<Machine, Fail> {
     let map = Map::of(&[Region {
         base: BASE,
@@ -64,7 +64,7 @@ fn machine_of(alloc: Global, program: &str) -> Result<Machine, Fail> {
     Ok(Machine::new(alloc, bus, BASE, Isa::Imc)?)
 }
 
-// Returns the file with functions at these addresses, and its other symbols at 0, where there is no code.
+// Returns the ELF file with functions at these addresses; its other symbols are at 0, where there is no code.
 fn file_of(alloc: Global, functions: &str) -> Result<Vec<u8>, Fail> {
     let mut bytes = file_bytes(alloc, FILE)?;
     let mut places = functions.split(' ');
@@ -83,7 +83,7 @@ fn file_of(alloc: Global, functions: &str) -> Result<Vec<u8>, Fail> {
     Ok(bytes)
 }
 
-// Returns the call-tree nodes of the run of a row, in the form of a row.
+// Returns the call-tree nodes of the run in a row, in the form that a row has.
 fn told(alloc: Global, row: &str) -> Result<String, Fail> {
     let bytes = file_of(alloc, cell_of(row, 2))?;
     let image = read_image(alloc, bytes.as_slice(), Isa::Imc)?;

@@ -6,12 +6,12 @@ use Rattle.rv_rows.specs.declared_report.WriteError.TheVariants as write
 use Rattle.rv_stream.specs.declared.error.StreamError.{StreamError}
 use Rattle.rv_stream.specs.declared.error.StreamError.TheVariants as stream
 
--- the error of a stream whose write failed with this error
+-- the error with which a stream ends if one of its writes failed with this error
 abbrev pub stream_error_of_write : WriteError → StreamError
 stream_error_of_write write.OutOfMemory = stream.OutOfMemory
 stream_error_of_write write.Failed = stream.Failed
 
--- the error of a stream whose run failed with this error
+-- the error with which a stream ends if its run failed with this error
 abbrev pub stream_error_of_run : RunError → StreamError
 stream_error_of_run run.OutOfMemory = stream.OutOfMemory
 stream_error_of_run run.NoWorker = stream.NoWorker

@@ -10,7 +10,7 @@ rows_until fails zero rows = []
 rows_until fails (suc more) [] = []
 rows_until fails (suc more) (row ∷ rows) = row ∷ rows_until fails (if fails row then more else suc more) rows
 
--- how many more failures stop the run after these rows, if `n` failures stop it
+-- the number of failures that are still allowed after these rows before the run stops, if it stops at the failure number `n`
 abbrev pub failures_left_after : (Row → Bool) → ℕ → List Row → ℕ
 failures_left_after fails zero rows = zero
 failures_left_after fails (suc more) [] = suc more
@@ -21,6 +21,6 @@ abbrev pub rows_up_to : Option ℕ → (Row → Bool) → List Row → List Row
 rows_up_to None fails rows = rows
 rows_up_to (Some most) fails rows = rows_until fails most rows
 
--- the rows of a run with this limit, given all rows that it would have without one
+-- the rows of a run with this limit, given the rows of the run without a limit
 abbrev pub rows_within : FailureLimit → List Row → List Row
 rows_within limit rows = rows_up_to limit.failures (fails (judging_of limit.judge)) rows

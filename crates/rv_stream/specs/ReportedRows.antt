@@ -7,26 +7,27 @@ use Rattle.rv_stream.specs.declared.reported_row.ReportedRow.{ReportedRow}
 use Rattle.rv_stream.specs.Limits.{failures_left_after, rows_up_to}
 use Rattle.rv_expect.specs.Judgement.{Judging, fails}
 
--- this is the row of a batch's job with this number, with the job's index and the text that `line` makes of them
+-- `told` is the row of the batch's job `number`, with the job's index in the list and the text that `line` returns for the index and the
+-- row
 pub record IsReportedRow (line : ℕ → Row → List ℕ) (batch : Batch) (number : ℕ) (told : ReportedRow) : Type 0 where
   pub index : told.index ≡ index_of_number batch number
   pub row : told.row ≡ row_of_number batch number
   pub text : told.text.items ≡ line told.index told.row
 
--- the reported rows, without indices and texts
+-- the rows in the reported rows, without their indices and texts
 abbrev pub rows_of_reported : List ReportedRow → List Row
 rows_of_reported told = map (λ (t : ReportedRow). t.row) told
 
--- the texts of the reported rows
+-- the texts in the reported rows, in order
 abbrev pub texts_of_reported : List ReportedRow → List (List ℕ)
 texts_of_reported told = map (λ (t : ReportedRow). t.text.items) told
 
--- how many more failures stop the run after these rows; none without a limit
+-- the number of further failures that stop the run after these rows; `None` without a limit
 abbrev pub failures_left : Option ℕ → Judging → List Row → Option ℕ
 failures_left most judging rows = option_map (λ number. failures_left_after (fails judging) number rows) most
 
--- `kept` are the rows up to the failure that stops the run, unless an allocation failed, as `refused` says; `left` is how many more
--- failures then stop the run
+-- `kept` are the rows up to the failure that stops the run, unless an allocation failed, as `refused` says; `left` is the number of further
+-- failures that stop the run
 pub record AreRowsUpToFailure (most : Option ℕ) (judging : Judging) (left : Option ℕ) (refused : Bool) (kept rows : List Row) : Type 0 where
   pub kept_all : refused ≡ false → kept ≡ rows
   pub left_is : left ≡ failures_left most judging rows

@@ -5,16 +5,16 @@ use Rattle.rv_rows.specs.declared_row.Row.{Row}
 use Rattle.rv_stream.specs.declared.reported_row.ReportedRow.{ReportedRow}
 use Rattle.rv_stream.specs.ReportedRows.{rows_of_reported}
 
--- the texts that `line` makes of the reported rows and their jobs' indices, one after another
+-- the texts that `line` returns for the reported rows and the indices of their jobs, one after another
 abbrev pub text_by_index : (ℕ → Row → List ℕ) → List ReportedRow → List ℕ
 text_by_index line reported = concat (map (λ (r : ReportedRow). line r.index r.row) reported)
 
--- the reported row has this index, and the text that `line` makes of the index and the row
+-- the reported row has this index, and the text that `line` returns for the index and the row
 pub record IsReportOf (line : ℕ → Row → List ℕ) (index : ℕ) (reported : ReportedRow) : Type 0 where
   pub index_is : reported.index ≡ index
   pub text : reported.text.items ≡ line reported.index reported.row
 
--- the observer has seen exactly these rows in order, with the indices of their jobs and their texts; they are the rows of the first jobs
+-- the observer has seen exactly these rows, in order, with their texts and the indices of their jobs, which are the first of `indices`
 pub record HasSeenRows (has_seen : List ReportedRow → Type 0) (line : ℕ → Row → List ℕ) (indices : List ℕ) (rows : List Row) : Type 0 where
   pub reported : List ReportedRow
   pub seen : has_seen reported
@@ -22,7 +22,7 @@ pub record HasSeenRows (has_seen : List ReportedRow → Type 0) (line : ℕ → 
   pub few : length reported ≤ length indices
   pub each : (k : ℕ) (any : ReportedRow) → k < length reported → IsReportOf line (slice_index_or indices k 0) (slice_index_or reported k any)
 
--- the observer has seen the first of these rows in order, with the indices of their jobs and their texts
+-- the observer has seen a prefix of these rows, in order, with their texts and the indices of their jobs
 pub record HasSeenSomeRows (has_seen : List ReportedRow → Type 0) (line : ℕ → Row → List ℕ) (indices : List ℕ) (rows : List Row) : Type 0 where
   pub first : List Row
   pub rest : List Row

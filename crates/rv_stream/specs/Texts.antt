@@ -6,7 +6,7 @@ use Rattle.rv_rows.specs.Sinks.{AppendsBeginning}
 use Rattle.rv_rows.specs.declared_report.WriteError.{WriteError}
 use Rattle.rv_rows.specs.declared_report.WriteError.TheVariants.{Failed, OutOfMemory}
 
--- the text was written except for `unsent`, its last part, and no write failed
+-- all of the text except for its end `unsent` was written, and no write failed
 pub record IsWriteInProgress (before now : Option (List ℕ)) (failures_before failures : ℕ) (unsent text : List ℕ) : Type 0 where
   pub sent : List ℕ
   pub whole : sent ++ unsent ≡ text

@@ -29,6 +29,7 @@ pub enum StreamError {
 impl From<AllocError> for StreamError {
     ghost from_gives = { λ _ error. error ≡ OutOfMemory };
 
+    // Returns `OutOfMemory`.
     fn from(_: AllocError) -> StreamError {
         StreamError::OutOfMemory
     }
@@ -37,6 +38,7 @@ impl From<AllocError> for StreamError {
 impl From<WriteError> for StreamError {
     ghost from_gives = { λ error given. given ≡ stream_error_of_write error };
 
+    // Returns the error with which a stream ends if one of its writes failed with this error.
     fn from(error: WriteError) -> StreamError {
         match error {
             WriteError::OutOfMemory => StreamError::OutOfMemory,
@@ -48,6 +50,7 @@ impl From<WriteError> for StreamError {
 impl From<RunError> for StreamError {
     ghost from_gives = { λ error given. given ≡ stream_error_of_run error };
 
+    // Returns the error with which a stream ends if its run failed with this error.
     fn from(error: RunError) -> StreamError {
         match error {
             RunError::OutOfMemory => StreamError::OutOfMemory,

@@ -41,7 +41,7 @@ impl<J: StreamSpec, W: Sink + Drop> Outbox<J, W> {
         }
     }
 
-    /// Buffers the text that a reporter gives of a row, and returns whether to continue.
+    /// Buffers the text that the reporter returns for a row, and returns whether the run should continue.
     pub(crate) fn push_text<T: RowReporter>(
         &mut self,
         alloc: Global,
@@ -66,7 +66,7 @@ impl<J: StreamSpec, W: Sink + Drop> Outbox<J, W> {
         }
     }
 
-    /// Writes the buffered text, and returns whether to continue.
+    /// Writes the buffered text, and returns whether the run should continue.
     pub(crate) fn send(&mut self) -> Flow
         requires { self.old.failed ≡ None }
         ensures sent { (text : List ℕ)
@@ -87,7 +87,7 @@ impl<J: StreamSpec, W: Sink + Drop> Outbox<J, W> {
         }
     }
 
-    /// Writes the buffered text and returns the sink, which has received the whole text, or a prefix after an error.
+    /// Writes the buffered text, and returns the sink and whether it has received the whole text; after an error it has received a prefix.
     pub(crate) fn finish(self) -> (W, Result<(), WriteError>)
         ensures all { (text : List ℕ) → IsSent J.before (W.taken self.out) J.failures (W.failed self.out) self.failed self.unsent.items text
             → OnOk result.1 (Appends J.before (W.taken result.0) text

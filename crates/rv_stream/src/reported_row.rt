@@ -34,14 +34,17 @@ impl<T: RowReporter> Work<ReportedRow> for ReportedRowWork<'_, '_, T> {
 
     ghost is_worker_state = { λ s worker_state. AreOutcomes s.batch.now.plan.now worker_state.recent };
 
+    // Returns the number of jobs in the batch.
     fn jobs(&self) -> usize {
         self.batch.places.len()
     }
 
+    // Creates the state that a worker reuses from job to job.
     fn new_worker_state(&self, alloc: Global) -> WorkerState {
         WorkerState::new(alloc)
     }
 
+    // Runs the job `number` of the batch, and returns its row with its index and its text.
     fn make(
         &self,
         alloc: Global,

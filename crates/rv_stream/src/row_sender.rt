@@ -44,7 +44,8 @@ impl<'t, J: StreamSpec, T: RowReporter, W: Sink + Drop> RowSender<'t, J, T, W> {
         }
     }
 
-    /// Writes the buffered text, and returns the sink, if there is one: it has received the whole text, or after an error a prefix.
+    /// Writes the buffered text, and returns the sink, if there is one, and whether it has received the whole text; after an error it has
+    /// received a prefix.
     pub fn finish(self) -> (Option<W>, Result<(), WriteError>)
         ensures there { is_some result.0 ≡ J.sends }
         ensures all { (text : List ℕ)
@@ -78,6 +79,7 @@ impl<J: StreamSpec, T: RowReporter, W: Sink + Drop> Observer<ReportedRow>
 
     ghost stops = { λ s. IsSomeAnd s.outbox (λ box. is_some box.failed ≡ true) };
 
+    // Buffers the text of a row, and returns whether the run should continue. Without a sink, does nothing.
     fn see(&mut self, made: &ReportedRow) -> Flow {
         let (alloc, reporter) = (self.alloc, self.reporter);
         match &mut self.outbox {
@@ -86,6 +88,7 @@ impl<J: StreamSpec, T: RowReporter, W: Sink + Drop> Observer<ReportedRow>
         }
     }
 
+    // Writes the buffered text, and returns whether the run should continue. Without a sink, does nothing.
     fn pause(&mut self) -> Flow {
         match &mut self.outbox {
             Some(outbox) => outbox.send(),

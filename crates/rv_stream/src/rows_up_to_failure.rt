@@ -56,6 +56,7 @@ impl<J: StreamSpec> Listener<ReportedRow> for RowsUpToFailure<'_, J> {
 
     ghost stops = { λ s. (s.left ≡ Some 0) ⊎ (s.refused ≡ true) };
 
+    // Stores a row, and returns whether the run should continue: not after the failure that stops it.
     fn receive(&mut self, made: ReportedRow) -> Flow {
         let failed = self.judge.fails(&made.row);
         self.left = failures_left(self.left, failed);
@@ -67,12 +68,13 @@ impl<J: StreamSpec> Listener<ReportedRow> for RowsUpToFailure<'_, J> {
         }
     }
 
+    // Does nothing, and returns that the run should continue.
     fn pause(&mut self) -> Flow {
         Flow::GoOn
     }
 }
 
-// Keeps a row. Returns whether an allocation failed.
+// Appends a row. Returns true if an allocation failed, so that the row was dropped.
 fn keep_row(rows: &mut Vec<Row>, row: Row) -> bool
     ensures { result ≡ false → rows.new.items ≡ rows.old.items ++ row ∷ [] }
 {
@@ -80,7 +82,7 @@ fn keep_row(rows: &mut Vec<Row>, row: Row) -> bool
     rows.push(row).is_err()
 }
 
-// Returns how many more failures stop the run after one more row; `None` without a limit.
+// Returns the number of further failures that stop the run after one more row, given whether this row failed; `None` without a limit.
 fn failures_left(left: Option<u32>, failed: bool) -> Option<u32>
     ensures { result ≡ (if failed then option_map (λ n. n - 1) left else left) }
 {

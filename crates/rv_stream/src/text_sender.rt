@@ -43,6 +43,7 @@ impl<J: StreamSpec, W: Sink + Drop> Observer<ReportedRow> for TextSender<J, W> {
 
     ghost stops = { λ s. is_some s.outbox.failed ≡ true };
 
+    // Buffers the text of a row, and returns whether the run should continue.
     fn see(&mut self, made: &ReportedRow) -> Flow {
         match self.outbox.unsent.extend_from_slice(made.text.as_slice()) {
             Ok(()) => Flow::GoOn,
@@ -54,6 +55,7 @@ impl<J: StreamSpec, W: Sink + Drop> Observer<ReportedRow> for TextSender<J, W> {
         }
     }
 
+    // Writes the buffered text, and returns whether the run should continue.
     fn pause(&mut self) -> Flow {
         self.outbox.send()
     }

@@ -15,7 +15,7 @@ escape = 27
 abbrev pub end_of_mark : ℕ
 end_of_mark = 109
 
--- the terminal's escape sequence for a mark: red, green, reset, or none
+-- the escape sequence of the terminal for a mark: for red, for green, or to reset the colour; empty for `Nothing`
 abbrev pub mark_text : Mark → List ℕ
 mark_text mark.Nothing = []
 mark_text mark.Red = escape ∷ codes "[31m"
@@ -41,11 +41,11 @@ is_feed byte = byte == 10
 abbrev pub is_space : ℕ → Bool
 is_space byte = byte == 32
 
--- whether a byte is the letter that FAIL begins with
+-- whether a byte is `F`, with which FAIL begins
 abbrev pub is_fail : ℕ → Bool
 is_fail byte = byte == 70
 
--- whether a byte is the letter that PASS begins with
+-- whether a byte is `P`, with which PASS begins
 abbrev pub is_pass : ℕ → Bool
 is_pass byte = byte == 80
 
@@ -65,27 +65,30 @@ margin = 5
 abbrev pub sign_mark : ℕ → Mark
 sign_mark byte = if is_minus byte then mark.Red else if is_plus byte then mark.Green else mark.Nothing
 
--- the mark before the first byte of a line without a margin: red before an F, green before a P, or else the mark of a sign
+-- the mark before the first byte of a line that begins without spaces: red before `F`, green before `P`, and before any other byte the mark
+-- that `sign_mark` returns
 abbrev pub word_mark : ℕ → Mark
 word_mark byte = if is_fail byte then mark.Red else if is_pass byte then mark.Green else sign_mark byte
 
--- the mark before the first byte of a line after its spaces: a word or a sign if there are none, and a sign after the margin
+-- the mark before the first byte after the spaces at the beginning of a line: of a word or a sign if there are no spaces, of a sign if
+-- there are as many as `margin`, and otherwise none
 abbrev pub begin_mark : ℕ → ℕ → Mark
 begin_mark spaces byte =
     if spaces == 0 then word_mark byte else if spaces == margin then sign_mark byte else mark.Nothing
 
--- the mark before a byte of a line: a word's colour ends before a space, and every colour before a line feed
+-- the mark before a byte that does not begin an escape sequence: a word's colour ends before a space, and every colour before a line feed
 abbrev pub line_mark : Place → ℕ → Mark
 line_mark (place.Margin spaces) byte = begin_mark spaces byte
 line_mark place.Word byte = if is_space byte || is_feed byte then mark.End else mark.Nothing
 line_mark place.Line byte = if is_feed byte then mark.End else mark.Nothing
 line_mark place.Rest byte = mark.Nothing
 
--- the mark before a byte; an escape sequence in the text itself has one as well, to distinguish it from those of marks
+-- the mark before a byte; also a byte of the text that begins an escape sequence has a mark before it, which distinguishes this sequence
+-- from the marks
 abbrev pub mark_before : Place → ℕ → Mark
 mark_before here byte = if is_escape byte then mark.End else line_mark here byte
 
--- the position after the first byte of a line that is not a space, given the number of spaces before it
+-- the position after the first byte of a line that is not a space, given how many spaces are before it
 abbrev pub begun_place : ℕ → ℕ → Place
 begun_place spaces byte = if is_nothing (begin_mark spaces byte) then place.Rest
     else if is_minus byte || is_plus byte then place.Line else place.Word
@@ -97,14 +100,14 @@ place_in_line (place.Margin spaces) byte = if is_space byte
 place_in_line place.Word byte = if is_space byte then place.Rest else place.Word
 place_in_line here byte = here
 
--- the position after a byte: the rest of a line is not coloured once it has an escape sequence of its own
+-- the position after a byte: a line feed begins a new line, and after an escape sequence of the text the rest of the line is not coloured
 abbrev pub place_after : Place → ℕ → Place
 place_after here byte = if is_feed byte then place.Margin 0
     else if is_escape byte then place.Rest else place_in_line here byte
 
 -- ---- coloured texts
 
--- a text with its marks, which begins at this position in a line
+-- a text with its marks, given the position in a line at which the text begins
 unfoldable pub colored : Place → List ℕ → List ℕ
 colored here [] = []
 colored here (byte ∷ rest) = mark_text (mark_before here byte) ++ byte ∷ colored (place_after here byte) rest
@@ -115,19 +118,19 @@ beginning = place.Margin 0
 
 -- ---- removing the colours
 
--- where a byte of a coloured text is: in the text, in a mark, or right after one
+-- where a byte of a coloured text is: in the text, in a mark, or immediately after a mark
 pub data Seat : Type 0 where
   InText : Seat
   InMark : Seat
   BehindMark : Seat
 
--- where the next byte is, given where a byte is; the byte right after a mark belongs to the text, whichever it is
+-- where the next byte is, given where this byte is; the byte immediately after a mark always belongs to the text
 abbrev pub seat_after : Seat → ℕ → Seat
 seat_after InText byte = if is_escape byte then InMark else InText
 seat_after InMark byte = if byte == end_of_mark then BehindMark else InMark
 seat_after BehindMark byte = InText
 
--- the bytes of the plain text that a byte of a coloured text gives: itself, or none within a mark
+-- the part of the plain text that a byte of a coloured text stands for: the byte itself, or nothing if it belongs to a mark
 abbrev pub text_of_byte : Seat → ℕ → List ℕ
 text_of_byte InText byte = if is_escape byte then [] else byte ∷ []
 text_of_byte InMark byte = []

@@ -2,39 +2,40 @@
 use Rattle.std.specs.Prelude.{ℕ, Bool, List, [], ◌∷◌, Option, Some, None, ◌++◌, ◌-◌, ◌==◌, codes, if◌then◌else◌, length, not, slice_get}
 use Rattle.std.specs.Fmt.{decimal}
 
--- the end of the progress line: the number of jobs of the run, and how many of those done failed
+-- the end of the progress line: the number of jobs of the run, and the number of finished jobs that failed
 abbrev pub jobs_and_failed_text : ℕ → ℕ → List ℕ
 jobs_and_failed_text jobs failed = decimal jobs ++ codes " jobs done, " ++ decimal failed ++ codes " failed"
 
--- the progress line: how many jobs are done, how many the run has, and how many failed
+-- the progress line: the number of finished jobs, the number of jobs of the run, and the number of finished jobs that failed
 abbrev pub progress_text : ℕ → ℕ → ℕ → List ℕ
 progress_text done jobs failed = decimal done ++ codes " of " ++ jobs_and_failed_text jobs failed
 
--- whether other output ends in the middle of a line after one more text, given the text's last byte; an empty text leaves it as it was,
--- `held`
+-- whether other output ends in the middle of a line after one more text, given the last byte of the text; if the text is empty, `held`,
+-- which says whether it did before
 abbrev pub is_mid_line : Bool → Option ℕ → Bool
 is_mid_line held None = held
 is_mid_line held (Some last) = not (last == 10)
 
--- the last byte of a text; none if it is empty
+-- the last byte of a text; `None` if it is empty
 abbrev pub last_byte : List ℕ → Option ℕ
 last_byte text = slice_get text (length text - 1)
 
 -- ---- the bytes written to the terminal
 
--- the bytes that show the progress line: a return to the start of the line, and the counts, which overwrite it
+-- the bytes that show the progress line: a carriage return, and then the counts, which overwrite the earlier ones
 abbrev pub counts_text : ℕ → ℕ → ℕ → List ℕ
 counts_text done jobs failed = 13 ∷ progress_text done jobs failed
 
--- the bytes that remove the progress line if it is shown: a return to its start, and an erase to its end
+-- the bytes that remove the progress line: a carriage return, and the sequence that erases to the end of the line; empty if the line is not
+-- shown
 abbrev pub erasing_text : Bool → List ℕ
 erasing_text is_shown = if is_shown then 13 ∷ 27 ∷ codes "[K" else []
 
--- the text, or nothing if other output ends in the middle of a line
+-- the text, or an empty text if the Bool says that other output ends in the middle of a line
 abbrev pub text_unless_held : Bool → List ℕ → List ℕ
 text_unless_held is_held text = if is_held then [] else text
 
--- the bytes of the progress line around a write of other output: it is removed if it is shown, and then shown again, unless the output ends
--- in the middle of a line
+-- the bytes of the progress line around other output, if the line was shown: it is removed before the output and shown again after it,
+-- unless the output ends in the middle of a line; empty if it was not shown
 abbrev pub text_around_put : Bool → Bool → List ℕ → List ℕ
 text_around_put was_shown is_held counts = if was_shown then erasing_text was_shown ++ text_unless_held is_held counts else []

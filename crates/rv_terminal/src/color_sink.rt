@@ -66,7 +66,8 @@ impl<J: Results, S: Sink + Drop> ColorSink<J, S> {
         }
     }
 
-    /// Returns the other sink, and whether it received the results completely: an error if a write to it failed with colours.
+    /// Returns the underlying sink, and an error if the results are coloured and a write to it failed, so that it did not receive them
+    /// completely.
     pub fn finish(self) -> (S, Result<(), SinkFailed>)
         ensures sink { result.0 ≡ self.sink }
         ensures told { is_err result.1 ≡ is_cut_off self.state }
@@ -97,6 +98,7 @@ impl<J: Results, S: Sink + Drop> Sink for ColorSink<J, S> {
 
     ghost failed = { λ s. s.failures };
 
+    // Writes leading bytes of `bytes`, in their colours if colours are on, and returns how many; an error if the write failed.
     fn put(&mut self, bytes: &[u8]) -> Result<usize, SinkFailed> {
         let (count, state) = put_in_state(&mut self.sink, self.state, bytes);
         self.state = state;
@@ -107,6 +109,7 @@ impl<J: Results, S: Sink + Drop> Sink for ColorSink<J, S> {
         Ok(count)
     }
 
+    // Returns the number of failed writes.
     fn failures(&self) -> u64 {
         self.failures
     }

@@ -24,7 +24,7 @@ pub(crate) enum OutputState {
 }
 
 impl OutputState {
-    /// Returns how output with or without colours begins: at the start of a line.
+    /// Returns the state in which output with or without colours begins: at the start of a line.
     pub(crate) fn first(colors: Colors) -> OutputState
         ensures { result ≡ first_state colors }
     {
@@ -34,7 +34,7 @@ impl OutputState {
         }
     }
 
-    /// Whether the output ends because a write failed.
+    /// Whether the output has ended because a write failed.
     pub(crate) fn is_cut_off(self) -> bool
         ensures { result ≡ is_cut_off self }
     {
@@ -42,8 +42,8 @@ impl OutputState {
     }
 }
 
-/// Writes leading bytes of `bytes`, with their marks if the output is coloured. Returns how many, 0 only if a write failed, and how the
-/// output continues.
+/// Writes leading bytes of `bytes`, with their marks if the output is coloured. Returns how many were written, which is 0 only if a write
+/// failed, and the new state of the output.
 pub(crate) fn put_in_state<S: Sink>(
     sink: &mut S,
     state: OutputState,
@@ -64,7 +64,8 @@ pub(crate) fn put_in_state<S: Sink>(
     }
 }
 
-// Writes the bytes with their marks, piece by piece, up to a failed write. Returns how many, and how the output continues.
+// Writes the bytes with their marks, piece by piece, until all are written or a write fails. Returns how many were written, and the new
+// state of the output.
 fn put_colored<S: Sink>(sink: &mut S, place: Place, bytes: &[u8]) -> (usize, OutputState)
     requires { 0 < length bytes.now }
     ensures within { result.0 ≤ length bytes.now }
@@ -101,7 +102,7 @@ fn put_piece<S: Sink>(sink: &mut S, place: Place, bytes: &[u8]) -> Result<usize,
     sink.put(&bytes[..marked_len(place, bytes)])
 }
 
-// Returns how many leading bytes have no mark between them. The first byte can have a mark before it.
+// Returns the number of leading bytes that have no mark between them. There may be a mark before the first byte.
 fn marked_len(place: Place, bytes: &[u8]) -> usize
     requires { 0 < length bytes.now }
     ensures within { (1 ≤ result) × (result ≤ length bytes.now) }

@@ -34,7 +34,7 @@ const MARGIN: u8 = 5;
 const ESCAPE: u8 = 0x1b;
 
 impl Mark {
-    /// Returns the terminal's escape sequence; empty for `Nothing`.
+    /// Returns the escape sequence of the terminal for this mark; empty for `Nothing`.
     pub(crate) fn text(self) -> &'static str
         ensures { result.now ≡ mark_text self }
     {
@@ -119,7 +119,7 @@ impl Place {
     }
 }
 
-// Returns the mark before the first byte of a line after its spaces.
+// Returns the mark before the first byte after the spaces at the beginning of a line, given how many spaces there are.
 fn begin_mark(spaces: u8, byte: u8) -> Mark
     ensures { result ≡ begin_mark spaces byte }
 {
@@ -154,7 +154,7 @@ fn sign_mark(byte: u8) -> Mark
     }
 }
 
-// Returns the position after the first byte of a line that is not a space.
+// Returns the position after the first byte of a line that is not a space, given how many spaces are before it.
 fn begun_place(spaces: u8, byte: u8) -> Place
     ensures { result ≡ begun_place spaces byte }
 {

@@ -31,8 +31,8 @@ pub struct Progress<'k, W: Drop> {
 }
 
 impl<'k, W: Write + Drop> Progress<'k, W> {
-    /// Creates the progress of a run of `jobs` jobs, whose rows are judged by `judge`. If `out` is a terminal, the line is shown on it, but
-    /// not before the clock's next tenth of a second: a shorter run shows none.
+    /// Creates the progress of a run of `jobs` jobs, whose rows are judged by `judge`. If `out` is a terminal, the progress line is shown
+    /// on it, but not before the clock's next tenth of a second, so that a very short run shows none.
     pub fn new<C: Clock>(
         clock: &C,
         jobs: usize,
@@ -113,8 +113,8 @@ impl<'k, W: Write + Drop> Progress<'k, W> {
         tally.count_row(&self.judge, row);
     }
 
-    // Whether the line is to be shown: once in each tenth of a second after the first one of the run. If several threads ask in the same
-    // one, only one gets `true`.
+    // Whether the caller may show the line: true once in each tenth of a second after the first one of the run, for only one of several
+    // threads.
     fn claim_line_turn<C: Clock>(&self, clock: &C) -> bool {
         match clock_tenths(clock) {
             Some(now) => {
@@ -132,7 +132,8 @@ impl<'k, W: Write + Drop> Progress<'k, W> {
         now.saturating_sub(self.start)
     }
 
-    /// Returns the tally of the rows so far. A contract can only say of a lock's contents that at most as many failed as are done.
+    /// Returns the tally of the rows so far. Since the tally is in a lock, the contract can only say that at most as many rows failed as
+    /// are finished.
     pub(crate) fn tally_so_far<R: Wait>(&self, rt: &R) -> Tally
         ensures { result.failed ≤ result.done }
     {

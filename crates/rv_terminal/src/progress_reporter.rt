@@ -26,7 +26,7 @@ impl<'r, 't, 'p, 'k, R: Clock + Wait, T: RowReporter, W: Write + Drop> ProgressR
     T,
     W,
 > {
-    /// Creates a reporter that reports by `reporter` and counts in `progress`.
+    /// Creates a reporter that writes the texts of `reporter` and counts the rows in `progress`.
     pub fn new(
         rt: &'r R,
         reporter: &'t T,
@@ -46,6 +46,7 @@ impl<'r, 't, 'p, 'k, R: Clock + Wait, T: RowReporter, W: Write + Drop> RowReport
     for ProgressReporter<'r, 't, 'p, 'k, R, T, W> {
     ghost line = { λ counting place row. T.line counting.reporter.now place row };
 
+    // Appends the text of the other reporter about the job at an index, and counts its row in the progress.
     fn push_row_text(
         &self,
         alloc: Global,

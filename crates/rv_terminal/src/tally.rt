@@ -17,7 +17,7 @@ impl Tally {
         Tally { done: 0, failed: 0 }
     }
 
-    /// Counts one more row, as failed if it fails by the judge.
+    /// Counts one more row, and also counts it as failed if the judge says so.
     pub(crate) fn count_row(&mut self, judge: &Judge<'_>, row: &Row)
         ensures { (rows : List ARow) → length rows + 1 < 2 ^ 64 → IsTallyOf (judging_of judge.now) rows self.old
             → IsTallyOf (judging_of judge.now) (rows ++ row.now ∷ []) self.new }

@@ -43,7 +43,7 @@ impl<W: Write + Drop> Line<W> {
         }
     }
 
-    /// Removes the line, and returns the terminal, and whether it accepted all bytes.
+    /// Removes the line, and returns the terminal, with an error if it did not accept all bytes.
     pub(crate) fn finish(self) -> (W, Result<(), WriteError>)
         ensures { OnOk result.1
             (Appends (W.contents self.out) (W.contents result.0) (erasing_text self.is_shown)) }
@@ -53,7 +53,8 @@ impl<W: Write + Drop> Line<W> {
         (line.out, erased)
     }
 
-    /// Writes the counts over the previous ones, unless other output ends in the middle of a line. They never have fewer digits.
+    /// Writes the counts over the earlier ones, unless other output ends in the middle of a line. New counts never have fewer digits than
+    /// earlier ones.
     pub(crate) fn show_counts(&mut self, alloc: Global, counts: Counts) -> Result<(), WriteError>
         // In the middle of a line of other output, nothing is written.
         ensures unchanged { IsTrue self.old.is_held → self.new ≡ self.old }
@@ -78,7 +79,7 @@ impl<W: Write + Drop> Line<W> {
         self.is_shown
     }
 
-    /// Removes the line if it is shown, and returns whether the terminal accepted all bytes.
+    /// Removes the line if it is shown; returns an error if the terminal did not accept all bytes.
     pub(crate) fn take_away(&mut self) -> Result<(), WriteError>
         ensures away { self.new.is_shown ≡ false }
         ensures held { self.new.is_held ≡ self.old.is_held }
@@ -92,7 +93,8 @@ impl<W: Write + Drop> Line<W> {
         self.write_and_flush(CLEAR)
     }
 
-    /// Notes that this text, other output, went to the terminal. Until it ends with a line feed, no line is shown.
+    /// Records that `text`, which is other output, was written to the terminal. Until such output ends with a line feed, no progress line
+    /// is shown.
     pub(crate) fn note_other_text(&mut self, text: &[u8])
         ensures held { self.new.is_held ≡ is_mid_line self.old.is_held (last_byte text.now) }
         ensures shown { self.new.is_shown ≡ self.old.is_shown }
@@ -103,7 +105,7 @@ impl<W: Write + Drop> Line<W> {
         }
     }
 
-    // Writes bytes to the terminal and flushes it; an error if either fails.
+    // Writes bytes to the terminal and flushes it; returns an error if either fails.
     fn write_and_flush(&mut self, bytes: &[u8]) -> Result<(), WriteError>
         ensures shown { self.new.is_shown ≡ self.old.is_shown }
         ensures held { self.new.is_held ≡ self.old.is_held }
@@ -119,7 +121,7 @@ impl<W: Write + Drop> Line<W> {
     }
 }
 
-// Appends the line: a return to its start, and the counts.
+// Appends the bytes that show the line: a carriage return, and the counts.
 fn push_progress_text(text: &mut Vec<u8>, counts: Counts) -> Result<(), AllocError>
     ensures { OnOk result (text.new.items
         ≡ text.old.items ++ counts_text counts.tally.done counts.jobs counts.tally.failed) }

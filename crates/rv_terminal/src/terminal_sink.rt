@@ -25,8 +25,8 @@ pub struct TerminalSink<'a, 'k, R: Wait, S: Sink + Drop, W: Drop> {
 }
 
 impl<'a, 'k, R: Wait, S: Sink + Drop, W: Write + Drop> TerminalSink<'a, 'k, R, S, W> {
-    /// Creates a sink that writes to `sink`; `is_terminal` says whether that is a terminal. If it is, and the progress line is shown there,
-    /// the line is removed during each write.
+    /// Creates a sink that writes to `sink`; `is_terminal` says whether `sink` is a terminal. If it is and the progress line is shown
+    /// there, the line is removed during each write.
     pub fn new(
         rt: &'a R,
         alloc: Global,
@@ -60,6 +60,8 @@ impl<'a, 'k, R: Wait, S: Sink + Drop, W: Write + Drop> Sink for TerminalSink<'a,
 
     ghost failed = { λ terminal. S.failed terminal.sink };
 
+    // Writes leading bytes of `bytes` to the sink, and returns how many; the progress line is removed during the write if it is on the same
+    // terminal.
     fn put(&mut self, bytes: &[u8]) -> Result<usize, SinkFailed> {
         let Some(progress) = self.progress else {
             return self.sink.put(bytes);
@@ -70,13 +72,14 @@ impl<'a, 'k, R: Wait, S: Sink + Drop, W: Write + Drop> Sink for TerminalSink<'a,
         self.put_around_line(progress, &mut line, bytes, tally).put
     }
 
+    // Returns the number of failed writes of the sink.
     fn failures(&self) -> u64 {
         self.sink.failures()
     }
 }
 
 impl<'a, 'k, R: Wait, S: Sink + Drop, W: Write + Drop> TerminalSink<'a, 'k, R, S, W> {
-    // Writes bytes to the sink: first the line is removed, and afterwards it is shown again with this tally.
+    // Writes bytes to the sink: the line is removed before the write, and shown again with this tally afterwards.
     fn put_around_line(
         &mut self,
         progress: &Progress<'k, W>,
@@ -111,7 +114,8 @@ struct PutBesideLine {
     line: Result<(), WriteError>,
 }
 
-// Writes bytes to a sink on the line's terminal: first the line is removed, and it is shown again after output that ends with a line feed.
+// Writes bytes to a sink on the line's terminal: the line is removed before the write, and shown again afterwards if the output ends with a
+// line feed.
 fn put_beside_line<S: Sink, W: Write + Drop>(
     line: &mut Line<W>,
     sink: &mut S,
@@ -149,7 +153,8 @@ fn put_beside_line<S: Sink, W: Write + Drop>(
     }
 }
 
-// Writes bytes to a sink on the terminal from which the line is removed, and notes whether the output ends in the middle of a line.
+// Writes bytes to a sink on the terminal, from which the line has been removed, and records whether the output ends in the middle of a
+// line.
 fn put_and_note<S: Sink, W: Write + Drop>(
     line: &mut Line<W>,
     sink: &mut S,

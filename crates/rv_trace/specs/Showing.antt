@@ -11,8 +11,8 @@ use Rattle.rv_trace.specs.Code.{code_at, size_of_code}
 use Rattle.rv_trace.specs.Steps.{instr_at, traced_step}
 use Rattle.rv_trace.specs.Trace.{state_after}
 
--- the trace shows the end of a run that begins in the state `s` and has the result `ran`: the pc, the encoding there and the registers of
--- the final state, and the last `last` instructions, or all if there are fewer; each completed, and is shown with the states before and
+-- the trace shows the end of the run from the state `s` with the result `ran`: the pc, the encoding there and the registers of the final
+-- state, and the last `last` instructions, or all if there are fewer; each of these completed, and is shown with the states before and
 -- after it
 pub record ShowsTheEnd (trace : Trace) (last : ℕ) (ran : Ran) (s : State) : Type 0 where
   pub pc : trace.pc ≡ ran.state.pc
@@ -23,8 +23,8 @@ pub record ShowsTheEnd (trace : Trace) (last : ℕ) (ran : Ran) (s : State) : Ty
       → let place = ran.steps - min ran.steps last + k in
       slice_index_or trace.steps k d ≡ traced_step (state_after place s) (state_after (place + 1) s)
 
--- in a run that begins in the state `s` and has the result `ran`, the instructions before the end completed, and the one at the end did
--- not, unless the budget was used up before it
+-- in the run from the state `s` with the result `ran`, all instructions before the end completed, and the one at the end did not, unless
+-- the budget was used up before it
 pub record EndsThere (ran : Ran) (s : State) : Type 0 where
   pub completed : (k : ℕ) → k < ran.steps → step_of (state_after k s) ≡ Ok (state_after (k + 1) s)
   pub ended : (ran.ending ≡ Budget) ⊎ (step_of ran.state ≡ Err ran.ending)

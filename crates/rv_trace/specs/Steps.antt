@@ -21,7 +21,7 @@ use Rattle.rv_trace.specs.Code.{code_at, instr_of}
 
 -- ---- the target of an instruction's write
 
--- how an instruction accesses memory (ISA manual, 2.6)
+-- how an instruction accesses memory: as a load, as a store, or not at all (ISA manual, 2.6)
 abbrev pub access_of : Op → Access
 access_of op.Lb = access.Load
 access_of op.Lh = access.Load
@@ -33,20 +33,20 @@ access_of op.Sh = access.Store width.Half
 access_of op.Sw = access.Store width.Word
 access_of _ = access.Neither
 
--- the target of the write of the instruction `i` in the state `s`: a load writes a register, from its address; a store writes the low bytes
--- of rs2 to its address; any other instruction writes rd, unless it is x0
+-- what the instruction `i` writes in the state `s`: a load writes a register, from its address; a store writes the low bytes of rs2 to its
+-- address; any other instruction writes rd, unless it is x0
 abbrev pub instruction_write_target : Access → Instr → State → WriteTarget
 instruction_write_target access.Load i s = aim.Load i.rd (address s i)
 instruction_write_target (access.Store width) i s =
     aim.Store (address s i) width (rs2_value s i % 2 ^ (8 * size_of width))
 instruction_write_target access.Neither i s = if i.rd == 0 then aim.Nothing else aim.Register i.rd
 
--- the target of the write of an instruction in the state `s`; nothing if there is no instruction
+-- what an instruction writes in the state `s`; `Nothing` if there is no instruction
 abbrev pub write_target : Option Instr → State → WriteTarget
 write_target None s = aim.Nothing
 write_target (Some i) s = instruction_write_target (access_of i.op) i s
 
--- the register number in the target is below 32
+-- the number of the register to be written, if there is one, is below 32
 abbrev pub HasRegister : WriteTarget → Type 0
 HasRegister (aim.Register number) = number < 32
 HasRegister (aim.Load number address) = number < 32
@@ -54,15 +54,15 @@ HasRegister _ = Unit {0}
 
 -- ---- what an instruction wrote
 
--- the effect of a completed write to this target: a register's new value is read from the state `t` after the instruction; a store's value
--- is the one in the target
+-- what a completed instruction wrote: the new value of a register is read from the state `t` after the instruction, and the value of a
+-- store is in the target
 abbrev pub completed_write : WriteTarget → State → WriteEffect
 completed_write aim.Nothing t = wrote.Nothing
 completed_write (aim.Register number) t = wrote.Register number (register t number)
 completed_write (aim.Load number address) t = wrote.Loaded number (register t number) address
 completed_write (aim.Store address width value) t = wrote.Stored address width value
 
--- the instruction at the pc of a state, in RV32IMC
+-- the instruction at the pc of a state, in RV32IMC; `None` if there is none
 abbrev pub instr_at : State → Option Instr
 instr_at s = option_and_then instr_of (code_at s.bus s.pc)
 
@@ -76,12 +76,13 @@ traced_step s t = record {
 
 -- ---- several instructions
 
--- the instruction at the state `s` and those after it, given its result; none if it does not complete
+-- the traced instruction at the state `s` and the instructions after it, which `rest` returns for the new state; empty if the instruction
+-- does not complete
 abbrev pub step_and_more : Result State Ending → State → (State → List TracedStep) → List TracedStep
 step_and_more (Ok t) s rest = traced_step s t ∷ rest t
 step_and_more (Err e) s rest = []
 
--- the completed instructions of at most `n` steps from the state `s` on
+-- the completed instructions among the first `n` steps from the state `s`, as a trace shows them
 unfoldable pub steps_from : ℕ → State → List TracedStep
 steps_from zero s = []
 steps_from (suc n) s = step_and_more (step_of s) s (λ t. steps_from n t)

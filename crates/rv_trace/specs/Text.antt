@@ -26,7 +26,7 @@ use Rattle.rv_trace.specs.declared.trace.Trace.{Trace}
 
 -- ---- columns
 
--- a text with trailing spaces up to a width
+-- the text, followed by spaces up to `width` characters
 unfoldable pub padded_text : ℕ → List ℕ → List ℕ
 padded_text width text = text ++ replicate (width - length text) 32
 
@@ -38,7 +38,7 @@ gap = codes "  "
 abbrev pub margin : List ℕ
 margin = codes "     "
 
--- an address as the name of a symbol and the offset from it, or an empty text if it has no symbol
+-- the name of a symbol and the offset from it; an empty text if there is no symbol
 abbrev pub symbol_or_none : Option (List ℕ × ℕ) → List ℕ
 symbol_or_none None = []
 symbol_or_none (Some place) = symbol_text place
@@ -65,21 +65,21 @@ stored_value_text width.Word value = word_digits value
 abbrev pub register_text : ℕ → ℕ → List ℕ
 register_text number value = register_name number ++ codes " <- " ++ word_digits value
 
--- the text `NAME <- VALUE ` for a register and its loaded value, or nothing for a load into x0
+-- the text `NAME <- VALUE ` for a register and its loaded value; empty for a load into x0
 abbrev pub loaded_text : ℕ → ℕ → List ℕ
 loaded_text number value = if number == 0 then [] else register_text number value ++ codes " "
 
--- the name of a symbol and the offset from it, with a space, or nothing if there is no symbol
+-- the name of a symbol and the offset from it, followed by a space; empty if there is no symbol
 abbrev pub symbol_and_space : Option (List ℕ × ℕ) → List ℕ
 symbol_and_space None = []
 symbol_and_space (Some place) = symbol_text place ++ codes " "
 
--- the address of a load or a store, after its symbol
+-- the address of a load or a store, preceded by its symbol if it has one
 abbrev pub address_text : Image → List ℕ → ℕ → List ℕ
 address_text image file address =
     symbol_and_space (symbol_of_value image file address) ++ word_digits address
 
--- the text for what an instruction wrote
+-- the text that says what an instruction wrote; empty if it wrote nothing
 unfoldable pub wrote_text : Image → List ℕ → WriteEffect → List ℕ
 wrote_text image file wrote.Nothing = []
 wrote_text image file (wrote.Register number value) = register_text number value
@@ -88,16 +88,16 @@ wrote_text image file (wrote.Loaded number value address) =
 wrote_text image file (wrote.Stored address width value) =
     address_text image file address ++ codes " <- " ++ stored_value_text width value
 
--- the assembly text, and the text `effect_text` in the next column, unless it is empty
+-- the assembly text, and in the next column `effect_text`, the text about its effect, unless that is empty
 abbrev pub text_columns : List ℕ → List ℕ → List ℕ
 text_columns text effect_text = if length effect_text == 0 then text else padded_text 24 text ++ gap ++ effect_text
 
--- the encoding, its assembly text, and the text `effect_text`, in columns; only `effect_text` if there is no encoding
+-- the encoding, its assembly text, and `effect_text`, the text about its effect, in columns; only `effect_text` if there is no encoding
 unfoldable pub code_columns : Option Code → List ℕ → List ℕ → List ℕ
 code_columns None text effect_text = effect_text
 code_columns (Some code) text effect_text = padded_text 8 (code_text code) ++ gap ++ text_columns text effect_text
 
--- the line of an instruction at `pc`, with its symbol, its encoding, its assembly text, and the text `effect_text`
+-- the line of the instruction at `pc`, with its symbol, its encoding, its assembly text, and `effect_text`, the text about its effect
 unfoldable pub instruction_line :
     Option (List ℕ × ℕ) → ℕ → Option Code → List ℕ → List ℕ → List ℕ
 instruction_line symbol pc code text effect_text =
@@ -117,7 +117,7 @@ step_line image file step =
 
 -- ---- the end
 
--- the text for the value of a fault, which for most kinds is an address
+-- the text about the value of a fault of this kind, which for most kinds is an address
 unfoldable pub fault_value_text : FaultKind → ℕ → List ℕ
 fault_value_text fault.Illegal value = []
 fault_value_text fault.Breakpoint value = []
@@ -125,14 +125,14 @@ fault_value_text fault.UnknownCall value = codes ", value " ++ word_digits value
 fault_value_text fault.ConsoleFull value = codes ", value " ++ word_digits value
 fault_value_text _ value = codes " at " ++ word_digits value
 
--- the text for how a run ended, in the line of the instruction at the end
+-- the text that says how a run ended, for the line of the instruction at the end
 unfoldable pub end_reason : RowEnd → List ℕ
 end_reason (ending.Exit code) = codes "exit " ++ exit_code_text code
 end_reason (ending.Fault kind pc value) = fault_name kind ++ fault_value_text kind value
 end_reason ending.Budget = codes "not run: the budget is used up"
 end_reason (ending.Refused why) = refusal_name why
 
--- whether a run ended because the job's instruction set has no instruction for the encoding
+-- whether a run ended with an illegal instruction: the job's instruction set has no instruction for the encoding
 abbrev pub ends_by_illegal : RowEnd → Bool
 ends_by_illegal (ending.Fault fault.Illegal pc value) = true
 ends_by_illegal _ = false
@@ -160,18 +160,18 @@ ended_at_line image file pc =
 
 -- ---- the registers
 
--- the symbol that a value points to, after a gap, or nothing if there is no symbol
+-- two spaces and the symbol that a value points to; empty if there is no symbol
 abbrev pub symbol_after_value : Option (List ℕ × ℕ) → List ℕ
 symbol_after_value None = []
 symbol_after_value (Some place) = gap ++ symbol_text place
 
--- the line of a register with this value
+-- the line of the register `number`, which has this value
 unfoldable pub register_line : Image → List ℕ → ℕ → ℕ → List ℕ
 register_line image file number value =
     line (margin ++ padded_text 4 (register_name number) ++ gap ++ word_digits value
     ++ symbol_after_value (symbol_of_value image file value))
 
--- the lines of registers with these values, of which the first has the number `number`
+-- the lines of the registers `number`, `number` + 1 and so on, which have these values
 unfoldable pub register_lines : Image → List ℕ → ℕ → List ℕ → List ℕ
 register_lines image file number [] = []
 register_lines image file number (value ∷ values) =

@@ -13,7 +13,7 @@ use Rattle.rv_trace.specs.declared.trace.Trace.{Trace}
 use Rattle.rv_trace.specs.Code.{code_at}
 use Rattle.rv_trace.specs.Steps.{steps_from}
 
--- the job at an index of a plan, or `other` if there is none
+-- the job at an index of a plan, or `other` if there is no such index
 abbrev pub job_at : Planned → ℕ → Job → Job
 job_at plan place other = slice_index_or plan.jobs place other
 
@@ -29,7 +29,7 @@ state_after n s = (run_of n s).state
 unfoldable pub registers_of : State → List ℕ
 registers_of s = map (register s) (range_with_len 0 32)
 
--- the trace with these instructions, whose run ended in the state `s`
+-- the trace that ends in the state `s` and has these instructions before it
 abbrev pub trace_up_to : List TracedStep → State → Trace
 trace_up_to steps s = record {
   steps = steps;

@@ -48,7 +48,7 @@ pub(crate) fn push_instruction_line(
     push_text(bytes, "\n")
 }
 
-// Appends the column of the symbol.
+// Appends the column of the symbol, which is empty without a symbol.
 fn push_symbol_column(
     alloc: Global,
     bytes: &mut Vec<u8>,
@@ -83,7 +83,7 @@ fn push_code_columns(
     push_text_columns(bytes, text, effect_text)
 }
 
-// Appends the columns of the assembly text and the effect. The last column is not padded.
+// Appends the columns of the assembly text and, unless it is empty, of the effect. The last column is not padded.
 fn push_text_columns(bytes: &mut Vec<u8>, text: &[u8], effect_text: &[u8]) -> Result<(), AllocError>
     ensures { OnOk result (bytes.new.items ≡ bytes.old.items ++ text_columns text.now effect_text.now) }
 {
@@ -115,7 +115,7 @@ fn push_code_digits(alloc: Global, bytes: &mut Vec<u8>, code: Code) -> Result<()
     }
 }
 
-/// Appends the hexadecimal digits of a word, without the first `count`.
+/// Appends the hexadecimal digits of a word, except for the first `count` digits.
 pub(crate) fn push_digits_after_first(
     alloc: Global,
     bytes: &mut Vec<u8>,
@@ -129,7 +129,7 @@ pub(crate) fn push_digits_after_first(
     bytes.extend_from_slice(tail_from(&digits, count))
 }
 
-/// Appends a text, padded with trailing spaces to a width.
+/// Appends a text, followed by spaces up to `width` characters.
 #[tactic(auto, unfolding(crate::specs::Text::padded_text))]
 pub(crate) fn push_padded_text(
     bytes: &mut Vec<u8>,

@@ -49,7 +49,7 @@ fn push_assembly_of_code(
     }
 }
 
-/// Appends what an instruction wrote.
+/// Appends the text that says what an instruction wrote; nothing if it wrote nothing.
 #[tactic(auto, unfolding(crate::specs::Text::wrote_text))]
 pub(crate) fn push_wrote_text(
     alloc: Global,
@@ -90,7 +90,7 @@ fn push_register(bytes: &mut Vec<u8>, number: u8, value: u32) -> Result<(), Allo
     )
 }
 
-// Appends `NAME <- VALUE ` for a register and its loaded value, or nothing for a load into x0.
+// Appends `NAME <- VALUE ` for a register and its loaded value; nothing for a load into x0.
 fn push_loaded_text(bytes: &mut Vec<u8>, number: u8, value: u32) -> Result<(), AllocError>
     ensures { OnOk result (bytes.new.items ≡ bytes.old.items ++ loaded_text number value) }
 {
@@ -101,7 +101,7 @@ fn push_loaded_text(bytes: &mut Vec<u8>, number: u8, value: u32) -> Result<(), A
     push_text(bytes, " ")
 }
 
-// Appends the address of a load or a store, after its symbol.
+// Appends the address of a load or a store, preceded by its symbol if it has one.
 fn push_address(
     alloc: Global,
     bytes: &mut Vec<u8>,
@@ -115,7 +115,7 @@ fn push_address(
     push_word_digits(bytes, address)
 }
 
-// Appends the name of a symbol and the offset from it, with a space, or nothing if there is no symbol.
+// Appends the name of a symbol and the offset from it, followed by a space; nothing if there is no symbol.
 fn push_symbol_and_space(
     alloc: Global,
     bytes: &mut Vec<u8>,
@@ -131,7 +131,7 @@ fn push_symbol_and_space(
     push_text(bytes, " ")
 }
 
-/// Returns the name of a register, which is empty if there is no such register.
+/// Returns the name of the register `number`; empty if there is no such register.
 pub(crate) fn register_name_or_empty(number: u8) -> &'static str
     ensures { result.now ≡ register_name number }
 {
@@ -188,7 +188,7 @@ fn push_illegal(bytes: &mut Vec<u8>, code: Code) -> Result<(), AllocError>
     }
 }
 
-// Whether a run ended because the job's instruction set has no instruction for the encoding.
+// Whether a run ended with an illegal instruction: the job's instruction set has no instruction for the encoding.
 fn ends_by_illegal(end: RowEnd) -> bool
     ensures { result ≡ ends_by_illegal end }
 {
@@ -198,7 +198,7 @@ fn ends_by_illegal(end: RowEnd) -> bool
     }
 }
 
-/// Appends how a run ended.
+/// Appends the text that says how a run ended.
 #[tactic(auto, unfolding(crate::specs::Text::end_reason))]
 pub(crate) fn push_end_reason(bytes: &mut Vec<u8>, end: RowEnd) -> Result<(), AllocError>
     ensures { OnOk result (bytes.new.items ≡ bytes.old.items ++ end_reason end) }
@@ -214,7 +214,7 @@ pub(crate) fn push_end_reason(bytes: &mut Vec<u8>, end: RowEnd) -> Result<(), Al
     }
 }
 
-// Appends the value of a fault, which for most kinds is an address.
+// Appends the text about the value of a fault of this kind, which for most kinds is an address.
 #[tactic(auto, unfolding(crate::specs::Text::fault_value_text))]
 fn push_value_of_fault(bytes: &mut Vec<u8>, kind: FaultKind, value: u32) -> Result<(), AllocError>
     ensures { OnOk result (bytes.new.items ≡ bytes.old.items ++ fault_value_text kind value) }

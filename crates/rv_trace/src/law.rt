@@ -25,13 +25,13 @@ pub fn traces_show_the_end()
     ensures ended { (budget : ℕ) (s : State) → EndsThere (run_of budget s) s }
 {}
 
-/// Proves that a fetch in a state returns the instruction of the encoding that is shown for the state.
+/// Proves that a fetch in a state returns the instruction of the encoding that a trace shows for the state.
 pub fn codes_are_fetched()
     ensures { (s : State) (i : Instr) (size : ℕ) → fetch s.isa s.bus s.pc ≡ Ok (i, size)
         → (code : Code) × IsCodeOf s i size code }
 {}
 
-/// Proves that the value which a store outside the console is shown to have written is in memory after it. Shown register values are
+/// Proves that if a trace shows a store outside the console, its value is in memory after the store. The shown values of registers are
 /// correct by definition.
 pub fn stored_values_stand()
     ensures { (s t : State) (a v : ℕ) (w : Width) → step_of s ≡ Ok t

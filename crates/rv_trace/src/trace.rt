@@ -26,8 +26,8 @@ pub struct Trace {
     pub registers: [u32; 32],
 }
 
-/// Returns the trace of a run that completes `steps` steps: the last `last` instructions, or all if there are fewer, and where it ends.
-/// Takes the time of that run, and memory for each instruction shown.
+/// Returns the trace of a run that completes `steps` steps: the last `last` instructions, or all if there are fewer, and the state at the
+/// end. Takes the time of that run, and memory for each instruction shown.
 #[tactic(auto, unfolding(crate::specs::Trace::trace_of))]
 pub fn trace_run(
     alloc: Global,
@@ -67,7 +67,7 @@ pub fn trace_job(
     }
 }
 
-// Executes the next `count` instructions, as far as they complete, and returns them as a trace shows them.
+// Executes the next `count` instructions, or those before the first that does not complete, and returns them as a trace shows them.
 fn trace_next_steps(
     alloc: Global,
     machine: &mut Machine,

@@ -20,8 +20,8 @@ use rv_text::{Span, push_spans, push_symbol, push_symbol_in_brackets, push_text}
 use std::alloc::{AllocError, Global};
 
 /// Appends the text of a trace: where the run ended, the 32 registers with the symbols that they point to, a line for each completed
-/// instruction, and one for the instruction at the end with how it ended the run. Symbols come from the job's file; how the run ended comes
-/// from the job's row.
+/// instruction, and a line for the instruction at the end that says how the run ended. The symbols come from the job's file, and the ending
+/// from its row.
 #[tactic(auto, unfolding(crate::specs::Text::trace_text))]
 pub fn push_trace(
     alloc: Global,
@@ -55,7 +55,7 @@ fn push_ended_at_line(
     push_text(bytes, "\n")
 }
 
-// Appends the symbol of the pc in brackets, or nothing if it has none.
+// Appends the symbol of the pc in brackets; nothing if the pc has no symbol.
 fn push_symbol_of_pc(
     alloc: Global,
     bytes: &mut Vec<u8>,
@@ -105,7 +105,7 @@ fn push_register_line(
     push_text(bytes, "\n")
 }
 
-// Appends the symbol that a value points to, or nothing if there is none.
+// Appends two spaces and the symbol that a value points to; nothing if there is no symbol.
 fn push_symbol_of_value(
     alloc: Global,
     bytes: &mut Vec<u8>,
@@ -118,7 +118,7 @@ fn push_symbol_of_value(
     push_symbol_after_value(alloc, bytes, elf.symbol_of_value(value))
 }
 
-// Appends a gap and a symbol, or nothing if there is no symbol.
+// Appends two spaces and a symbol; nothing if there is no symbol.
 fn push_symbol_after_value(
     alloc: Global,
     bytes: &mut Vec<u8>,

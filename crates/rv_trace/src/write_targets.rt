@@ -34,7 +34,7 @@ pub(crate) enum WriteTarget {
     Store(u32, Width, u32),
 }
 
-/// Returns how an instruction accesses memory.
+/// Returns how an instruction accesses memory: as a load, as a store, or not at all.
 pub(crate) fn access_of(op: Op) -> Access
     ensures { result ≡ access_of op }
 {
@@ -47,7 +47,7 @@ pub(crate) fn access_of(op: Op) -> Access
     }
 }
 
-/// Returns the target of the write of the instruction with this encoding, which is at the machine's pc.
+/// Returns what the instruction at the machine's pc, which has this encoding, is going to write.
 pub(crate) fn write_target(machine: &Machine, code: Option<Code>) -> WriteTarget
     requires { code ≡ code_at (state_of machine.now).bus (state_of machine.now).pc }
     ensures value { result ≡ write_target (instr_at (state_of machine.now)) (state_of machine.now) }
@@ -62,7 +62,7 @@ pub(crate) fn write_target(machine: &Machine, code: Option<Code>) -> WriteTarget
     }
 }
 
-// Returns the target of the write of an instruction in the machine's current state.
+// Returns what an instruction is going to write in the machine's current state.
 fn instruction_write_target(access: Access, instr: Instr, machine: &Machine) -> WriteTarget
     requires { IsWellFormed instr }
     ensures value { result ≡ instruction_write_target access instr (state_of machine.now) }
@@ -89,7 +89,7 @@ pub fn accessed_address(machine: &Machine, instr: Instr) -> u32
         .wrapping_add(instr.imm.cast_unsigned())
 }
 
-// Returns the low bytes of a value, as many as the width has.
+// Returns the low bytes of a value, as many as the width says.
 fn low_bytes(value: u32, width: Width) -> u32
     ensures { result ≡ value % 2 ^ (8 * size_of width) }
 {
@@ -101,7 +101,7 @@ fn low_bytes(value: u32, width: Width) -> u32
 }
 
 impl WriteTarget {
-    /// Returns what was written, given the machine after the instruction.
+    /// Returns what the instruction wrote, given the machine after it.
     pub(crate) fn completed_write(self, machine: &Machine) -> WriteEffect
         requires { HasRegister self }
         ensures { result ≡ completed_write self (state_of machine.now) }

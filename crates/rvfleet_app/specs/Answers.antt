@@ -21,51 +21,52 @@ use Rattle.rvfleet_app.specs.FlatImage.{AreRawRows}
 
 -- ---- rejected arguments
 
--- whether the arguments are rejected: they make no request, or its path or its digits are invalid
+-- whether the arguments are rejected: they do not make a request, or the path or the digits of their request are invalid
 abbrev pub is_request_refused : Option Request → Bool
 is_request_refused (Some (raw budget)) = false
 is_request_refused (Some (one path budget digits)) = is_bad_image_request path digits
 is_request_refused (Some (run path workers group)) = is_bad_path path
 is_request_refused None = true
 
--- the error is one of a job list that the store may contain at the path of the request, given its contents if they are known
+-- the request runs the list at a path, and some contents that the store may have there are a list with this error; `known` are the store's
+-- contents, if they are known
 abbrev pub IsFaultOfRequest : Option Request → Option FileContents → JobError → Type 0
 IsFaultOfRequest (Some (raw budget)) known error = ⊥
 IsFaultOfRequest (Some (one path budget digits)) known error = ⊥
 IsFaultOfRequest (Some (run path workers group)) known error = IsPossibleListError known path error
 IsFaultOfRequest None known error = ⊥
 
--- a job list that the store may contain at the path of the request has an error
+-- the request runs the list at a path, and some contents that the store may have there are a list with an error
 abbrev pub HasFault : Option Request → Stored → Type 0
 HasFault request store = (error : JobError) × IsFaultOfRequest request store.known error
 
 -- ---- the rows of a request
 
--- whether a request reads a file
+-- whether a request reads a file from the store
 abbrev pub reads_store : Option Request → Bool
 reads_store (Some (raw budget)) = false
 reads_store (Some (one path budget digits)) = true
 reads_store (Some (run path workers group)) = true
 reads_store None = false
 
--- whether a request reads the input
+-- whether a request reads standard input
 abbrev pub reads_input : Option Request → Bool
 reads_input (Some (raw budget)) = true
 reads_input (Some (one path budget digits)) = false
 reads_input (Some (run path workers group)) = false
 reads_input None = false
 
--- the rows are those of the single job with this path, this budget and the console input that the digits represent
+-- `rows` has the row of the single job with this path, this budget and the console input that the digits encode
 abbrev pub AreImageRows : Stored → List ℕ → ℕ → Option (List ℕ) → List Row → Type 0
 AreImageRows store path budget digits rows = (script : List ℕ) × ((script_bytes digits ≡ Ok script)
     × AreJobRows store (single_image_jobs path budget script) rows)
 
--- the rows are those of the jobs of a list that the store may contain at a path
+-- `rows` are the rows of the jobs of a list that the store may have at the path
 abbrev pub AreListRows : Stored → List ℕ → List Row → Type 0
 AreListRows store path rows =
     (jobs : List Job) × (IsPossibleList store.known path jobs × AreJobRows store jobs rows)
 
--- the rows are those of a request, given the bytes of the input and the contents that the store may have
+-- `rows` are the rows in the report of a request, given the bytes of the input and the contents that the store may have
 abbrev pub AreRows : Option Request → Option (List ℕ) → Stored → List Row → Type 0
 AreRows (Some (raw budget)) input store rows = AreRawRows input budget rows
 AreRows (Some (one path budget digits)) input store rows = AreImageRows store path budget digits rows
@@ -74,33 +75,34 @@ AreRows None input store rows = ⊥
 
 -- ---- the report
 
--- whether a verdict is fail
+-- whether a verdict is `fail`
 abbrev pub is_fail_verdict : Verdict → Bool
 is_fail_verdict verdict.Unasked = false
 is_fail_verdict verdict.Pass = false
 is_fail_verdict verdict.Fail = true
 
--- whether some row has a failed verdict
+-- whether the verdict of some row is `fail`
 abbrev pub has_failed_row : List Row → Bool
 has_failed_row rows = list_any (λ row. is_fail_verdict row.verdict) rows
 
--- the exit status for rows: 1 if some verdict is fail, else 0
+-- the exit status of a report with these rows: 1 if the verdict of some row is `fail`, and otherwise 0
 abbrev pub verdicts_status : List Row → ℕ
 verdicts_status rows = if has_failed_row rows then 1 else 0
 
--- the report of these rows was written, and the status is that of the rows; `before` and `after` are the bytes written so far
+-- the report of these rows was written, and `status` is the exit status of this report; `before` and `after` are the bytes written before
+-- and after that
 pub record IsReportSent (before after : Option (List ℕ)) (status : ℕ) (rows : List Row) : Type 0 where
   pub appended : Appends before after (report_text rows)
   pub verdicts : status ≡ verdicts_status rows
 
--- a prefix of the report of these rows was written; `before` and `after` are the bytes written so far
+-- a prefix of the report of these rows was written; `before` and `after` are the bytes written before and after that
 abbrev pub IsReportPrefixWritten : Option (List ℕ) → Option (List ℕ) → List Row → Type 0
 IsReportPrefixWritten before after rows = AppendsBeginning before after (report_text rows)
 
 -- ---- the response
 
--- the response to arguments with this request: with status 0 or 1, the report of rows of the request was written; with 2, nothing was
--- written, because the request is rejected or its list has an error; with 3, nothing or a prefix of the report of rows of the request
+-- how the program responds to a request: if the status is 0 or 1, its report was written; if it is 2, nothing was written, because the
+-- request was rejected or its list has an error; if it is 3, nothing or a prefix of its report was written
 pub record Answers (request : Option Request) (input : Option (List ℕ)) (store : Stored)
     (before after : Option (List ℕ)) (status : ℕ) : Type 0 where
   pub reported : status ≡ 0 ⊎ status ≡ 1
@@ -113,7 +115,7 @@ pub record Answers (request : Option Request) (input : Option (List ℕ)) (store
 
 -- ---- the line on standard error
 
--- a line says why a request is rejected: invalid arguments, or the error of its list
+-- a line was written that says why a request is rejected: invalid arguments, or the error of its list
 abbrev pub ReportsRefusal : Option Request → Option FileContents
     → Option (List ℕ) → Option (List ℕ) → ℕ → ℕ → Type 0
 ReportsRefusal request known before after failures_before failures_after =
@@ -122,14 +124,14 @@ ReportsRefusal request known before after failures_before failures_after =
     ⊎ ((error : JobError) × (IsFaultOfRequest request known error
     × IsLinePut before after failures_before failures_after (fault_line error)))
 
--- whether the program can fail in this way for a request; without a request, it can only fail as it writes the help
+-- whether the program can have this failure while it handles the request; without a request, only while it writes the help
 abbrev pub may_fail : Option Request → Failure → Bool
 may_fail (Some (raw budget)) failure = is_failure_of_raw failure
 may_fail (Some (one path budget digits)) failure = is_failure_of_sending failure
 may_fail (Some (run path workers group)) failure = is_failure_of_list failure
 may_fail None failure = is_failure_of_sending failure
 
--- a line reports a failure that the request can have
+-- a line was written that reports a failure which the program can have while it handles the request
 abbrev pub ReportsFailure : Option Request → Option (List ℕ) → Option (List ℕ) → ℕ → ℕ → Type 0
 ReportsFailure request before after failures_before failures_after =
     (failure : Failure) × ((may_fail request failure ≡ true)
@@ -140,7 +142,7 @@ abbrev pub IsQuiet : Option (List ℕ) → Option (List ℕ) → ℕ → ℕ →
 IsQuiet before after failures_before failures_after =
     Keeps before after × (failures_after ≡ failures_before)
 
--- a line says why the status is 2 or 3; for 0 and 1, nothing is written
+-- if the status is 2 or 3, a line was written that says why; if it is 0 or 1, nothing was written
 pub record ReportsReason (request : Option Request) (known : Option FileContents)
     (before after : Option (List ℕ)) (failures_before failures_after : ℕ) (status : ℕ)
     : Type 0 where

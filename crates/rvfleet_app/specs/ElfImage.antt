@@ -7,21 +7,21 @@ use Rattle.rv_jobs.specs.declared_job.Job.{Job}
 use Rattle.rv_jobs.specs.Limits.{most_path, most_script}
 use Rattle.rv_jobs.specs.Jobs.{single_job}
 
--- whether the path is empty or too long, and so rejected
+-- whether the path is invalid: it is empty, or longer than `most_path` bytes
 abbrev pub is_bad_path : List ℕ → Bool
 is_bad_path path = (length path == 0) || nat_lt most_path (length path)
 
--- the bytes that the hexadecimal digits represent, or why they represent none; without digits there are no bytes
+-- the bytes that the hexadecimal digits encode, or the error if they are invalid; no bytes if no digits are given
 abbrev pub script_bytes : Option (List ℕ) → Result (List ℕ) FromHexError
 script_bytes None = Ok []
 script_bytes (Some digits) = decode_of digits
 
--- whether the digits are rejected: they are not hexadecimal, or represent more bytes than a console input may have
+-- whether the result of decoding the digits is rejected: they are not hexadecimal, or encode more bytes than a console input may have
 abbrev pub is_bad_script : Result (List ℕ) FromHexError → Bool
 is_bad_script (Ok script) = nat_lt most_script (length script)
 is_bad_script (Err _) = true
 
--- whether the arguments are rejected for their path or their digits
+-- whether the request to run an image is rejected because its path or its digits are invalid
 abbrev pub is_bad_image_request : List ℕ → Option (List ℕ) → Bool
 is_bad_image_request path digits = is_bad_path path || is_bad_script (script_bytes digits)
 

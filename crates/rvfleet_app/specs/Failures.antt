@@ -15,57 +15,57 @@ use Rattle.rvfleet_app.specs.declared.error.Failure.TheVariants as failure
 use Rattle.rvfleet_app.specs.declared.error.RunError.{RunError}
 use Rattle.rvfleet_app.specs.declared.error.RunError.TheVariants as run
 
--- the error of a run whose read of the input failed in this way
+-- the error with which a run ends if reading its input failed with this error
 abbrev pub input_read_failure : InputError → RunError
 input_read_failure input.OutOfMemory = run.OutOfMemory
 input_read_failure (input.Failed reason) = run.ReadFailed
 
--- the error of a run whose report was not written, for this reason
+-- the error with which a run ends if writing its report failed with this error
 abbrev pub write_failure : WriteError → RunError
 write_failure write.OutOfMemory = run.OutOfMemory
 write_failure write.Failed = run.WriteFailed
 
--- the failure of the program for an error of the run of a flat image
+-- the failure of the program if running a flat image failed with this error
 abbrev pub run_failure : RunError → Failure
 run_failure run.OutOfMemory = failure.OutOfMemory
 run_failure run.ReadFailed = failure.ReadFailed
 run_failure run.WriteFailed = failure.WriteFailed
 
--- the failure of the program if the report of a plan was not made, for this reason
+-- the failure of the program if computing the report of a plan failed with this error
 abbrev pub fleet_failure : FleetError → Failure
 fleet_failure fleet.OutOfMemory = failure.OutOfMemory
 fleet_failure fleet.NoWorker = failure.NoWorker
 
--- the failure of the program if the report of a plan was not written completely, for this reason
+-- the failure of the program if writing the report of a plan failed with this error
 abbrev pub send_failure : WriteError → Failure
 send_failure write.OutOfMemory = failure.OutOfMemory
 send_failure write.Failed = failure.WriteFailed
 
--- whether writing a report or the help can fail in this way
+-- whether writing a report or the help can lead to this failure
 abbrev pub is_failure_of_sending : Failure → Bool
 is_failure_of_sending failure.OutOfMemory = true
 is_failure_of_sending failure.WriteFailed = true
 is_failure_of_sending _ = false
 
--- whether running a flat image, which reads the input, can fail in this way
+-- whether running a flat image, which reads the input, can lead to this failure
 abbrev pub is_failure_of_raw : Failure → Bool
 is_failure_of_raw failure.OutOfMemory = true
 is_failure_of_raw failure.ReadFailed = true
 is_failure_of_raw failure.WriteFailed = true
 is_failure_of_raw _ = false
 
--- whether running a job list, which uses a file and workers but not the input, can fail in this way
+-- whether running a job list, which uses a file and workers but not the input, can lead to this failure
 abbrev pub is_failure_of_list : Failure → Bool
 is_failure_of_list failure.ReadFailed = false
 is_failure_of_list _ = true
 
--- the failure of reading a list is one that running a job list can have; no claim about a list with an error
+-- if reading a list ended with a failure, it is one that running a job list can lead to; always holds if the list has an error
 abbrev pub IsListFailure : ListError → Type 0
 IsListFailure (Refused error) = Unit {0}
 IsListFailure (Failed failure) = is_failure_of_list failure ≡ true
 
--- the result of reading a list for this error of its parser: the list is rejected for it, but running out of memory is a failure of the
--- program
+-- the result of reading a list whose parser returned this error: the list is rejected because of the error, or, if memory ran out, the
+-- program has a failure
 abbrev pub IsListError : JobError → ListError → Type 0
 IsListError error (Refused why) = (why ≡ error) × (error.what ≡ what.OutOfMemory → ⊥)
 IsListError error (Failed why) = (why ≡ failure.OutOfMemory) × (error.what ≡ what.OutOfMemory)

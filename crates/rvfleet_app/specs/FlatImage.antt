@@ -3,15 +3,15 @@ use Rattle.std.specs.Prelude.{◌≡◌, ℕ, List, [], ◌∷◌, take, Option,
 use Rattle.rv_fleet.specs.declared_row.Row.{Row}
 use Rattle.rv_fleet.specs.Flat.{flat_row_of}
 
--- the maximum number of bytes that are read: one more than an image may have
+-- the maximum number of bytes that are read: one more than a flat image may have
 abbrev pub most_read : ℕ
 most_read = 1048577
 
--- the bytes are the first ones of the input, up to the maximum that is read; any bytes if the input is not known
+-- `bytes` are the first bytes of the input, at most `most_read` of them; any bytes if the input is not known
 abbrev pub IsInputBeginning : Option (List ℕ) → List ℕ → Type 0
 IsInputBeginning input bytes = IfSome input (λ known. bytes ≡ take most_read known)
 
--- the only row is that of the flat image at the beginning of the input, run within this budget
+-- `rows` has only the row of the flat image at the beginning of the input, run within this budget
 abbrev pub AreRawRows : Option (List ℕ) → ℕ → List Row → Type 0
 AreRawRows input budget rows =
     (bytes : List ℕ) × (IsInputBeginning input bytes × (rows ≡ flat_row_of bytes budget ∷ []))

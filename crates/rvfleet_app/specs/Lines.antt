@@ -10,20 +10,20 @@ use Rattle.rv_jobs.specs.declared_error.JobError.{JobError}
 use Rattle.rvfleet_app.specs.declared.error.Failure.{Failure}
 use Rattle.rvfleet_app.specs.declared.error.Failure.TheVariants as failure
 
--- a line on standard error: the program's name, and a text
+-- a line on standard error: `rvfleet: ` and a text
 abbrev pub program_line : List ℕ → List ℕ
 program_line text = line (codes "rvfleet: " ++ text)
 
--- the line for invalid arguments
+-- the line on standard error for invalid arguments
 abbrev pub bad_words_line : List ℕ
 bad_words_line = program_line (codes "bad words")
 
--- the line for a list's error: the number of the job, or 0 for the whole list, and the name of the error
+-- the line on standard error for an error in a list: the number of the job, or 0 for the whole list, and the name of the error
 abbrev pub fault_line : JobError → List ℕ
 fault_line error =
     program_line (codes "job " ++ decimal error.job ++ codes ": " ++ what_name error.what)
 
--- the text for a failure
+-- the description of a failure in its line on standard error
 abbrev pub failure_name : Failure → List ℕ
 failure_name failure.OutOfMemory = codes "out of memory"
 failure_name failure.NoWorker = codes "no worker"
@@ -32,7 +32,7 @@ failure_name failure.ListTooLong = codes "list too long"
 failure_name failure.ReadFailed = codes "read failed"
 failure_name failure.WriteFailed = codes "write failed"
 
--- the line for a failure
+-- the line on standard error for a failure
 abbrev pub failure_line : Failure → List ℕ
 failure_line failure = program_line (failure_name failure)
 

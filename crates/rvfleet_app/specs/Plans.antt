@@ -18,32 +18,32 @@ pub record Stored : Type 0 where
   pub before : ℕ
   pub after : ℕ
 
--- the record of a store with these contents and these numbers of unreadable files
+-- a store with these contents, if they are known, and these numbers of unreadable files before and after the run
 abbrev pub stored_contents : Option FileContents → ℕ → ℕ → Stored
 stored_contents known before after = record { known = known; before = before; after = after }
 
--- the plan has these jobs and, for each of their paths, a result that the store may return; each unreadable one is counted
+-- the plan has the jobs of `list` and, for each of their paths, a result that the store may return; each unreadable file is counted
 pub record IsPossiblePlan (store : Stored) (list : List Job) (plan : Planned) : Type 0 where
   pub jobs : plan.jobs ≡ list
   pub paths : paths_of plan.answers ≡ paths_used list
   pub kept : AgreeWithContents store.known plan.answers
   pub faults : store.after ≡ one_more_times store.before (unreadable_count plan.answers)
 
--- the rows are those of a plan of these jobs, with results that the store may return for their paths
+-- `rows` are the rows of a plan of these jobs, with results that the store may return for their paths
 abbrev pub AreJobRows : Stored → List Job → List Row → Type 0
 AreJobRows store jobs rows = (plan : Planned) × (IsPossiblePlan store jobs plan × (rows ≡ rows_of plan))
 
--- the jobs are those of a list that the store may contain at a path
+-- `jobs` are the jobs of a list that the store may have at the path
 abbrev pub IsPossibleList : Option FileContents → List ℕ → List Job → Type 0
 IsPossibleList known path jobs =
     (list : List ℕ) × (IsKeptOf known path (Content list) × (job_list_of list ≡ Ok jobs))
 
--- a list that the store may contain at a path has this error
+-- the store may have a list with this error at the path
 abbrev pub IsPossibleListError : Option FileContents → List ℕ → JobError → Type 0
 IsPossibleListError known path error =
     (list : List ℕ) × (IsKeptOf known path (Content list) × (job_list_of list ≡ Err error))
 
--- if reading a list ended because the list has an error, a list that the store may contain at the path has this error
+-- if reading a list ended because of an error in the list, the store may have a list with this error at the path
 abbrev pub IsListFault : Option FileContents → List ℕ → ListError → Type 0
 IsListFault known path (Refused error) = IsPossibleListError known path error
 IsListFault known path (Failed failure) = Unit {0}

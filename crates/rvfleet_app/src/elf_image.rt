@@ -48,8 +48,7 @@ pub fn is_bad_path(path: &str) -> bool
     path.is_empty() || MOST_PATH < path.len()
 }
 
-/// Returns the console input that hexadecimal digits of either case represent; it is empty without digits. Digits that are rejected are an
-/// error.
+/// Returns the console input that hexadecimal digits of either case encode; empty if no digits are given. Invalid digits are an error.
 pub fn read_script(alloc: Global, digits: Option<&str>) -> Result<Vec<u8>, ScriptError>
     ensures value { IfOk result
         (λ script. script_bytes (option_map (λ text. text.now) digits.entry) ≡ Ok script.items) }
@@ -69,7 +68,7 @@ pub fn read_script(alloc: Global, digits: Option<&str>) -> Result<Vec<u8>, Scrip
 }
 
 /// Runs the ELF image at a path of the store, which is read once, and writes its report to the sink. If the path cannot be read, the report
-/// has a row that says so. Returns the exit status of the report's verdicts.
+/// has a row that says so. Returns the exit status of the report.
 pub fn run_image<S: Store, O: Sink>(
     alloc: Global,
     run: ImageRun<'_>,

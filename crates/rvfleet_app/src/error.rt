@@ -59,6 +59,7 @@ impl From<AllocError> for RunError {
 
     ghost from_gives = { λ _ run. run ≡ OutOfMemory };
 
+    // Returns `OutOfMemory`.
     fn from(_: AllocError) -> RunError {
         RunError::OutOfMemory
     }
@@ -69,6 +70,7 @@ impl From<InputError> for RunError {
 
     ghost from_gives = { λ error run. run ≡ input_read_failure error };
 
+    // Returns the error with which a run ends if reading its input failed with this error.
     fn from(error: InputError) -> RunError {
         match error {
             InputError::OutOfMemory => RunError::OutOfMemory,
@@ -82,6 +84,7 @@ impl From<WriteError> for RunError {
 
     ghost from_gives = { λ error run. run ≡ write_failure error };
 
+    // Returns the error with which a run ends if writing its report failed with this error.
     fn from(error: WriteError) -> RunError {
         match error {
             WriteError::OutOfMemory => RunError::OutOfMemory,
@@ -95,6 +98,7 @@ impl From<AllocError> for Failure {
 
     ghost from_gives = { λ _ failure. failure ≡ OutOfMemory };
 
+    // Returns `OutOfMemory`.
     fn from(_: AllocError) -> Failure {
         Failure::OutOfMemory
     }
@@ -105,6 +109,7 @@ impl From<FleetError> for Failure {
 
     ghost from_gives = { λ error failure. failure ≡ fleet_failure error };
 
+    // Returns the failure of the program if computing a report failed with this error.
     fn from(error: FleetError) -> Failure {
         match error {
             FleetError::OutOfMemory => Failure::OutOfMemory,
@@ -118,6 +123,7 @@ impl From<RunError> for Failure {
 
     ghost from_gives = { λ error failure. failure ≡ run_failure error };
 
+    // Returns the failure of the program if running a flat image failed with this error.
     fn from(error: RunError) -> Failure {
         match error {
             RunError::OutOfMemory => Failure::OutOfMemory,
@@ -132,6 +138,7 @@ impl From<WriteError> for Failure {
 
     ghost from_gives = { λ error failure. failure ≡ send_failure error };
 
+    // Returns the failure of the program if writing a report failed with this error.
     fn from(error: WriteError) -> Failure {
         match error {
             WriteError::OutOfMemory => Failure::OutOfMemory,

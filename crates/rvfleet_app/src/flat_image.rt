@@ -46,7 +46,7 @@ pub fn run_raw<R: Read, O: Sink>(
     Ok(())
 }
 
-// Reads the reader's first bytes, at most one more than the longest image has, so that a longer one is detected.
+// Returns the first bytes of the reader, at most one more than a flat image may have, so that a longer image is detected.
 fn read_flat_image<R: Read>(alloc: Global, input: &mut R) -> Result<Vec<u8>, InputError>
     ensures first { IfOk result (λ bytes. IsInputBeginning (R.remaining input.old) bytes.items) }
     ensures left { OnOk result

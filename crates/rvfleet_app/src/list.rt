@@ -16,7 +16,7 @@ use std::alloc::Global;
 use std::sync::Wait;
 use std::thread::Threads;
 
-/// Reads the job list at a path of the store. A list with an error is `Refused`; anything else that goes wrong is `Failed`.
+/// Reads the job list at a path of the store, and returns its jobs. An error in the list is `Refused`; any other error is `Failed`.
 pub fn read_list<S: Store>(alloc: Global, store: &mut S, path: &str) -> Result<JobList, ListError>
     ensures same { S.contents store.new ≡ S.contents store.old }
     ensures listed { IfOk result (IsPossibleList (S.contents store.old) path.now) }
@@ -34,7 +34,7 @@ pub fn read_list<S: Store>(alloc: Global, store: &mut S, path: &str) -> Result<J
     }
 }
 
-// Returns the failure of the program for an error of reading the list's file.
+// Returns the failure of the program if reading the list's file failed with this error.
 fn list_read_failure(error: ReadError) -> Failure
     ensures { is_failure_of_list result ≡ true }
 {
@@ -45,7 +45,8 @@ fn list_read_failure(error: ReadError) -> Failure
     }
 }
 
-// Returns why there is no list, for an error of its parser: out of memory is a failure of the program, not an error in the list.
+// Returns the result of reading a list whose parser returned this error: the list is rejected, or, if memory ran out, the program has a
+// failure.
 fn job_list_error(error: JobError) -> ListError
     ensures { IsListError error result }
 {
@@ -55,8 +56,8 @@ fn job_list_error(error: JobError) -> ListError
     }
 }
 
-/// Runs jobs on the workers of a crew, with the results that a store returns for their paths, each of which is read once, and writes the
-/// report to the sink. Returns the exit status of the report's verdicts.
+/// Runs jobs on the workers of a crew, reading each of their paths from the store once, and writes the report to the sink. Returns the exit
+/// status of the report.
 #[tactic(auto, using(crate::proofs::Failing::fleet_why, crate::proofs::Failing::list_why))]
 pub fn run_jobs<R: Threads + Wait, S: Store, O: Sink, G: Gate>(
     crew: &Crew<'_, R>,

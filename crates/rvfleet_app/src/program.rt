@@ -31,9 +31,10 @@ use std::io::Read;
 use std::sync::Wait;
 use std::thread::Threads;
 
-/// Responds to the arguments, the first of which is the program's name, and returns the exit status: 0 if a report or the help was written,
-/// 1 if a report with a failed verdict was, 2 if the arguments or a job list are rejected, and 3 if memory or a thread could not be
-/// obtained, a read failed or a write failed. A line on `errors` says why a status is 2 or 3; a failure to write that line changes nothing.
+/// Responds to the arguments, the first of which is the program's name, and returns the exit status: 0 if the help or a report was written
+/// in which no verdict is `fail`, 1 if a report with a verdict `fail` was written, 2 if the arguments or a job list are rejected, and 3 if
+/// memory or a thread could not be obtained, a read failed or a write failed. A line on `errors` says why a status is 2 or 3; a failure to
+/// write that line changes nothing.
 pub fn run_words<'a, R: Threads + Wait, T: AsStr, S: Store, I: Read, O: Sink, E: Sink, G: Gate>(
     rt: &R,
     alloc: Global,

@@ -10,7 +10,7 @@ use crate::status::{DONE, SOME_FAIL};
 use rv_fleet::{Report, Row, Sink, Verdict, write_report};
 use std::alloc::Global;
 
-/// Writes a report to the sink, and returns the exit status of its verdicts.
+/// Writes a report to the sink, and returns its exit status.
 #[tactic(auto, using(crate::proofs::Failing::send_why))]
 pub fn send_report<O: Sink>(alloc: Global, report: &Report, out: &mut O) -> Result<u8, Failure>
     ensures reported { IfOk result
@@ -26,7 +26,7 @@ pub fn send_report<O: Sink>(alloc: Global, report: &Report, out: &mut O) -> Resu
     Ok(verdicts_status(report.rows.as_slice()))
 }
 
-// Returns the exit status for rows: 1 if some verdict is fail, else 0.
+// Returns the exit status of a report with these rows: 1 if the verdict of some row is `fail`, and otherwise 0.
 fn verdicts_status(rows: &[Row]) -> u8
     ensures value { result ≡ verdicts_status rows.now }
     ensures range { result ≤ 1 }
@@ -38,14 +38,14 @@ fn verdicts_status(rows: &[Row]) -> u8
     }
 }
 
-// Whether some row has a failed verdict.
+// Whether the verdict of some row is `fail`.
 fn has_failed_row(rows: &[Row]) -> bool
     ensures { result ≡ has_failed_row rows.now }
 {
     rows.iter().any(|row| is_row_failed(row))
 }
 
-// Whether a row has a failed verdict.
+// Whether the verdict of the row is `fail`.
 fn is_row_failed(row: &Row) -> bool
     ensures { result ≡ is_fail_verdict row.now.verdict }
 {

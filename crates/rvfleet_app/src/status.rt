@@ -59,8 +59,8 @@ pub fn put_failure<E: Sink>(errors: &mut E, failure: Failure) -> u8
     FAILED
 }
 
-/// Writes the line for arguments that the process cannot provide, and returns the status: 3 if memory ran out; 2 for any other error, such
-/// as arguments that are not UTF-8.
+/// Reports that the program cannot get its arguments, and returns the status: 3 if memory ran out; 2 for any other error, such as arguments
+/// that are not UTF-8.
 pub fn refuse_unreadable_words<E: Sink>(error: &io::Error, errors: &mut E) -> u8
     ensures status { result ≡ BAD_WORDS ⊎ result ≡ FAILED }
     ensures refused { result ≡ BAD_WORDS
@@ -76,7 +76,7 @@ pub fn refuse_unreadable_words<E: Sink>(error: &io::Error, errors: &mut E) -> u8
     }
 }
 
-// Returns the line for a failure.
+// Returns the line on standard error for a failure.
 fn failure_line(failure: Failure) -> &'static str
     ensures { result.now ≡ failure_line failure }
 {

@@ -44,7 +44,7 @@ fn put_word(text: &mut String, word: &str) -> Result<(), AllocError> {
     text.push_str(word)
 }
 
-// Returns the part of a report's line that a summary keeps: all of the last line, the rest of a line whose first word is in `view`, and
+// Returns the part of a report's line that a summary has: the whole last line, the rest of a line whose first word is in `view`, and
 // nothing of any other line.
 fn kept<'a>(view: &str, line: &'a str) -> &'a str {
     match line.split_once(' ') {
@@ -54,8 +54,8 @@ fn kept<'a>(view: &str, line: &'a str) -> &'a str {
     }
 }
 
-// Returns the summary of an output: the reads if `view` requests them, the status, the error output, and what is kept of the report's
-// lines, separated by spaces.
+// Returns the summary of an output, separated by spaces: the reads if `view` requests them, the status, the error output, and the parts of
+// the report's lines that `kept` returns.
 fn summary(alloc: Global, view: &str, told: &str) -> Result<String, AllocError> {
     let mut text = String::new(alloc);
     if view.contains("reads") {
@@ -69,7 +69,8 @@ fn summary(alloc: Global, view: &str, told: &str) -> Result<String, AllocError> 
     Ok(text)
 }
 
-// Returns what is compared of an output: everything after the number of bars in `view`, or the summary for its words.
+// Returns the part of an output that is compared: if `view` is a number, everything after that many bars, and otherwise the summary for the
+// words in `view`.
 fn shown(alloc: Global, view: &str, told: &str) -> Result<String, AllocError> {
     match view.parse::<usize>() {
         Ok(bars) => {
@@ -80,7 +81,7 @@ fn shown(alloc: Global, view: &str, told: &str) -> Result<String, AllocError> {
     }
 }
 
-// Returns what is compared of the output for a row; `ask` is the form of the input.
+// Returns the part of the output for a row that is compared; `ask` is the form of the input.
 fn answer(rt: &(impl Threads + Wait), alloc: Global, ask: &str, row: &str) -> Result<String, Fail> {
     let case = written(alloc, ask, row)?;
     let told = told(rt, alloc, case.as_str())?;
@@ -113,7 +114,7 @@ fn check_numbered(
     check_row(rt, alloc, ask, wanted, row.as_str())
 }
 
-// Checks the outputs for a line: one row, or as many as it says, with their numbers.
+// Checks the outputs for a line: for one row, or for as many numbered rows as the line says.
 fn check_line(
     rt: &(impl Threads + Wait),
     alloc: Global,
@@ -128,7 +129,7 @@ fn check_line(
     Ok(())
 }
 
-// Checks that a table has as many lines as its form of the input says, and checks the outputs for each.
+// Checks that a table has as many lines as its form of the input says, and checks the outputs for each line.
 fn check_parts(
     rt: &(impl Threads + Wait),
     alloc: Global,

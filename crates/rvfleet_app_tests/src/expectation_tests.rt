@@ -132,7 +132,7 @@ rvfleet run jobs --workers 4
 rvfleet run jobs --workers 64
 ";
 
-// Verdicts compare the console, the end and the exit code of a run with what the job expects.
+// Verdicts compare the console, the end and the exit code of a run with the job's expectations.
 #[test]
 fn judges_consoles_and_endings(rt: HostRuntime) -> Result<(), Fail> {
     check(&rt, rt.alloc(), &[RUNS, FULL_CONSOLES, REFERRING, NAMING])

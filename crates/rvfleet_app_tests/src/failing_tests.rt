@@ -142,8 +142,8 @@ raw | 2 | 0;
 run jobs | 3 | 1;jobs;
 ";
 
-// After a failed read nothing is written, and after a failed write nothing more. The status does not depend on whether the error line can
-// be written.
+// After a failed read nothing is written, and after a failed write nothing more is written. The status does not depend on whether the error
+// line can be written.
 #[test]
 fn stops_where_a_read_or_a_put_fails(rt: HostRuntime) -> Result<(), Fail> {
     let tables = [

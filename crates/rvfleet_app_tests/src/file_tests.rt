@@ -28,7 +28,7 @@ fn runs_a_file(rt: HostRuntime) -> Result<(), Fail> {
     agree(line, told.as_str(), IMAGE_REPORT)
 }
 
-// Reads the file at a path, and returns as text whether it has these bytes, or why it was not read.
+// Reads the file at a path, and returns as text whether it has these bytes, or the reason why it was not read.
 fn answer(rt: &HostRuntime, path: &str, bytes: &[u8]) -> &'static str {
     let mut store = FileStore::new(rt);
     match store.read(rt.alloc(), path) {
@@ -62,7 +62,7 @@ fn check_file_row(rt: &HostRuntime, line: &str) -> Result<(), Fail> {
     agree(line, answer(rt, path, &bytes), "unreadable")
 }
 
-// The store returns the bytes of files, or why there are none.
+// The store returns the bytes of files, or the reason why they cannot be read.
 #[test]
 fn reads_files(rt: HostRuntime) -> Result<(), Fail> {
     for line in FILES.lines() {

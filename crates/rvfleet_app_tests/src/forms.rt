@@ -50,7 +50,7 @@ fn put_each(text: &mut String, form: &str, count: usize) -> Result<(), AllocErro
     Ok(())
 }
 
-// Appends a text as often as `count` says. It is fast, because the count is often millions.
+// Appends a text `count` times. It is fast, because the count is often in the millions.
 fn put_same(text: &mut String, form: &str, count: usize) -> Result<(), AllocError> {
     for _ in 0..count {
         text.push_str(form)?;
@@ -58,7 +58,7 @@ fn put_same(text: &mut String, form: &str, count: usize) -> Result<(), AllocErro
     Ok(())
 }
 
-// Appends a part: the text after `3 times ` three times, any other part once.
+// Appends a part: for `3 times TEXT` the text three times, and any other part once.
 fn put_times(text: &mut String, part: &str) -> Result<(), AllocError> {
     let (count, form) = part.split_once(" times ").unwrap_or(("1", part));
     let count = count.parse::<usize>().unwrap_or(0);
@@ -69,13 +69,13 @@ fn put_times(text: &mut String, part: &str) -> Result<(), AllocError> {
     }
 }
 
-// Returns the first bytes of a text; if there are fewer, a text that no test expects.
+// Returns the first `count` bytes of a text; if there are fewer, a text that no test expects.
 fn first_bytes<'a>(count: &str, text: &'a str) -> &'a str {
     let count = count.parse::<usize>().unwrap_or(usize::MAX);
     text.get(..count).unwrap_or("more than there are")
 }
 
-// Appends a part: the first three bytes of the text after `3 bytes of `, any other part by `put_times`.
+// Appends a part: for `3 bytes of TEXT` the first three bytes of the text, and any other part as `put_times` does.
 fn put_part(text: &mut String, part: &str) -> Result<(), AllocError> {
     match part.split_once(" bytes of ") {
         Some((count, whole)) => text.push_str(first_bytes(count, whole)),
@@ -83,7 +83,7 @@ fn put_part(text: &mut String, part: &str) -> Result<(), AllocError> {
     }
 }
 
-// Returns the parts of a text, separated by ` + `, as one text.
+// Returns the text that a form describes: its parts, which are separated by ` + `, one after another.
 fn expanded(alloc: Global, form: &str) -> Result<String, AllocError> {
     let mut text = String::new(alloc);
     for part in form.split(" + ") {
@@ -92,7 +92,7 @@ fn expanded(alloc: Global, form: &str) -> Result<String, AllocError> {
     Ok(text)
 }
 
-/// Returns the text of a form that a row fills.
+/// Returns the text that a form describes with the cells of a row.
 pub(crate) fn written(alloc: Global, form: &str, row: &str) -> Result<String, AllocError> {
     let text = filled(alloc, form, row)?;
     expanded(alloc, text.as_str())

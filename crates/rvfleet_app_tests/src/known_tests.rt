@@ -21,6 +21,7 @@ impl<'a> Store for KnownStore<'a> {
 
     ghost faulted = { λ _. 0 };
 
+    // Returns the bytes of the store, whatever the path; an error if there are too many.
     fn read(&mut self, alloc: Global, _path: &str) -> Result<Vec<u8>, ReadError> {
         if 16_777_216 < self.bytes.len() {
             return Err(ReadError::TooLong);
@@ -28,6 +29,7 @@ impl<'a> Store for KnownStore<'a> {
         self.bytes.to_vec(alloc).map_err(|_| ReadError::OutOfMemory)
     }
 
+    // Returns 0: every file is readable.
     fn faults(&self) -> u64 {
         0
     }

@@ -32,7 +32,7 @@ impl<'a> SampleStore<'a> {
         }
     }
 
-    // Returns the file at a path, unless this read is one of those that fail.
+    // Returns the bytes of the file at a path, or an error if this read must fail.
     fn bytes(&self, alloc: Global, path: &str) -> Result<Vec<u8>, SampleError> {
         let faults = part(self.case, 5);
         if self.reads == number(faults, "no_memory=") {
@@ -48,7 +48,7 @@ impl<'a> SampleStore<'a> {
     }
 }
 
-// Returns the description of the file at a path: the one on its line, or, if it has no line, the path itself, up to a `#`.
+// Returns the description of the file at a path: the description on its line or, if it has no line, the path itself up to a `#`.
 fn sample_at<'a>(files: &'a str, path: &'a str) -> &'a str {
     for line in files.lines() {
         let (at, sample) = line.split_once(" = ").unwrap_or(("", ""));
@@ -59,7 +59,7 @@ fn sample_at<'a>(files: &'a str, path: &'a str) -> &'a str {
     path.split('#').next().unwrap_or("")
 }
 
-// Returns the file that this text describes.
+// Returns the bytes of the file that this text describes.
 fn bytes_of(alloc: Global, sample: &str) -> Result<Vec<u8>, SampleError> {
     let (kind, text) = sample.split_once(' ').unwrap_or((sample, ""));
     match kind {
@@ -76,6 +76,7 @@ impl<'a> Store for SampleStore<'a> {
 
     ghost faulted = { λ store. store.faults };
 
+    // Records the path, and returns the bytes of the file at it, or an error.
     fn read(&mut self, alloc: Global, path: &str) -> Result<Vec<u8>, ReadError> {
         self.reads = self.reads.saturating_add(1);
         if self.log.push_str(path).is_err() || self.log.push_str(";").is_err() {
@@ -92,6 +93,7 @@ impl<'a> Store for SampleStore<'a> {
         }
     }
 
+    // Returns how many reads found a file unreadable.
     fn faults(&self) -> u64 {
         self.faults
     }

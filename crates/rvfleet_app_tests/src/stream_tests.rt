@@ -14,6 +14,7 @@ struct CountingWriter {
 }
 
 impl Write for CountingWriter {
+    // Counts the write, and accepts bytes, or fails if it is the write that must fail.
     fn write(&mut self, bytes: &[u8]) -> io::Result<usize> {
         self.writes = self.writes.saturating_add(1);
         if self.writes == self.fails_at {
@@ -22,6 +23,7 @@ impl Write for CountingWriter {
         Ok(bytes.len().min(4))
     }
 
+    // Counts the flush, and fails if flushes must fail.
     fn flush(&mut self) -> io::Result<()> {
         self.flushes = self.flushes.saturating_add(1);
         if self.flush_fails {
@@ -31,8 +33,8 @@ impl Write for CountingWriter {
     }
 }
 
-// Writes ten bytes to a stream over a writer that fails in this way. Returns whether all were accepted, the number of failures, and the
-// numbers of writes and of flushes of the writer.
+// Writes ten bytes to a stream over a writer whose write number `fails_at`, or whose flushes, fail. Returns whether all bytes were
+// accepted, the number of failures, and the numbers of writes and of flushes.
 fn put_ten(fails_at: u64, flush_fails: bool) -> (bool, u64, u64, u64) {
     let mut stream = StreamSink::new(CountingWriter {
         writes: 0,
@@ -46,7 +48,7 @@ fn put_ten(fails_at: u64, flush_fails: bool) -> (bool, u64, u64, u64) {
     (taken, failures, writer.writes, writer.flushes)
 }
 
-// Each write to the sink is one write and one flush; a failed one is not tried again, and counts as one failure.
+// Each write to the sink makes one write and one flush of the stream; a failed write is not repeated, and counts as one failure.
 #[test]
 fn puts_into_streams(rt: HostRuntime) {
     let whole = put_ten(0, false) == (true, 0, 3, 3);

@@ -11,7 +11,7 @@ use std::sync::Wait;
 use std::test::Fail;
 use std::thread::Threads;
 
-/// Returns the number after a name, such as `put_most=`, in a text of words; the greatest number if there is none.
+/// Returns the number after a name, such as `put_most=`, in a text of words; the greatest number if the name does not occur.
 pub(crate) fn number(faults: &str, name: &str) -> usize {
     let (_, rest) = faults.split_once(name).unwrap_or(("", ""));
     let number = rest.split(' ').next().unwrap_or("");
@@ -52,6 +52,7 @@ impl Sink for MemorySink {
 
     ghost failed = { λ sink. sink.failures };
 
+    // Accepts leading bytes, or fails if it is the write that must fail.
     fn put(&mut self, bytes: &[u8]) -> Result<usize, SinkFailed> {
         let count = bytes.len().min(self.most.max(1));
         let fails = self.puts == self.fails_behind && self.failures == 0;
@@ -63,6 +64,7 @@ impl Sink for MemorySink {
         Err(SinkFailed)
     }
 
+    // Returns the number of failed writes.
     fn failures(&self) -> u64 {
         self.failures
     }
@@ -77,6 +79,7 @@ struct MemoryReader<'a> {
 }
 
 impl<'a> Read for MemoryReader<'a> {
+    // Copies the next bytes of the input to the buffer, and returns how many, or fails if it is the read that must fail.
     fn read(&mut self, buffer: &mut [u8]) -> io::Result<usize> {
         let count = self.bytes.len().min(buffer.len()).min(self.most);
         if count == 0 && self.fails {

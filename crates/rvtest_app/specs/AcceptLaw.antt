@@ -38,14 +38,15 @@ pub record IsStoreAfter (written : List CommittedFile) (before after : FileConte
   -- a path that leads to no written file keeps its contents
   pub others : (path : List ℕ) → (after path ≡ before path) ⊎ Any (λ file. leads file.path ≡ leads path) written
 
--- golden files whose paths lead to one file, by `leads`, get the same text
+-- any two of the golden files whose resolved paths `leads` maps to the same file have equal outcomes, so both get the same new text
 abbrev pub HaveOneTextEach : (List ℕ → List ℕ) → List GoldenFile → Type 0
 HaveOneTextEach leads files = All (λ (file : GoldenFile). All (λ (other : GoldenFile).
     leads file.resolved_path ≡ leads other.resolved_path → file.target.fate ≡ other.target.fate) files) files
 
 -- ---- the job
 
--- `job` is at index `place` of the list, it is accepted, none of its golden files is skipped, and it has no `same_as`
+-- `job` is the job at index `place` of the list in the summary `told`; it was accepted, none of its golden files was skipped, and it has no
+-- `same_as`
 pub record IsFullyAccepted (told : AcceptSummary) (place : ℕ) (job : Job) : Type 0 where
   -- the job is at index `place` of the list
   pub at_index : slice_get told.list.jobs.now place ≡ Some job
@@ -56,18 +57,19 @@ pub record IsFullyAccepted (told : AcceptSummary) (place : ℕ) (job : Job) : Ty
 
 -- ---- the run
 
--- whether the contents of a file were read
+-- whether the file was read, so that its contents are stored
 abbrev pub is_read : Kept → Bool
 is_read (kept.Content bytes) = true
 is_read _ = false
 
--- the image of the job and each of its expectation files were read
+-- `answers` has the contents of the job's image and of each of its expectation files
 pub record AreFilesRead (answers : List Answer) (job : Job) : Type 0 where
   pub image : IsTrue (is_read (result_for_path answers job.image))
   pub signature : IfSome job.expect_signature (λ path. IsTrue (is_read (result_for_path answers path)))
   pub console : IfSome (console_path job.expect_console) (λ path. IsTrue (is_read (result_for_path answers path)))
 
--- `row` is the row of the job at index `place` when the list runs against the store, and all files of the job were read
+-- `row` is the row of the job at index `place` when the list at the path in `words` runs with the files of `store`, and all files of the
+-- job were read
 pub record IsRowIn (store : FileContents) (words : RunArgs) (place : ℕ) (row : Row) : Type 0 where
   pub bytes : List ℕ
   pub read : IsTextAt (Some store) words.list.now bytes

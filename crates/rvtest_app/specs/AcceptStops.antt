@@ -41,7 +41,7 @@ IsFileNotWrittenStop known path why = IsFileNotCreatedStop path why ⊎ IsUnchec
 
 -- ---- the golden files
 
--- `happened` holds for the path of the list, or for the path of one of the golden files
+-- the condition `happened` holds for the stop and one path: the path of the list, or the resolved path of one of the golden files
 abbrev pub IsStopOfFiles : (List ℕ → Stop → Type 0) → List ℕ → List GoldenFile → Stop → Type 0
 IsStopOfFiles happened list files why = happened list why ⊎ Any (λ file. happened file.resolved_path why) files
 
@@ -82,11 +82,12 @@ abbrev pub IsAcceptingStop : Option FileContents → AcceptArgs → List Job →
 IsAcceptingStop known words jobs why = (why ≡ stop.OutOfMemory) ⊎ ((why ≡ stop.NoWorker) ⊎ ((why ≡ stop.WriteFailed)
     ⊎ ((path : List ℕ) × (IsFileOfList words jobs path × IsFileOfListStop known words.check path why))))
 
--- a file that `accept` writes would overwrite an input, or accepting the chosen jobs stopped
+-- why `accept` stopped after it chose the jobs: a file that it would write is an input or is outside of the directory, or the chosen jobs
+-- could not be accepted
 abbrev pub IsAcceptChosenStop : Option FileContents → AcceptArgs → List Job → Stop → Type 0
 IsAcceptChosenStop known words jobs why = IsAcceptOverwriteStop why ⊎ IsAcceptingStop known words jobs why
 
--- the list was read and is valid, but accepting its chosen jobs stopped
+-- why `accept` stopped after it read a valid list: the jobs that it chose could not be accepted
 abbrev pub IsUnacceptedStop : Option FileContents → AcceptArgs → Stop → Type 0
 IsUnacceptedStop known words why = (text : List ℕ) × (IsTextAt known words.run.list.now text
     × ((jobs : List Job) × ((job_list_of text ≡ Ok jobs) × IsAcceptChosenStop known words jobs why)))

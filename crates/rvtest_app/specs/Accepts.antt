@@ -60,7 +60,7 @@ pub record AreRowsOfSelected (known : Option FileContents) (root : Option (List 
   pub are : rows ≡ indexed_rows marks (rows_at plan (selected_job_indices marks))
   pub noted : note ≡ missing_images_note plan.jobs unread (length (selected_job_indices marks)) root
 
--- `rows` are the rows of the selected jobs, and only the note about missing images was output, to standard error
+-- `rows` are the rows of the selected jobs; nothing but the note about missing images was output, and it went to standard error
 pub record AreRowsMade (known : Option FileContents) (root : Option (List ℕ)) (bare : List Job) (marks : List Bool)
     (rows : List (Option Row)) (before after : CommandOutputs) : Type 0 where
   pub note : List ℕ
@@ -69,7 +69,8 @@ pub record AreRowsMade (known : Option FileContents) (root : Option (List ℕ)) 
 
 -- ---- the files
 
--- `old` is the contents of the file at the path, or none if there is no file, as far as contents are known
+-- `old` is the contents of the file at the path, or `None` if there is no file; if the contents of files are not known, `old` may be
+-- anything
 abbrev pub IsOldAt : Option FileContents → List ℕ → Option (List ℕ) → Type 0
 IsOldAt known path old = IfSome known (λ files. files path ≡ old)
 
@@ -89,12 +90,12 @@ AreGoldenFiles known root (target ∷ targets) (file ∷ files) =
     IsGoldenFile known root target file × AreGoldenFiles known root targets files
 AreGoldenFiles known root _ _ = ⊥
 
--- the file with this path and text; no file without a text
+-- a list with one file, which has this path and text; empty if there is no text
 abbrev pub file_if : List ℕ → Option (List ℕ) → List CommittedFile
 file_if path None = []
 file_if path (Some text) = committed_file path text ∷ []
 
--- the text of the new list, if `accept` writes one
+-- the text of the new list; `None` if `accept` leaves the list unchanged
 abbrev pub new_list_text : AcceptSummary → Option (List ℕ)
 new_list_text told = option_map (λ text. text.items) told.new.now.text
 
@@ -105,11 +106,13 @@ written_files told = flat_map (λ file. file_if file.resolved_path (new_text tol
 
 -- ---- the command
 
--- the exit status of `accept`: 0 if `left`, the number of skipped jobs and files, and `changed` are both 0, and otherwise 1
+-- the exit status of `accept`: 0 if both `left`, the number of skipped jobs and files, and `changed`, the number of changes that `--check`
+-- leaves unwritten, are 0; otherwise 1
 abbrev pub accept_status : ℕ → ℕ → ℕ
 accept_status left changed = if left == 0 && changed == 0 then 0 else 1
 
--- the summary `told` of `accept` follows from `judged`, the runs of the list's jobs, of which more may be skipped
+-- `told` summarizes `accept` for the list with the text `bytes` and the jobs `jobs`; it has the runs in `judged`, of which some more may be
+-- skipped
 pub record IsOutcome (known : Option FileContents) (words : AcceptArgs) (bytes : List ℕ) (jobs : List Job)
     (judged : List (Option JobRun)) (told : AcceptSummary) : Type 0 where
   pub path : told.list.path.now ≡ words.run.list.now
@@ -129,8 +132,8 @@ pub record IsOutcome (known : Option FileContents) (words : AcceptArgs) (bytes :
   -- without a new list, the intended jobs are those of the old list
   pub unchanged : told.new.now.text ≡ None → intended_jobs jobs told.runs.now ≡ jobs
 
--- what `accept` wrote: its lines and the summary line to standard output and, unless the Bool, `--check`, is true, the files at their
--- paths; `status` is the exit status
+-- the summary `told` was written: its lines and its last line to standard output and, if the Bool is false, the changed files to their
+-- paths; if it is true (`--check`), no file was written; `status` is the exit status
 abbrev pub IsAcceptanceWritten : Bool → AcceptSummary → ℕ → CommandOutputs → CommandOutputs → Type 0
 IsAcceptanceWritten true told status before after =
     (status ≡ accept_status (skipped_count told) (changed_count told))
@@ -141,34 +144,35 @@ IsAcceptanceWritten false told status before after =
     × (after.errors ≡ before.errors) × (after.failures ≡ before.failures)
     × AreFilesCommitted before.placed after.placed (Some (written_files told))
 
--- the summary has this list, these runs, golden texts and golden files, and this new list
+-- the summary consists of this list, these runs, golden texts and golden files, and this new list
 abbrev pub IsAcceptSummaryOf : ListFile → List (Option JobRun) → List GoldenText → List GoldenFile → NewList → AcceptSummary → Type 0
 IsAcceptSummaryOf list runs claims files new told = (told.list ≡ list) × (told.runs.now ≡ runs) × (told.claims.now ≡ claims)
     × (told.files.now ≡ files) × (told.new.now ≡ new)
 
--- the summary of this list, these runs, golden texts and golden files, and this new list was written as `IsAcceptanceWritten` says
+-- the summary that consists of this list, these runs, golden texts and golden files, and this new list was written; with `check`, no file
+-- was
 pub record IsOutcomeWritten (check : Bool) (list : ListFile) (runs : List (Option JobRun)) (claims : List GoldenText)
     (files : List GoldenFile) (new : NewList) (status : ℕ) (before after : CommandOutputs) : Type 0 where
   pub told : AcceptSummary
   pub of : IsAcceptSummaryOf list runs claims files new told
   pub put : IsAcceptanceWritten check told status before after
 
--- only a message about golden files outside of the directory was output, to standard error; it is empty if the outputs report the committed
--- files
+-- only a message about golden files outside of the directory was output, to standard error; the message is empty if the outputs report the
+-- committed files
 pub record AreOutsideFilesReported (before after : CommandOutputs) : Type 0 where
   pub outside : List ℕ
   pub inside : IfSome before.placed (λ _. outside ≡ [])
   pub told : IsOnlyErrorOutput outside before after
 
--- `judged` are the runs of the jobs by their rows: some jobs are chosen, and each run is accepted or skipped by the verdict on it
+-- `judged` has the run of each job with a row, accepted or skipped according to whether the job is chosen and to the current verdict on it
 pub record AreJudged (known : Option FileContents) (words : AcceptArgs) (jobs : List Job) (chosen : List Bool)
     (rows : List (Option Row)) (judged : List (Option JobRun)) : Type 0 where
   pub candidates : List Candidate
   pub stand : AreCandidates known (optional_text words.run.root) rows jobs chosen candidates
   pub are : judged ≡ judged_runs (acceptance_of words.ends) jobs candidates rows
 
--- `accept` ran the jobs that it needs for the chosen ones, without their expectations, and wrote the summary of their runs; before that it
--- reported the golden files outside of the directory
+-- `accept` reported the golden files outside of the directory, ran the chosen jobs and the jobs that these need, without their
+-- expectations, and wrote the summary of the runs
 pub record IsAcceptOfSelected (known : Option FileContents) (words : AcceptArgs) (bytes : List ℕ) (jobs : List Job)
     (chosen : List Bool) (status : ℕ) (before after : CommandOutputs) : Type 0 where
   pub first : CommandOutputs
@@ -183,7 +187,7 @@ pub record IsAcceptOfSelected (known : Option FileContents) (words : AcceptArgs)
   pub outcome : IsOutcome known words bytes jobs judged told
   pub put : IsAcceptanceWritten words.check told status middle after
 
--- `accept` of the chosen jobs; if none is chosen, the status is 0 and nothing more is output
+-- `accept` accepted the results of the chosen jobs; if no job is chosen (`None`), the status is 0 and nothing was output
 abbrev pub IsAcceptedOfChosen : Option FileContents → AcceptArgs → List ℕ → List Job → Option (List Bool) → ℕ
     → CommandOutputs → CommandOutputs → Type 0
 IsAcceptedOfChosen known words bytes jobs None status before after = (status ≡ 0) × (after ≡ before)

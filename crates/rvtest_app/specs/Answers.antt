@@ -68,7 +68,7 @@ pub record IsDoneInColors (known : Option FileContents) (input : Option (List �
 abbrev pub AskForHelp : List (List ℕ) → Type 0
 AskForHelp words = IsAmong DisplayHelp (words_fault_kinds words) ⊎ IsAmong DisplayVersion (words_fault_kinds words)
 
--- the program only prints a text: the arguments request nothing, with status 2, or the help or version, with status 0
+-- the program only prints a text: a usage error with status 2 if the arguments are not a request, or the help or the version with status 0
 abbrev pub IsAnsweredAlone : List (List ℕ) → ℕ → Type 0
 IsAnsweredAlone words status =
     ((request_of_args words ≡ None) × (status ≡ 2)) ⊎ (AskForHelp words × (status ≡ 0))

@@ -31,11 +31,11 @@ use Rattle.rvtest_app.specs.MissingImages.{missing_images_line}
 
 -- ---- the location of a job
 
--- the line on which each job begins; none for a text that is not UTF-8, which is never a valid list
+-- the number of the line on which each job begins, in list order; empty for a text that is not UTF-8, since such a text is not a valid list
 abbrev pub job_begin_lines : List ℕ → List ℕ
 job_begin_lines text = if is_utf8 text then job_lines text else []
 
--- the path of the list, followed by the line number if it is known
+-- the path of the list, followed by a colon and the line number if one is given
 abbrev pub path_and_line : List ℕ → Option ℕ → List ℕ
 path_and_line path None = printable_text path
 path_and_line path (Some number) = printable_text path ++ codes ":" ++ decimal number
@@ -47,25 +47,26 @@ job_prefix severity path lines place job =
 
 -- ---- a job that is refused
 
--- the word for the reason of a refusal, with details if they are known
+-- "refused" and the name of the refusal, followed by details if they are given
 abbrev pub refusal_text : Refusal → Option (List ℕ) → List ℕ
 refusal_text why reason = codes "refused " ++ refusal_name why ++ optional_reason_text reason
 
--- the error line for one file of a refused job
+-- the error line for a file that makes the job at index `place` refused, with the refusal and, if they are given, its details
 unfoldable pub refused_file_line : List ℕ → List ℕ → ℕ → Job → Refusal → Option (List ℕ) → List ℕ
 refused_file_line path lines place job why reason = line (job_prefix (codes ": error:") path lines place job ++ refusal_text why reason)
 
--- the error line for a job whose image is the reason why it is refused
+-- the error line for the job at index `place`, whose image makes it refused
 abbrev pub refused_image_line : List ℕ → List ℕ → Planned → List UnreadablePath → ℕ → Job → Refusal → List ℕ
 refused_image_line path lines plan unread place job why =
     refused_file_line path lines place job why (refusal_reason plan.answers unread job why)
 
--- the error line for a job whose image alone makes it refused; empty if the image does not
+-- the error line for the job at index `place` if its image makes it refused; otherwise empty
 abbrev pub refused_image_text : List ℕ → List ℕ → Planned → List UnreadablePath → ℕ → Job → List ℕ
 refused_image_text path lines plan unread place job =
     unwrap_or (option_map (refused_image_line path lines plan unread place job) (image_refusal_in plan.answers job)) []
 
--- the error line for the expectation file `file`, given what was kept of its path; empty if the file was read
+-- the error line for the expectation file `file` of a job, given what was stored for its path: empty if the file was read, and otherwise
+-- the reason why it was not
 abbrev pub unread_reference_text : List ℕ → List ℕ → List UnreadablePath → ℕ → Job → Option Kept → Option (List ℕ) → List ℕ
 unread_reference_text path lines unread place job (Some kept.Unreadable) (Some file) =
     refused_file_line path lines place job refusal.ReferenceUnreadable (Some (unread_file_text unread file))
@@ -96,7 +97,7 @@ abbrev pub expected_end_name : Option ExpectedEnd → List ℕ
 expected_end_name (Some (expected.Fault kind)) = fault_name kind
 expected_end_name _ = codes "budget"
 
--- the warning that a job expects both an exit code and another end, which no run satisfies
+-- the text of the warning that a job expects both an exit code and another end, so that it never passes
 abbrev pub two_ends_text : Option ℕ → Option ExpectedEnd → List ℕ
 two_ends_text code end = codes "expect_exit = " ++ decimal (unwrap_or code 0)
     ++ codes " with expect_end = \"" ++ expected_end_name end
@@ -113,11 +114,11 @@ warned_job_text path lines place job = if expects_two_ends job then two_ends_lin
 
 -- ---- the counts
 
--- the number of refused jobs, in words
+-- "none refused", or the number of refused jobs and "refused"
 abbrev pub refused_count_text : ℕ → List ℕ
 refused_count_text refused = if refused == 0 then codes "none refused" else decimal refused ++ codes " refused"
 
--- the number of warnings, in words; empty if there are none
+-- a comma and the number of warnings; empty if there are none
 abbrev pub warning_count_text : ℕ → List ℕ
 warning_count_text warned = if warned == 0 then []
     else codes ", " ++ count_text warned (codes "warning")
@@ -129,7 +130,7 @@ job_counts_line jobs refused warned =
 
 -- ---- the text
 
--- the texts of all jobs, in list order; `text` takes a job's index and the job
+-- the texts of all jobs, one after the other in list order; the function `text` returns the text of a job from its index and the job
 abbrev pub texts_of_jobs : (ℕ → Job → List ℕ) → List Job → List ℕ
 texts_of_jobs text jobs = flat_map (λ entry. text entry.0 entry.1) (enumerate_from 0 jobs)
 

@@ -11,17 +11,17 @@ use Rattle.rvtest_app.specs.IntoReports.{uses_run_stdout}
 use Rattle.rvtest_app.specs.Outlets.{is_stdout_at}
 use Rattle.rvtest_app.specs.CommandOutputs.{CommandOutputs}
 
--- the default of `--color`: coloured on a terminal, plain otherwise
+-- the colours without `--color`: coloured results on a terminal, plain results otherwise
 abbrev pub terminal_colors : Bool → Colors
 terminal_colors is_terminal = if is_terminal then colors.With else colors.Without
 
--- the colours for a value of `--color`, given whether standard output is a terminal
+-- the colours that the value of `--color` requests: `always`, `never`, or otherwise coloured results only on a terminal
 abbrev pub colors_of_word : Option (List ℕ) → Bool → Colors
 colors_of_word (Some word) is_terminal = if bytes_eq word (codes "always") then colors.With
     else if bytes_eq word (codes "never") then colors.Without else terminal_colors is_terminal
 colors_of_word None is_terminal = terminal_colors is_terminal
 
--- plain output if an output file goes to standard output, and the given colours otherwise
+-- plain results if the Bool is true, because an output file goes to standard output; otherwise the given colours
 abbrev pub colors_unless_stdout_used : Bool → Colors → Colors
 colors_unless_stdout_used uses_stdout args = if uses_stdout then colors.Without else args
 

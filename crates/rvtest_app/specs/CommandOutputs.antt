@@ -5,7 +5,8 @@ use Rattle.rv_command.specs.Messages.{IsMessageWritten}
 use Rattle.rv_files.specs.CommittedFiles.{CommittedFile}
 use Rattle.rvtest_app.specs.declared.destinations.Destinations.{Destinations}
 
--- the outputs of a command so far; standard output, standard error and the files are none if the destination does not report them
+-- the outputs of a command so far; a field for standard output, standard error or the files is `None` if that destination does not report
+-- its contents
 pub record CommandOutputs : Type 0 where
   -- the bytes on standard output
   pub out : Option (List ℕ)
@@ -16,7 +17,8 @@ pub record CommandOutputs : Type 0 where
   -- the files that were committed, in order
   pub placed : Option (List CommittedFile)
 
--- the outputs that the destinations report: the committed files, standard output, standard error, and its failed writes
+-- the outputs of a command as its destinations report them: standard output, standard error, the number of failed writes to standard error,
+-- and the committed files
 abbrev pub outputs_of : {F O E : Type 0} → (F → Option (List CommittedFile)) → (O → Option (List ℕ)) → (E → Option (List ℕ))
     → (E → ℕ) → Destinations F O E → CommandOutputs
 outputs_of placed taken told failed to = record {
@@ -26,12 +28,12 @@ outputs_of placed taken told failed to = record {
   placed = placed to.files;
 }
 
--- the committed files, if those committed earlier were reported; none otherwise
+-- `placed`, the committed files, if the first argument, the files committed earlier, was reported; otherwise `None`
 abbrev pub placed_if_reported : Option (List CommittedFile) → Option (List CommittedFile) → Option (List CommittedFile)
 placed_if_reported None placed = None
 placed_if_reported (Some earlier) placed = placed
 
--- the outputs, with the committed files only if those committed earlier were reported
+-- the outputs `now`, whose committed files are set to `None` if `earlier`, the files committed earlier, was not reported
 abbrev pub with_placed_if_reported : Option (List CommittedFile) → CommandOutputs → CommandOutputs
 with_placed_if_reported earlier now = record now { placed = placed_if_reported earlier now.placed }
 

@@ -44,7 +44,7 @@ abbrev pub IsCheckStop : Option FileContents → CheckArgs → Stop → Type 0
 IsCheckStop known words why = IsListUnreadStop known words.list.now why
     ⊎ ((text : List ℕ) × (IsTextAt known words.list.now text × IsListFaultStop words.list.now text why))
 
--- the text at the path is an invalid list, or none of its jobs has this name
+-- why a command stopped: the text is not a valid list, or none of its jobs has this name; messages name the path
 abbrev pub IsNoJobStop : List ℕ → List ℕ → List ℕ → Stop → Type 0
 IsNoJobStop path text name why = IsListFaultStop path text why
     ⊎ ((jobs : List Job) × ((job_list_of text ≡ Ok jobs) × IsUnknownNameStop path jobs name why))
@@ -75,14 +75,14 @@ abbrev pub IsGdbStop : Option FileContents → Bool → GdbArgs → Stop → Typ
 IsGdbStop known is_terminal words why = IsUnshownStop known is_terminal words why
     ⊎ ((is_terminal ≡ false) × ((broken : SessionError) × IsBrokenStop broken why))
 
--- `gdb` started no session and output nothing; or its session ended with an error: a failed write if the count of failed writes rose, and
--- another error if it did not
+-- `gdb` stopped: either it started no session and output nothing, or its session ended with an error, and the number of failed writes rose
+-- by one if this error is a failed write, and did not change otherwise
 abbrev pub IsGdbStopped : Option FileContents → Bool → GdbArgs → Stop → CommandOutputs → CommandOutputs → ℕ → ℕ → Type 0
 IsGdbStopped known is_terminal words why before after failures_before failures_after =
     (IsUnshownStop known is_terminal words why × (after ≡ before))
     ⊎ ((is_terminal ≡ false) × ((broken : SessionError) × (IsBrokenStop broken why × IsFailureCounted broken failures_before failures_after)))
 
--- the text is an invalid list, or choosing its jobs by the arguments stopped
+-- why a command stopped: the text is not a valid list, or its jobs could not be chosen as the arguments request
 abbrev pub IsNoChoiceStop : Option FileContents → RunArgs → List ℕ → Stop → Type 0
 IsNoChoiceStop known words text why = IsListFaultStop words.list.now text why
     ⊎ ((jobs : List Job) × ((job_list_of text ≡ Ok jobs)
@@ -97,20 +97,20 @@ IsListStop known words why = IsListUnreadStop known words.list.now why
 abbrev pub IsAcceptStop : Option FileContents → AcceptArgs → Stop → Type 0
 IsAcceptStop known words why = IsListStop known words.run why ⊎ IsUnacceptedStop known words why
 
--- why `diff` stopped: the old report could not be read, or the new one could not
+-- why `diff` stopped: the old report could not be read, or it could, but the new one could not
 abbrev pub IsDiffAtStop : Option FileContents → DiffArgs → Stop → Type 0
 IsDiffAtStop known words why = IsRequestedUnreadStop known words.partial words.old.now why
     ⊎ ((found : PartialReport) × (IsReportReadAt known words.partial words.old.now found
     × IsRequestedUnreadStop known words.partial words.new.now why))
 
--- why `show` stopped: the JUnit file would overwrite the report, the report could not be read, or the output not be written
+-- why `show` stopped: the JUnit file would overwrite the report, the report could not be read, or the output could not be written
 abbrev pub IsShowStop : Option FileContents → ShowArgs → Stop → Type 0
 IsShowStop known words why = IsShowOverwriteStop words why ⊎ (IsRequestedUnreadStop known words.partial words.report.now why
     ⊎ ((found : PartialReport) × (IsReportReadAt known words.partial words.report.now found
     × IsOutputStop None (optional_text words.junit) why)))
 
--- why a command stopped, given whether standard output is a terminal; for a command that only prints text, this is its own reason, or a
--- write to standard output failed
+-- why the requested command stopped; `explain`, `list` and other commands that only print a text stop for the reasons of their own
+-- definition, or because a write to standard output failed
 abbrev pub IsCommandStop : Option FileContents → Bool → Request → Stop → Type 0
 IsCommandStop known is_terminal (request.Explain words) why = (why ≡ stop.WriteFailed) ⊎ IsExplainStop known words why
 IsCommandStop known is_terminal (request.List words) why = (why ≡ stop.WriteFailed) ⊎ IsListStop known words why
@@ -127,16 +127,17 @@ IsCommandStop known is_terminal (request.Counts words) why = IsCountsStop known 
 IsCommandStop known is_terminal (request.Cover words) why = (why ≡ stop.WriteFailed) ⊎ IsCoverStop known words why
 IsCommandStop known is_terminal (request.Profile words) why = (why ≡ stop.WriteFailed) ⊎ IsProfileStop known words why
 
--- the arguments have an error of some kind; a request for help is not an error here
+-- the arguments have an error other than a request for the help or the version
 abbrev pub AreFaulty : List (List ℕ) → Type 0
 AreFaulty words = (kind : WordsFault) × (IsAmong kind (words_fault_kinds words) × (IsHelpRequested kind → ⊥))
 
--- the stop reports the misuse in the arguments with its message; without a misuse, memory ran out
+-- the stop reports the misuse in the arguments, such as options that exclude each other, with its message; if there is no misuse, memory
+-- ran out
 abbrev pub IsMisuseStop : List (List ℕ) → Stop → Type 0
 IsMisuseStop words why =
     MatchOption (words_misuse words) (why ≡ stop.OutOfMemory) (λ misuse. IsUsageStop (misuse_text misuse) why)
 
--- invalid arguments are rejected with status 2; if `clap` finds no error, the message is about a misuse
+-- the arguments have an error, and the stop rejects them with status 2; if `clap` finds no error in them, the stop reports a misuse
 pub record IsFaultStop (words : List (List ℕ)) (why : Stop) : Type 0 where
   pub faulty : AreFaulty words
   pub refused : IsRefusal why

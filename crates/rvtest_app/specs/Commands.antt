@@ -20,11 +20,12 @@ abbrev pub failure_rule : Bool → Rule
 failure_rule true = Lenient
 failure_rule false = Strict
 
--- how the rows of a report are judged, with or without `--lenient`: no job is known to fail
+-- how the rows of a report are judged: by the lenient rule if the Bool is true (`--lenient`), and otherwise by the strict rule; no job is
+-- known to fail
 abbrev pub report_judging : Bool → Judging
 report_judging is_lenient = judging_by_rule (failure_rule is_lenient)
 
--- which rows are shown, by `--verbose` and `--quiet`: all, failures, or none
+-- the rows that are shown: none with `--quiet` (the second Bool), all with only `--verbose` (the first), and otherwise the failures
 abbrev pub requested_verbosity : Bool → Bool → Verbosity
 requested_verbosity verbose true = Quiet
 requested_verbosity true false = All

@@ -17,7 +17,7 @@ use Rattle.rvtest_app.specs.Commands.{passing_status}
 use Rattle.rvtest_app.specs.Reports.{AreNotesOf, IsFirstNamed}
 use Rattle.rvtest_app.specs.CommandOutputs.{IsOnlyStandardOutput, IsOnlyErrorOutput, CommandOutputs}
 
--- `console` is what the job at index `place` printed, `line` is the line about its row, and `status` is the exit status
+-- `console` is the text that the job at index `place` printed, `line` is the line that reports its row, and `status` is the exit status
 pub record IsJobConsole (known : Option FileContents) (jobs : List Job) (place : ℕ) (console line : List ℕ) (status : ℕ)
     : Type 0 where
   pub plan : Planned
@@ -32,7 +32,8 @@ pub record IsJobConsole (known : Option FileContents) (jobs : List Job) (place :
   pub judged : (d : Job) → status ≡ passing_status
       (has_passed Strict (row_of plan (slice_index_or plan.jobs place d)))
 
--- the console, line and status of the first job of this name in the list whose text is `bytes`
+-- `console`, `line` and `status` are the console, the result line and the exit status of the first job named `name` in the list with the
+-- text `bytes`
 pub record IsConsoleOf (known : Option FileContents) (bytes name console line : List ℕ) (status : ℕ) : Type 0 where
   pub jobs : List Job
   pub listed : job_list_of bytes ≡ Ok jobs
@@ -40,14 +41,15 @@ pub record IsConsoleOf (known : Option FileContents) (bytes name console line : 
   pub first : IsFirstNamed jobs name place
   pub of_job : IsJobConsole known jobs place console line status
 
--- the console, line and status of the job in the arguments, with the list read from its path
+-- `console`, `line` and `status` are the console, the result line and the exit status of the job that the arguments name, in the list at
+-- their path
 pub record IsConsoleAt (known : Option FileContents) (words : ConsoleArgs) (console line : List ℕ) (status : ℕ)
     : Type 0 where
   pub bytes : List ℕ
   pub read : IsTextAt known words.list.now bytes
   pub of_list : IsConsoleOf (contents_below (optional_text words.root) known) bytes words.name.now console line status
 
--- the console went to standard output, and then the line about the job's row to standard error
+-- the job's console was written to standard output, and then its result line to standard error
 pub record IsConsoleWritten (known : Option FileContents) (words : ConsoleArgs) (status : ℕ) (before after : CommandOutputs)
     : Type 0 where
   pub console : List ℕ

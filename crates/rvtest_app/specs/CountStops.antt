@@ -23,14 +23,14 @@ use Rattle.rvtest_app.specs.CountSums.{AreAdded, IsTableAt}
 use Rattle.rvtest_app.specs.Overwrites.{IsSumOverwriteStop}
 use Rattle.rvtest_app.specs.WrittenTexts.{IsUnwrittenAtStop, written_path}
 
--- the stop reports this error of the table of counts at the path, or that memory ran out
+-- the stop reports this error in reading the table of counts at the path: an invalid line, or that memory ran out
 abbrev pub IsReadErrorStop : List ℕ → ReadError → Stop → Type 0
 IsReadErrorStop path read.OutOfMemory why = why ≡ stop.OutOfMemory
 IsReadErrorStop path (read.Line line) why =
     IsStop 2 (path_number_message path (codes ":") line (codes ": invalid line in a table of counts\n")) why
 IsReadErrorStop path read.CutOff why = IsStop 2 (path_message path (codes "the table is truncated")) why
 
--- the message that adding the table at the path makes a count 2^64 or more: `what` says which count of `address`
+-- the message that a count at `address` no longer fits in 64 bits if the table at the path is added; `what` names the count
 abbrev pub count_overflow_message : List ℕ → List ℕ → ℕ → List ℕ
 count_overflow_message path what address = codes "rvtest: " ++ printable_text path ++ what ++ word_digits address
     ++ codes " does not fit in 64 bits\n"
@@ -40,7 +40,7 @@ abbrev pub two_names_message : List ℕ → ℕ → List ℕ
 two_names_message path function = codes "rvtest: " ++ printable_text path ++ codes ": the function at " ++ word_digits function
     ++ codes " has two names in one image\n"
 
--- the stop reports this error of adding the table at the path to the sum of the earlier tables, or that memory ran out
+-- the stop reports why the table at the path cannot be added to the sum of the earlier tables: this error, or that memory ran out
 abbrev pub IsSumErrorStop : List ℕ → SumError → Stop → Type 0
 IsSumErrorStop path sum.OutOfMemory why = why ≡ stop.OutOfMemory
 IsSumErrorStop path (sum.Count address) why = IsStop 2 (count_overflow_message path (codes ": the count at ") address) why
@@ -49,12 +49,13 @@ IsSumErrorStop path (sum.Spot function) why =
 IsSumErrorStop path (sum.Names function) why = IsStop 2 (two_names_message path function) why
 IsSumErrorStop path sum.Runs why = IsStop 2 (path_message path (codes "the number of runs does not fit in 64 bits")) why
 
--- the stop reports the first error of `text` as a table of counts, or that memory ran out; a valid table has no error
+-- the stop reports the first error in `text`, which is not a valid table of counts, or that memory ran out; if `text` is a valid table,
+-- memory ran out
 pub record IsTableFaultStop (path text : List ℕ) (why : Stop) : Type 0 where
   pub told : (error : ReadError) × (IsLeast error text × IsReadErrorStop path error why)
   pub whole : (table : CountTable) → IsTable table → table_text table ≡ text → why ≡ stop.OutOfMemory
 
--- why a command stopped: the table at the path cannot be added to `before`, the sum of the earlier tables
+-- why a command stopped: the file at the path is a valid table of counts, but cannot be added to `before`, the sum of the earlier tables
 abbrev pub IsSumOverflowStop : Option FileContents → List ℕ → CountTable → Stop → Type 0
 IsSumOverflowStop known path before why = (table : CountTable) × (IsTableAt known path table
     × ((error : SumError) × (HaveNoSum error before table × IsSumErrorStop path error why)))
@@ -65,7 +66,7 @@ IsUnaddedStop known path before why = IsResultUnreadStop known path why
     ⊎ (((text : List ℕ) × (IsTextAt known path text × IsTableFaultStop path text why))
     ⊎ IsSumOverflowStop known path before why)
 
--- why a command stopped: the tables before one of the paths were added up, and then the table at this path could not be added
+-- why a command stopped: the tables at the first paths were added up, but then the table at the next path could not be added
 pub record IsSumStop (known : Option FileContents) (paths : List (Bor (List ℕ))) (why : Stop) : Type 0 where
   pub before : List (Bor (List ℕ))
   pub path : Bor (List ℕ)
@@ -76,7 +77,7 @@ pub record IsSumStop (known : Option FileContents) (paths : List (Bor (List ℕ)
   pub added : AreAdded known before no_counts sum
   pub stopped : IsUnaddedStop known path.now sum why
 
--- why `counts` stopped: the sum would overwrite a table, memory ran out, a table could not be added, or the sum not be written
+-- why `counts` stopped: the sum would overwrite a table, memory ran out, a table could not be added, or the sum could not be written
 abbrev pub IsCountsStop : Option FileContents → CountsArgs → Stop → Type 0
 IsCountsStop known words why = IsSumOverwriteStop words why ⊎ ((why ≡ stop.OutOfMemory) ⊎ (IsSumStop known words.tables.items why
     ⊎ ((sum : CountTable) × (AreAdded known words.tables.items no_counts sum

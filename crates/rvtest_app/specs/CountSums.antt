@@ -14,15 +14,15 @@ use Rattle.rv_count_tables.specs.declared.table.ImageCounts.{ImageCounts}
 use Rattle.rvtest_app.specs.CommandOutputs.{IsOnlyErrorOutput, CommandOutputs}
 use Rattle.rvtest_app.specs.WrittenTexts.{IsWrittenAt, written_path}
 
--- the file at the path is the text of this table of counts
+-- the file at the path contains exactly the text of the valid table of counts `table`
 abbrev pub IsTableAt : Option FileContents → List ℕ → CountTable → Type 0
 IsTableAt known path table = IsTable table × IsTextAt known path (table_text table)
 
--- `after` is `before` plus the table of counts at the path
+-- the table `after` is the sum of the table `before` and the table of counts at the path
 abbrev pub IsAdded : Option FileContents → List ℕ → CountTable → CountTable → Type 0
 IsAdded known path before after = (table : CountTable) × (IsTableAt known path table × IsSum before table after)
 
--- `after` is `before` plus the tables of counts at the paths
+-- the table `after` is the sum of the table `before` and the tables of counts at the paths
 abbrev pub AreAdded : Option FileContents → List (Bor (List ℕ)) → CountTable → CountTable → Type 0
 AreAdded known [] before after = after ≡ before
 AreAdded known (path ∷ paths) before after =
@@ -42,7 +42,7 @@ executed_in_images (image ∷ images) = executed_at_addresses image.addresses + 
 abbrev pub most_number : ℕ
 most_number = 2 ^ 64 - 1
 
--- the number that is shown: the number itself, or the greatest 64-bit number if it is greater
+-- the number to print: the number itself, or the greatest 64-bit number if it does not fit in 64 bits
 abbrev pub shown_number : ℕ → ℕ
 shown_number number = min number most_number
 
@@ -54,24 +54,24 @@ run_word count = if count == 1 then codes " run of " else codes " runs of "
 abbrev pub image_word : ℕ → List ℕ
 image_word count = if count == 1 then codes " image, " else codes " images, "
 
--- "at least " before the greatest 64-bit number, and nothing before any other
+-- "at least " for the greatest 64-bit number, which may stand for a greater one; empty for any other number
 abbrev pub number_head : ℕ → List ℕ
 number_head number = if number == most_number then codes "at least " else []
 
--- " instruction" for one instruction, else " instructions", and a line feed
+-- " instruction" if the count is 1, and otherwise " instructions", followed by a line feed
 abbrev pub instruction_word : ℕ → List ℕ
 instruction_word count = if count == 1 then codes " instruction\n" else codes " instructions\n"
 
--- the number of executed instructions, in words
+-- the number of executed instructions in words, with "at least" if it is the greatest 64-bit number, and a line feed
 abbrev pub instructions_text : ℕ → List ℕ
 instructions_text number = number_head number ++ decimal number ++ instruction_word number
 
--- the line about a sum of tables: the number of runs, of images and of executed instructions
+-- the line that summarizes a table of counts: its number of runs, of images and of executed instructions
 abbrev pub sum_note : CountTable → List ℕ
 sum_note table = decimal table.runs ++ run_word table.runs ++ decimal (length table.images) ++ image_word (length table.images)
     ++ instructions_text (shown_number (executed_in_images table.images))
 
--- the sum of the tables was written to the path of `--out` or to standard output, and the line about it to standard error
+-- the sum of the tables was written to the path of `--out` or to standard output, and then the line that summarizes it to standard error
 pub record IsSumWritten (known : Option FileContents) (words : CountsArgs) (status : ℕ) (before after : CommandOutputs) : Type 0 where
   pub sum : CountTable
   pub added : AreAdded known words.tables.items no_counts sum

@@ -22,46 +22,47 @@ use Rattle.rv_rows.specs.Verdict.{did_run}
 
 -- ---- golden files
 
--- there is no file at the path, as far as contents are known
+-- there is no file at the path; holds for any path if the contents of files are not known
 abbrev pub IsMissingAt : Option FileContents → List ℕ → Type 0
 IsMissingAt known place = IfSome known (λ files. files place ≡ None)
 
--- the file at the path is longer than `most_bytes`, the most that is read of a file, as far as contents are known
+-- the file at the path is longer than `most_bytes`, the largest number of bytes that is read of a file; holds for any path if the contents
+-- of files are not known
 abbrev pub IsLongAt : Option FileContents → List ℕ → Type 0
 IsLongAt known place = IfSome known (λ files. IsSomeAnd (files place) (λ bytes. most_bytes < length bytes))
 
--- the whole contents of the file at the path; none if there is no file or it is too long
+-- the `Option` is the whole contents of the file at the path, or `None` if there is no file or it is longer than `most_bytes`
 abbrev pub IsWholeText : Option FileContents → List ℕ → Option (List ℕ) → Type 0
 IsWholeText known place None = IsMissingAt known place ⊎ IsLongAt known place
 IsWholeText known place (Some bytes) = (length bytes ≤ most_bytes) × IfSome known (λ files. files place ≡ Some bytes)
 
--- the whole contents of the golden file, whose path is resolved against `root`; none if no golden file is named
+-- `text` is the whole contents of the golden file at the path, which is resolved against `root`; `None` if no path is given
 abbrev pub IsGoldenText : Option FileContents → Option (List ℕ) → Option (List ℕ) → Option (List ℕ) → Type 0
 IsGoldenText known root None text = text ≡ None
 IsGoldenText known root (Some path) text = IsWholeText known (resolved_path root path) text
 
--- the path of a golden file that must be read: none if the job ended as expected
+-- the path of a golden file, if its contents matter for the verdict; `None` if the job ended as expected, since it is accepted then
 abbrev pub path_to_read : Job → Row → Option (List ℕ) → Option (List ℕ)
 path_to_read job row path = if is_accepted_end acceptance.Expected job row.ending then None else path
 
 -- ---- one job
 
--- the row of the job that a job is compared with, if there is one and it was run
+-- the row at the index of the job that `same_as` names; `None` if no job is named, or the named job did not run
 abbrev pub compared_row : List (Option Row) → Option ℕ → Option Row
 compared_row rows None = None
 compared_row rows (Some place) = row_or_none (slice_get rows place)
 
--- whether there are no unmet expectations
+-- whether the list of unmet expectations is empty
 abbrev pub is_none_unmet : List Unmet → Bool
 is_none_unmet [] = true
 is_none_unmet (one ∷ more) = false
 
--- the verdict on a job, given whether it ran and its unmet expectations: passes, differs from another job, or fails
+-- the verdict on a job: it passes if it ran and met all expectations; otherwise it differs if `same_as` is unmet, and fails if not
 abbrev pub verdict_by : Bool → List Unmet → CurrentVerdict
 verdict_by ran unmet = if ran && is_none_unmet unmet then standing.Passes
     else if list_any is_same unmet then standing.Differs else standing.Fails
 
--- the verdict on a row, its job, and the texts and the row that they are compared with
+-- the verdict on the job in `sides`, from its row and the golden texts and the row that its row is compared with
 abbrev pub verdict_of_sides : Sides → CurrentVerdict
 verdict_of_sides sides = verdict_by (did_run sides.row.ending) (unmet_of sides)
 
@@ -75,7 +76,7 @@ sides_over rows job row console signature = record {
   other = compared_row rows job.same_as;
 }
 
--- the verdict on a job with this row, given its golden files as they are now and the rows of all jobs
+-- `stands` is the verdict on the job with this row, given the current contents of its golden files and the rows of all jobs
 pub record IsStanding (known : Option FileContents) (root : Option (List ℕ)) (rows : List (Option Row)) (job : Job) (row : Row)
     (stands : CurrentVerdict) : Type 0 where
   pub console : Option (List ℕ)
@@ -84,28 +85,28 @@ pub record IsStanding (known : Option FileContents) (root : Option (List ℕ)) (
   pub signature_read : IsGoldenText known root (path_to_read job row job.expect_signature) signature
   pub is : stands ≡ verdict_of_sides (sides_over rows job row console signature)
 
--- the verdict on a job, if it was run; a job that was not run fails
+-- `stands` is the verdict on the job with this row; without a row the job did not run, and it fails
 abbrev pub IsStandingIfRun : Option FileContents → Option (List ℕ) → List (Option Row) → Job → Option Row → CurrentVerdict → Type 0
 IsStandingIfRun known root rows job None stands = stands ≡ standing.Fails
 IsStandingIfRun known root rows job (Some row) stands = IsStanding known root rows job row stands
 
--- whether a value is present and true
+-- whether the `Option` has a value, and the value is true
 abbrev pub is_true : Option Bool → Bool
 is_true None = false
 is_true (Some marked) = marked
 
--- whether the job at index `place` is selected
+-- whether the selection `marks` selects the job at index `place`; false if the index is out of range
 abbrev pub is_selected : List Bool → ℕ → Bool
 is_selected marks place = is_true (slice_get marks place)
 
--- `candidate` is the job at index `place`: whether it is chosen, and the verdict on it
+-- `candidate` says of the job at index `place` whether it is chosen, and what the verdict on it is
 abbrev pub IsCandidateAt : Option FileContents → Option (List ℕ) → List (Option Row) → List Bool → ℕ → Job → Candidate → Type 0
 IsCandidateAt known root rows chosen place job candidate = (candidate.is_chosen ≡ is_selected chosen place)
     × IsStandingIfRun known root rows job (row_or_none (slice_get rows place)) candidate.standing
 
 -- ---- all jobs
 
--- the candidates of all jobs of the list, each at the index of its job
+-- `candidates` has a candidate for each job of the list, at the index of the job
 pub record AreCandidates (known : Option FileContents) (root : Option (List ℕ)) (rows : List (Option Row)) (jobs : List Job)
     (chosen : List Bool) (candidates : List Candidate) : Type 0 where
   pub counted : length candidates ≡ length jobs

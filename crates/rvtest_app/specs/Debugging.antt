@@ -30,22 +30,22 @@ use Rattle.rv_session.specs.declared.session.Session.{Session}
 use Rattle.rvtest_app.specs.Reports.{AreNotesOf, IsFirstNamed}
 use Rattle.rvtest_app.specs.CommandOutputs.{IsOnlyStandardOutput, CommandOutputs}
 
--- what `run` reports for the job: its line and its unmet expectations; nothing without a job
+-- the text that `run` prints about the job: its result line and its unmet expectations; empty if there is no job
 abbrev pub end_text_of_job : Planned → List UnreadablePath → Option Job → List ℕ
 end_text_of_job plan unread None = []
 end_text_of_job plan unread (Some job) = outcome_text plan unread (judging_by_rule Strict) job (row_of plan job)
 
--- what `run` reports for the job at index `place` of the plan
+-- the text that `run` prints about the job at index `place` of the plan: its result line and its unmet expectations
 unfoldable pub job_end_text : Planned → List UnreadablePath → ℕ → List ℕ
 job_end_text plan unread place = end_text_of_job plan unread (slice_get plan.jobs place)
 
--- the state in which the run of the job at index `place` starts; if the job is refused, the start state of an image of 0 bytes
+-- the state in which the run of the job at index `place` starts; for a refused job, the start state of an empty image
 unfoldable pub job_start : Planned → ℕ → State
 job_start plan place =
     unwrap_or (option_and_then (λ (job : Job). result_ok (start_in plan.answers job)) (slice_get plan.jobs place)) (flat_state [])
 
--- `session` debugs the run of the job at index `place`, with the files that its row needs read from the store; `end_text` is what `run`
--- reports for the job, and the image's path is resolved against `root`
+-- `session` debugs the run of the job at index `place`, with the files that it needs read from the store and its image's path resolved
+-- against `root`; `end_text` is the text that `run` prints about the job
 pub record IsJobOpened (known : Option FileContents) (root : Option (List ℕ)) (jobs : List Job) (place : ℕ) (end_text : List ℕ)
     (session : Session) : Type 0 where
   pub plan : Planned
@@ -58,7 +58,8 @@ pub record IsJobOpened (known : Option FileContents) (root : Option (List ℕ)) 
       (resolved_path root (slice_index_or plan.jobs place d).image) session
   pub outputs_of : end_text ≡ job_end_text plan unread place
 
--- the session and `end_text` of the first job of the requested name in the list whose text is `bytes`
+-- `session` debugs the first job of the requested name in the list with the text `bytes`, and `end_text` is the text that `run` prints
+-- about this job
 pub record IsOpenedOf (known : Option FileContents) (words : GdbArgs) (bytes end_text : List ℕ) (session : Session) : Type 0 where
   pub jobs : List Job
   pub listed : job_list_of bytes ≡ Ok jobs
@@ -66,7 +67,7 @@ pub record IsOpenedOf (known : Option FileContents) (words : GdbArgs) (bytes end
   pub first : IsFirstNamed jobs words.name.now place
   pub of_job : IsJobOpened (contents_below (optional_text words.root) known) (optional_text words.root) jobs place end_text session
 
--- the session and `end_text` of the job in the arguments, with the list read from its path
+-- `session` debugs the job that the arguments name, in the list at their path, and `end_text` is the text that `run` prints about this job
 pub record IsOpenedAt (known : Option FileContents) (words : GdbArgs) (end_text : List ℕ) (session : Session) : Type 0 where
   pub bytes : List ℕ
   pub read : IsTextAt known words.list.now bytes
@@ -104,7 +105,7 @@ abbrev pub IsNoGdbStop : Stop → Type 0
 IsNoGdbStop why = IsStop 2 (path_message (codes "standard output")
     (codes "expected gdb, found a terminal; run gdb-multiarch -ex 'target remote | rvtest gdb LIST NAME'")) why
 
--- the stop reports that the job at index `place` is refused, with its line as the message
+-- the stop reports that the job at index `place` is refused; its message is the job's result line
 pub record IsRefusedJobStop (known : Option FileContents) (jobs : List Job) (place : ℕ) (why : Stop) : Type 0 where
   pub plan : Planned
   pub listed : plan.jobs ≡ jobs
@@ -120,7 +121,7 @@ pub record IsRefusedJobStop (known : Option FileContents) (jobs : List Job) (pla
 abbrev pub IsUnopenedStop : Option FileContents → List Job → ℕ → Stop → Type 0
 IsUnopenedStop known jobs place why = (why ≡ stop.OutOfMemory) ⊎ IsRefusedJobStop known jobs place why
 
--- why a command stopped: the first job of the requested name in the list whose text is `bytes` is refused
+-- why a command stopped: memory ran out, or the first job of the requested name in the list with the text `bytes` is refused
 pub record IsUnopenedOfStop (known : Option FileContents) (words : GdbArgs) (bytes : List ℕ) (why : Stop) : Type 0 where
   pub jobs : List Job
   pub listed : job_list_of bytes ≡ Ok jobs
@@ -134,6 +135,7 @@ IsBrokenStop broken.OutOfMemory why = why ≡ stop.OutOfMemory
 IsBrokenStop (broken.UnreadPath reason) why = IsSystemStop (codes "standard input") reason why
 IsBrokenStop broken.ReplyWriteFailed why = why ≡ stop.WriteFailed
 
--- the count of failed writes rises by one if a failed write ended the session, and is unchanged if another error did
+-- `before` and `after` count the failed writes: `after` is one more if a failed write ended the session, and equal to `before` if another
+-- error did
 abbrev pub IsFailureCounted : SessionError → ℕ → ℕ → Type 0
 IsFailureCounted cause before after = (cause ≡ broken.ReplyWriteFailed → after ≡ one_more before) × (cause ≢ broken.ReplyWriteFailed → after ≡ before)

@@ -10,7 +10,7 @@ use Rattle.rvtest_app.specs.declared.list_keys.TheConstants.{LIST_KEYS}
 abbrev pub keys_topic : List ℕ
 keys_topic = codes "keys"
 
--- the topic is `keys`, the only one that is not a command, the text describes the keys of a list, and the status is 0
+-- the topic is `keys`, the only topic that is not a command; the text is the description of the keys of a list, and the status is 0
 abbrev pub IsTopicPrinted : List ℕ → List ℕ → ℕ → Type 0
 IsTopicPrinted topic text status = (topic ≡ keys_topic) × ((text ≡ LIST_KEYS.now) × (status ≡ 0))
 
@@ -19,7 +19,7 @@ abbrev pub no_topic_message : List ℕ → List ℕ
 no_topic_message topic = codes "rvtest: unknown help topic \"" ++ printable_value topic
     ++ codes "\": try \"help keys\" for the keys of a list, or \"help COMMAND\" for a command\n"
 
--- memory ran out, or the topic is unknown and the message names it
+-- why `help` stopped: memory ran out, or the topic is unknown and the message names it
 abbrev pub IsNoTopicStop : List ℕ → Stop → Type 0
 IsNoTopicStop topic why = (why ≡ stop.OutOfMemory)
     ⊎ ((topic ≡ keys_topic → ⊥) × IsStop 2 (no_topic_message topic) why)

@@ -25,23 +25,23 @@ use Rattle.rvtest_app.specs.declared.whole_report.OtherName.{OtherName}
 abbrev pub expected_whole_report : List ℕ
 expected_whole_report = codes ": --into expects a report of the whole list\n"
 
--- the message that the report at the path has only some rows of a list with this many jobs
+-- the message that the report at the path has only `rows` rows of a list with `jobs` jobs
 abbrev pub part_refusal : List ℕ → ℕ → ℕ → List ℕ
 part_refusal path rows jobs = codes "rvtest: " ++ printable_text path ++ codes ": a partial report (" ++ decimal rows
     ++ codes " of " ++ count_text jobs (codes "job") ++ codes ")" ++ expected_whole_report
 
--- the message that the report at `path` and the list at `list` have different numbers of rows and jobs
+-- the message that the report at `path` has `rows` rows, but the list at `list` has `jobs` jobs
 abbrev pub count_refusal : List ℕ → List ℕ → ℕ → ℕ → List ℕ
 count_refusal path list rows jobs = codes "rvtest: " ++ printable_text path ++ codes ": has " ++ count_text rows (codes "row")
     ++ codes ", but " ++ printable_text list ++ codes " has " ++ count_text jobs (codes "job") ++ expected_whole_report
 
--- the message that the job of this number is called `name` in the report and `wanted` in the list
+-- the message that job `number` is named `name` in the report at `path`, but `wanted` in the list at `list`
 abbrev pub name_refusal : List ℕ → List ℕ → ℕ → List ℕ → List ℕ → List ℕ
 name_refusal path list number name wanted = codes "rvtest: " ++ printable_text path ++ codes ": job "
     ++ decimal number ++ codes " is \"" ++ name ++ codes "\", but \"" ++ wanted ++ codes "\" in "
     ++ printable_text list ++ expected_whole_report
 
--- the message about a report at `path` that is not a report of all jobs of the list at `list`
+-- the message that the report at `path` is not a report of all jobs of the list at `list`, with the reason
 abbrev pub not_whole_refusal : List ℕ → List ℕ → NotWhole → List ℕ
 not_whole_refusal path list (other.Part rows jobs) = part_refusal path rows jobs
 not_whole_refusal path list (other.Count rows jobs) = count_refusal path list rows jobs
@@ -55,7 +55,7 @@ jobs_of_partial_report extent.Whole = None
 jobs_of_partial_report (extent.Choice jobs) = Some jobs
 jobs_of_partial_report (extent.Shard shard) = Some shard.jobs
 
--- `other` has the number, counted from 1, of the first name that differs between the two lists, and the name in each list
+-- `other` describes the first index at which the two lists have different names: its number, counted from 1, and the name in each list
 pub record IsFirstOtherName (names all : List (List ℕ)) (other : OtherName) : Type 0 where
   -- the index of the name
   pub place : ℕ
@@ -65,7 +65,8 @@ pub record IsFirstOtherName (names all : List (List ℕ)) (other : OtherName) : 
   pub differ : bytes_eq other.in_report.now other.listed.now ≡ false
   pub before : take place names ≡ take place all
 
--- why a report is not a report of all jobs of the list: it is partial, its number of rows differs, or the name of a row does
+-- why a report is not a report of all jobs of the list: it is partial, it has another number of rows than the list has jobs, or a row has
+-- another name than its job
 abbrev pub IsNotWhole : List Job → SavedReport → NotWhole → Type 0
 IsNotWhole jobs report (other.Part rows count) = (rows ≡ length report.rows)
     × (jobs_of_partial_report report.extent ≡ Some count)
@@ -80,7 +81,7 @@ IsNotWholeReportStop known path list jobs why = IsReportReadError known path why
     ⊎ ((report : SavedReport) × (IsReportAt known path report
     × ((other : NotWhole) × (IsNotWhole jobs report other × IsStop 2 (not_whole_refusal path list other) why))))
 
--- why the report of `--into` cannot be updated, if the option is given
+-- why a run with `--into` stopped: the report at its path could not be read, or is not a report of all jobs of the list
 abbrev pub IsIntoStop : Option FileContents → RunArgs → List Job → Stop → Type 0
 IsIntoStop known words jobs why =
     IsSomeAnd words.into (λ path. IsNotWholeReportStop known path.now words.list.now jobs why)

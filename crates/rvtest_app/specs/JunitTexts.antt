@@ -6,16 +6,16 @@ use Rattle.rv_junit.specs.Junit.{junit_text}
 use Rattle.rv_report.specs.declared.row.Row.{Row}
 use Rattle.rvtest_app.specs.ReportSummary.{failed_line}
 
--- the file name of a path without its directories and its extension: the class of its jobs in JUnit XML
+-- the class of a list's jobs in JUnit XML: the last component of the list's path, without the extension
 abbrev pub junit_class : List ℕ → List ℕ
 junit_class path = unwrap_or (path_file_stem path) path
 
--- the name of the JUnit suite: the requested one, or else the file name of the path without its extension
+-- the name of the JUnit suite: the requested name, or else the last component of the path without its extension
 abbrev pub suite_name : Option (List ℕ) → List ℕ → List ℕ
 suite_name (Some name) path = name
 suite_name None path = junit_class path
 
--- the JUnit document of the rows of a report, in which each failed row has its line
+-- the JUnit document of these rows of a report, in which each failed row has its result line
 abbrev pub failures_junit : List ℕ → Judging → List Row → List ℕ
 failures_junit class judging rows = junit_text class judging
     (map (failed_line judging) rows) rows

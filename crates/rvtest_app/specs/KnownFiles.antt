@@ -12,21 +12,21 @@ use Rattle.rv_lists.specs.JobList.{names_of_jobs}
 use Rattle.rv_lists.specs.declared.job.Job.{Job}
 use Rattle.rv_text.specs.Printable.{printable_text, printable_value}
 
--- `known` are the known failures that the file at the path names among the jobs, and their path
+-- `known` has the path of a file of known failures, and which of the jobs this file lists
 pub record IsKnownFile (files : Option FileContents) (path : List ℕ) (jobs : List Job) (known : KnownJobs) : Type 0 where
   pub bytes : List ℕ
   pub read : IsTextAt files path bytes
   pub named : known_jobs_of (names_of_jobs jobs) bytes ≡ Ok known.jobs
   pub named_by : known.path ≡ path
 
--- the known failures of the file of `--known`; none without the option
+-- `known` are the known failures that the file at the path of `--known` lists; `None` without a path
 abbrev pub IsKnownAt : Option FileContents → Option (List ℕ) → List Job → Option KnownJobs → Type 0
 IsKnownAt files None jobs known = known ≡ None
 IsKnownAt files (Some path) jobs known = IsSomeAnd known (IsKnownFile files path jobs)
 
 -- ---- errors in the file
 
--- what is wrong with a line of the file of known failures; `list` is the path of the job list
+-- the text of an error in the file of known failures, about the job name `name`; `list` is the path of the job list
 abbrev pub known_fault_text : List ℕ → List ℕ → KnownFaultKind → List ℕ
 known_fault_text list name kind.NoName =
     codes "\"" ++ printable_value name ++ codes "\" is not a job name: expected NAME [# REASON]"

@@ -12,7 +12,7 @@ use Rattle.rv_lists.specs.JobList.{names_of_jobs}
 use Rattle.rv_lists.specs.declared.job.Job.{Job}
 use Rattle.rvtest_app.specs.KnownFiles.{known_fault_message}
 
--- memory ran out, or the stop reports the first error in the file of known failures whose text is `bytes`
+-- why a command stopped: memory ran out, or the file of known failures at `path`, which has the text `bytes`, has an error
 abbrev pub IsKnownFaultStop : List ℕ → List ℕ → List Job → List ℕ → Stop → Type 0
 IsKnownFaultStop path list jobs bytes why = (why ≡ stop.OutOfMemory)
     ⊎ ((fault : KnownFault) × ((known_jobs_of (names_of_jobs jobs) bytes ≡ Err fault)
@@ -23,7 +23,7 @@ abbrev pub IsNoKnownFileStop : Option FileContents → List ℕ → List ℕ →
 IsNoKnownFileStop known path list jobs why = IsListUnreadStop known path why
     ⊎ ((bytes : List ℕ) × (IsTextAt known path bytes × IsKnownFaultStop path list jobs bytes why))
 
--- why the file of `--known` could not be used, if the option is given
+-- why a run with `--known` stopped: its file could not be read, or has an error
 abbrev pub IsKnownStop : Option FileContents → RunArgs → List Job → Stop → Type 0
 IsKnownStop known words jobs why =
     IsSomeAnd words.known (λ path. IsNoKnownFileStop known path.now words.list.now jobs why)

@@ -21,12 +21,12 @@ name_line job = line job.name
 abbrev pub name_lines : List Job → List ℕ → List ℕ
 name_lines jobs places = flat_map (λ place. name_line (slice_index_or jobs place (single_job [] 0 []))) places
 
--- the names of the selected jobs, one per line; nothing without a selection
+-- the names of the selected jobs, one per line; empty if no job is selected (`None`)
 abbrev pub chosen_name_lines : List Job → Option (List Bool) → List ℕ
 chosen_name_lines jobs None = []
 chosen_name_lines jobs (Some marks) = name_lines jobs (selected_job_indices marks)
 
--- `names` are the lines that `list` prints for the list whose text is `bytes`, and `notes` are the notes about the choice
+-- `names` is the text that `list` prints for the list with the text `bytes`, and `notes` are the notes about the choice of jobs
 pub record AreListedOf (known : Option FileContents) (words : RunArgs) (bytes names notes : List ℕ) : Type 0 where
   pub jobs : List Job
   pub listed : job_list_of bytes ≡ Ok jobs
@@ -34,7 +34,7 @@ pub record AreListedOf (known : Option FileContents) (words : RunArgs) (bytes na
   pub chosen : IsChoice known words (failure_rule words.lenient) jobs marks notes
   pub named : names ≡ chosen_name_lines jobs marks
 
--- the names and notes for the list at the path in the arguments
+-- `names` is the text that `list` prints for the list at the path in the arguments, and `notes` are the notes about the choice of jobs
 pub record AreListedAt (known : Option FileContents) (words : RunArgs) (names notes : List ℕ) : Type 0 where
   pub bytes : List ℕ
   pub read : IsTextAt known words.list.now bytes

@@ -17,20 +17,20 @@ use Rattle.rv_merge.specs.declared.error.MergeError.{MergeError}
 use Rattle.rv_merge.specs.declared.error.MergeError.TheVariants as error
 use Rattle.rv_text.specs.Printable.{printable_text}
 
--- the path of the part at index `place`
+-- the path of the part at index `place`; "a part" if there is no such index
 abbrev pub part_path : List (Bor (List ℕ)) → ℕ → List ℕ
 part_path parts place = option_map_or (λ path. path.now) (slice_get parts place) (codes "a part")
 
--- a message about two parts: the path of the rejected one, what is wrong, the path of the other one, and `end`
+-- a message about two parts: `path`, the rejected part; `what`, the error; `other`, the path of the other part; and `end`
 abbrev pub two_parts_message : List ℕ → List ℕ → List ℕ → List ℕ → List ℕ
 two_parts_message path what other end =
     codes "rvtest: " ++ printable_text path ++ codes ": " ++ what ++ printable_text other ++ end
 
--- the message that the part at the path does not belong to the run of the first part
+-- the message that the part at `path` belongs to another run than the first part; `what` says how they differ
 abbrev pub other_run_message : List (Bor (List ℕ)) → List ℕ → List ℕ → List ℕ
 other_run_message parts path what = two_parts_message path what (part_path parts 0) (codes "\"\n")
 
--- the message about a part, given its path, its text and what is wrong with it
+-- the message that the part at the path, which has this text, has this flaw
 abbrev pub flaw_message : List (Bor (List ℕ)) → List ℕ → List ℕ → Flaw → List ℕ
 flaw_message parts path text (flaw.Line number) = refused_line_message expected.Part path text number
 flaw_message parts path text flaw.CutOff = path_message path (codes "the part is truncated")
@@ -45,7 +45,7 @@ flaw_message parts path text (flaw.OtherText earlier) =
 flaw_message parts path text (flaw.NameTwice number) =
     path_number_message path (codes ": job ") number (codes " has the same name as an earlier job\n")
 
--- the stop reports this error of the parts, or that memory ran out; `parts` are their paths
+-- the stop reports this error of `merge`, or that memory ran out; `parts` are the paths and `texts` the contents of the parts
 abbrev pub IsMergeErrorStop : List (Bor (List ℕ)) → List (List ℕ) → MergeError → Stop → Type 0
 IsMergeErrorStop parts texts error.OutOfMemory why = why ≡ stop.OutOfMemory
 IsMergeErrorStop parts texts error.NoTexts why = IsStop 2 (codes "rvtest: expected at least one part\n") why
@@ -54,7 +54,7 @@ IsMergeErrorStop parts texts (error.Text place flaw) why =
 IsMergeErrorStop parts texts (error.Missing number) why =
     IsStop 2 (codes "rvtest: no part for shard " ++ decimal number ++ codes "\n") why
 
--- memory ran out, or the stop reports an error that the texts have as parts of one run
+-- why `merge` stopped: memory ran out, or the texts are not the parts of one run, for a reason that the stop reports
 abbrev pub ArePartsRefused : List (Bor (List ℕ)) → List (List ℕ) → Stop → Type 0
 ArePartsRefused parts texts why = (why ≡ stop.OutOfMemory)
     ⊎ ((error : MergeError) × IsRefused texts error × IsMergeErrorStop parts texts error why)

@@ -14,7 +14,7 @@ use Rattle.rvtest_app.specs.Merges.{AreTextsAt, merged_report_path}
 use Rattle.rvtest_app.specs.Overwrites.{IsMergeOverwriteStop}
 use Rattle.rvtest_app.specs.WriteStops.{IsOutputStop}
 
--- why a command stopped: the parts before one of the paths were read, but the part at this path could not be read
+-- why a command stopped: the parts at the first paths were read, but the part at the next path could not be read
 pub record IsPartUnreadStop (known : Option FileContents) (paths : List (Bor (List ℕ))) (why : Stop) : Type 0 where
   pub before : List (Bor (List ℕ))
   pub path : Bor (List ℕ)
@@ -34,12 +34,12 @@ abbrev pub IsMergeWriteStop : MergeArgs → Stop → Type 0
 IsMergeWriteStop words why = IsOutputStop
     (merged_report_path (optional_text words.report) (optional_text words.junit)) (optional_text words.junit) why
 
--- why a command stopped: the texts are not the parts of one run, or they are, and the merged report was not written
+-- why a command stopped: the texts are not the parts of one run, or they are, but the merged report could not be written
 abbrev pub IsMergeOfStop : MergeArgs → List (List ℕ) → Stop → Type 0
 IsMergeOfStop words texts why = ArePartsRefused words.parts.items texts why
     ⊎ ((rows : List Row) × (AreParts rows texts × IsMergeWriteStop words why))
 
--- why `merge` stopped: a file would overwrite a part, a part could not be read, or merging the parts stopped
+-- why `merge` stopped: an output file would overwrite a part, a part could not be read, or the parts could not be merged
 abbrev pub IsMergeStop : Option FileContents → MergeArgs → Stop → Type 0
 IsMergeStop known words why = IsMergeOverwriteStop words why ⊎ (ArePartsUnread known words.parts.items why
     ⊎ ((texts : List (List ℕ)) × (AreTextsAt known words.parts.items texts × IsMergeOfStop words texts why)))

@@ -22,13 +22,13 @@ AreTextsAt known [] [] = ⊤
 AreTextsAt known (path ∷ paths) (text ∷ texts) = IsTextAt known path.now text × AreTextsAt known paths texts
 AreTextsAt known _ _ = ⊥
 
--- the path of the merged report: that of `--report`, or else standard output, unless the JUnit XML goes there
+-- the path of the merged report: the path of `--report`, or else `-` (standard output), or `None` if the JUnit XML goes to standard output
 abbrev pub merged_report_path : Option (List ℕ) → Option (List ℕ) → Option (List ℕ)
 merged_report_path (Some path) junit = Some path
 merged_report_path None None = Some (codes "-")
 merged_report_path None (Some junit) = if is_stdout junit then None else Some (codes "-")
 
--- the name of the JUnit suite: the requested one, or else one derived from the report's path, or `merged` without a report
+-- the name of the JUnit suite: the requested name, or else the name derived from the report's path, or `merged` without a report
 abbrev pub merged_suite : Option (List ℕ) → Option (List ℕ) → List ℕ
 merged_suite suite (Some path) = suite_name suite path
 merged_suite suite None = unwrap_or suite (codes "merged")
@@ -59,6 +59,6 @@ pub record IsMergedJunitAlone (known : Option FileContents) (words : MergeArgs) 
   pub parts : AreParts rows texts
   pub placed : AreFilesCommitted before after (Some (file_at (optional_text words.junit) (merged_junit words rows)))
 
--- a merge that ended with an error committed no file, or only the JUnit document
+-- after an error, `merge` has committed no file, or only the JUnit document
 abbrev pub IsUndoneMergeAt : Option FileContents → MergeArgs → Option (List CommittedFile) → Option (List CommittedFile) → Type 0
 IsUndoneMergeAt known words before after = (after ≡ before) ⊎ IsMergedJunitAlone known words before after

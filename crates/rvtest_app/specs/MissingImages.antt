@@ -16,28 +16,29 @@ abbrev pub is_not_found : ErrorKind → Bool
 is_not_found kind.NotFound = true
 is_not_found _ = false
 
--- whether a path could not be read because there is no file
+-- whether `note` is present, and says that the path could not be read because there is no such file
 abbrev pub is_reported_missing : Option UnreadablePath → Bool
 is_reported_missing note = option_map_or (λ one. is_not_found one.reason) note false
 
--- whether the job's image is missing, and its path is relative
+-- whether the path of the job's image is relative, and there is no file at this path
 abbrev pub is_image_missing : List UnreadablePath → Job → Bool
 is_image_missing unread job = not (starts_with nat_eq job.image (codes "/")) && is_reported_missing (unread_note unread job.image)
 
--- whether the images of all jobs are missing, and their paths are relative
+-- whether every job's image has a relative path at which there is no file
 abbrev pub are_images_missing : List Job → List UnreadablePath → Bool
 are_images_missing jobs unread = list_all (is_image_missing unread) jobs
 
--- the note about missing images: against which directory relative paths are resolved, with or without `--root`
+-- the text that no image was found, with the directory against which relative paths are resolved: the `--root` directory, or else the
+-- current one
 abbrev pub paths_text : Option (List ℕ) → List ℕ
 paths_text None = codes "no image was found: relative paths are resolved against the current directory; use --root DIR to resolve them against DIR"
 paths_text (Some folder) = codes "no image was found: relative paths are resolved against " ++ printable_text folder ++ codes " (--root)"
 
--- the note of `run` if all jobs run and every image is missing; else empty; `count` is the number of jobs that run
+-- the note of `run` that no image was found, if all jobs run (`count` of them) and every image is missing; otherwise empty
 abbrev pub missing_images_note : List Job → List UnreadablePath → ℕ → Option (List ℕ) → List ℕ
 missing_images_note jobs unread count root =
     if count == length jobs && are_images_missing jobs unread then codes "rvtest: note: " ++ line (paths_text root) else []
 
--- the line of `check` if every image is missing; else empty
+-- the line of `check` that no image was found, if every image is missing; otherwise empty
 abbrev pub missing_images_line : List Job → List UnreadablePath → Option (List ℕ) → List ℕ
 missing_images_line jobs unread root = if are_images_missing jobs unread then line (paths_text root) else []

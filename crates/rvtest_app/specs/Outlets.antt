@@ -15,22 +15,22 @@ is_stdout path = bytes_eq path (codes "-")
 
 -- ---- by paths
 
--- the file with this text at the path; no file without a path or for standard output
+-- a list with the file that has this path and text; empty if there is no path, or it is `-` (standard output)
 abbrev pub file_at : Option (List ℕ) → List ℕ → List CommittedFile
 file_at None text = []
 file_at (Some path) text = if is_stdout path then [] else record { path = path; bytes = text } ∷ []
 
--- the text, if the path is standard output; else empty
+-- the text that goes to standard output: `text` if the path is `-`; otherwise empty
 abbrev pub stdout_at : Option (List ℕ) → List ℕ → List ℕ
 stdout_at None text = []
 stdout_at (Some path) text = if is_stdout path then text else []
 
--- the path, if it is given and is not standard output
+-- the path if it names a file; `None` if no path is given, or it is `-` (standard output)
 abbrev pub file_path_at : Option (List ℕ) → Option (List ℕ)
 file_path_at None = None
 file_path_at (Some path) = if is_stdout path then None else Some path
 
--- whether a path is given and is standard output
+-- whether a path is given, and it is `-` (standard output)
 abbrev pub is_stdout_at : Option (List ℕ) → Bool
 is_stdout_at None = false
 is_stdout_at (Some path) = is_stdout path
@@ -103,14 +103,14 @@ module _ {P S : Type 0} where
   abbrev pub synced_path : Option (SyncedFile P S) → Option (List ℕ)
   synced_path synced = option_map (λ file. file.path.now) synced
 
--- `files` were committed after those in `before`, as far as committed files are reported
+-- `after` is the list `before` of committed files followed by `files`; always holds if `before` or `files` is `None`, that is, not reported
 abbrev pub AreFilesCommitted : Option (List CommittedFile) → Option (List CommittedFile) → Option (List CommittedFile) → Type 0
 AreFilesCommitted before after files = IfSome before (λ earlier. IfSome files (λ files. after ≡ Some (earlier ++ files)))
 
--- after an error, no more files than those of `before` are committed, or only those of `first`, the first of two files
+-- after an error, either no more files were committed (`after` is `before`), or exactly the files `first`, the first of two outputs
 abbrev pub AreFilesPartlyCommitted : Option (List CommittedFile) → Option (List CommittedFile) → Option (List CommittedFile) → Type 0
 AreFilesPartlyCommitted before after first = (after ≡ before) ⊎ AreFilesCommitted before after first
 
--- the files of the first list followed by those of the second; none if one of the lists is not reported
+-- the files of the first list followed by the files of the second; `None` if one of the lists is `None`
 abbrev pub both_files : Option (List CommittedFile) → Option (List CommittedFile) → Option (List CommittedFile)
 both_files first second = option_and_then (λ first. option_map (λ second. first ++ second) second) first

@@ -15,12 +15,13 @@ abbrev pub IsShown : Bool → List ℕ → CommandOutputs → CommandOutputs →
 IsShown true text before after = IsOnlyErrorOutput text before after
 IsShown false text before after = IsOnlyStandardOutput text before after
 
--- the JUnit document of the rows of a report; `line` is the text about a row
+-- the JUnit document of the rows of a report; the function `line` returns the lines about a row
 abbrev pub junit_of : {T : Type 0} → (T → ℕ → Row → List ℕ) → FileTexts T → List ℕ
 junit_of line texts = junit_text texts.suite.name.now (judging_of texts.suite.judge)
     (row_text_list (line texts.reporter.now) texts.places.now (report_rows texts.report)) (report_rows texts.report)
 
--- the text `shown` was written, to standard error if `is_beside` is true, and then the report and the JUnit XML to their paths
+-- the text `shown` was written, to standard error if `is_beside` is true and otherwise to standard output; then the report and the JUnit
+-- XML were written to their paths
 pub record IsOutputWrittenTo (is_beside : Bool) (report_path junit_path : Option (List ℕ)) (shown report junit : List ℕ)
     (before after : CommandOutputs) : Type 0 where
   pub middle : CommandOutputs
@@ -29,7 +30,8 @@ pub record IsOutputWrittenTo (is_beside : Bool) (report_path junit_path : Option
   pub quiet : (after.errors ≡ middle.errors) × (after.failures ≡ middle.failures)
   pub placed : AreFilesCommitted middle.placed after.placed (Some (file_at junit_path junit ++ file_at report_path report))
 
--- the text `shown` was written, to standard error if a path is standard output, and then the report and the JUnit XML to their paths
+-- the text `shown` was written, to standard error if one of the paths is `-` and otherwise to standard output; then the report and the
+-- JUnit XML were written to their paths
 abbrev pub IsOutputWritten : Option (List ℕ) → Option (List ℕ) → List ℕ → List ℕ → List ℕ → CommandOutputs → CommandOutputs → Type 0
 IsOutputWritten report_path junit_path shown report junit before after =
     IsOutputWrittenTo (is_stdout_at report_path || is_stdout_at junit_path) report_path junit_path shown report junit before after

@@ -34,19 +34,19 @@ use Rattle.rvtest_app.specs.WriteStops.{IsUnopenedStop}
 abbrev pub read_paths : List ReadPath → List (List ℕ)
 read_paths read = map (λ (one : ReadPath). path_buf_bytes one.path) read
 
--- the identities of the input files are their paths, if committed files are reported
+-- the identities of the files in `read` are these paths, provided that the committed files are reported
 abbrev pub AreFilesOf : Option (List CommittedFile) → List (List ℕ) → ReadFiles → Type 0
 AreFilesOf placed paths read = IfSome placed (λ _. read.identities.items ≡ paths)
 
--- whether one of the files has this identity
+-- whether one of the identities in `files` is `identity`
 abbrev pub is_among : List (List ℕ) → List ℕ → Bool
 is_among files identity = list_any (λ (file : List ℕ). bytes_eq file identity) files
 
--- the file at the path is not among the inputs
+-- the path is not one of the paths in `read`, the inputs
 abbrev pub IsUnread : List (List ℕ) → List ℕ → Type 0
 IsUnread read path = list_any (is_among (path ∷ [])) read ≡ false
 
--- the file of an option, if it is given and does not name standard output, is not among the inputs
+-- the path of an option is not one of the inputs `read`; always holds if the option is not given, or names standard output
 abbrev pub IsApart : List (List ℕ) → Option (List ℕ) → Type 0
 IsApart read path = IfSome (file_path_at path) (IsUnread read)
 
@@ -54,7 +54,7 @@ IsApart read path = IfSome (file_path_at path) (IsUnread read)
 abbrev pub job_file_text : List ℕ → List ℕ → List ℕ
 job_file_text key job = codes "the \"" ++ key ++ codes "\" of job \"" ++ job ++ codes "\""
 
--- how a message refers to an input: by its placeholder in the usage, such as LIST, or by the key and the job that name it
+-- how a message refers to an input: by its placeholder in the usage, such as LIST, or by the key of the job that names it
 abbrev pub role_text : ReadRole → List ℕ
 role_text (role.Word word) = word.now
 role_text (role.JobFile key job) = job_file_text key.now job.now
@@ -63,32 +63,32 @@ role_text (role.JobFile key job) = job_file_text key.now job.now
 abbrev pub job_writer_text : List ℕ → List ℕ → List ℕ
 job_writer_text key job = codes "job \"" ++ job ++ codes "\": " ++ key
 
--- how a message refers to an output file: by its option, or by the job and the key that name it
+-- how a message refers to an output file: by its option, or by the job whose key names it
 abbrev pub writer_text : ReadRole → List ℕ
 writer_text (role.Word word) = word.now
 writer_text (role.JobFile key job) = job_writer_text key.now job.now
 
--- the first half of the message: which option, with which path, would overwrite an input
+-- the first half of the message: that `option`, with this path, would overwrite a file
 abbrev pub overwrite_head : List ℕ → List ℕ → List ℕ
 overwrite_head option path = codes "rvtest: " ++ option ++ codes " \"" ++ printable_text path ++ codes "\" would overwrite "
 
--- the second half of the message: the path of the input
+-- the second half of the message: a colon and the path of the input in double quotes
 abbrev pub read_path_text : List ℕ → List ℕ
 read_path_text path = codes ": \"" ++ printable_text path ++ codes "\"\n"
 
--- the message that the file of an option would overwrite an input; `role` and `read` are its words and its path
+-- the message that `option`, with the path `path`, would overwrite an input; `role` describes the input, and `read` is its path
 abbrev pub overwrite_message : List ℕ → List ℕ → List ℕ → List ℕ → List ℕ
 overwrite_message option path role read = overwrite_head option path ++ role ++ read_path_text read
 
--- the stop reports that the file of this option would overwrite some input, or that memory ran out
+-- the stop reports that `option`, with the path `path`, would overwrite some input, or that memory ran out
 abbrev pub IsOverwriteReported : List ℕ → List ℕ → Stop → Type 0
 IsOverwriteReported option path why = (role : List ℕ) × (read : List ℕ) × IsStop 2 (overwrite_message option path role read) why
 
--- why a command stopped: the file of this option would overwrite an input, or the system does not say which file its path leads to
+-- why a command stopped: `option` would overwrite an input, or it could not be found out to which file its path leads
 abbrev pub IsOverwriteStop : List ℕ → List ℕ → Stop → Type 0
 IsOverwriteStop option path why = IsUnopenedStop path why ⊎ IsOverwriteReported option path why
 
--- why a command stopped: the option names a file, and this file would overwrite an input, or the system does not say where its path leads
+-- why a command stopped: the option names a file, and would overwrite an input, or it could not be found out to which file its path leads
 abbrev pub IsOptionStop : List ℕ → Option (List ℕ) → Stop → Type 0
 IsOptionStop option path why = IsSomeAnd (file_path_at path) (λ path. IsOverwriteStop option path why)
 
@@ -108,7 +108,7 @@ abbrev pub inputs_of_run : RunArgs → List Job → List (List ℕ)
 inputs_of_run words jobs = words.list.now ∷ option_to_list (optional_text words.known)
     ++ flat_map (paths_of_job (optional_text words.root)) jobs
 
--- the path of the report of `--failed`, if it is given
+-- a list with the path of the report of `--failed`; empty if the option is not given
 abbrev pub failed_of_run : RunArgs → List (List ℕ)
 failed_of_run words = option_to_list (optional_text words.failed)
 
@@ -138,7 +138,7 @@ IsRunOverwriteStop words why = (why ≡ stop.OutOfMemory)
     ⊎ (IsOptionStop (codes "--counts") (optional_text words.counts) why
     ⊎ IsOptionStop (codes "--into") (optional_text words.into) why)))
 
--- if files were committed and committed files are reported, `Apart` holds
+-- the statement `Apart` holds, unless no file was committed (`after` is `before`) or committed files are not reported
 abbrev pub IsPlacedApart : Type 0 → Option (List CommittedFile) → Option (List CommittedFile) → Type 0
 IsPlacedApart Apart before after = (after ≡ before) ⊎ IfSome before (λ _. Apart)
 
@@ -150,11 +150,11 @@ AreRunInputsKept known words before after = (after ≡ before)
 
 -- ---- the files of accept
 
--- the path of a job's image, resolved against `root`, as a list
+-- a list with one path: the path of the job's image, resolved against `root`
 abbrev pub image_paths : Option (List ℕ) → Job → List (List ℕ)
 image_paths root job = resolved_path root job.image ∷ []
 
--- the files besides the list that `accept` must not write: the report of `--failed`, and the images of all jobs
+-- the files that `accept` must not write, apart from the list: the report of `--failed`, and the images of all jobs
 abbrev pub inputs_of_accept : AcceptArgs → List Job → List (List ℕ)
 inputs_of_accept words jobs = failed_of_run words.run ++ flat_map (image_paths (optional_text words.run.root)) jobs
 
@@ -165,25 +165,25 @@ golden_paths_of_selected root (job ∷ jobs) [] = []
 golden_paths_of_selected root (job ∷ jobs) (marked ∷ marks) =
     (if marked then golden_paths_of_job root job else []) ++ golden_paths_of_selected root jobs marks
 
--- whether the file at the path is among the inputs
+-- whether the path is one of the paths in `read`, the inputs
 abbrev pub is_read : List (List ℕ) → List ℕ → Bool
 is_read read path = list_any (is_among (path ∷ [])) read
 
--- whether a golden file is among the inputs
+-- whether the path of a golden file is one of the paths in `read`, the inputs
 abbrev pub is_golden_read : List (List ℕ) → ReadPath → Bool
 is_golden_read read golden = is_read read (path_buf_bytes golden.path)
 
--- the list is not among the other inputs of `accept`, and no golden file of a selected job is the list or an input
+-- `accept` overwrites no input: the list is not another input, and no golden file of a selected job is the list or an input
 pub record AreAcceptFilesApart (words : AcceptArgs) (jobs : List Job) (marks : List Bool) : Type 0 where
   pub list : IsUnread (inputs_of_accept words jobs) words.run.list.now
   pub no_list : list_any (is_read (words.run.list.now ∷ [])) (golden_paths_of_selected (optional_text words.run.root) jobs marks) ≡ false
   pub no_input : list_any (is_read (inputs_of_accept words jobs)) (golden_paths_of_selected (optional_text words.run.root) jobs marks) ≡ false
 
--- the beginning of a message about a golden file outside of the directory: `head` and the words for the file
+-- the beginning of a message about a golden file outside of the directory: `head`, and `role`, which describes the file
 abbrev pub outside_head : List ℕ → List ℕ → List ℕ
 outside_head head role = head ++ role
 
--- the middle of the message: the path of the golden file, and the words that it is outside the directory
+-- the middle of the message: the path of the golden file in double quotes, and "is outside the directory"
 abbrev pub outside_path : List ℕ → List ℕ
 outside_path path = codes " \"" ++ printable_text path ++ codes "\" is outside the directory "
 
@@ -191,7 +191,7 @@ outside_path path = codes " \"" ++ printable_text path ++ codes "\" is outside t
 abbrev pub quoted_text : List ℕ → List ℕ
 quoted_text text = codes "\"" ++ printable_text text ++ codes "\""
 
--- a golden file is outside of the directory: `head`, the words for the file, its path, and the directory
+-- the text that a golden file is outside of the directory: `head`, `role`, which describes the file, its path, and the directory
 abbrev pub outside_text : List ℕ → List ℕ → List ℕ → List ℕ → List ℕ
 outside_text head role path directory = outside_head head role ++ outside_path path ++ quoted_text directory
 
@@ -204,17 +204,19 @@ outside_message role path directory = outside_text (codes "rvtest: ") role path 
 abbrev pub IsOutsideStop : List ℕ → Stop → Type 0
 IsOutsideStop path why = (role : List ℕ) × (directory : List ℕ) × IsStop 2 (outside_message role path directory) why
 
--- why a command stopped: memory ran out; or the file at the path, which `accept` writes, would overwrite an input, leads to a file that the
--- system does not name, or is outside of the directory
+-- why a command stopped: memory ran out, or the file at the path, which `accept` would write, is an input, is outside of the directory, or
+-- could not be identified
 abbrev pub IsUnwritableStop : List ℕ → Stop → Type 0
 IsUnwritableStop path why = (why ≡ stop.OutOfMemory)
     ⊎ (((role : List ℕ) × IsOverwriteStop role path why) ⊎ IsOutsideStop path why)
 
--- why a command stopped: some file that `accept` writes would overwrite an input, or is outside of the directory
+-- why a command stopped: memory ran out, or some file that `accept` would write is an input, is outside of the directory, or could not be
+-- identified
 abbrev pub IsAnyUnwritableStop : Stop → Type 0
 IsAnyUnwritableStop why = (path : List ℕ) × IsUnwritableStop path why
 
--- why a command stopped: memory ran out, or a file that `accept` writes would overwrite an input or is outside of the directory
+-- why a command stopped: memory ran out, or some file that `accept` would write is an input, is outside of the directory, or could not be
+-- identified
 abbrev pub IsAcceptOverwriteStop : Stop → Type 0
 IsAcceptOverwriteStop why = (why ≡ stop.OutOfMemory) ⊎ IsAnyUnwritableStop why
 
@@ -226,7 +228,7 @@ AreAcceptInputsKept known words before after = (after ≡ before)
 
 -- ---- the files of the other commands
 
--- the paths that these references point to
+-- the paths in the arguments, as a list
 abbrev pub paths_of_words : List (Bor (List ℕ)) → List (List ℕ)
 paths_of_words words = map (λ (word : Bor (List ℕ)). word.now) words
 

@@ -13,16 +13,16 @@ use Rattle.rv_rows.specs.Rows.{row_of}
 use Rattle.rvtest_app.specs.Commands.{is_job_refused, report_judging}
 use Rattle.rvtest_app.specs.MissingImages.{missing_images_note}
 
--- the line about a refused job; empty for any other job
+-- the result line of a refused job; empty if the job is not refused
 unfoldable pub refused_line : Judging → Planned → List UnreadablePath → Job → List ℕ
 refused_line judging plan unread job =
     if is_job_refused plan job then row_line plan unread judging job (row_of plan job) else []
 
--- a line for each refused job among those at these indices
+-- the result lines of the refused jobs among the jobs at these indices
 abbrev pub refused_lines : Judging → Planned → List UnreadablePath → List ℕ → List ℕ
 refused_lines judging plan unread places = flat_map (refused_line judging plan unread) (jobs_at plan places)
 
--- the note about missing images, if there is one, and a line for each refused job among those at these indices
+-- the note about missing images, which may be empty, and then the result lines of the refused jobs among the jobs at these indices
 abbrev pub refused_note : RunArgs → Planned → List UnreadablePath → List ℕ → List ℕ
 refused_note words plan unread places = missing_images_note plan.jobs unread (length places) (optional_text words.root)
     ++ refused_lines (report_judging words.lenient) plan unread places

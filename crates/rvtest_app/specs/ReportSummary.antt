@@ -9,13 +9,13 @@ use Rattle.rv_job_text.specs.TotalsLine.{totals_line}
 use Rattle.rv_expect.specs.Judgement.{Judging, fails, judgement}
 use Rattle.rv_job_text.specs.ResultLine.{result_line}
 
--- the line about a row that is a failure, with what a report knows of it; empty for any other row
+-- the result line of a row that is a failure, with only the details that a report has; empty if the row is not a failure
 abbrev pub failed_line : Judging → Row → List ℕ
 failed_line judging row = if fails judging row then result_line (judgement judging row) row None None else []
 
 -- ---- the most steps
 
--- the sorted rows, with `row` inserted before the first row that does not have more steps
+-- the sorted rows with `row` inserted after all rows that have more steps than it
 abbrev pub inserted_by_steps : Row → List Row → List Row
 inserted_by_steps row [] = row ∷ []
 inserted_by_steps row (first ∷ more) =
@@ -32,11 +32,11 @@ pub record AreSortedBySteps (rows sorted : List Row) : Type 0 where
   pub most_first : AllPairs (λ row behind. behind.steps ≤ row.steps) sorted
   pub stable : (steps : ℕ) → filter (λ row. row.steps == steps) sorted ≡ filter (λ row. row.steps == steps) rows
 
--- how many of the rows with the most steps are shown
+-- the largest number of rows that `show` lists under "most steps"
 abbrev pub most_rows_shown : ℕ
 most_rows_shown = 10
 
--- the rows with the most steps, most first, up to the number that is shown
+-- the rows with the most steps, in descending order, at most `most_rows_shown` of them
 abbrev pub rows_with_most_steps : List Row → List Row
 rows_with_most_steps rows = take most_rows_shown (rows_by_steps rows)
 

@@ -20,25 +20,25 @@ use Rattle.rvtest_app.specs.CommandOutputs.{IsOnlyErrorOutput, CommandOutputs}
 
 -- ---- the program
 
--- the program ended with the status and the message of a stop for which `ended` holds; `closed` says whether the reader of standard output
+-- the program ended with the status and the message of a stop that satisfies `ended`; `closed` says whether the reader of standard output
 -- had closed it
 abbrev pub IsStopReported : Bool → (Stop → Type 0) → ℕ → CommandOutputs → Type 0
 IsStopReported closed ended status after = (why : Stop) × ended why × (status ≡ end_status closed why)
     × ((before : CommandOutputs) × IsOnlyErrorOutput (end_message closed why) before after)
 
--- the exit status if the process cannot provide its arguments for this reason
+-- the exit status if the program cannot get its arguments for this reason: 3 if memory ran out, and otherwise 2
 abbrev pub unreadable_words_status : ErrorKind → ℕ
 unreadable_words_status io.OutOfMemory = 3
 unreadable_words_status _ = 2
 
--- the message if the process cannot provide its arguments for this reason
+-- the message if the program cannot get its arguments for this reason: that memory ran out, or otherwise that an argument is not UTF-8
 abbrev pub unreadable_words_message : ErrorKind → List ℕ
 unreadable_words_message io.OutOfMemory = codes "rvtest: out of memory\n"
 unreadable_words_message _ = codes "rvtest: an argument is not valid UTF-8\n"
 
 -- ---- help
 
--- the kind of a `clap` error is a request for the help or the version
+-- the error of `clap` is of the kind that requests the help or the version
 abbrev pub IsHelpRequested : WordsFault → Type 0
 IsHelpRequested fault = (fault ≡ words.DisplayHelp) ⊎ (fault ≡ words.DisplayVersion)
 
@@ -52,7 +52,8 @@ abbrev pub IsHelpWritten : WordsError → Option (List ℕ) → Option (List ℕ
 IsHelpWritten error.OutOfMemory before after = ⊥
 IsHelpWritten (error.Told fault text) before after = IsHelpRequested fault × Appends before after (string_bytes text)
 
--- the arguments stopped the program: the requested help could not be written, or they are rejected with the message of their error
+-- why the program stopped, given an error of its arguments: memory ran out, the requested help could not be written, or the arguments are
+-- rejected with the error's message
 abbrev pub IsWordsErrorStop : WordsError → ℕ → ℕ → Stop → Type 0
 IsWordsErrorStop error.OutOfMemory failures_before failures_after why = why ≡ stop.OutOfMemory
 IsWordsErrorStop (error.Told fault text) failures_before failures_after why =
@@ -61,12 +62,12 @@ IsWordsErrorStop (error.Told fault text) failures_before failures_after why =
 
 -- ---- diff
 
--- why the new report could not be compared: it could not be read, or its text is not a report
+-- why the new report could not be compared: its text is not a report, or the file could not be read, for the given reason
 abbrev pub IsNewReportStop : Bool → List ℕ → Result (Vec ℕ Global) Stop → Stop → Type 0
 IsNewReportStop partial path (Ok bytes) why = IsRequestedFaultStop partial path bytes.items why
 IsNewReportStop partial path (Err unread) why = why ≡ unread
 
--- why `diff` stopped: memory ran out, or there is an error in the old report, or else in the new one
+-- why `diff` stopped: memory ran out, the text of the old report is invalid, or it is valid, but the new report could not be used
 abbrev pub IsDiffStop : DiffArgs → List ℕ → Result (Vec ℕ Global) Stop → Stop → Type 0
 IsDiffStop words old new why = (why ≡ stop.OutOfMemory) ⊎ (IsRequestedFaultStop words.partial words.old.now old why
     ⊎ ((found : PartialReport) × IsReportRead words.partial old found × IsNewReportStop words.partial words.new.now new why))

@@ -40,13 +40,13 @@ use Rattle.rvtest_app.specs.Commands.{check_status, diff_status, passing_status,
 
 -- ---- unreadable paths
 
--- the number of entries in `unread` is the number of unreadable paths in the plan's files
+-- `unread` has as many entries as `answers` has unreadable files
 abbrev pub AreNotesOf : List Answer → List UnreadablePath → Type 0
 AreNotesOf answers unread = length unread ≡ one_more_times 0 (unreadable_count answers)
 
 -- ---- diff
 
--- what `diff` compares: steps with `--steps`, slower jobs with `--slower`, and outcomes by default
+-- what `diff` compares: steps if the Bool is true (`--steps`), else slower jobs if a percentage is given (`--slower`), else outcomes
 abbrev pub requested_comparison : Bool → Option ℕ → Compare
 requested_comparison true slower = Steps
 requested_comparison false (Some percent) = Slower percent
@@ -57,23 +57,25 @@ abbrev pub leaves_out : Extent → Extent → Bool
 leaves_out (extent.Choice jobs) extent.Whole = true
 leaves_out _ _ = false
 
--- the rows of `report` that are compared with `other`: only those of jobs in `other`, if it has only chosen jobs
+-- the rows of `report` that `diff` compares with `other`: if `other` has only chosen jobs and `report` is whole, the rows of jobs in
+-- `other`, and otherwise all rows
 abbrev pub compared_rows : SavedReport → SavedReport → List Row
 compared_rows other report = if leaves_out other.extent report.extent then rows_in_both other.rows report.rows
     else report.rows
 
--- the number of rows of both reports that are not compared
+-- the number of rows of the old report plus the number of rows of the new report that `diff` does not compare
 abbrev pub left_out_count : SavedReport → SavedReport → ℕ
 left_out_count old new = (length old.rows - length (compared_rows new old))
     + (length new.rows - length (compared_rows old new))
 
--- the output and exit status of `diff` for these two reports
+-- `output` and `status` are the output and the exit status of `diff` for the reports `before` and `after`
 pub record IsDiffOfReports (compare : Compare) (before after : SavedReport) (output : List ℕ) (status : ℕ) : Type 0 where
   pub text : output ≡ diff_text compare (compared_rows after before) (compared_rows before after)
       (left_out_count before after)
   pub judged : status ≡ diff_status (counts_of_differing compare (compared_rows after before) (compared_rows before after))
 
--- the output, notes and exit status of `diff` for two reports with these texts; the notes say how many rows a truncated report has
+-- `output`, `notes` and `status` are the output, the notes and the exit status of `diff` for the reports with the texts `old` and `new`; a
+-- note says how many rows a truncated report has
 pub record IsDiffOf (words : DiffArgs) (old new output notes : List ℕ) (status : ℕ) : Type 0 where
   pub before : PartialReport
   pub before_is : IsReportRead words.partial old before
@@ -82,7 +84,7 @@ pub record IsDiffOf (words : DiffArgs) (old new output notes : List ℕ) (status
   pub diff : IsDiffOfReports (requested_comparison words.steps words.slower) before.report after.report output status
   pub noted : notes ≡ cut_off_note words.old.now before ++ cut_off_note words.new.now after
 
--- the output, notes and exit status of `diff` for the files at the paths in the arguments
+-- `output`, `notes` and `status` are the output, the notes and the exit status of `diff` for the reports at the two paths in the arguments
 pub record IsDiffAt (known : Option FileContents) (words : DiffArgs) (output notes : List ℕ) (status : ℕ) : Type 0 where
   pub old : List ℕ
   pub old_read : IsTextAt known words.old.now old
@@ -101,7 +103,8 @@ pub record IsDiffWritten (known : Option FileContents) (words : DiffArgs) (statu
 
 -- ---- check
 
--- the output and exit status of `check` for a list without errors, with all files of its jobs read from the store
+-- `output` and `status` are the output and the exit status of `check` for a list without errors, with all files of its jobs read from the
+-- store
 pub record IsPlanCheckOf (known : Option FileContents) (root : Option (List ℕ)) (path bytes output : List ℕ) (status : ℕ)
     : Type 0 where
   pub plan : Planned
@@ -113,14 +116,15 @@ pub record IsPlanCheckOf (known : Option FileContents) (root : Option (List ℕ)
   pub text : output ≡ check_text path bytes root plan unread
   pub judged : status ≡ check_status (refused_job_count plan)
 
--- the output and exit status of `check` for a list with these errors: if there are any, the status is 2, and the output has at least one
--- line for each invalid job, which begins with the list's path, a line and column, and the job's number and name
+-- `output` and `status` are the output and the exit status of `check` for a list with these errors: if there are any, the status is 2, and
+-- the output has at least one line for each invalid job, which begins with the list's path, a line and column, and the job's number and
+-- name
 abbrev pub IsCheckOf : Option FileContents → Option (List ℕ) → List JobError → List ℕ → List ℕ → List ℕ → ℕ → Type 0
 IsCheckOf known root [] path bytes output status = IsPlanCheckOf known root path bytes output status
 IsCheckOf known root (fault ∷ faults) path bytes output status =
     AppendsEachFault (IsToldFault path bytes) (fault ∷ faults) [] output × (status ≡ 2)
 
--- the output and exit status of `check` for the list at the path in the arguments
+-- `output` and `status` are the output and the exit status of `check` for the list at the path in the arguments
 pub record IsCheckAt (known : Option FileContents) (words : CheckArgs) (output : List ℕ) (status : ℕ) : Type 0 where
   pub bytes : List ℕ
   pub read : IsTextAt known words.list.now bytes
@@ -129,8 +133,8 @@ pub record IsCheckAt (known : Option FileContents) (words : CheckArgs) (output :
 
 -- ---- explain
 
--- the text explains the row of the job at index `place` of the plan, with its `last` instructions and with the findings about an exhausted
--- budget
+-- `text` explains the row of the job at index `place` of the plan, with its last `last` instructions and, if its budget was exhausted, how
+-- it used the budget
 pub record IsTextExplaining (plan : Planned) (unread : List UnreadablePath) (place last : ℕ) (text : List ℕ) : Type 0 where
   pub budget_use : Option BudgetUse
   pub found : (d : Job) → IsUseOfRow plan (slice_index_or plan.jobs place d)
@@ -138,7 +142,8 @@ pub record IsTextExplaining (plan : Planned) (unread : List UnreadablePath) (pla
   pub told : (d : Job) → text ≡ explanation_text plan unread (judging_by_rule Strict) (slice_index_or plan.jobs place d)
       (row_of plan (slice_index_or plan.jobs place d)) (record { last = last; budget_use = budget_use })
 
--- the output and exit status of `explain` for the job at index `place`, with the files that its row needs read from the store
+-- `output` and `status` are the output and the exit status of `explain` for the job at index `place`, with the files that its row needs
+-- read from the store
 pub record IsJobExplained (known : Option FileContents) (jobs : List Job) (place last : ℕ) (output : List ℕ)
     (status : ℕ) : Type 0 where
   pub plan : Planned
@@ -151,11 +156,12 @@ pub record IsJobExplained (known : Option FileContents) (jobs : List Job) (place
   pub judged : (d : Job) → status ≡ passing_status
       (has_passed Strict (row_of plan (slice_index_or plan.jobs place d)))
 
--- `place` is the index of the first job of this name
+-- `place` is the index of the first job named `name`
 abbrev pub IsFirstNamed : List Job → List ℕ → ℕ → Type 0
 IsFirstNamed jobs name place = position (λ (job : Job). bytes_eq job.name name) jobs ≡ Some place
 
--- the output and exit status of `explain` for the list whose text is `bytes`, with the requested budget for all jobs
+-- `output` and `status` are the output and the exit status of `explain` for the list with the text `bytes`; a requested budget applies to
+-- every job
 pub record IsExplanationOf (known : Option FileContents) (words : ExplainArgs) (bytes output : List ℕ) (status : ℕ)
     : Type 0 where
   pub jobs : List Job
@@ -165,7 +171,7 @@ pub record IsExplanationOf (known : Option FileContents) (words : ExplainArgs) (
   pub explained : IsJobExplained (contents_below (optional_text words.root) known) (with_budget words.budget jobs) place
       words.last output status
 
--- the output and exit status of `explain` for the list at the path in the arguments
+-- `output` and `status` are the output and the exit status of `explain` for the list at the path in the arguments
 pub record IsExplanationAt (known : Option FileContents) (words : ExplainArgs) (output : List ℕ) (status : ℕ)
     : Type 0 where
   pub bytes : List ℕ

@@ -13,7 +13,7 @@ use Rattle.rv_report.specs.declared.row.Row.{Row}
 use Rattle.rv_report.specs.Report.{report_text}
 use Rattle.rv_stream.specs.Streams.{joined_row_texts}
 
--- what a run prints: the lines about each row, then the summary line, which counts the jobs without a row, too
+-- the text that a run prints: the lines about each row, then the summary line, which also counts the jobs that have no row
 abbrev pub run_output_text : (ℕ → Row → List ℕ) → Judging → Planned → List ℕ → List Row → List ℕ
 run_output_text line judging plan places rows =
     joined_row_texts line places rows ++ run_totals_line judging plan places rows (length places - length rows)
@@ -26,7 +26,7 @@ rows_status judging rows = if list_any (fails judging) rows then 1 else 0
 abbrev pub job_numbers : List ℕ → List ℕ
 job_numbers places = map (λ place. place + 1) places
 
--- the report of the jobs at these indices, with these rows; the extent `jobs` says whether they are a shard, all jobs or chosen jobs
+-- the report with these rows of the jobs at these indices; its extent `jobs` says whether it has a shard, all jobs or chosen jobs of a list
 abbrev pub part_text : Extent → List ℕ → List Row → List ℕ
 part_text jobs places rows = saved_text (record {
   extent = jobs;
@@ -34,18 +34,20 @@ part_text jobs places rows = saved_text (record {
   rows = rows;
 })
 
--- the report of a shard, of all jobs, or else of chosen jobs; `jobs` is the number of jobs in the list
+-- the report with these rows: of a shard if one is given, else of all jobs if there are `jobs` indices, as many as jobs in the list, else
+-- of chosen jobs
 abbrev pub chosen_report_text : ℕ → List ℕ → Option Shard → List Row → List ℕ
 chosen_report_text jobs places (Some shard) rows = part_text (extent.Shard shard) places rows
 chosen_report_text jobs places None rows =
     if length places == jobs then report_text rows
     else part_text (extent.Choice jobs) places rows
 
--- the extent of a report: a shard, all jobs of the list, or else chosen jobs; `jobs` is the number of jobs in the list
+-- the extent of a report: a shard if one is given, else the whole list if there are `jobs` indices, as many as jobs in the list, else
+-- chosen jobs
 abbrev pub chosen_extent : ℕ → List ℕ → Option Shard → Extent
 chosen_extent jobs places (Some shard) = extent.Shard shard
 chosen_extent jobs places None = if length places == jobs then extent.Whole else extent.Choice jobs
 
--- the last line of the report of these jobs, after its rows
+-- the last line of the report that `chosen_report_text` describes, which follows its rows
 abbrev pub chosen_last_line : ℕ → List ℕ → Option Shard → List Row → List ℕ
 chosen_last_line jobs places shard rows = extent_line (chosen_extent jobs places shard) (length rows)

@@ -24,12 +24,12 @@ use Rattle.rvtest_app.specs.StackStops.{IsUnstackedStop}
 use Rattle.rvtest_app.specs.declared.run_output.ShowError.{ShowError}
 use Rattle.rvtest_app.specs.declared.run_output.ShowError.TheVariants as show
 
--- the shard in the arguments is invalid; or there is none, and choosing the jobs stopped
+-- why the jobs to run could not be selected: the shard in the arguments is invalid, or no shard is given and the jobs could not be chosen
 abbrev pub IsUnmarkedStop : Option FileContents → RunArgs → List Job → Stop → Type 0
 IsUnmarkedStop known words jobs why = IsShardStop words.shard words.stamp why
     ⊎ ((is_some words.shard ≡ false) × IsChoiceStop known words (failure_rule words.lenient) jobs why)
 
--- the text is an invalid list, the report of `--into` cannot be updated, or the requested jobs could not be found
+-- why a command stopped: the text is not a valid list, the report of `--into` cannot be updated, or the requested jobs could not be found
 abbrev pub IsUnlistedStop : Option FileContents → RunArgs → List ℕ → Stop → Type 0
 IsUnlistedStop known words text why = IsListFaultStop words.list.now text why
     ⊎ ((jobs : List Job) × ((job_list_of text ≡ Ok jobs)
@@ -50,7 +50,7 @@ pub record IsUnknownStop (known : Option FileContents) (words : RunArgs) (why : 
   pub args : AreRequestedJobs known words jobs marks shard old notes
   pub unknown : IsKnownStop known words jobs why
 
--- the stop for an error while a run is shown; `path` is the path of the report
+-- why a command stopped: this error occurred while a run was shown; `path` is the path of the report
 abbrev pub IsShowStop : Option (List ℕ) → ShowError → Stop → Type 0
 IsShowStop path show.OutOfMemory why = why ≡ stop.OutOfMemory
 IsShowStop path show.NoWorker why = why ≡ stop.NoWorker
@@ -62,12 +62,13 @@ abbrev pub IsRowsWriteStop : RunArgs → Stop → Type 0
 IsRowsWriteStop words why = (why ≡ stop.NoWorker)
     ⊎ IsOutputStop (run_report_path words) (optional_text words.junit) why
 
--- why a command stopped: the rows or the table of counts could not be written, or the requested call stacks have no sum
+-- why a command stopped: the rows or the table of counts could not be written, or the requested call stacks could not be summed up
 abbrev pub IsRunWriteStop : RunArgs → Stop → Type 0
 IsRunWriteStop words why = IsRowsWriteStop words why
     ⊎ (IsFileStop (file_path_at (optional_text words.counts)) why ⊎ IsUnstackedStop words why)
 
--- there are jobs to run, and then the run stopped
+-- why `run` stopped although it found jobs to run: no thread could be started, an output could not be written, or the call stacks could not
+-- be summed up
 abbrev pub IsUnfinishedStop : Option FileContents → RunArgs → Stop → Type 0
 IsUnfinishedStop known words why = AreJobsToRun known words × IsRunWriteStop words why
 

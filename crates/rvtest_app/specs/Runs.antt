@@ -43,7 +43,8 @@ use Rattle.rvtest_app.specs.WrittenTexts.{IsWrittenAt}
 abbrev pub selected_job_indices : List Bool → List ℕ
 selected_job_indices marks = selected_indices marks (length marks)
 
--- `marks` selects the requested jobs, those of the shard or else the chosen ones; `notes` are the notes about the choice
+-- `marks` selects the jobs to run: the jobs of the shard if one is given, and otherwise the chosen jobs; `notes` are the notes about the
+-- choice
 abbrev pub IsRequestedSelection : Option FileContents → Option Shard → RunArgs → List Job → Option (List Bool) → List ℕ
     → Type 0
 IsRequestedSelection known (Some shard) words jobs marks notes =
@@ -51,8 +52,8 @@ IsRequestedSelection known (Some shard) words jobs marks notes =
 IsRequestedSelection known None words jobs marks notes =
     IsChoice known words (failure_rule words.lenient) jobs marks notes
 
--- the list in the arguments has these jobs, of which `marks` selects those that run; `shard`, `old` and `notes` are the shard, the rows
--- that the run updates, and the notes about the choice
+-- the list at the path in the arguments has the jobs `jobs`; `marks` selects those to run, `shard` is their shard, `old` are the rows that
+-- the run updates, and `notes` are the notes about the choice
 pub record AreRequestedJobs (known : Option FileContents) (words : RunArgs) (jobs : List Job)
     (marks : Option (List Bool)) (shard : Option Shard) (old : Option (List Row)) (notes : List ℕ) : Type 0 where
   pub bytes : List ℕ
@@ -63,7 +64,7 @@ pub record AreRequestedJobs (known : Option FileContents) (words : RunArgs) (job
   pub marked : IsRequestedSelection known shard words jobs marks notes
   pub into : AreOldRows known words jobs old
 
--- the requested jobs and the known failures were found, and there are jobs to run
+-- the requested jobs and the known failures were found, and at least one job is selected to run
 pub record AreJobsToRun (known : Option FileContents) (words : RunArgs) : Type 0 where
   pub jobs : List Job
   pub marks : List Bool
@@ -92,7 +93,7 @@ run_junit words reporter places rows = junit_text (suite_name (optional_text wor
 abbrev pub run_judging : RunArgs → Option KnownJobs → Judging
 run_judging words failures = record { rule = failure_rule words.lenient; known = failures }
 
--- how the rows of a run are shown, by the arguments
+-- the reporter of a run's rows: which rows it shows and how it judges them, as the arguments and the known failures say
 abbrev pub run_reporter : RunArgs → Option KnownJobs → Planned → List UnreadablePath → RowReporter
 run_reporter words failures plan unread = record {
   plan = plan;
@@ -102,25 +103,25 @@ run_reporter words failures plan unread = record {
   last = words.last;
 }
 
--- the rows of a run of the jobs at these indices, up to the failure that stops it, if one does
+-- the rows of the jobs at these indices, in order; if `stop_after` is given, only up to the failure with this number
 abbrev pub run_rows : Option ℕ → Judging → Planned → List ℕ → List Row
 run_rows stop_after judging plan places = rows_up_to stop_after (fails judging) (rows_at plan places)
 
--- the indices of the jobs that have one of these rows: the first ones, as many as there are rows
+-- the indices of the jobs that have a row: the first of `places`, as many as there are rows
 abbrev pub shown_indices : List ℕ → List Row → List ℕ
 shown_indices places rows = take (length rows) places
 
--- the JUnit file of a run with these rows; none without a path
+-- a list with the JUnit file of a run with these rows; empty if `--junit` names no file
 abbrev pub junit_file : RunArgs → RowReporter → List ℕ → List Row → List CommittedFile
 junit_file words reporter places rows =
     file_at (optional_text words.junit) (run_junit words reporter (shown_indices places rows) rows)
 
--- the report file of a run with these rows; none without a path
+-- a list with the report file of a run with these rows; empty if no option names a report file
 abbrev pub report_file : RunArgs → RowReporter → List ℕ → Option Shard → Option (List Row) → List Row → List CommittedFile
 report_file words reporter places shard old rows = file_at (run_report_path words)
     (run_report_text old (length reporter.plan.jobs) (shown_indices places rows) shard rows)
 
--- a run of the jobs at these indices wrote its rows: the results, the report and the JUnit XML
+-- a run of the jobs at these indices, with these rows, wrote its results, its report and its JUnit XML
 abbrev pub IsRunWritten : RunArgs → RowReporter → List ℕ → Option Shard → Option (List Row) → List Row → CommandOutputs → CommandOutputs → Type 0
 IsRunWritten words reporter places shard old rows before after =
     IsOutputWrittenTo (uses_run_stdout words) (run_report_path words) (optional_text words.junit)
@@ -128,7 +129,7 @@ IsRunWritten words reporter places shard old rows before after =
     (run_report_text old (length reporter.plan.jobs) (shown_indices places rows) shard rows)
     (run_junit words reporter (shown_indices places rows) rows) before after
 
--- the table of counts of the runs of the jobs at these indices, with call stacks if the Bool is true
+-- `table` has the counts of the runs of the jobs at these indices; it has call stacks if the Bool is true
 abbrev pub IsCountsTable : Bool → Planned → List ℕ → CountTable → Type 0
 IsCountsTable false plan places table = IsTableOfPlaces plan places table
 IsCountsTable true plan places table = IsTableWithStacks plan places table
@@ -138,13 +139,14 @@ abbrev pub IsCountsText : Bool → Planned → List ℕ → List ℕ → Type 0
 IsCountsText stacks plan places text =
     (table : CountTable) × (IsCountsTable stacks plan places table × (text ≡ table_text table))
 
--- the table of counts was written to the path, if one is given
+-- the table of counts of the jobs at these indices, with call stacks if `stacks` is true, was written to the path; without a path nothing
+-- was written
 abbrev pub AreCountsWritten : Bool → Option (List ℕ) → Planned → List ℕ → CommandOutputs → CommandOutputs → Type 0
 AreCountsWritten stacks None plan places before after = IsWrittenAt None [] before after
 AreCountsWritten stacks (Some path) plan places before after =
     (text : List ℕ) × (IsCountsText stacks plan places text × IsWrittenAt (Some path) text before after)
 
--- a run wrote its rows, and then its table of counts
+-- a run wrote its results, its report and its JUnit XML, and then its table of counts
 pub record IsCountedRunWritten (words : RunArgs) (reporter : RowReporter) (places : List ℕ) (shard : Option Shard) (old : Option (List Row))
     (rows : List Row) (before after : CommandOutputs) : Type 0 where
   pub middle : CommandOutputs
@@ -166,7 +168,7 @@ pub record IsRunOfPlaces (known : Option FileContents) (words : RunArgs) (failur
   pub noted : IsOnlyErrorOutput (missing_images_note plan.jobs unread (length places) (optional_text words.root)) before middle
   pub put : IsCountedRunWritten words (run_reporter words failures plan unread) places shard old rows middle after
 
--- the selected jobs ran; without a selection, the status is 0 and nothing more is output
+-- the selected jobs ran and their outputs were written; if no job is selected (`None`), the status is 0 and nothing more was output
 abbrev pub IsRunOfSelected : Option FileContents → RunArgs → Option KnownJobs → List Job → Option (List Bool) → Option Shard
     → Option (List Row) → ℕ → CommandOutputs → CommandOutputs → Type 0
 IsRunOfSelected known words failures jobs None shard old status before after = (status ≡ 0) × (after ≡ before)
@@ -189,7 +191,7 @@ pub record IsRunAt (known : Option FileContents) (words : RunArgs) (status : ℕ
 
 -- ---- runs that an error ended
 
--- of a run's output files, only the JUnit XML was committed or, if counts are requested, only it and the report
+-- after an error, only some of a run's files were committed: the JUnit XML or, if counts are requested, the JUnit XML and the report
 abbrev pub AreRunFilesPlacedInPart : RunArgs → RowReporter → List ℕ → Option Shard → Option (List Row) → List Row
     → Option (List CommittedFile) → Option (List CommittedFile) → Type 0
 AreRunFilesPlacedInPart words reporter places shard old rows before after =
@@ -197,7 +199,7 @@ AreRunFilesPlacedInPart words reporter places shard old rows before after =
     ⊎ ((is_some words.counts ≡ true) × AreFilesCommitted before after
     (Some (junit_file words reporter places rows ++ report_file words reporter places shard old rows)))
 
--- the jobs at these indices ran, and only a part of the output files was committed
+-- the jobs at these indices ran, but only some of the requested output files were committed
 pub record IsRunInPart (known : Option FileContents) (words : RunArgs) (failures : Option KnownJobs) (jobs : List Job) (places : List ℕ)
     (shard : Option Shard) (old : Option (List Row)) (before after : Option (List CommittedFile)) : Type 0 where
   pub plan : Planned
@@ -208,18 +210,18 @@ pub record IsRunInPart (known : Option FileContents) (words : RunArgs) (failures
   pub shown : rows ≡ run_rows words.stop_after (run_judging words failures) plan places
   pub placed : AreRunFilesPlacedInPart words (run_reporter words failures plan unread) places shard old rows before after
 
--- a run of the jobs at these indices that ended with an error committed no file, or only a part of its output files
+-- after an error, a run of the jobs at these indices has committed no file, or only some of the requested output files
 abbrev pub IsUndoneRunOfPlaces : Option FileContents → RunArgs → Option KnownJobs → List Job → List ℕ → Option Shard
     → Option (List Row) → Option (List CommittedFile) → Option (List CommittedFile) → Type 0
 IsUndoneRunOfPlaces known words failures jobs places shard old before after =
     (after ≡ before) ⊎ IsRunInPart known words failures jobs places shard old before after
 
--- the requested jobs were found, and only a part of the output files of their run was committed
+-- the requested jobs were found and ran, but only some of the requested output files were committed
 pub record IsRunInPartAt (known : Option FileContents) (words : RunArgs) (before after : Option (List CommittedFile))
     : Type 0 where
   pub found : AreJobsToRun known words
   pub alone : IsRunInPart known words found.failures found.jobs (selected_job_indices found.marks) found.shard found.old before after
 
--- a run that ended with an error committed no file, or only a part of its output files
+-- after an error, `run` has committed no file, or only some of the requested output files
 abbrev pub IsUndoneRunAt : Option FileContents → RunArgs → Option (List CommittedFile) → Option (List CommittedFile) → Type 0
 IsUndoneRunAt known words before after = (after ≡ before) ⊎ IsRunInPartAt known words before after

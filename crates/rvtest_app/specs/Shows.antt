@@ -33,12 +33,12 @@ pub record IsShownAt (known : Option FileContents) (words : ShowArgs) (status : 
       (report_text found.report.rows) (shown_junit words found.report.rows)
       middle after
 
--- of the output files of `show`, the JUnit document was committed
+-- `show` committed the JUnit document of the report at the path in the arguments, if one is requested
 pub record IsShownJunit (known : Option FileContents) (words : ShowArgs) (before after : Option (List CommittedFile)) : Type 0 where
   pub found : PartialReport
   pub read : IsReportReadAt known words.partial words.report.now found
   pub placed : AreFilesCommitted before after (Some (file_at (optional_text words.junit) (shown_junit words found.report.rows)))
 
--- a `show` that ended with an error committed no file, or only the JUnit document
+-- after an error, `show` has committed no file, or only the JUnit document
 abbrev pub IsUndoneShowAt : Option FileContents → ShowArgs → Option (List CommittedFile) → Option (List CommittedFile) → Type 0
 IsUndoneShowAt known words before after = (after ≡ before) ⊎ IsShownJunit known words before after

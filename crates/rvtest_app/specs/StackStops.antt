@@ -9,12 +9,12 @@ use Rattle.rvtest_app.specs.CountStops.{IsSumErrorStop}
 use Rattle.rvtest_app.specs.WriteStops.{IsFileStop}
 use Rattle.rvtest_app.specs.WrittenTexts.{written_path}
 
--- why a command stopped: the requested call stacks cannot be summed up, which is reported for the path of the table
+-- why a command stopped: call stacks are requested, but cannot be summed up; the message names the path of the table, or `-` without a path
 abbrev pub IsUnstackedStop : RunArgs → Stop → Type 0
 IsUnstackedStop words why = (words.stacks ≡ true)
     × ((error : SumError) × IsSumErrorStop (written_path (optional_text words.counts)) error why)
 
--- why a command stopped: the run has no table of counts: memory ran out, or its call stacks cannot be summed up
+-- why a run has no table of counts: memory ran out, or its call stacks cannot be summed up
 abbrev pub IsUncountedRunStop : RunArgs → Stop → Type 0
 IsUncountedRunStop words why = (why ≡ stop.OutOfMemory) ⊎ IsUnstackedStop words why
 

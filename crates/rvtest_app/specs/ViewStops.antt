@@ -31,23 +31,23 @@ use Rattle.rvtest_app.specs.declared.view.View.TheVariants as view
 
 -- ---- a table that cannot be used
 
--- the message that the table at `table` has counts of another image than the one that is now at `path`
+-- the message that the table at `table` has counts of another image at `path` than the selected jobs use
 abbrev pub other_image_message : List ℕ → List ℕ → List ℕ
 other_image_message table path = codes "rvtest: " ++ printable_text table ++ codes ": " ++ printable_text path
     ++ codes ": counted with a different image than the selected jobs use\n"
 
--- the stop reports that the table at the path has counts of an image other than these, or that memory ran out
+-- the stop reports that the table at the path counted an image that is not one of `images`, or that memory ran out
 abbrev pub IsOtherImageStop : Option FileContents → List ℕ → List FileImage → Stop → Type 0
 IsOtherImageStop known path images why = (table : CountTable) × (IsTableAt known path table
     × ((other : List ℕ) × ((other_image table images ≡ Some other) × IsStop 2 (other_image_message path other) why)))
 
--- why a command stopped: the table at the path could not be read, is invalid, or has counts of an image other than these
+-- why a command stopped: the table at the path could not be read, is invalid, or counted an image that is not one of `images`
 abbrev pub IsNoTableStop : Option FileContents → List ℕ → List FileImage → Stop → Type 0
 IsNoTableStop known path images why = IsResultUnreadStop known path why
     ⊎ (((text : List ℕ) × (IsTextAt known path text × IsTableFaultStop path text why))
     ⊎ IsOtherImageStop known path images why)
 
--- the message that the table has no call stacks, and how to write one that has
+-- the message that the table has no call stacks, and how to write a table with call stacks
 abbrev pub no_stacks_message : List ℕ → List ℕ
 no_stacks_message table = path_message table (codes "the table has no stacks: write one with rvtest run LIST --counts FILE --stacks")
 
@@ -62,7 +62,7 @@ IsUnfitTableStop known shown path images why = IsNoTableStop known path images w
 
 -- ---- runs that cannot be counted
 
--- why a command stopped: the call stacks of the jobs at these indices cannot be summed up, which is reported for the path
+-- why a command stopped: the call stacks of the jobs at these indices cannot be summed up; the message names `path`
 abbrev pub IsUnstackedJobsStop : Planned → List ℕ → List ℕ → Stop → Type 0
 IsUnstackedJobsStop plan places path why =
     (error : SumError) × (HaveNoTableWithStacks plan places error × IsSumErrorStop path error why)
@@ -73,8 +73,8 @@ abbrev pub IsUncountedStop : View → Planned → List ℕ → List ℕ → Stop
 IsUncountedStop (view.Cover csv) plan places path why = why ≡ stop.OutOfMemory
 IsUncountedStop (view.Profile format) plan places path why = IsUnstackedJobsStop plan places path why
 
--- why a command stopped: there is no table for the view: the one at the path cannot be used, or without a path, the runs could not be
--- counted
+-- why a command stopped: no table for the view was found: the table at the given path cannot be used, or no path is given and the runs
+-- could not be counted
 abbrev pub IsUntabledStop : Option FileContents → RunArgs → View → Option (List ℕ) → Planned → List ℕ → Stop → Type 0
 IsUntabledStop known words shown None plan places why = IsUncountedStop shown plan places words.list.now why
 IsUntabledStop known words shown (Some path) plan places why =
@@ -82,7 +82,7 @@ IsUntabledStop known words shown (Some path) plan places why =
 
 -- ---- too many steps
 
--- the path that a message about counts names: that of the table, or else that of the list
+-- the path that a message about counts names: the path of the table, or else the path of the list
 abbrev pub counts_source : RunArgs → List ℕ
 counts_source words = unwrap_or (optional_text words.counts) words.list.now
 
@@ -96,13 +96,14 @@ abbrev pub IsPast64BitsStop : CountTable → List FileImage → List ℕ → Sto
 IsPast64BitsStop table images source why = (path : List ℕ)
     × ((image_past_64_bits table images ≡ Some path) × IsStop 2 (past_64_bits_message source path) why)
 
--- why a command stopped: the view of this table cannot be written: memory ran out, or a profile has too many steps or calls
+-- why a command stopped: the view of this table could not be written because memory ran out or, for a profile, because an image's call
+-- stacks have 2^64 or more steps or calls
 abbrev pub IsTableTextStop : View → CountTable → List FileImage → List ℕ → Stop → Type 0
 IsTableTextStop (view.Cover csv) table images source why = why ≡ stop.OutOfMemory
 IsTableTextStop (view.Profile format) table images source why = (why ≡ stop.OutOfMemory) ⊎ IsPast64BitsStop table images source why
 
--- why a command stopped: there is a table for the jobs at these indices, but its view cannot be written: memory ran out, or a profile has
--- too many steps or calls
+-- why a command stopped: a table for the jobs at these indices was found, but its view could not be written because memory ran out or, for
+-- a profile, a sum does not fit in 64 bits
 abbrev pub IsViewTextStop : Option FileContents → RunArgs → View → Planned → List ℕ → Stop → Type 0
 IsViewTextStop known words shown plan places why = (table : CountTable)
     × (IsTableFor known shown (optional_text words.counts) plan places table
@@ -110,13 +111,13 @@ IsViewTextStop known words shown plan places why = (table : CountTable)
 
 -- ---- the command
 
--- why a command stopped: memory ran out, there is no table for the view, or there is one, but its view cannot be written
+-- why a command stopped: memory ran out, no table for the view was found, or its view could not be written
 abbrev pub IsUnshownStop : Option FileContents → RunArgs → View → Planned → List ℕ → Stop → Type 0
 IsUnshownStop known words shown plan places why = (why ≡ stop.OutOfMemory)
     ⊎ (IsUntabledStop known words shown (optional_text words.counts) plan places why
     ⊎ IsViewTextStop known words shown plan places why)
 
--- the view could not be made for a plan of the jobs at these indices
+-- why a command stopped: the files of the jobs at these indices were read, but the view could not be made
 pub record IsUnshownOfPlaces (known : Option FileContents) (words : RunArgs) (shown : View) (jobs : List Job) (places : List ℕ)
     (why : Stop) : Type 0 where
   pub plan : Planned
@@ -129,7 +130,7 @@ abbrev pub IsUnviewedStop : Option FileContents → RunArgs → View → List Jo
 IsUnviewedStop known words shown jobs places why = (why ≡ stop.OutOfMemory)
     ⊎ ((why ≡ stop.WriteFailed) ⊎ IsUnshownOfPlaces known words shown jobs places why)
 
--- why a command stopped: the requested jobs were found, but their view was not written
+-- why a command stopped: the requested jobs were found, but their view could not be written
 pub record IsUnviewedAtStop (known : Option FileContents) (words : RunArgs) (shown : View) (why : Stop) : Type 0 where
   pub jobs : List Job
   pub marks : List Bool
@@ -139,6 +140,6 @@ pub record IsUnviewedAtStop (known : Option FileContents) (words : RunArgs) (sho
   pub args : AreRequestedJobs known words jobs (Some marks) shard old notes
   pub unviewed : IsUnviewedStop known words shown jobs (selected_job_indices marks) why
 
--- why a command stopped: the requested jobs could not be found, or their view was not written
+-- why a command stopped: the requested jobs could not be found, or their view could not be written
 abbrev pub IsViewStop : Option FileContents → RunArgs → View → Stop → Type 0
 IsViewStop known words shown why = IsUnrequestedStop known words why ⊎ IsUnviewedAtStop known words shown why

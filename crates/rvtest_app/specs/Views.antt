@@ -31,26 +31,26 @@ abbrev pub IsCountedFor : View → Planned → List ℕ → CountTable → Type 
 IsCountedFor (view.Cover csv) plan places table = IsTableOfPlaces plan places table
 IsCountedFor (view.Profile format) plan places table = IsTableWithStacks plan places table
 
--- whether the table has the counts that the view needs: a profile needs call stacks
+-- whether the table has the counts that the view needs: call stacks for a profile, and any counts for coverage
 abbrev pub has_counts_for : View → CountTable → Bool
 has_counts_for (view.Cover csv) table = true
 has_counts_for (view.Profile format) table = has_stacks table
 
--- the text is the view of these images by the table: their coverage or their profile
+-- `text` is the requested view of these images, computed from the table: their coverage or their profile
 abbrev pub IsViewText : View → CountTable → List FileImage → List ℕ → Type 0
 IsViewText (view.Cover csv) table images text = IsCoverText csv table images text
 IsViewText (view.Profile format) table images text = IsProfileText format table images text
 
 -- ---- the table for a view
 
--- the table at the path has the counts that the view needs, and only counts of these images
+-- `table` is the table at the path; it has the counts that the view needs, and only counts of `images`
 pub record IsFitTableAt (known : Option FileContents) (shown : View) (path : List ℕ) (images : List FileImage) (table : CountTable)
     : Type 0 where
   pub at : IsTableAt known path table
   pub of_images : other_image table images ≡ None
   pub fit : has_counts_for shown table ≡ true
 
--- the table for the view: the one at the path, or, if there is no path, the counts of a run of the jobs at these indices
+-- `table` is the table for the view: the table at the path, or without a path the counts of a run of the jobs at these indices
 abbrev pub IsTableFor : Option FileContents → View → Option (List ℕ) → Planned → List ℕ → CountTable → Type 0
 IsTableFor known shown None plan places table = IsCountedFor shown plan places table
 IsTableFor known shown (Some path) plan places table = IsFitTableAt known shown path (images_of plan.answers (jobs_at plan places)) table
@@ -75,7 +75,7 @@ pub record IsViewOfPlaces (known : Option FileContents) (words : RunArgs) (shown
   pub of_plan : IsViewOfPlan known words shown plan places text
   pub put : IsOnlyStandardOutput text middle after
 
--- the view of the selected jobs was written; without a selection, nothing is written
+-- the view of the selected jobs was written; if no job is selected (`None`), nothing was written
 abbrev pub IsViewOfSelected : Option FileContents → RunArgs → View → List Job → Option (List Bool) → CommandOutputs → CommandOutputs → Type 0
 IsViewOfSelected known words shown jobs None before after = after ≡ before
 IsViewOfSelected known words shown jobs (Some marks) before after =

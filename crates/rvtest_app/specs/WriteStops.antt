@@ -13,12 +13,12 @@ use Rattle.rvtest_app.specs.Outlets.{file_path_at}
 
 -- ---- texts
 
--- the stop for a text that could not be written to standard output
+-- the stop for an error in writing to standard output: that memory ran out, or that the write failed
 abbrev pub stop_of_write_error : WriteError → Stop
 stop_of_write_error write.OutOfMemory = stop.OutOfMemory
 stop_of_write_error write.Failed = stop.WriteFailed
 
--- the stop reports that writing the file for the path failed for this reason, or that memory ran out
+-- the stop reports that a write to the file for the path failed, with this reason, or that memory ran out
 abbrev pub IsWriteStop : List ℕ → ErrorKind → Stop → Type 0
 IsWriteStop path reason why = IsStop 3 (path_message path (write_error_text reason)) why
 
@@ -26,7 +26,7 @@ IsWriteStop path reason why = IsStop 3 (path_message path (write_error_text reas
 abbrev pub IsUnwrittenStop : List ℕ → Stop → Type 0
 IsUnwrittenStop path why = (reason : ErrorKind) × IsWriteStop path reason why
 
--- the stop for an error in writing the file for the path
+-- the stop reports this error in writing the file for the path: memory ran out, or a write failed
 abbrev pub IsWriteErrorStop : List ℕ → WriteError → Stop → Type 0
 IsWriteErrorStop path write.OutOfMemory why = why ≡ stop.OutOfMemory
 IsWriteErrorStop path write.Failed why = IsUnwrittenStop path why
@@ -38,15 +38,15 @@ IsTextStop (Some path) why = IsUnwrittenStop path why
 
 -- ---- files
 
--- the stop for some error in opening the file for the path
+-- the stop reports that the file for the path could not be opened, for some reason
 abbrev pub IsUnopenedStop : List ℕ → Stop → Type 0
 IsUnopenedStop path why = (error : FileError) × IsFileErrorStop path error why
 
--- why a command stopped: there is a path, and its file could not be synced to disk or not be moved to the path
+-- why a command stopped: a path is given, and its file could not be synced to disk or moved to the path
 abbrev pub IsUnplacedStop : Option (List ℕ) → Stop → Type 0
 IsUnplacedStop path why = IsSomeAnd path (λ path. (reason : ErrorKind) × IsSystemStop path reason why)
 
--- why a command stopped: there is a path, and its file could not be opened, written, or moved to the path
+-- why a command stopped: a path is given, and its file could not be opened, written, or moved to the path
 abbrev pub IsFileStop : Option (List ℕ) → Stop → Type 0
 IsFileStop path why = IsSomeAnd path (λ path. IsUnopenedStop path why ⊎ IsUnwrittenStop path why)
 

@@ -7,19 +7,20 @@ use Rattle.rvtest_app.specs.AcceptStops.{IsFileNotCreatedStop}
 use Rattle.rvtest_app.specs.Outlets.{AreFilesCommitted, file_at, is_stdout, stdout_at}
 use Rattle.rvtest_app.specs.CommandOutputs.{CommandOutputs}
 
--- the path, or `-` for standard output if there is none
+-- the path, or `-` (standard output) if no path is given
 abbrev pub written_path : Option (List ℕ) → List ℕ
 written_path (Some path) = path
 written_path None = codes "-"
 
--- the text was written to the file at the path or to standard output, and nothing else was output; without a path nothing was written
+-- the text was written to the file at the path, or to standard output if the path is `-`; without a path nothing was written; nothing else
+-- was output
 pub record IsWrittenAt (path : Option (List ℕ)) (text : List ℕ) (before after : CommandOutputs) : Type 0 where
   pub out : Appends before.out after.out (stdout_at path text)
   pub errors : after.errors ≡ before.errors
   pub failures : after.failures ≡ before.failures
   pub placed : AreFilesCommitted before.placed after.placed (Some (file_at path text))
 
--- why a command stopped: a write to standard output failed, if the Bool is true; otherwise the file for the path could not be created
+-- why a command stopped: if the Bool is true, a write to standard output failed, and otherwise the file for the path could not be created
 abbrev pub IsUnwrittenBy : Bool → List ℕ → Stop → Type 0
 IsUnwrittenBy true path why = why ≡ stop.WriteFailed
 IsUnwrittenBy false path why = IsFileNotCreatedStop path why

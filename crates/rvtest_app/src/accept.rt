@@ -143,7 +143,7 @@ fn accept_chosen<
     put_accepted(host, args, &list, &outcomes, to)
 }
 
-// Returns the jobs to run, after checking that no written file would overwrite an input.
+// Returns the jobs to run, or an error if a file that `accept` would write is one of its inputs or is outside of the directory.
 fn guarded_jobs<R, D, F: Outputs + Drop, O: Sink + Drop, E: Sink + Drop>(
     host: &Host<'_, R, D>,
     args: &AcceptArgs<'_>,
@@ -192,7 +192,7 @@ fn judge_rows<R, D: Inputs>(
     judged_runs(host.alloc, acceptance, jobs, candidates.as_slice(), rows)
 }
 
-// Returns which ends are accepted: with `--ends`, also a different exit code or kind of fault.
+// Returns which ends are accepted: with `--ends`, also a different exit code or kind of fault; otherwise only the expected end.
 fn acceptance_of(ends: bool) -> Acceptance
     ensures { result ≡ acceptance_of ends }
 {
@@ -203,7 +203,7 @@ fn acceptance_of(ends: bool) -> Acceptance
     }
 }
 
-// Reads the list at the path in the arguments, and chooses its jobs.
+// Reads the list at the path in the arguments, and returns it with the selection of the chosen jobs and the notes about the choice.
 fn chosen_list<R, D: Inputs>(
     host: &Host<'_, R, D>,
     args: &AcceptArgs<'_>,
@@ -233,7 +233,8 @@ fn chosen_list<R, D: Inputs>(
     })
 }
 
-// Returns the jobs of a list without their expectations, with the selection of those that run.
+// Returns the jobs of a list without their expectations, with the selection of the jobs that run: the chosen jobs and the jobs that they
+// need.
 fn selected_jobs(
     alloc: Global,
     args: &AcceptArgs<'_>,
@@ -288,7 +289,7 @@ fn run_selected<
     }
 }
 
-// Converts an error of the run engine.
+// Returns the stop for an error of the run engine: memory ran out, or no thread could be started.
 fn stop_of_run(error: RunError) -> Stop
     ensures { (result ≡ Stop.OutOfMemory) ⊎ (result ≡ Stop.NoWorker) }
 {
@@ -298,7 +299,7 @@ fn stop_of_run(error: RunError) -> Stop
     }
 }
 
-// Returns what changes if the runs are accepted, with the current contents of the golden files.
+// Returns the new golden files and the new list that result if the runs are accepted, with the current contents of the golden files.
 fn outcomes_of_runs<R, D: Inputs>(
     host: &Host<'_, R, D>,
     args: &AcceptArgs<'_>,
@@ -328,7 +329,7 @@ fn outcomes_of_runs<R, D: Inputs>(
     Ok(Outcomes { claims, files, new })
 }
 
-// Reports what changes, and writes it unless `--check` is given. Returns the exit status.
+// Writes the lines about all changes and, unless `--check` is given, the changed files. Returns the exit status.
 fn put_accepted<'x, R, D: Inputs, F: Outputs + Drop, O: Sink + Drop, E: Sink + Drop>(
     host: &Host<'_, R, D>,
     args: &AcceptArgs<'_>,

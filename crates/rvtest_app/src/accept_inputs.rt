@@ -32,9 +32,9 @@ struct AcceptReads<'a> {
     golden: ReadFiles<'a>,
 }
 
-/// Rejects the list or a golden file of a selected job if writing it would overwrite another input, if two golden files have different
-/// paths that lead to one file, or if it is outside of the directory and `--outside` is not given. Otherwise returns the warnings about
-/// golden files outside of the directory.
+/// Rejects the list and each golden file of a selected job if writing it would overwrite another input, if two golden files have different
+/// paths that lead to one file, or if a golden file is outside of the directory and `--outside` is not given. Otherwise returns the
+/// warnings about golden files outside of the directory.
 pub(crate) fn refuse_accept_overwrites<F: Outputs>(
     files: &F,
     alloc: Global,
@@ -75,7 +75,7 @@ fn input_files<'a, F: Outputs>(
     })
 }
 
-// Returns the files besides the list that `accept` must not write: the report of `--failed`, and the images of all jobs.
+// Returns the files that `accept` must not write, apart from the list: the report of `--failed`, and the images of all jobs.
 fn inputs_of_accept<'a>(
     alloc: Global,
     args: &AcceptArgs<'_>,
@@ -90,6 +90,7 @@ fn inputs_of_accept<'a>(
     Ok(read)
 }
 
+// Returns the golden files of all jobs, with their paths resolved against `root`.
 fn golden_of_jobs<'a>(
     alloc: Global,
     root: Option<&str>,
@@ -104,7 +105,7 @@ fn golden_of_jobs<'a>(
     Ok(read)
 }
 
-// Appends the golden files of the selected jobs.
+// Appends the golden files of the selected jobs, with their paths resolved against `root`.
 #[tactic(auto, unfolding(crate::specs::Overwrites::golden_paths_of_selected))]
 fn push_golden_of_marked<'a>(
     alloc: Global,
@@ -160,6 +161,7 @@ fn refuse_golden_files<F: Outputs>(
     Ok(())
 }
 
+// Returns an error if writing this golden file would overwrite the list, an input, or a golden file with another path.
 fn refuse_golden_file<F: Outputs>(
     files: &F,
     alloc: Global,
@@ -187,7 +189,7 @@ fn refuse_golden_file<F: Outputs>(
     refuse_first(alloc, golden, &reads.golden, other)
 }
 
-// Returns the index of the first input that is one of `files` and has another path than `path`, if there is one.
+// Returns the index of the first input whose identity is in `files` and whose path is not `path`; `None` if there is none.
 fn first_of_another_path(read: &ReadFiles<'_>, files: &[Text], path: &str) -> Option<usize>
     ensures { IfSome result (λ at. at < length read.now.paths.items) }
 {
@@ -216,6 +218,7 @@ fn refuse_first(
     }
 }
 
+// Returns the error that writing a golden file would overwrite the input `read`.
 fn golden_overwrite_stop(alloc: Global, golden: &ReadPath<'_>, read: &ReadPath<'_>) -> Stop
     ensures { IsOverwriteReported (writer_text golden.now.role) (path_buf_bytes golden.now.path) result }
 {
@@ -225,7 +228,7 @@ fn golden_overwrite_stop(alloc: Global, golden: &ReadPath<'_>, read: &ReadPath<'
     }
 }
 
-// Returns the words for an output file: its option, or the job and the key that name it.
+// Returns how a message refers to an output file: by its option, or by the job whose key names it.
 fn writer_text(alloc: Global, role: ReadRole<'_>) -> Result<String, AllocError>
     ensures { IfOk result (λ text. string_bytes text ≡ writer_text role.entry) }
 {
@@ -235,7 +238,7 @@ fn writer_text(alloc: Global, role: ReadRole<'_>) -> Result<String, AllocError>
     }
 }
 
-// Returns the words for an output file that a job names: the job's name and its key.
+// Returns how a message refers to an output file that a job names: by the job's name and the key.
 fn job_writer_text(alloc: Global, key: &str, job: &str) -> Result<String, AllocError>
     ensures { IfOk result (λ text. string_bytes text ≡ job_writer_text key.now job.now) }
 {
@@ -283,6 +286,7 @@ fn directory_of(path: &str) -> &str {
     }
 }
 
+// Appends a warning for each golden file outside of the directory, or returns an error if writing there is not allowed.
 fn push_outside_notes<F: Outputs>(
     files: &F,
     alloc: Global,
@@ -302,7 +306,7 @@ fn push_outside_notes<F: Outputs>(
     }
 }
 
-// Rejects a golden file outside of the directory, or appends a warning if writing there is allowed.
+// Appends a warning if the golden file is outside of the directory and writing there is allowed; returns an error if it is not allowed.
 fn check_bounds<F: Outputs>(
     files: &F,
     alloc: Global,
@@ -327,13 +331,14 @@ fn check_bounds<F: Outputs>(
 const OUTSIDE_HELP: &str =
     "; use --root DIR to resolve relative paths against DIR, or --outside to write it\n";
 
+// Returns the error that a golden file is outside of `directory`.
 fn outside_stop(alloc: Global, directory: &str, golden: &ReadPath<'_>) -> Stop
     ensures { IsAcceptOverwriteStop result }
 {
     Stop::of_refusal(outside_message(alloc, directory, golden))
 }
 
-// Returns the error that a golden file is outside of the directory, which `--outside` allows.
+// Returns the message that a golden file is outside of `directory`, with the hint that `--outside` allows this.
 fn outside_message(
     alloc: Global,
     directory: &str,
@@ -348,7 +353,7 @@ fn outside_message(
     Ok(text)
 }
 
-// Appends that a golden file is outside of the directory: `head`, the words for the file, its path, and the directory.
+// Appends the text that a golden file is outside of `directory`: `head`, how messages refer to the file, its path, and the directory.
 fn push_outside_text(
     alloc: Global,
     text: &mut Vec<u8>,
@@ -365,14 +370,14 @@ fn push_outside_text(
     push_quoted_text(text, directory)
 }
 
-// Appends the beginning of a message about a golden file outside of the directory: `head` and the words for the file.
+// Appends the beginning of a message about a golden file outside of the directory: `head`, and `role`, which describes the file.
 fn push_outside_head(text: &mut Vec<u8>, head: &str, role: &str) -> Result<(), AllocError>
     ensures { OnOk result (text.new.items ≡ text.old.items ++ outside_head head.now role.now) }
 {
     push_spans(text, &[Span::Text(head), Span::Text(role)])
 }
 
-// Appends the middle of the message: the path of the golden file, and the words that it is outside the directory.
+// Appends the middle of the message: the path of the golden file in double quotes, and "is outside the directory".
 fn push_outside_path(text: &mut Vec<u8>, path: &str) -> Result<(), AllocError>
     ensures { OnOk result (text.new.items ≡ text.old.items ++ outside_path path.now) }
 {

@@ -45,6 +45,7 @@ pub(crate) fn read_golden_files<D: Inputs>(
     Ok(files)
 }
 
+// Appends a golden file.
 fn add_file(files: &mut Vec<GoldenFile>, file: GoldenFile) -> Result<(), AllocError>
     ensures { OnOk result (files.new.items ≡ files.old.items ++ file ∷ []) }
 {
@@ -86,7 +87,7 @@ fn read_golden_file<D: Inputs>(inputs: &D, alloc: Global, path: &str) -> Result<
     }
 }
 
-/// Returns an error if a golden file or the list, which will be written, has changed since it was read.
+/// Returns an error if the list or a golden file that will be written has changed since it was read.
 pub(crate) fn check_unchanged_files<D: Inputs>(
     inputs: &D,
     alloc: Global,
@@ -107,6 +108,7 @@ pub(crate) fn check_unchanged_files<D: Inputs>(
     check_unchanged(inputs, alloc, list.path, Some(list.text))
 }
 
+// Returns the old contents of a golden file; `None` if there was no file.
 fn old_text(file: &GoldenFile) -> Option<&[u8]> {
     match &file.old {
         Some(old) => Some(old.as_slice()),
@@ -114,7 +116,7 @@ fn old_text(file: &GoldenFile) -> Option<&[u8]> {
     }
 }
 
-// Returns an error if the file at the path no longer has the contents `old`.
+// Returns an error if the file at the path no longer has the contents `old`, where `None` stands for a missing file.
 fn check_unchanged<D: Inputs>(
     inputs: &D,
     alloc: Global,
@@ -132,6 +134,7 @@ fn check_unchanged<D: Inputs>(
     }
 }
 
+// Whether the contents `found` equal `old`, where `None` stands for a missing file.
 fn is_text(found: &Option<Bytes>, old: Option<&[u8]>) -> bool
     ensures { IsTrue result → found.now ≡ option_map (λ old. old.now) old.entry }
 {
@@ -142,6 +145,7 @@ fn is_text(found: &Option<Bytes>, old: Option<&[u8]>) -> bool
     }
 }
 
+// Returns the error that the file at the path changed since it was read.
 fn changed_stop(alloc: Global, path: &str) -> Stop
     ensures { IsChangedStop path.now result }
 {
@@ -203,6 +207,7 @@ fn check_written<D: Inputs>(inputs: &D, alloc: Global, path: &str, text: &[u8]) 
     }
 }
 
+// Returns the error that the file at the path does not contain what was written.
 fn other_bytes_stop(alloc: Global, path: &str) -> Stop
     ensures { IsOtherBytesStop path.now result }
 {

@@ -36,7 +36,7 @@ pub(crate) fn check_list<D: Inputs>(
     check_list_text(inputs, alloc, args, text.as_slice())
 }
 
-// Checks the text of the list and, if it has no errors, the files of its jobs.
+// Returns the report about the text of a list: its errors or, if it has none, the problems with the files of its jobs.
 fn check_list_text<D: Inputs>(
     inputs: &D,
     alloc: Global,
@@ -61,7 +61,7 @@ fn check_list_text<D: Inputs>(
     })
 }
 
-// Checks which jobs of a list are refused because of their files.
+// Reads the files of the jobs of a list without errors, and returns the report about refused jobs and warnings.
 fn check_files<D: Inputs>(
     inputs: &D,
     alloc: Global,
@@ -80,7 +80,7 @@ fn check_files<D: Inputs>(
     check_plan(alloc, args, text, &plan, store.unreadable_paths())
 }
 
-// Returns the report about a list without errors, whose files were read.
+// Returns the report about a list without errors, given its plan and the files that could not be read.
 #[tactic(auto, unfolding(crate::specs::CheckText::check_text))]
 fn check_plan(
     alloc: Global,
@@ -122,7 +122,7 @@ fn check_status(refused: usize) -> u8
     if refused == 0 { DONE } else { REFUSED }
 }
 
-// Returns the line on which each job begins; none if the text is not UTF-8.
+// Returns the number of the line on which each job begins; an empty list if the text is not UTF-8.
 fn job_begin_lines(alloc: Global, text: &[u8]) -> Result<Vec<usize>, AllocError>
     ensures { IfOk result (λ lines. lines.items ≡ job_begin_lines text.now) }
 {

@@ -215,6 +215,7 @@ impl<'a> CheckedList<'a> {
         Ok(())
     }
 
+    // Appends the warning line that the job at index `place` expects two ends.
     #[tactic(auto, unfolding(crate::specs::CheckText::two_ends_line))]
     fn push_two_ends_warning(
         &self,
@@ -231,7 +232,8 @@ impl<'a> CheckedList<'a> {
         push_text(text, "\n")
     }
 
-    // Appends the location of the job at index `place`, the severity of the problem, and the job's number and name.
+    // Appends the beginning of a line about the job at index `place`: the path and line where it begins, the severity, its number and its
+    // name.
     #[tactic(auto, unfolding(crate::specs::CheckText::job_prefix))]
     fn push_job_prefix(
         &self,
@@ -258,7 +260,7 @@ impl<'a> CheckedList<'a> {
         )
     }
 
-    // Appends the path of the list, and the line on which the job begins if it is known.
+    // Appends the path of the list, and the number of the line on which the job at index `place` begins, if it is known.
     fn push_path_and_line(&self, text: &mut Vec<u8>, place: usize) -> Result<(), AllocError>
         ensures { OnOk result (text.new.items ≡ text.old.items
             ++ path_and_line self.now.path.now (slice_get self.now.lines.now place)) }
@@ -271,7 +273,7 @@ impl<'a> CheckedList<'a> {
     }
 }
 
-// Appends the reason of a refusal, with details if they are known.
+// Appends "refused" and the name of the refusal, and then details if they are given.
 fn push_refusal(text: &mut Vec<u8>, why: Refusal, reason: Option<Vec<u8>>) -> Result<(), AllocError>
     ensures { OnOk result (text.new.items ≡ text.old.items
         ++ refusal_text why (option_map (λ text. text.items) reason)) }
@@ -292,7 +294,7 @@ fn push_refusal(text: &mut Vec<u8>, why: Refusal, reason: Option<Vec<u8>>) -> Re
     }
 }
 
-// Appends the warning that a job expects both an exit code and another end.
+// Appends the text of the warning that a job expects both an exit code and another end, so that it never passes.
 fn push_two_ends(
     text: &mut Vec<u8>,
     code: Option<u32>,
@@ -345,7 +347,7 @@ pub(crate) fn push_job_counts_line(
     push_text(text, "\n")
 }
 
-// Appends the number of refused jobs, in words.
+// Appends "none refused", or the number of refused jobs and "refused".
 fn push_refused_count(text: &mut Vec<u8>, refused: usize) -> Result<(), AllocError>
     ensures { OnOk result (text.new.items ≡ text.old.items ++ refused_count_text refused) }
 {
@@ -358,7 +360,7 @@ fn push_refused_count(text: &mut Vec<u8>, refused: usize) -> Result<(), AllocErr
     )
 }
 
-// Appends the number of warnings; nothing if there are none.
+// Appends a comma and the number of warnings; nothing if there are none.
 fn push_warning_count(text: &mut Vec<u8>, warned: usize) -> Result<(), AllocError>
     ensures { OnOk result (text.new.items ≡ text.old.items ++ warning_count_text warned) }
 {

@@ -39,14 +39,14 @@ pub(crate) fn requested_colors(request: &Request<'_>, is_terminal: bool) -> Colo
     }
 }
 
-// Returns `Colors::Without` if an output file goes to standard output, and the given colours otherwise.
+// Returns plain results (`Colors::Without`) if an output file goes to standard output, and the given colours otherwise.
 fn colors_unless_stdout_used(uses_stdout: bool, colors: Colors) -> Colors
     ensures { result ≡ colors_unless_stdout_used uses_stdout colors }
 {
     if uses_stdout { Colors::Without } else { colors }
 }
 
-// Returns the colours for a value of `--color`; the default depends on whether standard output is a terminal.
+// Returns the colours that the value of `--color` requests: `always`, `never`, or otherwise coloured results only on a terminal.
 fn colors_of_word(word: Option<&str>, is_terminal: bool) -> Colors
     ensures { result ≡ colors_of_word (optional_text word.entry) is_terminal }
 {
@@ -57,7 +57,7 @@ fn colors_of_word(word: Option<&str>, is_terminal: bool) -> Colors
     }
 }
 
-// Returns the default of `--color`: coloured on a terminal, plain otherwise.
+// Returns the colours without `--color`: coloured results on a terminal, plain results otherwise.
 fn terminal_colors(is_terminal: bool) -> Colors
     ensures { result ≡ terminal_colors is_terminal }
 {

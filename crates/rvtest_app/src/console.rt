@@ -54,7 +54,7 @@ pub(crate) fn put_job_console<D: Inputs, F: Outputs + Drop, O: Sink + Drop, E: S
     Ok(status)
 }
 
-// Runs the job with the requested name, and returns its row, the line about it, and the exit status.
+// Runs the job with the requested name, and returns its row, its result line, and the exit status.
 fn run_named_job<D: Inputs>(
     inputs: &D,
     alloc: Global,
@@ -69,7 +69,7 @@ fn run_named_job<D: Inputs>(
     run_job_of_text(inputs, alloc, args, text.as_slice())
 }
 
-// Runs the job with the requested name of the list with this text.
+// Runs the job with the requested name of the list with this text, and returns its row, its result line, and the exit status.
 fn run_job_of_text<D: Inputs>(
     inputs: &D,
     alloc: Global,
@@ -86,7 +86,7 @@ fn run_job_of_text<D: Inputs>(
     run_job_at(inputs, alloc, args, jobs, place)
 }
 
-// Runs the job at index `place` of the list.
+// Runs the job at index `place` of the list, and returns its row, its result line, and the exit status.
 fn run_job_at<D: Inputs>(
     inputs: &D,
     alloc: Global,

@@ -85,7 +85,7 @@ fn sum_of_paths<D: Inputs>(inputs: &D, alloc: Global, paths: &[&str]) -> Result<
     Ok(sum)
 }
 
-// Returns the sum of the earlier tables, `before`, and the table at the path.
+// Returns the sum of `before`, the sum of the earlier tables, and the table at the path.
 fn sum_with_path<D: Inputs>(
     inputs: &D,
     alloc: Global,
@@ -116,6 +116,7 @@ pub(crate) fn table_of_text(alloc: Global, path: &str, text: &[u8]) -> Result<Co
     }
 }
 
+// Returns the stop for an error in reading the table of counts at the path.
 fn read_error_stop(alloc: Global, path: &str, error: ReadError) -> Stop
     ensures { IsReadErrorStop path.now error result }
 {
@@ -131,7 +132,7 @@ fn read_error_stop(alloc: Global, path: &str, error: ReadError) -> Stop
     }
 }
 
-/// Returns the error for a table that cannot be added to the others, by the path of the table.
+/// Returns the stop for the error that the table at the path cannot be added to the earlier tables.
 pub(crate) fn sum_error_stop(alloc: Global, path: &str, error: SumError) -> Stop
     ensures { IsSumErrorStop path.now error result }
 {
@@ -169,7 +170,7 @@ fn two_names_message(alloc: Global, path: &str, function: u32) -> Result<Vec<u8>
     )
 }
 
-// Returns the message that adding the table at the path makes a count 2^64 or more: `what` says which count of `address`.
+// Returns the message that a count at `address` no longer fits in 64 bits if the table at the path is added; `what` names the count.
 fn count_overflow_message<'a>(
     alloc: Global,
     path: &'a str,

@@ -7,7 +7,7 @@ use rv_count_tables::{AddressCounts, CountTable, ImageCounts};
 use rv_text::{Span, text_of_spans};
 use std::alloc::{AllocError, Global};
 
-/// Returns a line with the number of runs, of images and of executed instructions in a table.
+/// Returns the line that summarizes a table of counts: its number of runs, of images and of executed instructions.
 pub(crate) fn sum_note(alloc: Global, table: &CountTable) -> Result<Vec<u8>, AllocError>
     ensures { IfOk result (λ note. note.items ≡ sum_note table.now) }
 {
@@ -42,7 +42,7 @@ fn image_word(count: u64) -> &'static str
     if count == 1 { " image, " } else { " images, " }
 }
 
-// Returns " instruction" for one instruction, else " instructions", and a line feed.
+// Returns " instruction" if the count is 1, and otherwise " instructions", followed by a line feed.
 fn instruction_word(count: u64) -> &'static str
     ensures { result.now ≡ instruction_word count }
 {
@@ -53,7 +53,7 @@ fn instruction_word(count: u64) -> &'static str
     }
 }
 
-// Returns "at least " before the greatest 64-bit number, and nothing before any other.
+// Returns "at least " for the greatest 64-bit number, which may stand for a greater one, and an empty text for any other number.
 fn number_head(number: u64) -> &'static str
     ensures { result.now ≡ number_head number }
 {
@@ -71,7 +71,7 @@ fn executed_in_images(images: &[ImageCounts]) -> u64
     total
 }
 
-// Returns `before` plus how many instructions were executed at these addresses, saturating at the greatest 64-bit number.
+// Returns `before` plus the number of instructions that were executed at these addresses, saturating at the greatest 64-bit number.
 fn add_executed(before: u64, addresses: &[AddressCounts]) -> u64
     ensures { result ≡ shown_number (before + executed_at_addresses addresses.now) }
 {

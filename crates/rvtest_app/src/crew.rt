@@ -9,7 +9,7 @@ use rvtest_cli::RunArgs;
 use std::alloc::Global;
 use std::thread::{self, Threads};
 
-/// Returns the requested number of worker threads, each of which takes chunks of the requested number of jobs.
+/// Returns a crew with the requested number of worker threads, each of which takes chunks of the requested number of jobs.
 pub(crate) fn requested_crew<'r, R: Threads>(
     rt: &'r R,
     alloc: Global,
@@ -22,7 +22,7 @@ pub(crate) fn requested_crew<'r, R: Threads>(
     Crew::new(rt, alloc, requested_workers(rt, args), group)
 }
 
-// Returns the requested number of threads, or by default the number of processors, limited to 1 to 64.
+// Returns the number of threads, limited to 1 to 64: the requested number, or by default the number of processors.
 fn requested_workers<R: Threads>(rt: &R, args: &RunArgs<'_>) -> u32
     ensures { AreRequestedWorkers args.now.workers result }
 {

@@ -109,7 +109,7 @@ impl<'x, D: Inputs> CurrentFiles<'x, D> {
         Ok(verdict_by(did_run(row.ending), unmet.as_slice()))
     }
 
-    // Returns the row of the job that `same_as` names, if it names one and that job was run.
+    // Returns the row of the job that `same_as` names; `None` if no job is named, or the named job did not run.
     fn compared_row(&self, job: &Job) -> Option<&Row>
         ensures { option_map (λ row. row.now) result ≡ compared_row self.now.rows.now job.now.same_as }
     {
@@ -119,14 +119,14 @@ impl<'x, D: Inputs> CurrentFiles<'x, D> {
         }
     }
 
-    // Returns the row of the job at index `place`, if it was run.
+    // Returns the row of the job at index `place`; `None` if the job did not run.
     fn row_at(&self, place: usize) -> Option<&Row>
         ensures { option_map (λ row. row.now) result ≡ row_or_none (slice_get self.now.rows.now place) }
     {
         row_if_run(self.rows.get(place))
     }
 
-    // Returns the contents of a golden file; `None` if none is named, or it cannot be read.
+    // Returns the contents of the golden file at a path; `None` if no path is given, or the file cannot be read or is too long.
     fn golden_text(&self, path: Option<&str>) -> Result<Option<Vec<u8>>, AllocError>
         ensures { IfOk result (λ text. IsGoldenText (D.contents self.now.inputs.now) (optional_text self.now.folder)
             (option_map (λ path. path.now) path.entry) (option_map (λ bytes. bytes.items) text)) }
@@ -137,6 +137,8 @@ impl<'x, D: Inputs> CurrentFiles<'x, D> {
         }
     }
 
+    // Returns the contents of the golden file at a path, resolved against the `--root` directory; `None` if it cannot be read or is too
+    // long.
     fn text_of_path(&self, path: &str) -> Result<Option<Vec<u8>>, AllocError>
         ensures { IfOk result (λ text. IsWholeText (D.contents self.now.inputs.now)
             (resolved_path (optional_text self.now.folder) path.now) (option_map (λ bytes. bytes.items) text)) }
@@ -159,6 +161,7 @@ impl<'x, D: Inputs> CurrentFiles<'x, D> {
     }
 }
 
+// Appends a candidate.
 fn add_candidate(candidates: &mut Vec<Candidate>, candidate: Candidate) -> Result<(), AllocError>
     ensures { OnOk result (candidates.new.items ≡ candidates.old.items ++ candidate ∷ []) }
 {
@@ -166,7 +169,7 @@ fn add_candidate(candidates: &mut Vec<Candidate>, candidate: Candidate) -> Resul
     Ok(())
 }
 
-// Whether the job at index `place` is selected.
+// Whether the job at index `place` is selected; false if the index is out of range.
 fn is_selected(marks: &[bool], place: usize) -> bool
     ensures { result ≡ is_selected marks.now place }
 {
@@ -176,7 +179,7 @@ fn is_selected(marks: &[bool], place: usize) -> bool
     }
 }
 
-// Returns the path of a golden file if its contents decide about the verdict; `None` if the job ended as expected, since it is accepted
+// Returns the path of a golden file, if its contents matter for the verdict; `None` if the job ended as expected, since it is accepted
 // then.
 fn path_to_read<'a>(job: &Job, row: &Row, path: Option<&'a str>) -> Option<&'a str>
     ensures { option_map (λ path. path.now) result
@@ -189,6 +192,7 @@ fn path_to_read<'a>(job: &Job, row: &Row, path: Option<&'a str>) -> Option<&'a s
     }
 }
 
+// Returns the path of the job's golden signature; `None` if the job names none.
 fn signature_path(job: &Job) -> Option<&str>
     ensures { option_map (λ path. path.now) result ≡ job.now.expect_signature }
 {
@@ -198,6 +202,7 @@ fn signature_path(job: &Job) -> Option<&str>
     }
 }
 
+// Returns the bytes of a text as a slice; `None` if there is no text.
 fn text_of(bytes: &Option<Vec<u8>>) -> Option<&[u8]>
     ensures { option_map (λ bytes. bytes.now) result ≡ option_map (λ bytes. bytes.items) bytes.now }
 {
@@ -207,6 +212,7 @@ fn text_of(bytes: &Option<Vec<u8>>) -> Option<&[u8]>
     }
 }
 
+// Returns the row in an entry of the list of rows; `None` if there is no such entry, or it has no row.
 fn row_if_run(row: Option<&Option<Row>>) -> Option<&Row>
     ensures { option_map (λ row. row.now) result ≡ row_or_none (option_map (λ row. row.now) row.entry) }
 {
@@ -216,7 +222,7 @@ fn row_if_run(row: Option<&Option<Row>>) -> Option<&Row>
     }
 }
 
-// Returns the verdict on a job, given whether it ran and its unmet expectations.
+// Returns the verdict on a job: it passes if it ran and met all expectations; otherwise it differs if `same_as` is unmet, and fails if not.
 fn verdict_by(ran: bool, unmet: &[Unmet]) -> CurrentVerdict
     ensures { result ≡ verdict_by ran unmet.now }
 {
@@ -229,7 +235,7 @@ fn verdict_by(ran: bool, unmet: &[Unmet]) -> CurrentVerdict
     }
 }
 
-// Whether there are no unmet expectations.
+// Whether the list of unmet expectations is empty.
 fn is_none_unmet(unmet: &[Unmet]) -> bool
     ensures { result ≡ is_none_unmet unmet.now }
 {

@@ -31,7 +31,8 @@ struct NotedDiff {
     notes: Vec<u8>,
 }
 
-/// Writes the notes about truncated reports, and then which jobs differ between two reports. The status is 1 if a job differs.
+/// Writes the notes about truncated reports, and then the differences between two reports. The status is 1 if a job differs, and otherwise
+/// 0.
 pub(crate) fn diff_reports<D: Inputs, F: Outputs + Drop, O: Sink + Drop, E: Sink + Drop>(
     inputs: &D,
     alloc: Global,
@@ -50,7 +51,7 @@ pub(crate) fn diff_reports<D: Inputs, F: Outputs + Drop, O: Sink + Drop, E: Sink
     Ok(found.status)
 }
 
-// Compares the reports at the two paths in the arguments.
+// Returns the differences between the reports at the two paths in the arguments, with the notes about truncated reports.
 fn diff_of_files<D: Inputs>(
     inputs: &D,
     alloc: Global,
@@ -66,7 +67,8 @@ fn diff_of_files<D: Inputs>(
     diff_report_texts(alloc, args, old.as_slice(), new)
 }
 
-// Compares two reports by their texts. An error in the old report takes precedence over a failure to read the new one.
+// Returns the differences between two reports, given their texts. An error in the old report takes precedence over a failure to read the
+// new one.
 fn diff_report_texts(
     alloc: Global,
     args: DiffArgs<'_>,
@@ -84,7 +86,7 @@ fn diff_report_texts(
     diff_read_reports(alloc, args, old, new)
 }
 
-// Returns the request for the report at one of the two paths.
+// Returns the request to read the report at `path`, which may be truncated if `--partial` is given.
 fn requested<'a>(path: &'a str, args: DiffArgs<'_>) -> RequestedReport<'a>
     ensures path { result.path.now ≡ path.entry.now }
     ensures partial { result.partial ≡ args.entry.partial }
@@ -95,7 +97,7 @@ fn requested<'a>(path: &'a str, args: DiffArgs<'_>) -> RequestedReport<'a>
     }
 }
 
-// Compares two reports that were read, either of which may be truncated.
+// Returns the differences between two reports, with a note about each truncated one.
 fn diff_read_reports(
     alloc: Global,
     args: DiffArgs<'_>,
@@ -118,7 +120,7 @@ fn diff_read_reports(
     Ok(NotedDiff { found, notes })
 }
 
-// Compares the rows of two reports, and returns the differences.
+// Returns the differences between the compared rows of two reports, and the exit status.
 fn diff_saved_reports(
     alloc: Global,
     compare: Compare,
@@ -144,7 +146,8 @@ fn diff_saved_reports(
     diff_rows(alloc, compare, compared)
 }
 
-// Returns the rows to compare: if one report is whole and the other has only chosen jobs, only the rows of these jobs.
+// Returns the rows of both reports to compare: all rows or, if one report is whole and the other has only chosen jobs, only the rows of
+// these jobs.
 fn compared_rows(
     alloc: Global,
     old: SavedReport,
@@ -169,7 +172,7 @@ fn compared_rows(
     Ok((old, new))
 }
 
-// Whether `part` is a report of chosen jobs and `other` a whole report.
+// Whether `part` has only chosen jobs of a list, and `other` is a whole report.
 fn leaves_out(part: &Extent, other: &Extent) -> bool
     ensures { result ≡ leaves_out part.now other.now }
 {
@@ -179,7 +182,7 @@ fn leaves_out(part: &Extent, other: &Extent) -> bool
     }
 }
 
-// Returns what `--steps` or `--slower` compares; outcomes if neither is given.
+// Returns what to compare: steps with `--steps`, else slower jobs with `--slower`, else outcomes.
 fn requested_comparison(steps: bool, slower: Option<u32>) -> Compare
     ensures { result ≡ requested_comparison steps slower }
 {

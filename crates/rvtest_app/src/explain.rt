@@ -39,7 +39,7 @@ pub(crate) fn explain_named_job<D: Inputs>(
     explain_job_of_text(inputs, alloc, args, text.as_slice())
 }
 
-// Explains the job with the requested name of the list with this text.
+// Runs the job with the requested name of the list with this text, and returns its explanation and the exit status.
 fn explain_job_of_text<D: Inputs>(
     inputs: &D,
     alloc: Global,
@@ -55,7 +55,7 @@ fn explain_job_of_text<D: Inputs>(
     explain_job_at(inputs, alloc, args, jobs, place)
 }
 
-// Explains the job at index `place` of the list. A requested budget overrides that of every job.
+// Runs the job at index `place` of the list, and returns its explanation. A requested budget applies to every job.
 fn explain_job_at<D: Inputs>(
     inputs: &D,
     alloc: Global,
@@ -77,7 +77,7 @@ fn explain_job_at<D: Inputs>(
     explain_planned_job(alloc, &plan, store.unreadable_paths(), place, args.last)
 }
 
-// Explains the job at index `place` of a plan, with its `last` instructions.
+// Runs the job at index `place` of a plan, and returns its explanation, with its last `last` instructions.
 fn explain_planned_job(
     alloc: Global,
     plan: &Plan,

@@ -22,6 +22,7 @@ impl<'a> RowReporter for FailedLines<'a> {
 
     ghost line = { λ told _ row. failed_line (judging_of told.judge) row };
 
+    // Appends the result line of a row that is a failure; nothing for any other row.
     fn push_row_text(
         &self,
         alloc: Global,
@@ -33,7 +34,7 @@ impl<'a> RowReporter for FailedLines<'a> {
     }
 }
 
-/// Appends the line for a row that is a failure; nothing for other rows.
+/// Appends the result line of a row that is a failure; nothing for any other row.
 pub(crate) fn push_failed_line(
     alloc: Global,
     text: &mut Vec<u8>,

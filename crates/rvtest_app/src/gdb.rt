@@ -103,7 +103,7 @@ fn no_gdb_stop(alloc: Global) -> Stop
     Stop::of_refusal(path_message(alloc, "standard output", how))
 }
 
-// Converts an error of the session.
+// Returns the stop for an error of the session.
 fn broken_stop(alloc: Global, broken: SessionError) -> Stop
     ensures { IsBrokenStop broken result }
 {
@@ -204,7 +204,7 @@ fn image_path(alloc: Global, root: Option<&str>, image: &str) -> Result<Bytes, A
     Ok(Bytes::new(Vec::from_slice(alloc, path.as_str().as_bytes())?))
 }
 
-// Returns the error that the job at index `place` is refused, with the line about it as the message.
+// Returns the error that the job at index `place` is refused; its message is the job's result line.
 fn refused_job_stop(alloc: Global, plan: &Plan, unread: &[UnreadablePath], place: usize) -> Stop
     requires { place < length plan.now.jobs }
     ensures { (d : AJob) → IsStop 2 (row_line plan.now unread.now (judging_by_rule Strict)
@@ -213,7 +213,7 @@ fn refused_job_stop(alloc: Global, plan: &Plan, unread: &[UnreadablePath], place
     Stop::of_refusal(row_line(alloc, plan, unread, place))
 }
 
-// Runs the job at index `place`, and returns the line about it.
+// Runs the job at index `place` of a plan, and returns its result line.
 fn row_line(
     alloc: Global,
     plan: &Plan,

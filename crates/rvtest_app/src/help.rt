@@ -10,7 +10,8 @@ use rv_command::{DONE, Stop, put_results};
 use rv_rows::Sink;
 use rvtest_cli::WordsError;
 
-/// Writes the help or the version to standard output if the arguments request it. Returns any other error of the arguments.
+/// Writes the help or the version to standard output if the arguments request it, and returns status 0. Otherwise returns the error of the
+/// arguments.
 pub(crate) fn respond_to_words_error<O: Sink>(out: &mut O, error: WordsError) -> Result<u8, Stop>
     ensures done { IfOk result (λ status. status ≡ 0) }
     ensures helped { OnOk result (IsHelpWritten error (O.taken out.old) (O.taken out.new)) }
@@ -25,7 +26,7 @@ pub(crate) fn respond_to_words_error<O: Sink>(out: &mut O, error: WordsError) ->
     }
 }
 
-// Writes the help or the version to standard output.
+// Writes the text of the help or the version to standard output, and returns status 0.
 fn put_help<O: Sink>(out: &mut O, text: &str) -> Result<u8, Stop>
     ensures done { IfOk result (λ status. status ≡ 0) }
     ensures put { OnOk result (Appends (O.taken out.old) (O.taken out.new) text.now) }

@@ -11,7 +11,7 @@ use rv_text::{Span, push_text, text_of_spans};
 use rvtest_cli::HelpArgs;
 use std::alloc::{AllocError, Global};
 
-/// Returns the help for the keys of a job list, the only topic that is not a command.
+/// Returns the help about the keys of a job list if the topic is `keys`, and an error for any other topic.
 pub(crate) fn topic_help(alloc: Global, args: HelpArgs<'_>) -> Result<Found, Stop>
     ensures told { IfOk result (λ found. IsTopicPrinted args.entry.topic.now found.text.items found.status) }
     ensures stopped { IfErr result (IsNoTopicStop args.entry.topic.now) }
@@ -24,6 +24,7 @@ pub(crate) fn topic_help(alloc: Global, args: HelpArgs<'_>) -> Result<Found, Sto
     Ok(Found { text, status: DONE })
 }
 
+// Returns the error that the topic is unknown.
 fn no_topic_stop(alloc: Global, topic: &str) -> Stop
     ensures { IsStop 2 (no_topic_message topic.now) result }
 {

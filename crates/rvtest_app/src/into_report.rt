@@ -30,7 +30,7 @@ pub(crate) struct IntoRows<'a> {
 }
 
 impl<'a> IntoRows<'a> {
-    /// Returns the old rows, with those of the chosen jobs replaced. Allocates no memory.
+    /// Returns the old rows, in which the new rows replace the rows of the chosen jobs. Allocates no memory.
     pub(crate) fn into_whole_rows(self) -> Rows
         ensures { result ≡ merged_rows self.entry.chosen.places.now self.entry.chosen.rows self.entry.old }
     {
@@ -42,7 +42,7 @@ impl<'a> IntoRows<'a> {
     }
 }
 
-// Replaces the rows at `places` by `rows`.
+// Replaces the rows of `whole` at the indices `places`, in order, by `rows`.
 fn replace_rows_at(whole: &mut Vec<Row>, places: &[usize], rows: Vec<Row>)
     requires within { All (λ place. place < vec_len whole.old) places.now }
     requires counted { length places.now ≡ vec_len rows }
@@ -55,7 +55,7 @@ fn replace_rows_at(whole: &mut Vec<Row>, places: &[usize], rows: Vec<Row>)
     }
 }
 
-/// Returns the path of the report to write: that of `--into`, or else that of `--report`.
+/// Returns the path of the report to write: the path of `--into`, or else the path of `--report`.
 pub(crate) fn run_report_path<'a>(args: &RunArgs<'a>) -> Option<&'a str>
     ensures { optional_text result ≡ run_report_path args.now }
 {

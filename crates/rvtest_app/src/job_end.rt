@@ -33,6 +33,7 @@ impl EndText for JobEnd {
 
     ghost end_text = { λ job. job_end_text job.plan job.unread.items job.place };
 
+    // Appends the text that `run` prints about the job, given its machine after `place` steps of the run.
     #[tactic(auto, unfolding(crate::specs::Debugging::job_end_text))]
     fn push_end_text(
         &self,

@@ -6,7 +6,7 @@ ghost use Rattle.rvtest_app.specs.JunitTexts.{junit_class, suite_name};
 
 use std::path::Path;
 
-/// Returns the name of the JUnit suite: the requested one, or else the file name of the path without its extension.
+/// Returns the name of the JUnit suite: the requested name, or else the last component of the path without its extension.
 pub(crate) fn suite_name<'a>(args: Option<&'a str>, path: &'a str) -> &'a str
     ensures { result.now ≡ suite_name (optional_text args.entry) path.entry.now }
 {
@@ -16,7 +16,7 @@ pub(crate) fn suite_name<'a>(args: Option<&'a str>, path: &'a str) -> &'a str
     }
 }
 
-/// Returns the file name of a path without its directories and its extension: the class of its jobs in JUnit XML.
+/// Returns the class of a list's jobs in JUnit XML: the last component of the list's path, without its extension.
 pub(crate) fn junit_class(path: &str) -> &str
     ensures { result.now ≡ junit_class path.now }
 {

@@ -15,7 +15,7 @@ use rv_text::{Span, push_spans, push_text};
 use rvtest_cli::RunArgs;
 use std::alloc::{AllocError, Global};
 
-/// Reads which jobs of the list are known to fail. Returns `None` without `--known`.
+/// Reads the file of `--known`, and returns which jobs of the list are known to fail; `None` without this option.
 pub(crate) fn requested_known_jobs<D: Inputs>(
     inputs: &D,
     alloc: Global,
@@ -31,6 +31,7 @@ pub(crate) fn requested_known_jobs<D: Inputs>(
     }
 }
 
+// Reads the file of known failures at `path`, and returns which of the jobs it lists; `list` is the path of the job list.
 fn read_known_file<D: Inputs>(
     inputs: &D,
     alloc: Global,
@@ -88,7 +89,7 @@ fn known_fault_message(
     Ok(message)
 }
 
-// Appends what is wrong with a line of the file of known failures; `list` is the path of the job list.
+// Appends the text of an error in the file of known failures, about the job name `name`; `list` is the path of the job list.
 fn push_known_fault<'a>(
     message: &mut Vec<u8>,
     list: &'a str,

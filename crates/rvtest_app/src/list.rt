@@ -82,6 +82,7 @@ fn chosen_jobs_of_text<D: Inputs>(
     Ok(ListedJobs { names, notes })
 }
 
+// Returns the names of the selected jobs, one per line.
 fn marked_name_lines(alloc: Global, jobs: &[Job], marks: &[bool]) -> Result<Vec<u8>, AllocError>
     requires { length marks.now ≡ length jobs.now }
     ensures { IfOk result (λ names. names.items ≡ name_lines jobs.now (selected_job_indices marks.now)) }

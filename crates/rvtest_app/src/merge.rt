@@ -100,7 +100,7 @@ fn merged_report_path<'a>(args: &MergeArgs<'a>) -> Option<&'a str>
     }
 }
 
-// Returns the rows of the list whose parts have these texts, with the summary line and the exit status.
+// Returns the merged rows of the parts with these texts, with the summary line and the exit status.
 fn merge_part_texts(alloc: Global, args: &MergeArgs<'_>, texts: &[Vec<u8>]) -> Result<Merged, Stop>
     ensures parts { IfOk result
         (λ merged. AreParts merged.rows (map (λ text. text.items) texts.now)) }
@@ -119,7 +119,7 @@ fn merge_part_texts(alloc: Global, args: &MergeArgs<'_>, texts: &[Vec<u8>]) -> R
     Ok(Merged { rows, line, status })
 }
 
-// Returns the rows of the list whose parts have these texts.
+// Returns the merged rows of the parts with these texts, in list order.
 fn rows_of_part_texts(alloc: Global, args: &MergeArgs<'_>, texts: &[Vec<u8>]) -> Result<Rows, Stop>
     ensures parts { IfOk result (λ rows. AreParts rows (map (λ text. text.items) texts.now)) }
     ensures few { IfOk result (λ rows. length rows ≤ most_jobs) }
@@ -150,6 +150,7 @@ fn read_part_texts<D: Inputs>(
     Ok(texts)
 }
 
+// Appends the text of a part.
 fn add_part_text(texts: &mut Vec<Vec<u8>>, text: Vec<u8>) -> Result<(), AllocError>
     ensures { OnOk result (texts.new.items ≡ texts.old.items ++ text ∷ []) }
 {
@@ -157,6 +158,7 @@ fn add_part_text(texts: &mut Vec<Vec<u8>>, text: Vec<u8>) -> Result<(), AllocErr
     Ok(())
 }
 
+// Returns the texts as a list of slices.
 fn text_slices(alloc: Global, texts: &[Vec<u8>]) -> Result<Vec<&[u8]>, AllocError>
     ensures { IfOk result
         (λ slices. bytes_of_texts slices.items ≡ map (λ text. text.items) texts.now) }
@@ -168,7 +170,7 @@ fn text_slices(alloc: Global, texts: &[Vec<u8>]) -> Result<Vec<&[u8]>, AllocErro
     Ok(slices)
 }
 
-// Writes the summary line and the requested files.
+// Writes the summary line, the merged report and the JUnit XML to the requested paths.
 fn put_merged<F: Outputs + Drop, O: Sink + Drop, E: Sink + Drop>(
     alloc: Global,
     args: &MergeArgs<'_>,
@@ -199,7 +201,7 @@ fn put_merged<F: Outputs + Drop, O: Sink + Drop, E: Sink + Drop>(
     }
 }
 
-// Returns the name of the JUnit suite: the requested one, or else one derived from the report's path, or `merged` without a report.
+// Returns the name of the JUnit suite: the requested name, or else the name derived from the report's path, or `merged` without a report.
 fn merged_suite<'a>(args: &MergeArgs<'a>) -> &'a str
     ensures { result.now ≡ merged_suite (optional_text args.now.suite) (optional_text args.now.report) }
 {
@@ -209,7 +211,7 @@ fn merged_suite<'a>(args: &MergeArgs<'a>) -> &'a str
     }
 }
 
-// Returns the error that these texts are not the parts of one run.
+// Returns the stop for the error that these texts are not the parts of one run.
 fn merge_error_stop(alloc: Global, args: &MergeArgs<'_>, texts: &[&[u8]], error: MergeError) -> Stop
     ensures { IsMergeErrorStop args.now.parts.items (bytes_of_texts texts.now) error result }
 {
@@ -232,6 +234,7 @@ fn merge_error_stop(alloc: Global, args: &MergeArgs<'_>, texts: &[&[u8]], error:
     }
 }
 
+// Returns the message that no part has the report of the shard with this number.
 fn missing_shard_message(alloc: Global, number: usize) -> Result<Vec<u8>, AllocError>
     ensures { IfOk result (λ text. text.items
         ≡ codes "rvtest: no part for shard " ++ decimal number ++ codes "\n") }
@@ -246,7 +249,7 @@ fn missing_shard_message(alloc: Global, number: usize) -> Result<Vec<u8>, AllocE
     )
 }
 
-// Returns the path of the part at index `at`.
+// Returns the path of the part at index `at`; "a part" if there is no such index.
 fn part_path<'a>(args: &MergeArgs<'a>, at: usize) -> &'a str
     ensures { result.now ≡ part_path args.now.parts.items at }
 {
@@ -256,7 +259,7 @@ fn part_path<'a>(args: &MergeArgs<'a>, at: usize) -> &'a str
     }
 }
 
-// Returns the text of the part at index `at`.
+// Returns the text of the part at index `at`; empty if there is no such index.
 fn part_text<'a>(texts: &[&'a [u8]], at: usize) -> &'a [u8]
     ensures { result.now ≡ nth_text (bytes_of_texts texts.now) at }
 {
@@ -270,7 +273,7 @@ struct Part<'a> {
     text: &'a [u8],
 }
 
-// Returns the message about a part that `merge` rejects.
+// Returns the message that a part has this flaw.
 fn part_flaw_message(
     alloc: Global,
     args: &MergeArgs<'_>,
@@ -326,7 +329,7 @@ fn part_flaw_message(
     }
 }
 
-// Returns the message that a part does not belong to the run of the first part.
+// Returns the message that the part at `path` belongs to another run than the first part; `what` says how they differ.
 fn other_run_message(
     alloc: Global,
     args: &MergeArgs<'_>,
@@ -338,7 +341,7 @@ fn other_run_message(
     two_parts_message(alloc, path, what, part_path(args, 0), "\"\n")
 }
 
-// Returns a message about two parts: the path of the rejected one, `what`, the path of the other one, and `end`.
+// Returns a message about two parts: `path`, the rejected part; `what`, the error; `other`, the path of the other part; and `end`.
 fn two_parts_message<'a>(
     alloc: Global,
     path: &'a str,

@@ -13,8 +13,8 @@ use rv_text::{Span, push_spans, push_text};
 use std::alloc::{AllocError, Global};
 use std::io::ErrorKind;
 
-/// Returns the note of `run` that no image was found, if all jobs run and every image is missing. Otherwise the result is empty. `count` is
-/// the number of jobs that run.
+/// Returns the note of `run` that no image was found, if all jobs run (`count` of them) and every image is missing; otherwise an empty
+/// text.
 pub(crate) fn missing_images_note(
     alloc: Global,
     plan: &Plan,
@@ -33,7 +33,7 @@ pub(crate) fn missing_images_note(
     Ok(note)
 }
 
-/// Appends the line of `check` that no image was found, if every image is missing.
+/// Appends the line of `check` that no image was found, if every image is missing; otherwise nothing.
 pub(crate) fn push_missing_images_line(
     told: &mut Vec<u8>,
     plan: &Plan,
@@ -49,7 +49,7 @@ pub(crate) fn push_missing_images_line(
     Ok(())
 }
 
-// Appends against which directory relative paths are resolved.
+// Appends a line that no image was found, with the directory against which relative paths are resolved.
 fn push_paths_line(told: &mut Vec<u8>, root: Option<&str>) -> Result<(), AllocError>
     ensures { OnOk result (told.new.items ≡ told.old.items ++ line (paths_text (optional_text root.entry))) }
 {
@@ -69,7 +69,7 @@ fn push_paths_line(told: &mut Vec<u8>, root: Option<&str>) -> Result<(), AllocEr
     }
 }
 
-// Whether the images of all jobs are missing, and their paths are relative.
+// Whether every job's image has a relative path at which there is no file.
 fn are_images_missing(plan: &Plan, unread: &[UnreadablePath]) -> bool
     ensures { result ≡ are_images_missing plan.now.jobs unread.now }
 {
@@ -81,7 +81,7 @@ fn are_images_missing(plan: &Plan, unread: &[UnreadablePath]) -> bool
     all
 }
 
-// Whether the job's image is missing, and its path is relative.
+// Whether the path of the job's image is relative, and there is no file at this path.
 fn is_image_missing(job: &Job, unread: &[UnreadablePath]) -> bool
     ensures { result ≡ is_image_missing unread.now job.now }
 {
@@ -96,7 +96,7 @@ fn unread_path<'a>(unread: &'a [UnreadablePath], path: &str) -> Option<&'a Unrea
     unread.iter().find(|one| path == one.path.as_str())
 }
 
-// Whether a path could not be read because there is no file.
+// Whether `note` is present, and says that the path could not be read because there is no such file.
 fn is_reported_missing(note: Option<&UnreadablePath>) -> bool
     ensures { result ≡ is_reported_missing (option_map (λ one. one.now) note.entry) }
 {

@@ -18,7 +18,7 @@ pub(crate) struct NamedJob {
     pub(crate) place: usize,
 }
 
-/// Parses the text of a list, and finds the first job with this name. `list` is the path of the list.
+/// Parses the text of a list, and returns its jobs and the index of the first job with this name. `list` is the path of the list.
 pub(crate) fn find_named_job(
     alloc: Global,
     list: &str,
@@ -37,7 +37,7 @@ pub(crate) fn find_named_job(
     }
 }
 
-// Returns the index of the first job with this name.
+// Returns the index of the first job with this name; `None` if there is none.
 fn named_job_place(jobs: &[Job], name: &str) -> Option<usize>
     ensures within { IfSome result (λ place. place < length jobs.now) }
     ensures named { result ≡ position (λ job. bytes_eq job.name name.now) jobs.now }

@@ -47,7 +47,7 @@ pub(crate) struct Outlets<'a, P: Drop, W: Drop> {
     pub(crate) junit: Outlet<'a, P, W>,
 }
 
-/// Opens the outlets of a report and of JUnit XML. After an error, neither is left open.
+/// Opens the outlets of the report and the JUnit XML. After an error, neither is left open.
 pub(crate) fn open_outlets<'a, F: Outputs>(
     files: &mut F,
     alloc: Global,
@@ -74,7 +74,7 @@ pub(crate) fn open_outlets<'a, F: Outputs>(
     }
 }
 
-/// Opens a new file for the path, if one is given; `-` is standard output.
+/// Opens the outlet for a path: a new file, standard output if the path is `-`, or nothing without a path.
 pub(crate) fn open_outlet<'a, F: Outputs>(
     files: &mut F,
     alloc: Global,
@@ -110,6 +110,7 @@ pub(crate) fn is_stdout_at(path: Option<&str>) -> bool
     }
 }
 
+// Opens a new file for the path, which is not `-`.
 fn open_file<'a, F: Outputs>(
     files: &mut F,
     alloc: Global,
@@ -128,7 +129,7 @@ fn open_file<'a, F: Outputs>(
 }
 
 impl<'a, P: Drop, W: Drop> Outlet<'a, P, W> {
-    /// Takes the sink out of the outlet. Returns `None` for the sink if the outlet is not a file.
+    /// Separates the outlet from its sink. The sink is `None` if the outlet is not a file.
     pub(crate) fn take_sink(self) -> (Outlet<'a, P, ()>, Option<W>)
         ensures parts { AreOutletParts result.0 result.1 self.entry }
         ensures there { is_some result.1 ≡ is_file result.0 }
@@ -149,7 +150,7 @@ impl<'a, P: Drop, W: Drop> Outlet<'a, P, W> {
 }
 
 impl<'a, P: Drop> Outlet<'a, P, ()> {
-    /// Returns the outlet with its sink, which it has if it is a file.
+    /// Returns the outlet with this sink, which is given exactly if the outlet is a file.
     pub(crate) fn with_sink<W: Drop>(self, sink: Option<W>) -> Outlet<'a, P, W>
         requires { is_some sink ≡ is_file self }
         ensures { AreOutletParts self.entry sink result }
@@ -175,13 +176,14 @@ impl<'a, P: Drop, W: Sink + LastError + Drop> Outlets<'a, P, W> {
 }
 
 impl<'a, P: Drop, W: Sink + LastError + Drop> Outlet<'a, P, W> {
+    // Whether the outlet is standard output.
     fn is_out(&self) -> bool
         ensures { result ≡ is_out self.now }
     {
         matches!(self, Outlet::Out)
     }
 
-    /// Returns the reason of the last failed write to the file; an arbitrary one if the outlet is not a file.
+    /// Returns the reason of the last failed write to the file; an arbitrary reason if the outlet is not a file.
     pub(crate) fn last_error(&self) -> ErrorKind {
         match self {
             Outlet::File(file) => file.sink.last_error(),
@@ -216,7 +218,7 @@ impl<'a, P: Drop, W: Sink + LastError + Drop> Outlet<'a, P, W> {
         }
     }
 
-    /// Writes rows as JUnit XML to the outlet, each with the lines about it.
+    /// Writes the rows as JUnit XML to the outlet, each with the lines about it.
     pub(crate) fn put_junit<T: RowReporter, O: Sink>(
         &mut self,
         alloc: Global,
@@ -246,7 +248,7 @@ impl<'a, P: Drop, W: Sink + LastError + Drop> Outlet<'a, P, W> {
     }
 }
 
-// Converts the result of writing a text to standard output.
+// Returns the result of writing a text to standard output, with the error as a stop.
 fn stdout_result(written: Result<(), WriteError>) -> Result<(), Stop>
     ensures went { MatchResult written (λ _. IsOk result) (λ _. IsErr result) }
     ensures stopped { IfErr result (λ why. MatchResult written (λ _. ⊥) (λ error. why ≡ stop_of_write_error error)) }
@@ -258,7 +260,7 @@ fn stdout_result(written: Result<(), WriteError>) -> Result<(), Stop>
     }
 }
 
-// Converts the result of writing a text to the file for a path; `reason` is why a write failed.
+// Returns the result of writing a text to the file for a path, with the error as a stop; `reason` is why a write failed.
 fn file_result(
     alloc: Global,
     path: &str,
@@ -276,13 +278,14 @@ fn file_result(
     }
 }
 
-/// Returns the error that the file for a path could not be written completely.
+/// Returns the error that the file for the path could not be written completely, for this reason.
 pub(crate) fn unwritten_stop(alloc: Global, path: &str, reason: ErrorKind) -> Stop
     ensures { IsUnwrittenStop path.now result }
 {
     write_stop(alloc, path, reason)
 }
 
+// Returns the error that a write to the file for the path failed, for this reason.
 fn write_stop(alloc: Global, path: &str, reason: ErrorKind) -> Stop
     ensures { IsWriteStop path.now reason result }
 {

@@ -20,7 +20,7 @@ use rv_junit::Cases;
 use rv_rows::{RowReporter, Sink};
 use std::alloc::Global;
 
-/// Writes what a command shows to standard error if `is_beside` is true, and otherwise to standard output.
+/// Writes the output of a command to standard error if `is_beside` is true, and otherwise to standard output.
 pub(crate) fn put_shown<F: Outputs + Drop, O: Sink + Drop, E: Sink + Drop>(
     to: &mut Destinations<F, O, E>,
     text: &[u8],

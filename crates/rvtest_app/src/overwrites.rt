@@ -28,6 +28,7 @@ pub(crate) fn look_up_files<'a, F: Outputs>(
     Ok(ReadFiles { paths, identities })
 }
 
+// Returns the identity of the file at each of these paths, in order.
 fn file_identities<F: Outputs>(
     files: &F,
     alloc: Global,
@@ -84,7 +85,7 @@ pub(crate) fn refuse_file<F: Outputs>(
 }
 
 impl<'a> ReadFiles<'a> {
-    /// Returns the index of the first input that is one of `files`; `None` if there is none.
+    /// Returns the index of the first input whose identity is in `files`; `None` if there is none.
     pub(crate) fn first_of(&self, files: &[Text]) -> Option<usize>
         ensures within { IfSome result (λ at. at < length self.now.identities.items) }
         ensures none { result ≡ None → list_any (is_among files.now) self.now.identities.items ≡ false }
@@ -98,14 +99,14 @@ impl<'a> ReadFiles<'a> {
     }
 }
 
-/// Whether a file is one of `files`, by the identity that the system gives each file.
+/// Whether `identity`, which the system gives a file, is in `files`.
 pub(crate) fn is_among(files: &[Text], identity: &Text) -> bool
     ensures { result ≡ is_among files.now identity.now }
 {
     files.iter().any(|file| file.as_str() == identity.as_str())
 }
 
-/// Returns the error that the file of an option would overwrite the input `read`.
+/// Returns the error that `option`, with this path, would overwrite the input `read`.
 pub(crate) fn overwrite_stop<'a>(
     alloc: Global,
     option: &'a str,
@@ -117,7 +118,7 @@ pub(crate) fn overwrite_stop<'a>(
     Stop::of_refusal(overwrite_message(alloc, option, path, read))
 }
 
-// Returns the message that the file of an option, with this path, would overwrite the input `read`.
+// Returns the message that `option`, with this path, would overwrite the input `read`.
 fn overwrite_message<'a>(
     alloc: Global,
     option: &'a str,
@@ -133,7 +134,7 @@ fn overwrite_message<'a>(
     Ok(text)
 }
 
-// Returns the first half of the message: which option, with which path, would overwrite an input.
+// Returns the first half of the message: that `option`, with this path, would overwrite a file.
 fn overwrite_head<'a>(alloc: Global, option: &'a str, path: &'a str) -> Result<Vec<u8>, AllocError>
     ensures { IfOk result (λ text. text.items ≡ overwrite_head option.entry.now path.entry.now) }
 {
@@ -149,7 +150,7 @@ fn overwrite_head<'a>(alloc: Global, option: &'a str, path: &'a str) -> Result<V
     )
 }
 
-// Appends the words for an input: its placeholder in the usage, such as LIST, or the key by which a job names it.
+// Appends how a message refers to an input: by its placeholder in the usage, such as LIST, or by the key of the job that names it.
 fn push_role(text: &mut Vec<u8>, role: ReadRole<'_>) -> Result<(), AllocError>
     ensures { OnOk result (text.new.items ≡ text.old.items ++ role_text role.entry) }
 {
@@ -159,7 +160,7 @@ fn push_role(text: &mut Vec<u8>, role: ReadRole<'_>) -> Result<(), AllocError>
     }
 }
 
-// Appends the words for an input that a job names: by its key and the job's name.
+// Appends how a message refers to an input that a job names: by the key and the job's name.
 fn push_job_file<'a>(text: &mut Vec<u8>, key: &'a str, job: &'a str) -> Result<(), AllocError>
     ensures { OnOk result (text.new.items ≡ text.old.items ++ job_file_text key.now job.now) }
 {
@@ -175,7 +176,7 @@ fn push_job_file<'a>(text: &mut Vec<u8>, key: &'a str, job: &'a str) -> Result<(
     )
 }
 
-// Appends the second half of the message: the path of the input.
+// Appends the second half of the message: a colon and the path of the input in double quotes.
 fn push_read_path(text: &mut Vec<u8>, path: &str) -> Result<(), AllocError>
     ensures { OnOk result (text.new.items ≡ text.old.items ++ read_path_text path.now) }
 {
@@ -189,7 +190,7 @@ fn push_read_path(text: &mut Vec<u8>, path: &str) -> Result<(), AllocError>
     )
 }
 
-/// Appends an input, whose path is resolved against `folder` if given.
+/// Appends the input that `role` describes, with its path resolved against `folder` if given.
 pub(crate) fn push_read<'a>(
     alloc: Global,
     read: &mut Vec<ReadPath<'a>>,
@@ -204,7 +205,7 @@ pub(crate) fn push_read<'a>(
     Ok(())
 }
 
-/// Returns the inputs at these paths; `word` is how messages call them.
+/// Returns the inputs at these paths; messages refer to each of them as `word`.
 pub(crate) fn read_paths_of_words<'a>(
     alloc: Global,
     paths: &[&str],

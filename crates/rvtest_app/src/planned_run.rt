@@ -45,7 +45,7 @@ pub(crate) struct PlannedRun<'a> {
 }
 
 impl<'a> PlannedRun<'a> {
-    /// Returns the run of only the first `count` of these jobs.
+    /// Returns the run limited to the first `count` of its jobs.
     pub(crate) fn first_jobs(&self, count: usize) -> PlannedRun<'a>
         requires { count ≤ length self.now.places.now }
         ensures places { result.places.now ≡ take count self.now.places.now }

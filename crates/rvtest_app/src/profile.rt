@@ -16,7 +16,8 @@ use rvtest_cli::{ChoosingCommand, ProfileArgs};
 use std::sync::Wait;
 use std::thread::Threads;
 
-/// Shows in which functions the requested jobs spent their steps, from a run of these jobs or from a table of counts. The status is 0.
+/// Writes a profile of the requested jobs, which shows the steps of each function, from a run of these jobs or from a table of counts. The
+/// status is 0.
 pub(crate) fn profile_requested_jobs<
     R: Threads + Wait + Sync,
     D: Inputs,

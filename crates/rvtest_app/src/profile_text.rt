@@ -13,8 +13,8 @@ use rv_profile::{ProfileFormat, image_past_64_bits, profile_text};
 use rv_text::{Span, text_of_spans};
 use std::alloc::{AllocError, Global};
 
-/// Returns the profile of the images, by the call stacks of a table. The error for counts that do not fit in 64 bits names `source`, the
-/// path of the table or list.
+/// Returns the profile of the images, computed from the call stacks of a table. The error that a sum does not fit in 64 bits names
+/// `source`, the path of the table or list.
 pub(crate) fn text_of_profile(
     alloc: Global,
     source: &str,

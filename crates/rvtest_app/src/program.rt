@@ -42,7 +42,7 @@ use std::sync::Wait;
 use std::thread::Threads;
 use std::time::Clock;
 
-/// Does what the arguments request, the first of which is the program's name. Returns the destinations and the exit status.
+/// Runs the command that the arguments request; the first argument is the program's name. Returns the destinations and the exit status.
 pub fn run_rvtest<
     'a,
     R: Threads + Wait + Sync + Clock,
@@ -203,7 +203,7 @@ where
     (to, answer)
 }
 
-/// Reports that the process cannot provide its arguments: memory ran out, or an argument is not UTF-8. Returns the exit status.
+/// Reports that the program cannot get its arguments: memory ran out, or an argument is not UTF-8. Returns the exit status.
 pub fn refuse_unreadable_words<E: Sink>(error: &io::Error, errors: &mut E) -> u8
     ensures low { result ≤ 3 }
     ensures status { result ≡ unreadable_words_status (error_kind error.now) }

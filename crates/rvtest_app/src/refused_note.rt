@@ -16,7 +16,8 @@ use rv_rows::{refusal_at, row_at};
 use rvtest_cli::RunArgs;
 use std::alloc::{AllocError, Global};
 
-/// Returns the note about missing images, if there is one, and a line for each refused job among those at these indices.
+/// Returns the note about missing images, which may be empty, and then the result lines of the refused jobs among the jobs at these
+/// indices.
 pub(crate) fn refused_note(
     alloc: Global,
     args: &RunArgs<'_>,
@@ -39,7 +40,7 @@ pub(crate) fn refused_note(
     Ok(note)
 }
 
-// Appends a line for each refused job among those at these indices.
+// Appends the result lines of the refused jobs among the jobs at these indices.
 fn push_refused_lines(
     alloc: Global,
     reporter: &TextReporter<'_>,
@@ -56,7 +57,7 @@ fn push_refused_lines(
     Ok(())
 }
 
-// Appends the line about the job at index `place` if it is refused.
+// Appends the result line of the job at index `place` if the job is refused; otherwise nothing.
 #[tactic(auto, unfolding(crate::specs::RefusedNotes::refused_line))]
 fn push_refused_line(
     alloc: Global,

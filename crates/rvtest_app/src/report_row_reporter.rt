@@ -16,6 +16,7 @@ pub(crate) struct ReportRowReporter {
 impl RowReporter for ReportRowReporter {
     ghost line = { λ s place row. report_row_text s.is_streaming place row };
 
+    // Appends the row of the job at index `place`, as the report has it, if rows are streamed; otherwise nothing.
     fn push_row_text(
         &self,
         alloc: Global,

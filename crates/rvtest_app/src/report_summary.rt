@@ -29,6 +29,7 @@ pub fn push_summary(
     push_most_steps(alloc, text, rows)
 }
 
+// Appends the result lines of the rows that are failures.
 fn push_failed_lines(
     alloc: Global,
     text: &mut Vec<u8>,
@@ -44,7 +45,7 @@ fn push_failed_lines(
     Ok(())
 }
 
-// Appends a heading and the rows with the most steps.
+// Appends a heading and the lines of the rows with the most steps.
 fn push_most_steps(alloc: Global, text: &mut Vec<u8>, rows: &[Row]) -> Result<(), AllocError>
     ensures { OnOk result (text.new.items ≡ text.old.items ++ most_steps_text rows.now) }
 {
@@ -53,6 +54,7 @@ fn push_most_steps(alloc: Global, text: &mut Vec<u8>, rows: &[Row]) -> Result<()
     push_steps_lines(text, most.as_slice())
 }
 
+// Appends a line with the steps and the name of each row.
 #[tactic(auto, unfolding(crate::specs::ReportSummary::steps_line))]
 fn push_steps_lines(text: &mut Vec<u8>, rows: &[&Row]) -> Result<(), AllocError>
     ensures { OnOk result (text.new.items

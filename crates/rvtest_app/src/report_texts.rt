@@ -29,7 +29,7 @@ pub(crate) enum ReportText<'a> {
 }
 
 impl<'a> ReportText<'a> {
-    /// Returns the rows of the run.
+    /// Returns the rows of the run, without the rows of an old report that they update.
     pub(crate) fn rows(&self) -> &[Row]
         ensures { result.now ≡ report_rows self.now }
     {
@@ -75,7 +75,7 @@ impl<'a> ReportText<'a> {
     }
 }
 
-// Writes the report that the rows update.
+// Writes the old report, updated with the new rows. After an error, a prefix of it has been written.
 fn write_whole_report<W: Sink>(
     alloc: Global,
     into: IntoRows<'_>,
@@ -93,7 +93,7 @@ fn write_whole_report<W: Sink>(
     write_report(alloc, &Report { rows }, out)
 }
 
-/// Returns the report of the rows: the report that they update, if there is one, or else a report of these rows alone.
+/// Returns the report to write: the old report, updated with these rows, if there is one; otherwise a report of these rows alone.
 pub(crate) fn framed_report(chosen: ChosenRows<'_>, frame: ReportFrame) -> ReportText<'_>
     requires { ForSome frame.old (λ rows. length rows ≡ chosen.jobs) }
     ensures text { report_text_of result

@@ -26,7 +26,7 @@ use rv_report::Shard;
 use rvtest_cli::ChoosingCommand;
 
 impl<'x, R, D: Inputs> ListRun<'x, R, D> {
-    /// Returns the jobs of the list, and the selection of those to run. If the arguments are rejected, the error shows the usage of
+    /// Returns the jobs of the list, with the selection of the jobs to run. If the arguments are rejected, the error shows the usage of
     /// `command`.
     pub(crate) fn requested_jobs(&self, command: ChoosingCommand) -> Result<RequestedJobs, Stop>
         requires { self.now.rule ≡ failure_rule self.now.args.now.lenient }
@@ -60,7 +60,7 @@ impl<'x, R, D: Inputs> ListRun<'x, R, D> {
         Ok(Some(rows))
     }
 
-    // Returns the jobs of the list, with those of the shard selected.
+    // Returns the jobs of the list, with the jobs of the shard selected.
     fn jobs_of_shard(
         &self,
         jobs: JobList,
@@ -88,7 +88,7 @@ impl<'x, R, D: Inputs> ListRun<'x, R, D> {
         })
     }
 
-    // Returns the jobs of the list, with those selected that the options choose.
+    // Returns the jobs of the list, with the jobs selected that options such as `--only` choose.
     fn jobs_of_choice(
         &self,
         command: ChoosingCommand,

@@ -13,8 +13,8 @@ use rv_fleet::{Report, Sink, WriteError, put_all, write_report};
 use rv_report::{Extent, Numbers, SavedReport, Shard, push_extent_line, write_saved_report};
 use std::alloc::{AllocError, Global};
 
-/// Writes the report of the rows of chosen jobs: of a shard if one is given, else of the whole list if all jobs are chosen, else of chosen
-/// jobs. After an error, a prefix of it has been written.
+/// Writes the report of these rows: of a shard if one is given, else of the whole list if all its jobs are chosen, else of chosen jobs.
+/// After an error, a prefix of it has been written.
 pub(crate) fn write_chosen_report<W: Sink>(
     alloc: Global,
     chosen: ChosenRows<'_>,

@@ -23,7 +23,7 @@ pub(crate) fn rows_with_most_steps(alloc: Global, rows: &[Row]) -> Result<Vec<&R
     Ok(most)
 }
 
-// Inserts a row before the first one that does not have more steps, and drops the last row if there are then too many.
+// Inserts a row after all rows that have more steps than it, and drops the last row if there are then too many.
 fn insert_by_steps<'a>(most: &mut Vec<&'a Row>, row: &'a Row) -> Result<(), AllocError>
     requires { length most.old.items ≤ MOST_SHOWN }
     ensures rows { OnOk result (map (λ row. row.now) most.new.items
@@ -39,7 +39,7 @@ fn insert_by_steps<'a>(most: &mut Vec<&'a Row>, row: &'a Row) -> Result<(), Allo
     Ok(())
 }
 
-// Returns how many of the leading rows have more steps than `steps`.
+// Returns the length of the longest prefix of `most` in which every row has more steps than `steps`.
 fn rank_by_steps(most: &[&Row], steps: u32) -> usize
     ensures place { result ≡ prefix_len (λ row. nat_lt steps row.now.steps) most.now }
     ensures within { result ≤ length most.now }

@@ -40,7 +40,7 @@ pub(crate) struct ListRun<'x, R, D> {
     pub(crate) rule: Rule,
 }
 
-/// Runs the requested jobs, shows them, and writes their report. The status is 1 if one of them failed.
+/// Runs the requested jobs, prints their results, and writes their report. The status is 1 if one of them failed, and otherwise 0.
 pub(crate) fn run_requested_jobs<
     R: Threads + Wait + Sync + Clock,
     D: Inputs,
@@ -106,7 +106,7 @@ where
 }
 
 impl<'x, R: Threads + Wait + Sync + Clock, D: Inputs> ListRun<'x, R, D> {
-    // Runs the selected jobs, after reading the files that they need. A requested budget applies to every job.
+    // Reads the files that the selected jobs need, runs these jobs, and writes their outputs. A requested budget applies to every job.
     fn run_selected_jobs<
         F: Outputs + Drop,
         O: Sink + Drop + Send,
@@ -174,7 +174,7 @@ impl<'x, R: Threads + Wait + Sync + Clock, D: Inputs> ListRun<'x, R, D> {
     }
 }
 
-/// Gathers the plan of the jobs at some indices.
+/// Reads the files that the jobs at these indices need, and returns the plan with them.
 pub(crate) fn gather_jobs_at<S: Store>(
     alloc: Global,
     jobs: JobList,
@@ -193,6 +193,7 @@ pub(crate) fn gather_jobs_at<S: Store>(
     gather_jobs(alloc, jobs, Vec::from_slice(alloc, places)?, store)
 }
 
+// Returns which rows are shown: none with `--quiet`, all with only `--verbose`, and otherwise the failures.
 fn requested_verbosity(args: &RunArgs<'_>) -> Verbosity
     ensures { result ≡ requested_verbosity args.now.verbose args.now.quiet }
 {

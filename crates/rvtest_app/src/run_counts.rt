@@ -63,7 +63,7 @@ impl<'x, R: Threads + Wait + Sync + Clock, D: Inputs> ListRun<'x, R, D> {
         }
     }
 
-    // Returns the text of the table of counts of the jobs at these indices.
+    // Returns the text of the table of counts of the jobs at these indices, with call stacks if requested.
     fn counts_text(&self, plan: &Plan, places: &[usize]) -> Result<String, Stop>
         requires within { AreJobIndices plan.now places.now }
         requires rising { IsStrictlyIncreasing places.now }

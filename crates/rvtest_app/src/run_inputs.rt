@@ -80,6 +80,7 @@ fn inputs_of_run<'a>(
     Ok(read)
 }
 
+// Appends the path of the job's image and the paths of its golden files, resolved against `root`.
 fn push_job_paths<'a>(
     alloc: Global,
     read: &mut Vec<ReadPath<'a>>,
@@ -92,7 +93,7 @@ fn push_job_paths<'a>(
     push_golden_paths(alloc, read, root, job)
 }
 
-/// Appends the path of a job's image.
+/// Appends the path of the job's image, resolved against `root`.
 pub(crate) fn push_image_path<'a>(
     alloc: Global,
     read: &mut Vec<ReadPath<'a>>,
@@ -109,7 +110,7 @@ pub(crate) fn push_image_path<'a>(
     push_read(alloc, read, root, job.image.as_str(), role)
 }
 
-/// Appends the paths of the golden files of a job: first the signature's, then the console's.
+/// Appends the paths of the job's golden files, resolved against `root`: first the signature, then the console.
 pub(crate) fn push_golden_paths<'a>(
     alloc: Global,
     read: &mut Vec<ReadPath<'a>>,
@@ -137,6 +138,7 @@ pub(crate) fn push_golden_paths<'a>(
     Ok(())
 }
 
+// Returns the path of the job's golden console; `None` if the job names none.
 fn console_file(job: &Job) -> Option<&str>
     ensures { optional_text result ≡ console_path job.now.expect_console }
 {
@@ -146,7 +148,7 @@ fn console_file(job: &Job) -> Option<&str>
     }
 }
 
-/// Returns the path of the report of `--failed`; none without this option.
+/// Returns a list with the path of the report of `--failed`; empty without this option.
 pub(crate) fn failed_of_run<'a>(
     alloc: Global,
     args: &RunArgs<'_>,

@@ -180,7 +180,7 @@ impl<'x, R: Threads + Wait + Sync + Clock, D: Inputs> ListRun<'x, R, D> {
         }
     }
 
-    // Writes the files of a run that was shown, the table of counts last, and returns the status of its rows.
+    // Writes the report, the JUnit XML and then the table of counts of a run that was shown, and returns the exit status for its rows.
     fn put_all_files<F: Outputs + Drop, O: Sink + Drop, E: Sink + Drop>(
         &self,
         planned: &PlannedRun<'_>,
@@ -228,7 +228,7 @@ impl<'x, R: Threads + Wait + Sync + Clock, D: Inputs> ListRun<'x, R, D> {
         }
     }
 
-    // Writes the two files of the rows of the jobs at some indices, and returns the status of the rows.
+    // Writes the report and the JUnit XML of the rows of a run, and returns the exit status for these rows.
     fn put_run_files<F: Outputs + Drop, O: Sink + Drop, E: Sink + Drop>(
         &self,
         planned: &PlannedRun<'_>,

@@ -19,7 +19,7 @@ pub(crate) struct RunOutlets<'a, P: Drop, W: Drop> {
     pub(crate) counts: Outlet<'a, P, W>,
 }
 
-/// Opens all of them; after an error, none is left open.
+/// Opens the outlets of the report, the JUnit XML and the table of counts. After an error, none is left open.
 pub(crate) fn open_run_outlets<'a, F: Outputs>(
     files: &mut F,
     alloc: Global,

@@ -34,12 +34,13 @@ pub(crate) enum ShowError {
 impl From<AllocError> for ShowError {
     ghost from_gives = { λ _ error. error ≡ OutOfMemory };
 
+    // Returns `OutOfMemory`.
     fn from(_: AllocError) -> ShowError {
         ShowError::OutOfMemory
     }
 }
 
-/// Returns the rows of a run if the file of the report accepted them, too.
+/// Returns the rows of a run, or an error if the run failed or its rows could not be written to the report.
 pub(crate) fn rows_if_written(
     ran: Result<Rows, StreamError>,
     sent: Result<(), WriteError>,
@@ -60,7 +61,8 @@ pub(crate) fn rows_if_written(
     }
 }
 
-/// Writes the last line of a run of some jobs, which counts its rows and the jobs without one, and returns the rows.
+/// Writes the summary line of a run, which counts its rows and the jobs that have no row, and returns the rows. After an error of the run,
+/// returns this error.
 pub(crate) fn put_totals_line<W: Sink>(
     alloc: Global,
     judge: &Judge<'_>,
@@ -91,7 +93,7 @@ pub(crate) fn put_totals_line<W: Sink>(
     }
 }
 
-/// Returns why a run stops, given the outlet of its report.
+/// Returns the stop for an error while a run is shown; `report` is the outlet of its report.
 pub(crate) fn show_stop<P: Drop, W: Sink + LastError + Drop>(
     alloc: Global,
     report: &Outlet<'_, P, W>,

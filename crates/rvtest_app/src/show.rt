@@ -40,7 +40,7 @@ struct SummarizedReport {
     status: u8,
 }
 
-/// Shows the failures in a report, the totals, and the rows with the most steps. The status is 1 if a job failed.
+/// Prints the failures in a report, the totals, and the rows with the most steps. The status is 1 if a job failed, and otherwise 0.
 pub(crate) fn show_report<D: Inputs, F: Outputs + Drop, O: Sink + Drop, E: Sink + Drop>(
     inputs: &D,
     alloc: Global,
@@ -87,7 +87,7 @@ fn refuse_show_overwrite<F: Outputs>(
     refuse_overwrite(files, alloc, "--junit", args.junit, &read)
 }
 
-// Returns the report with its summary and the exit status.
+// Returns the report together with its summary and the exit status.
 fn summarize_report(
     alloc: Global,
     args: ShowArgs<'_>,

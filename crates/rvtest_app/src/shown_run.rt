@@ -50,8 +50,8 @@ pub(crate) struct ShownRun {
 }
 
 impl<'x, R: Threads + Wait + Sync + Clock, D: Inputs> ListRun<'x, R, D> {
-    /// Runs jobs and shows their lines on a stream, and the progress on standard error. The report text of each row goes to a sink as the row
-    /// comes, if there is one and the rows are not to be merged into another report. Returns both sinks with the result.
+    /// Runs the jobs, and writes their lines to a stream and the progress to standard error. If a sink is given and the run updates no old
+    /// report, also writes each row to this sink as soon as it is available. Returns both sinks and the result.
     pub(crate) fn run_and_show<
         'm,
         K: StreamSpec + Send,
@@ -132,7 +132,7 @@ impl<'x, R: Threads + Wait + Sync + Clock, D: Inputs> ListRun<'x, R, D> {
         (stream, sink, ShownRun { texts, ran })
     }
 
-    // Returns the progress line for the jobs.
+    // Returns the progress line of the run, which counts its finished jobs.
     fn run_progress<'m, P: Write + Drop>(
         &self,
         planned: &PlannedRun<'m>,
@@ -156,7 +156,7 @@ impl<'x, R: Threads + Wait + Sync + Clock, D: Inputs> ListRun<'x, R, D> {
         )
     }
 
-    // Returns an observer that keeps the texts of failures, if the JUnit document needs them.
+    // Returns an observer of the rows that stores the texts of failures, if the JUnit document needs them.
     fn failure_texts<'m, K: StreamSpec>(&self, reporter: &TextReporter<'m>) -> FailureTexts<'m, K>
         requires judging { judging_of reporter.now.judge ≡ K.judging }
         requires keeps { keeps_failures self.now.args.now reporter.now.verbosity ≡ K.keeps }

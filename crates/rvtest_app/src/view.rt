@@ -49,8 +49,8 @@ pub(crate) struct JobsView<'x, R, D> {
 }
 
 impl<'x, R: Threads + Wait + Sync, D: Inputs> JobsView<'x, R, D> {
-    /// Writes the view, from a run of the jobs or from a table of counts. The status is 0. If the arguments are rejected, the error shows
-    /// the usage of `command`.
+    /// Writes the coverage or the profile of the requested jobs, from a run or from a table of counts. The status is 0. If the arguments
+    /// are rejected, the error shows the usage of `command`.
     pub(crate) fn put<F: Outputs + Drop, O: Sink + Drop, E: Sink + Drop>(
         &self,
         command: ChoosingCommand,
@@ -77,7 +77,7 @@ impl<'x, R: Threads + Wait + Sync, D: Inputs> JobsView<'x, R, D> {
         }
     }
 
-    // Writes the notes and the view of the selected jobs.
+    // Writes the notes about missing images and refused jobs, and then the view of the selected jobs.
     fn put_of_selected<F: Outputs + Drop, O: Sink + Drop, E: Sink + Drop>(
         &self,
         jobs: JobList,
@@ -121,7 +121,7 @@ impl<'x, R: Threads + Wait + Sync, D: Inputs> JobsView<'x, R, D> {
 }
 
 impl<'x, R, D> JobsView<'x, R, D> {
-    // Returns the view of these images by a table of counts.
+    // Returns the view of these images, computed from a table of counts.
     fn text_of_table(&self, table: &CountTable, images: &[ImageFile<'_>]) -> Result<Vec<u8>, Stop>
         requires { IsTable table.now }
         ensures shown { IfOk result (λ text. IsViewText self.now.view table.now (images_of_files images.now) text.items) }
@@ -138,7 +138,7 @@ impl<'x, R, D> JobsView<'x, R, D> {
     }
 }
 
-// Returns the path that a message about counts names: that of the table, or else that of the list.
+// Returns the path that a message about counts names: the path of the table, or else the path of the list.
 fn counts_source<'a>(args: &RunArgs<'a>) -> &'a str
     ensures { result.now ≡ counts_source args.now }
 {

@@ -32,8 +32,8 @@ use std::sync::Wait;
 use std::thread::Threads;
 
 impl<'x, R: Threads + Wait + Sync, D: Inputs> JobsView<'x, R, D> {
-    /// Returns the table for the view: the one at the path in the arguments, or, if there is no path, the counts of a run of the jobs at
-    /// these indices.
+    /// Returns the table for the view: the table at the path in the arguments, or without a path the counts of a run of the jobs at these
+    /// indices.
     pub(crate) fn table_for_images(
         &self,
         plan: &Plan,
@@ -67,7 +67,8 @@ impl<'x, R: Threads + Wait + Sync, D: Inputs> JobsView<'x, R, D> {
         }
     }
 
-    // Reads the table at the path. Returns an error if it lacks the counts that the view needs, or has counts of other images.
+    // Reads the table at the path. Returns an error if it lacks the counts that the view needs, or counted an image that is not one of
+    // `images`.
     fn read_fit_table(&self, path: &str, images: &[ImageFile<'_>]) -> Result<CountTable, Stop>
         ensures table { IfOk result (IsFitTableAt (D.contents self.now.host.now.inputs.now) self.now.view path.now
             (images_of_files images.now)) }
@@ -118,7 +119,7 @@ fn counts_with_stacks_of_jobs<R: Threads + Wait + Sync, D>(
     }
 }
 
-// Reads the table at the path. Returns an error if it has counts of an image other than these.
+// Reads the table at the path. Returns an error if it counted an image that is not one of `images`.
 fn read_table_for_images<D: Inputs>(
     inputs: &D,
     alloc: Global,
@@ -137,7 +138,7 @@ fn read_table_for_images<D: Inputs>(
     }
 }
 
-// Whether the table has the counts that the view needs: a profile needs call stacks.
+// Whether the table has the counts that the view needs: call stacks for a profile, and any counts for coverage.
 fn has_counts_for(view: View, table: &CountTable) -> bool
     ensures { result ≡ has_counts_for view table.now }
 {
@@ -147,7 +148,7 @@ fn has_counts_for(view: View, table: &CountTable) -> bool
     }
 }
 
-// Returns the message that the table at `table` has counts of another image than the one that is now at `path`.
+// Returns the message that the table at `table` has counts of another image at `path` than the selected jobs use.
 fn other_image_message<'a>(
     alloc: Global,
     table: &'a str,
@@ -167,7 +168,7 @@ fn other_image_message<'a>(
     )
 }
 
-// Returns the message that the table has no call stacks, and how to write one that has.
+// Returns the message that the table at the path has no call stacks, and how to write a table with call stacks.
 fn no_stacks_message(alloc: Global, path: &str) -> Result<Vec<u8>, AllocError>
     ensures { IfOk result (λ text. text.items ≡ no_stacks_message path.now) }
 {

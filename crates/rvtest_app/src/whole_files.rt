@@ -21,7 +21,7 @@ use rv_junit::Suite;
 use rv_rows::Sink;
 use std::alloc::Global;
 
-/// Writes the report of all rows and their JUnit XML to their outlets, and moves their files to their paths.
+/// Writes the report of all rows and their JUnit XML to their outlets, and then moves the files to their paths.
 pub(crate) fn put_whole_files<F: Outputs + Drop, O: Sink + Drop, E: Sink + Drop>(
     alloc: Global,
     to: &mut Destinations<F, O, E>,

@@ -56,7 +56,7 @@ pub(crate) fn read_whole_report<D: Inputs>(
     }
 }
 
-// Returns why a report is not a report of all jobs of a list; `None` if it is one.
+// Returns the reason why a report is not a report of all jobs of a list; `None` if it is one.
 fn not_whole<'a>(report: &'a SavedReport, jobs: &'a [Job]) -> Option<NotWhole<'a>>
     requires few { length report.now.rows ≤ most_jobs }
     ensures whole { result ≡ None → IsWholeReport jobs.now report.now }
@@ -86,7 +86,7 @@ fn jobs_of_partial_report(extent: &Extent) -> Option<u32>
     }
 }
 
-// Returns the first row whose name differs from that of the job at the same index.
+// Returns the first index at which the row and the job have different names, with both names; `None` if all names agree.
 fn first_other_name<'a>(rows: &'a [Row], jobs: &'a [Job]) -> Option<OtherName<'a>>
     requires { length rows.now ≡ length jobs.now }
     ensures same { result ≡ None → row_names rows.now ≡ job_names jobs.now }
@@ -105,7 +105,7 @@ fn first_other_name<'a>(rows: &'a [Row], jobs: &'a [Job]) -> Option<OtherName<'a
     None
 }
 
-// Returns the message that the report at `path` is not a report of all jobs of the list at `list`.
+// Returns the message that the report at `path` is not a report of all jobs of the list at `list`, with the reason.
 fn not_whole_refusal<'a>(
     alloc: Global,
     path: &'a str,
@@ -121,7 +121,7 @@ fn not_whole_refusal<'a>(
     }
 }
 
-// Returns the message that the report at the path has only some rows of a list with this many jobs.
+// Returns the message that the report at the path has only `rows` rows of a list with `jobs` jobs.
 fn part_refusal<'a>(
     alloc: Global,
     path: &'a str,
@@ -145,7 +145,7 @@ fn part_refusal<'a>(
     )
 }
 
-// Returns the message that the report at `path` and the list at `list` have different numbers of rows and jobs.
+// Returns the message that the report at `path` has `rows` rows, but the list at `list` has `jobs` jobs.
 fn count_refusal<'a>(
     alloc: Global,
     path: &'a str,

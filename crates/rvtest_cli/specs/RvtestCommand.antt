@@ -13,26 +13,26 @@ use Rattle.rvtest_cli.specs.declared.command.Subcommand.{Subcommand}
 use Rattle.rv_cli.specs.CommandBuilder.{option_rule, word_rule}
 use Rattle.rv_cli.specs.RvfleetCommand.{group_rule}
 
--- the rule of an argument, made repeatable: each use adds a value
+-- the rule of an argument, changed so that the argument is repeatable: each use adds a value
 abbrev pub repeated_rule : Rule → Rule
 repeated_rule rule = record rule { action = Some Append }
 
--- the rule of an option with a number from `least` to `most`, and its default values `defaults`
+-- the rule of the option `name`, whose value is an integer from `least` to `most`; `defaults` are its default values
 abbrev pub number_rule : Text → ℤ → ℤ → List (Bor Text) → Rule
 number_rule name least most defaults = record (option_rule name) {
   parser = Some (value_parser.Signed least most);
   defaults = map (λ text. text.now) defaults;
 }
 
--- the rule of an option with the path of a file, which is not empty
+-- the rule of the option `name`, whose value is a non-empty path of a file
 abbrev pub file_rule : Text → Rule
 file_rule name = record (option_rule name) { parser = Some value_parser.NonEmptyString }
 
--- the rule of an option without a value
+-- the rule of the option `name`, which has no value
 abbrev pub flag_rule : Text → Rule
 flag_rule name = record (new_rule name) { long = Some name; action = Some SetTrue }
 
--- the rule of an argument, with a short option if a letter is given
+-- the rule of an argument, with a short option if its letter is given; unchanged otherwise
 abbrev pub with_letter : Rule → Option ℕ → Rule
 with_letter rule None = rule
 with_letter rule (Some letter) = record rule { short = Some letter }
@@ -53,7 +53,7 @@ letter_of_verbose = 118
 abbrev pub most_last_instructions : ℕ
 most_last_instructions = 100000
 
--- the rule of an optional positional argument, such as [NAME]
+-- the rule of the optional positional argument `name`, such as [NAME]
 abbrev pub optional_word_rule : Text → Rule
 optional_word_rule name = record (new_rule name) { value_names = 1 }
 
@@ -70,7 +70,7 @@ argument_rule (argument.Number name letter help bounds defaults) =
     with_letter (number_rule name.now bounds.least bounds.most defaults.now) letter
 argument_rule argument.Group = group_rule
 
--- the rule of <PART>..
+-- the rule of the positional argument <PART>.., which is repeatable
 abbrev pub parts_rule : Rule
 parts_rule = repeated_rule (word_rule (codes "part"))
 
@@ -106,79 +106,79 @@ job_budget_rule = number_rule (codes "budget") (pos 1) (pos most_budget) []
 abbrev pub memory_rule : Rule
 memory_rule = number_rule (codes "memory") (pos 64) (pos 4096) []
 
--- the command with one more argument of the table
+-- `app` with this argument of the table as a further argument
 abbrev pub with_argument : App → Argument → App
 with_argument app argument = with_rule app (argument_rule argument)
 
--- the command with more arguments of the table, in order
+-- `app` with these arguments of the table as further arguments, in order
 abbrev pub with_arguments : App → List Argument → App
 with_arguments = fold with_argument
 
--- the rules of a command of the table: its name and its arguments
+-- the `clap` command that has the name and the arguments of this command of the table
 abbrev pub subcommand_app : Subcommand → App
 subcommand_app stated = with_arguments (new_app stated.name.now) stated.arguments.now
 
--- the command with one command of the table as a subcommand
+-- `app` with this command of the table as a further subcommand
 abbrev pub with_table_command : App → Subcommand → App
 with_table_command app stated = with_subcommand app (subcommand_app stated).top
 
--- the command with commands of the table as subcommands, in order
+-- `app` with these commands of the table as further subcommands, in order
 abbrev pub with_subcommands : App → List Subcommand → App
 with_subcommands = fold with_table_command
 
--- the command with [--partial]
+-- `app` with the option [--partial] added
 abbrev pub with_partial : App → App
 with_partial app = with_rule app (flag_rule (codes "partial"))
 
--- the command with [--only <NAME>].. [--match <REGEX>] [--exclude <REGEX>] [--failed <REPORT>] [--partial]
+-- `app` with the options [--only <NAME>].. [--match <REGEX>] [--exclude <REGEX>] [--failed <REPORT>] [--partial] added
 abbrev pub with_choice : App → App
 with_choice app = with_partial (with_rule (with_rule (with_rule (with_rule app only_rule)
     (option_rule (codes "match"))) (option_rule (codes "exclude"))) (option_rule (codes "failed")))
 
--- the command with [--shard <K/N>] [--stamp <TEXT>]
+-- `app` with the options [--shard <K/N>] [--stamp <TEXT>] added
 abbrev pub with_shard : App → App
 with_shard app = with_rule (with_rule app (option_rule (codes "shard")))
     (option_rule (codes "stamp"))
 
--- the command with [--workers <N>] [--group <N>] [--budget <N>] [--root <DIR>]
+-- `app` with the options [--workers <N>] [--group <N>] [--budget <N>] [--root <DIR>] added
 abbrev pub with_machine : App → App
 with_machine app = with_rule (with_rule (with_rule (with_rule app test_workers_rule)
     group_rule) job_budget_rule) (option_rule (codes "root"))
 
--- the command with [--junit <FILE>] [--suite <NAME>] [--lenient]
+-- `app` with the options [--junit <FILE>] [--suite <NAME>] [--lenient] added
 abbrev pub with_junit : App → App
 with_junit app = with_rule (with_rule (with_rule app (file_rule (codes "junit")))
     (option_rule (codes "suite"))) (flag_rule (codes "lenient"))
 
--- the command with [--report <FILE>] [--junit <FILE>] [--suite <NAME>] [--lenient]
+-- `app` with the options [--report <FILE>] [--junit <FILE>] [--suite <NAME>] [--lenient] added
 abbrev pub with_files : App → App
 with_files app = with_junit (with_rule app (file_rule (codes "report")))
 
--- the command with [--counts <FILE>] [--stacks]
+-- `app` with the options [--counts <FILE>] [--stacks] added
 abbrev pub with_counts : App → App
 with_counts app = with_rule (with_rule app (file_rule (codes "counts"))) (flag_rule (codes "stacks"))
 
--- the command with [--known <FILE>]
+-- `app` with the option [--known <FILE>] added
 abbrev pub with_known : App → App
 with_known app = with_rule app (file_rule (codes "known"))
 
--- the command with [--stop-after <N>]
+-- `app` with the option [--stop-after <N>] added
 abbrev pub with_stop_after : App → App
 with_stop_after app = with_rule app (number_rule (codes "stop-after") (pos 1) (pos most_jobs) [])
 
--- the command with [--color <WHEN>]
+-- `app` with the option [--color <WHEN>] added
 abbrev pub with_color : App → App
 with_color app = with_rule app (option_rule (codes "color"))
 
--- the command with [--into <FILE>]
+-- `app` with the option [--into <FILE>] added
 abbrev pub with_into : App → App
 with_into app = with_rule app (file_rule (codes "into"))
 
--- the command with [--verbose] [--quiet] [--last <N>] [--color <WHEN>]
+-- `app` with the options [--verbose] [--quiet] [--last <N>] [--color <WHEN>] added
 abbrev pub with_results : App → App
 with_results app = with_color (with_rule (with_rule (with_rule app verbose_rule) quiet_rule) last_rule)
 
--- the rules of a command `name` with the positional argument <LIST>
+-- the command `name` with the positional argument <LIST>
 abbrev pub app_of_list : Text → App
 app_of_list name = with_rule (new_app name) (word_rule (codes "list"))
 
@@ -192,7 +192,7 @@ test_run_app =
 abbrev pub list_app : App
 list_app = with_rule (with_choice (app_of_list (codes "list"))) (flag_rule (codes "lenient"))
 
--- the command with [--workers <N>] [--group <N>] [--root <DIR>]
+-- `app` with the options [--workers <N>] [--group <N>] [--root <DIR>] added
 abbrev pub with_threads : App → App
 with_threads app = with_rule (with_rule (with_rule app test_workers_rule) group_rule) (option_rule (codes "root"))
 
@@ -208,7 +208,7 @@ abbrev pub cover_app : App
 cover_app = with_rule (with_rule (with_threads (with_rule (with_rule (with_choice (app_of_list (codes "cover")))
     (option_rule (codes "shard"))) (flag_rule (codes "lenient")))) (option_rule (codes "counts"))) (flag_rule (codes "csv"))
 
--- the greatest value of `--top`, the number of functions shown for each image
+-- the greatest value of `--top`, which limits the number of functions shown for each image
 abbrev pub most_functions : ℕ
 most_functions = 1000000
 
@@ -219,7 +219,7 @@ profile_app = with_rule (with_rule (with_rule (with_threads (with_rule (with_rul
     (optional_word_rule (codes "name")))) (option_rule (codes "shard"))) (flag_rule (codes "lenient")))) (option_rule (codes "counts")))
     (number_rule (codes "top") (pos 1) (pos most_functions) [])) (flag_rule (codes "csv"))
 
--- the rules of each command that chooses jobs
+-- the `clap` command for a command that chooses jobs
 abbrev pub choosing_app : ChoosingCommand → App
 choosing_app choosing.Run = test_run_app
 choosing_app choosing.List = list_app
@@ -249,7 +249,7 @@ check_app = with_rule (app_of_list (codes "check")) (option_rule (codes "root"))
 abbrev pub merge_app : App
 merge_app = with_files (with_rule (new_app (codes "merge")) parts_rule)
 
--- the greatest percentage of `--slower`
+-- the greatest value of `--slower`, in percent
 abbrev pub most_slower : ℕ
 most_slower = 1000
 
@@ -267,7 +267,7 @@ show_app = with_color (with_junit (with_partial (with_rule (new_app (codes "show
 abbrev pub counts_app : App
 counts_app = with_rule (with_rule (new_app (codes "counts")) (repeated_rule (word_rule (codes "table")))) (file_rule (codes "out"))
 
--- the rules of `rvtest` without its subcommands: a subcommand is required, `clap` adds no `help` subcommand, and there is a version
+-- the command `rvtest` before its subcommands are added: it requires a subcommand, has a version, and lets `clap` add no `help` subcommand
 abbrev pub test_top_app : App
 test_top_app = let app = new_app (codes "rvtest") in
     record app {
@@ -278,16 +278,16 @@ test_top_app = let app = new_app (codes "rvtest") in
       };
     }
 
--- the command with the subcommands `run`, `list` and `explain`
+-- `app` with the subcommands `run`, `list` and `explain` added
 abbrev pub with_runs : App → App
 with_runs app = with_subcommand (with_subcommand (with_subcommand app test_run_app.top) list_app.top) explain_app.top
 
--- the command with the subcommands that read a list, from `run` to `accept`
+-- `app` with the subcommands that read a list added: `run`, `list`, `explain`, `console`, `gdb`, `check` and `accept`
 abbrev pub with_lists : App → App
 with_lists app = with_subcommand (with_subcommand (with_subcommand (with_subcommand (with_runs app) console_app.top) gdb_app.top)
     check_app.top) accept_app.top
 
--- the command with the subcommands `merge`, `diff` and `show`, which read reports
+-- `app` with the subcommands `merge`, `diff` and `show` added, which read reports
 abbrev pub with_reports : App → App
 with_reports app = with_subcommand (with_subcommand (with_subcommand app merge_app.top)
     diff_app.top) show_app.top
@@ -296,7 +296,7 @@ with_reports app = with_subcommand (with_subcommand (with_subcommand app merge_a
 abbrev pub help_app : App
 help_app = with_rule (new_app (codes "help")) (optional_word_rule (codes "topic"))
 
--- the rules of the whole command line of `rvtest`
+-- the command `rvtest` with all its subcommands
 abbrev pub test_app : App
 test_app = with_subcommand (with_subcommand (with_subcommand (with_subcommand (with_reports (with_lists test_top_app)) counts_app.top)
     cover_app.top) profile_app.top) help_app.top

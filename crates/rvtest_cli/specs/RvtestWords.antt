@@ -110,7 +110,7 @@ pub record ShowOptions : Type 0 where
   pub lenient : Bool
   pub color : Option Text
 
--- the arguments of `diff`: the paths of two reports, and how their steps are compared
+-- the arguments of `diff`: the paths of two reports, and what it compares
 pub record DiffOptions : Type 0 where
   pub old : Text
   pub new : Text
@@ -122,7 +122,7 @@ pub record DiffOptions : Type 0 where
   pub slower : Option ℕ
   pub color : Option Text
 
--- the arguments of `accept`: the jobs to run, and which changes are written
+-- the arguments of `accept`: the arguments that choose the jobs, and which changes are written
 pub record AcceptOptions : Type 0 where
   pub run : RunOptions
   -- whether a different exit code or kind of fault is accepted, too
@@ -151,7 +151,7 @@ pub record ProfileOptions : Type 0 where
   -- whether the output is CSV
   pub csv : Bool
 
--- the request that the command line makes: a command with its arguments
+-- a parsed command line: a command with its arguments
 pub data Words : Type 0 where
   run : RunOptions → Words
   -- `list` lists the jobs that `run` would run with these arguments
@@ -173,11 +173,12 @@ pub data Words : Type 0 where
   -- `help` for a topic that is not a command
   help : Text → Words
 
--- the value of `--budget`, which overrides each job's own budget
+-- the value of `--budget` among the matches of `clap`, which overrides each job's own budget; `None` without this option
 abbrev pub requested_budget : List Row → Option ℕ
 requested_budget rows = number_value (codes "budget") 1 most_budget rows
 
--- the arguments of a command that runs jobs of `list` in chunks of `group` jobs; an option that the command does not have is unset
+-- the arguments of a command that runs jobs of `list` in chunks of `group` jobs, taken from the matches of `clap`; an option that is not
+-- given, or that the command does not have, is unset
 unfoldable pub run_words : Text → ℕ → List Row → RunOptions
 run_words list group rows = record {
   list = list;
@@ -207,16 +208,17 @@ run_words list group rows = record {
   color = first_of (codes "color") rows;
 }
 
--- the request of `run` with these matches of `clap`; none without a list or a valid chunk size
+-- the request of `run` with these matches of `clap`; `None` without a list or a valid chunk size
 abbrev pub test_run_request : List Row → Option Words
 test_run_request rows = option_and_then (λ list. option_map (λ group. run (run_words list group rows))
     (number_value (codes "group") 1 most_group rows)) (first_of (codes "list") rows)
 
--- the request of `list` with these matches of `clap`; none without a list
+-- the request of `list` with these matches of `clap`; `None` without a list
 abbrev pub list_request : List Row → Option Words
 list_request rows = option_map (λ list. names (run_words list 1 rows)) (first_of (codes "list") rows)
 
--- the request of `explain` for the job `name` of `list`, with its `last` instructions; its other options are from the matches
+-- the request of `explain` for the job `name` of `list`, showing its `last` last instructions; its other options are taken from the matches
+-- of `clap`
 abbrev pub explain_request_of : Text → Text → List Row → ℕ → Words
 explain_request_of list name rows last = explain (record {
   list = list;
@@ -249,7 +251,7 @@ abbrev pub check_request : List Row → Option Words
 check_request rows = option_map (λ list. check list (first_of (codes "root") rows))
     (first_of (codes "list") rows)
 
--- the request of `accept` for `list`, in chunks of `group` jobs; its options are from the matches
+-- the request of `accept` for `list`, in chunks of `group` jobs; its options are taken from the matches of `clap`
 abbrev pub accept_request_of : Text → List Row → ℕ → Words
 accept_request_of list rows group = accept (record {
   run = run_words list group rows;
@@ -273,7 +275,7 @@ merge_request rows = merge (record {
   lenient = is_flag_set (codes "lenient") rows;
 })
 
--- the request of `diff` for the reports `old` and `new`; its options are from the matches
+-- the request of `diff` for the reports `old` and `new`; its options are taken from the matches of `clap`
 abbrev pub diff_request_of : List Row → Text → Text → Words
 diff_request_of rows old new = diff (record {
   old = old;
@@ -289,7 +291,7 @@ abbrev pub diff_request : List Row → Option Words
 diff_request rows = option_and_then (λ old. option_map (diff_request_of rows old)
     (first_of (codes "new") rows)) (first_of (codes "old") rows)
 
--- the request of `show` for `report`; its options are from the matches
+-- the request of `show` for `report`; its options are taken from the matches of `clap`
 abbrev pub show_request_of : List Row → Text → Words
 show_request_of rows report = show (record {
   report = report;
@@ -311,7 +313,7 @@ counts_request rows = counts (record {
   out = first_of (codes "out") rows;
 })
 
--- the request of `cover` for `list`, in chunks of `group` jobs; its options are from the matches
+-- the request of `cover` for `list`, in chunks of `group` jobs; its options are taken from the matches of `clap`
 abbrev pub cover_request_of : Text → List Row → ℕ → Words
 cover_request_of list rows group = cover (record { run = run_words list group rows; csv = is_flag_set (codes "csv") rows })
 
@@ -320,15 +322,15 @@ abbrev pub cover_request : List Row → Option Words
 cover_request rows = option_and_then (λ list. option_map (cover_request_of list rows)
     (number_value (codes "group") 1 most_group rows)) (first_of (codes "list") rows)
 
--- the values of the argument NAME, or of `--only` if NAME is not given
+-- the names of the jobs to show: the argument NAME if it is given, and otherwise the values of `--only`
 abbrev pub chosen_names : List Row → List Text
 chosen_names rows = if is_option_given (codes "name") rows then argument_values (codes "name") rows else argument_values (codes "only") rows
 
--- like `run_words`, but the chosen names are the argument NAME if it is given
+-- the arguments that `run_words` returns, but with the argument NAME as the only chosen name if NAME is given
 abbrev pub named_run_words : Text → ℕ → List Row → RunOptions
 named_run_words list group rows = record (run_words list group rows) { only = chosen_names rows }
 
--- the request of `profile` for `list`, in chunks of `group` jobs; its options are from the matches
+-- the request of `profile` for `list`, in chunks of `group` jobs; its options are taken from the matches of `clap`
 abbrev pub profile_request_of : Text → List Row → ℕ → Words
 profile_request_of list rows group = profile (record {
   run = named_run_words list group rows;
@@ -363,7 +365,7 @@ subcommand_request name rows = if bytes_eq name (codes "run") then test_run_requ
     else if bytes_eq name (codes "help") then help_request rows
     else None
 
--- the request of the matched subcommand and its matches; none without a subcommand
+-- the request of the matched subcommand with its matches of `clap`; `None` without a subcommand, or if a required argument is missing
 abbrev pub matched_request : Option (Text × List Row) → Option Words
 matched_request = option_and_then (λ found. subcommand_request found.0 found.1)
 
@@ -373,27 +375,28 @@ matched_request = option_and_then (λ found. subcommand_request found.0 found.1)
 abbrev pub is_help : Text → Bool
 is_help word = bytes_eq word (codes "help")
 
--- whether `word` is `help`, and `topic` is not `keys`, `--help` or `-h`
+-- whether `word` and `topic` are `help COMMAND`: `word` is `help`, and `topic` is not `keys`, `--help` or `-h`
 abbrev pub is_command_help : Text → Text → Bool
 is_command_help word topic = is_help word && (not (bytes_eq topic (codes "keys"))
     && (not (bytes_eq topic (codes "--help")) && not (bytes_eq topic (codes "-h"))))
 
--- the arguments that replace `rvtest help` and `rvtest help COMMAND`: `--help` and `COMMAND --help`; none for other arguments
+-- the arguments that `clap` gets instead: `--help` for `rvtest help`, and `COMMAND --help` for `rvtest help COMMAND`; `None` for any other
+-- arguments
 unfoldable pub help_command_args : List Text → Option (List Text)
 help_command_args (program ∷ word ∷ []) = if is_help word then Some (program ∷ codes "--help" ∷ []) else None
 help_command_args (program ∷ word ∷ topic ∷ []) =
     if is_command_help word topic then Some (program ∷ topic ∷ codes "--help" ∷ []) else None
 help_command_args words = None
 
--- the arguments as `clap` gets them: `help COMMAND` is replaced by `COMMAND --help`
+-- the arguments that `clap` gets: `--help` instead of `help`, `COMMAND --help` instead of `help COMMAND`, and any others unchanged
 abbrev pub args_for_clap : List Text → List Text
 args_for_clap words = option_map_or (λ help. help) (help_command_args words) words
 
--- the subcommand that `clap` matches, with its matches; none for `help` and `help COMMAND`
+-- the subcommand that `clap` matches in these arguments, with its matches; `None` if there is none, and for `help` and `help COMMAND`
 abbrev pub requested_subcommand : List Text → Option (Text × List Row)
 requested_subcommand words = option_map_or (λ help. None) (help_command_args words) (subcommand_of test_app words)
 
--- the request that the arguments make, by the matches of `clap`
+-- the request that these arguments make; `None` if they make none
 abbrev pub request_of_args : List Text → Option Words
 request_of_args words = matched_request (requested_subcommand words)
 
@@ -407,7 +410,7 @@ is_color_word word = bytes_eq word (codes "always") || (bytes_eq word (codes "ne
 abbrev pub is_color_unknown : List Row → Bool
 is_color_unknown rows = option_map_or (λ word. not (is_color_word word)) (first_of (codes "color") rows) false
 
--- the error of an invalid value of `--color`, if there is one
+-- the misuse that the value of `--color` is invalid; `None` if it is valid or not given
 abbrev pub color_misuse : List Row → Option Misuse
 color_misuse rows = if is_color_unknown rows then Some misuse.UnknownColor else None
 
@@ -450,7 +453,7 @@ is_partial_alone rows = is_flag_set (codes "partial") rows && not (is_option_giv
 abbrev pub is_report_given : List Row → Bool
 is_report_given rows = is_option_given (codes "report") rows || is_option_given (codes "into") rows
 
--- whether the rows are saved: by `--report`, `--into`, `--junit` or `--shard`
+-- whether an option saves the rows: `--report`, `--into`, `--junit` or `--shard`
 abbrev pub are_rows_saved : List Row → Bool
 are_rows_saved rows = is_report_given rows
     || (is_option_given (codes "junit") rows || is_option_given (codes "shard") rows)
@@ -464,33 +467,35 @@ are_rows_written_twice rows = is_option_given (codes "into") rows
 abbrev pub is_into_stdout : List Row → Bool
 is_into_stdout rows = is_into_path (codes "-") rows
 
--- whether `--report` and `--failed` name one path, so that the rows of the other jobs would be lost
+-- whether `--report` and `--failed` name the same path, so that the new report would replace the old one and lose the rows of jobs that do
+-- not run
 abbrev pub is_failed_report_overwritten : List Row → Bool
 is_failed_report_overwritten rows = option_map_or (λ path. is_report_path path rows) (first_of (codes "failed") rows) false
 
--- whether the value of `--suite` is empty
+-- whether `--suite` is given with an empty value
 abbrev pub is_suite_nameless : List Row → Bool
 is_suite_nameless rows = option_map_or (λ name. bytes_eq name []) (first_of (codes "suite") rows) false
 
--- the error of a `--suite` without `--junit` or with an empty value, if there is one
+-- the misuse of `--suite`: it is given without `--junit`, or with an empty value; `None` if it is not misused
 abbrev pub suite_misuse : List Row → Option Misuse
 suite_misuse rows = if is_option_given (codes "suite") rows && not (is_option_given (codes "junit") rows)
     then Some misuse.SuiteAlone
     else if is_suite_nameless rows then Some misuse.NamelessSuite
     else None
 
--- the first error of the output files: `--junit` names the path of `--report` or of `--into`, or `--suite` is misused
+-- the first misuse of the options for output files: `--junit` names the path of `--report` or of `--into`, or `--suite` is misused; `None`
+-- if there is no misuse
 abbrev pub files_misuse : List Row → Option Misuse
 files_misuse rows =
     if option_map_or (λ path. is_report_path path rows) (first_of (codes "junit") rows) false then Some misuse.OneFile
     else if option_map_or (λ path. is_into_path path rows) (first_of (codes "junit") rows) false
     then Some misuse.IntoOneFile else suite_misuse rows
 
--- the error of a `--partial` without `--failed`, if there is one
+-- the misuse that `--partial` is given without `--failed`; `None` otherwise
 abbrev pub choice_misuse : List Row → Option Misuse
 choice_misuse rows = if is_partial_alone rows then Some misuse.PartialAlone else None
 
--- the first error in the options of `run`, in the order below; none if they can be combined
+-- the first misuse of the options of `run`, in the order in which they are checked here; `None` if there is no misuse
 abbrev pub run_misuse : List Row → Option Misuse
 run_misuse rows = if is_flag_set (codes "verbose") rows && is_flag_set (codes "quiet") rows
     then Some misuse.VerboseAndQuiet
@@ -509,29 +514,31 @@ run_misuse rows = if is_flag_set (codes "verbose") rows && is_flag_set (codes "q
     else if are_counts_overwriting rows then Some misuse.CountsOneFile
     else files_misuse rows
 
--- the first error in the options of `cover`: `--shard` with an option that chooses jobs, or `--partial` without `--failed`
+-- the first misuse of the options of `cover`: `--shard` with an option that chooses jobs, or `--partial` without `--failed`; `None` if
+-- there is no misuse
 abbrev pub cover_misuse : List Row → Option Misuse
 cover_misuse rows = if is_option_given (codes "shard") rows && is_choice_given rows then Some misuse.ShardAndChoice
     else choice_misuse rows
 
--- whether NAME is given with an option that chooses jobs or with `--shard`
+-- whether the argument NAME is given together with an option that chooses jobs or with `--shard`
 abbrev pub is_name_combined_with_choice : List Row → Bool
 is_name_combined_with_choice rows = is_option_given (codes "name") rows && (is_choice_given rows || is_option_given (codes "shard") rows)
 
--- the first error in the options of `profile`: NAME with a choice of jobs, or an error of `cover_misuse`
+-- the first misuse of the options of `profile`: NAME with an option that chooses jobs or `--shard`, or a misuse that `cover` has, too;
+-- `None` if there is no misuse
 abbrev pub profile_misuse : List Row → Option Misuse
 profile_misuse rows = if is_name_combined_with_choice rows then Some misuse.NameAndChoice else cover_misuse rows
 
--- the first error in the options of `diff`: `--steps` with `--slower`, or an invalid `--color`
+-- the first misuse of the options of `diff`: `--steps` with `--slower`, or an invalid `--color`; `None` if there is no misuse
 abbrev pub diff_misuse : List Row → Option Misuse
 diff_misuse rows = if is_flag_set (codes "steps") rows && is_option_given (codes "slower") rows
     then Some misuse.StepsAndSlower else color_misuse rows
 
--- the first error in the options of `show`: an invalid `--color`, or a misused `--suite`
+-- the first misuse of the options of `show`: an invalid `--color`, or a misused `--suite`; `None` if there is no misuse
 abbrev pub show_misuse : List Row → Option Misuse
 show_misuse rows = if is_color_unknown rows then Some misuse.UnknownColor else suite_misuse rows
 
--- the kind of `clap` error that reports a misuse; none without a misuse
+-- a list with the kind of `clap` error that reports this misuse; empty without a misuse
 abbrev pub misuse_kinds : Option Misuse → Kinds
 misuse_kinds None = []
 misuse_kinds (Some misuse.StampAlone) = kind.MissingRequiredArgument ∷ []
@@ -574,7 +581,7 @@ misuse_text misuse.IntoOneFile =
 misuse_text misuse.CountsOneFile =
     codes "the argument '--counts <FILE>' cannot name the same file as '--report <FILE>', '--into <FILE>', '--junit <FILE>' or '--failed <REPORT>'"
 
--- the first error in the options of the subcommand `name` with these matches, if there is one
+-- the first misuse of the options of the subcommand `name` with these matches of `clap`; `None` if there is no misuse
 abbrev pub subcommand_misuse : Text → List Row → Option Misuse
 subcommand_misuse name rows = if bytes_eq name (codes "run") then run_misuse rows
     else if bytes_eq name (codes "list") then choice_misuse rows
@@ -587,44 +594,44 @@ subcommand_misuse name rows = if bytes_eq name (codes "run") then run_misuse row
     else if bytes_eq name (codes "explain") then color_misuse rows
     else None
 
--- the first error in the options of the matched subcommand, if there is one
+-- the first misuse of the options of the matched subcommand; `None` without a subcommand or a misuse
 abbrev pub matched_misuse : Option (Text × List Row) → Option Misuse
 matched_misuse = option_and_then (λ met. subcommand_misuse met.0 met.1)
 
--- the first error in the options of arguments that `clap` gets unchanged, if there is one
+-- the first misuse of an option in arguments that `clap` gets unchanged; `None` if there is no misuse
 abbrev pub plain_misuse : List Text → Option Misuse
 plain_misuse words = matched_misuse (subcommand_of test_app words)
 
--- the kinds of errors in arguments that `clap` gets unchanged: those that `clap` finds, or else the kind of a misuse
+-- the kinds of the errors in arguments that `clap` gets unchanged: the errors that `clap` finds, or else the misuse of an option
 abbrev pub plain_fault_kinds : List Text → Kinds
 plain_fault_kinds words = or_else (fault_of test_app words) (misuse_kinds (plain_misuse words))
 
--- the first error in the options of the arguments, if there is one; none for `help` and `help COMMAND`
+-- the first misuse of an option in the arguments; `None` if there is no misuse, and for `help` and `help COMMAND`
 abbrev pub words_misuse : List Text → Option Misuse
 words_misuse words = matched_misuse (requested_subcommand words)
 
--- the kinds of errors that `clap` finds in the arguments
+-- the kinds of the errors that `clap` finds in the arguments
 abbrev pub words_faults : List Text → Kinds
 words_faults words = fault_of test_app (args_for_clap words)
 
--- the kinds of errors in the arguments: those that `clap` finds, or else the kind of a misuse
+-- the kinds of the errors in the arguments: the errors that `clap` finds, or else the misuse of an option
 abbrev pub words_fault_kinds : List Text → Kinds
 words_fault_kinds words = or_else (words_faults words) (misuse_kinds (words_misuse words))
 
--- the error is out of memory, or it reports the misuse: with its kind and its message
+-- the error says that memory ran out, or it reports the given misuse, with its kind and its message; without a misuse, memory ran out
 abbrev pub IsMisuseReported : Option Misuse → WordsError → Type 0
 IsMisuseReported misuse error.OutOfMemory = Unit {0}
 IsMisuseReported None (error.Told fault text) = ⊥
 IsMisuseReported (Some misuse) (error.Told fault text) =
     (misuse_kinds (Some misuse) ≡ fault ∷ []) × IsUsageText (misuse_text misuse) (string_bytes text)
 
--- a result without error means that there is no misuse; an error reports the misuse, or that memory ran out
+-- if the result is no error, there is no misuse; if it is an error, it reports the misuse, or memory ran out
 abbrev pub FailsByMisuse : {T : Type 0} → Option Misuse → Result T WordsError → Type 0
 FailsByMisuse misuse result = MatchResult result (λ _. misuse ≡ None) (IsMisuseReported misuse)
 
 -- ---- the Rust values of the requests
 
--- the text that an optional reference points to
+-- the text that the reference points to; `None` if there is no reference
 abbrev pub borrowed_text : Option (Bor Text) → Option Text
 borrowed_text text = option_map (λ t. t.now) text
 
@@ -742,7 +749,7 @@ value_of_request (request.Cover value) = cover (cover_options_of_args value)
 value_of_request (request.Profile value) = profile (profile_options_of_args value)
 value_of_request (request.Help value) = help value.topic.now
 
--- the budget, if it is given, is from 1 to `most_budget` steps
+-- the budget is from 1 to `most_budget` steps, or is not given
 abbrev pub IsBudgetInRange : Option ℕ → Type 0
 IsBudgetInRange budget = IfSome budget (λ steps. (1 ≤ steps) × (steps ≤ most_budget))
 
@@ -763,10 +770,11 @@ IsRequestInRange (request.Explain value) = (value.last ≤ most_last_instruction
 IsRequestInRange (request.Diff value) = IfSome value.slower (λ percent. percent ≤ most_slower)
 IsRequestInRange _ = Unit {0}
 
--- the parsed request has the value `words`, and its numbers are in range
+-- the parsed request has the value `words`, and its numbers are within the ranges that the command line allows; without a request, `words`
+-- is `None`
 abbrev pub IsRequestFor : Option Words → Option Request → Type 0
 IsRequestFor words request = (option_map value_of_request request ≡ words) × IfSome request IsRequestInRange
 
--- a result without error is the request `words`, and there is no misuse; an error reports the misuse, or that memory ran out
+-- if the result is no error, it is the request `words`, and there is no misuse; if it is an error, it reports the misuse, or memory ran out
 abbrev pub ReadsRequest : Option Words → Option Misuse → Result (Option Request) WordsError → Type 0
 ReadsRequest words misuse result = IfOk result (IsRequestFor words) × FailsByMisuse misuse result

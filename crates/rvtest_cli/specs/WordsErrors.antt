@@ -7,30 +7,30 @@ use Rattle.clap.specs.declared.error.kind.ErrorKind.TheVariants as kind
 use Rattle.rvtest_cli.specs.declared.words_error.WordsError.{WordsError}
 use Rattle.rvtest_cli.specs.declared.words_error.WordsError.TheVariants as error
 
--- the error is out of memory, or its kind is one of `kinds`
+-- the error says that memory ran out, or its kind is one of `kinds`
 abbrev pub IsErrorOfKinds : Kinds → WordsError → Type 0
 IsErrorOfKinds kinds error.OutOfMemory = Unit {0}
 IsErrorOfKinds kinds (error.Told fault text) = IsAmong fault kinds
 
--- a result without error means that `kinds` is empty; an error is out of memory, or its kind is one of `kinds`
+-- if the result is no error, `kinds` is empty; if it is an error, memory ran out, or its kind is one of `kinds`
 abbrev pub FailsByKinds : {T : Type 0} → Kinds → Result T WordsError → Type 0
 FailsByKinds kinds result = MatchResult result (λ _. kinds ≡ []) (IsErrorOfKinds kinds)
 
--- the error is out of memory, or its kind is `error_kind`, and `error_kind` is not the kind out of memory
+-- the error says that memory ran out, or its kind is `error_kind`, which is then not `OutOfMemory`
 abbrev pub IsErrorOfKind : ErrorKind → WordsError → Type 0
 IsErrorOfKind error_kind error.OutOfMemory = Unit {0}
 IsErrorOfKind error_kind (error.Told fault text) = (fault ≡ error_kind) × (error_kind ≡ kind.OutOfMemory → ⊥)
 
--- the text of an error: the message `what`, the usage of a command, and where to find help
+-- the text of an error: the message `what`, the usage of a command, and the hint to try `--help`
 abbrev pub usage_error_text : Text → Text → Text
 usage_error_text what usage =
     codes "error: " ++ (what ++ (codes "\n\n" ++ (usage ++ codes "\n\nFor more information, try '--help'.\n")))
 
--- the text is that of an error with the message `what` and some usage
+-- `text` is the text of an error with the message `what` and some usage
 abbrev pub IsUsageText : Text → Text → Type 0
 IsUsageText what text = (usage : Text) × (text ≡ usage_error_text what usage)
 
--- the error is out of memory, or it has the kind `error_kind` and a text with the message `what` and some usage
+-- the error says that memory ran out, or it has the kind `error_kind` and a text with the message `what` and some usage
 abbrev pub IsUsageError : ErrorKind → Text → WordsError → Type 0
 IsUsageError error_kind what error.OutOfMemory = Unit {0}
 IsUsageError error_kind what (error.Told fault text) = (fault ≡ error_kind) × IsUsageText what (string_bytes text)

@@ -43,6 +43,7 @@ pub(crate) enum Argument<'a> {
 }
 
 impl<'a> Argument<'a> {
+    // Returns the `clap` argument for this argument of the table.
     fn clap_argument(&self, alloc: Global) -> Arg<'a>
         ensures { (rule_of result ≡ argument_rule self.now) × (result.global ≡ false) }
     {
@@ -86,7 +87,7 @@ pub(crate) fn with_arguments<'a>(
     command
 }
 
-// Returns the argument, with a short option if a letter is given.
+// Returns the argument, with a short option if its letter is given; unchanged otherwise.
 fn with_letter<'a>(argument: Arg<'a>, letter: Option<char>) -> Arg<'a>
     ensures rule { rule_of result ≡ with_letter (rule_of argument.entry) letter }
     ensures local { result.global ≡ argument.entry.global }
@@ -97,6 +98,7 @@ fn with_letter<'a>(argument: Arg<'a>, letter: Option<char>) -> Arg<'a>
     }
 }
 
+// Returns the optional positional argument `name`; the usage shows its value as `value`.
 fn optional_word_argument<'a>(
     alloc: Global,
     name: &'a str,
@@ -108,12 +110,14 @@ fn optional_word_argument<'a>(
     Arg::new(alloc, name).value_name(value).help(help)
 }
 
+// Returns the option `name`, whose value is a non-empty path of a file.
 fn file_argument<'a>(alloc: Global, name: &'a str, help: &'a str) -> Arg<'a>
     ensures { (rule_of result ≡ file_rule name.entry.now) × (result.global ≡ false) }
 {
     option_argument(alloc, name, "FILE", help).value_parser(ValueParser::NonEmptyString)
 }
 
+// Returns the option `name`, which has no value.
 fn flag_argument<'a>(alloc: Global, name: &'a str, help: &'a str) -> Arg<'a>
     ensures { (rule_of result ≡ flag_rule name.entry.now) × (result.global ≡ false) }
 {
@@ -123,6 +127,7 @@ fn flag_argument<'a>(alloc: Global, name: &'a str, help: &'a str) -> Arg<'a>
         .help(help)
 }
 
+// Returns the option `name`, whose value is an integer within `bounds`; `defaults` are its default values.
 fn number_argument<'a>(
     alloc: Global,
     name: &'a str,

@@ -30,6 +30,7 @@ pub(crate) fn test_command<'a>(alloc: Global) -> Result<Command<'a>, AllocError>
     with_subcommands(alloc, top_command(alloc), &COMMANDS)
 }
 
+// Returns the command `rvtest` with its version, but without its subcommands.
 fn top_command<'a>(alloc: Global) -> Built<'a>
     ensures app { IsBuilt test_top_app result }
     ensures version { HasVersion (codes "1.0.0") result }
@@ -54,6 +55,7 @@ fn with_subcommands<'a>(alloc: Global, command: Built<'a>, stated: &[Subcommand<
     command
 }
 
+// Returns the `clap` command for this command of the table, with its arguments.
 fn subcommand_of_table<'a>(alloc: Global, stated: &Subcommand<'a>) -> Built<'a>
     ensures { IsBuilt (subcommand_app stated.now) result }
 {
@@ -61,7 +63,7 @@ fn subcommand_of_table<'a>(alloc: Global, stated: &Subcommand<'a>) -> Built<'a>
     with_arguments(alloc, command, stated.arguments)
 }
 
-// Returns the command without arguments. Its usage begins with `rvtest` and its own name.
+// Returns the `clap` command for this command of the table, without arguments. Its usage begins with `rvtest` and its name.
 fn bare_command<'a>(alloc: Global, stated: &Subcommand<'a>) -> Built<'a>
     ensures app { IsBuilt (new_app stated.now.name.now) result }
     ensures usage { HasUsageOf (codes "rvtest " ++ stated.now.name.now) result }
@@ -76,6 +78,7 @@ fn bare_command<'a>(alloc: Global, stated: &Subcommand<'a>) -> Built<'a>
     }
 }
 
+// Returns the beginning of a subcommand's usage: `rvtest` and its name.
 fn usage_text(alloc: Global, name: &str) -> Result<String, AllocError>
     ensures { IfOk result (λ usage. string_bytes usage ≡ codes "rvtest " ++ name.now) }
 {
@@ -95,7 +98,7 @@ pub enum ChoosingCommand {
 }
 
 impl ChoosingCommand {
-    /// Returns the command, whose usage is shown if its arguments are rejected.
+    /// Returns the `clap` command for this command, whose usage is shown if its arguments are rejected.
     pub fn command<'a>(self, alloc: Global) -> Result<Command<'a>, AllocError>
         ensures { IfOk result (λ command.
             (app_of command ≡ choosing_app self) × ((out-Command command).has_globals ≡ false)) }

@@ -56,7 +56,7 @@ fn valid_cover_request<'a>(
     Ok(Some(Request::Cover(CoverArgs { run, csv })))
 }
 
-/// Returns the first error in the options of `cover`, if there is one.
+/// Returns the first misuse of the options of `cover`; `None` if there is no misuse.
 pub(crate) fn cover_misuse(values: &ArgMatches<'_>) -> Option<Misuse>
     ensures { result ≡ cover_misuse (rows_of (found_of values.now)) }
 {

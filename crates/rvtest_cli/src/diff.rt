@@ -63,7 +63,7 @@ fn valid_diff_request<'a>(values: &ArgMatches<'a>) -> Option<Request<'a>>
     }))
 }
 
-// Returns the first error in the options of `diff`: `--steps` with `--slower`, or an invalid `--color`.
+// Returns the first misuse of the options of `diff`: `--steps` with `--slower`, or an invalid `--color`; `None` if there is no misuse.
 fn diff_misuse(values: &ArgMatches<'_>) -> Option<Misuse>
     ensures { result ≡ diff_misuse (rows_of (found_of values.now)) }
 {

@@ -65,7 +65,7 @@ fn valid_profile_request<'a>(
     Ok(Some(Request::Profile(ProfileArgs { run, top, csv })))
 }
 
-// Returns the arguments of a run of the job NAME, or of the chosen jobs if NAME is not given.
+// Returns the arguments of a run of the job NAME, or if NAME is not given, of the jobs that the options choose.
 fn named_run<'a>(
     alloc: Global,
     values: &ArgMatches<'a>,
@@ -82,7 +82,7 @@ fn named_run<'a>(
     Ok(run)
 }
 
-// Returns the argument NAME, or the values of `--only` if NAME is not given.
+// Returns the names of the jobs to show: the argument NAME if it is given, and otherwise the values of `--only`.
 fn chosen_names<'a>(alloc: Global, values: &ArgMatches<'a>) -> Result<Vec<&'a str>, AllocError>
     ensures { IfOk result (λ names. map (λ name. name.now) names.items
         ≡ chosen_names (rows_of (found_of values.now))) }
@@ -94,7 +94,7 @@ fn chosen_names<'a>(alloc: Global, values: &ArgMatches<'a>) -> Result<Vec<&'a st
     }
 }
 
-// Returns the first error in the options of `profile`, if there is one.
+// Returns the first misuse of the options of `profile`; `None` if there is no misuse.
 fn profile_misuse(values: &ArgMatches<'_>) -> Option<Misuse>
     ensures { result ≡ profile_misuse (rows_of (found_of values.now)) }
 {
@@ -105,7 +105,7 @@ fn profile_misuse(values: &ArgMatches<'_>) -> Option<Misuse>
     }
 }
 
-// Whether NAME is given with an option that chooses jobs or with `--shard`.
+// Whether the argument NAME is given together with an option that chooses jobs or with `--shard`.
 fn is_name_combined_with_choice(values: &ArgMatches<'_>) -> bool
     ensures { result ≡ is_name_combined_with_choice (rows_of (found_of values.now)) }
 {

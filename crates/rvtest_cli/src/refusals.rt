@@ -150,7 +150,7 @@ impl Misuse {
     }
 }
 
-/// Returns the error of a `--partial` without `--failed`, if there is one.
+/// Returns the misuse that `--partial` is given without `--failed`; `None` otherwise.
 pub(crate) fn choice_misuse(values: &ArgMatches<'_>) -> Option<Misuse>
     ensures { result ≡ choice_misuse (rows_of (found_of values.now)) }
 {
@@ -168,7 +168,8 @@ pub(crate) fn is_partial_alone(values: &ArgMatches<'_>) -> bool
     is_flag_set(values, "partial") && !is_option_given(values, "failed")
 }
 
-/// Returns the first error of the output files: one path for `--junit` and a report, or a misused `--suite`.
+/// Returns the first misuse of the options for output files: `--junit` names the path of a report, or `--suite` is misused; `None` if there
+/// is no misuse.
 pub(crate) fn files_misuse(values: &ArgMatches<'_>) -> Option<Misuse>
     ensures { result ≡ files_misuse (rows_of (found_of values.now)) }
 {
@@ -179,7 +180,7 @@ pub(crate) fn files_misuse(values: &ArgMatches<'_>) -> Option<Misuse>
     }
 }
 
-/// Returns the first error in the options of `show`: an invalid `--color`, or a misused `--suite`.
+/// Returns the first misuse of the options of `show`: an invalid `--color`, or a misused `--suite`; `None` if there is no misuse.
 pub(crate) fn show_misuse(values: &ArgMatches<'_>) -> Option<Misuse>
     ensures { result ≡ show_misuse (rows_of (found_of values.now)) }
 {
@@ -190,7 +191,7 @@ pub(crate) fn show_misuse(values: &ArgMatches<'_>) -> Option<Misuse>
     }
 }
 
-/// Returns the error of an invalid `--color`, if there is one.
+/// Returns the misuse that the value of `--color` is invalid; `None` if it is valid or not given.
 pub(crate) fn color_misuse(values: &ArgMatches<'_>) -> Option<Misuse>
     ensures { result ≡ color_misuse (rows_of (found_of values.now)) }
 {
@@ -218,7 +219,7 @@ fn is_color_word(word: &str) -> bool
     word == "always" || word == "never" || word == "auto"
 }
 
-/// Returns the error of a `--suite` without `--junit` or with an empty value, if there is one.
+/// Returns the misuse of `--suite`: it is given without `--junit`, or with an empty value; `None` if it is not misused.
 pub(crate) fn suite_misuse(values: &ArgMatches<'_>) -> Option<Misuse>
     ensures { result ≡ suite_misuse (rows_of (found_of values.now)) }
 {
@@ -231,7 +232,7 @@ pub(crate) fn suite_misuse(values: &ArgMatches<'_>) -> Option<Misuse>
     }
 }
 
-// Whether the value of `--suite` is empty.
+// Whether `--suite` is given with an empty value.
 fn is_suite_nameless(values: &ArgMatches<'_>) -> bool
     ensures { result ≡ is_suite_nameless (rows_of (found_of values.now)) }
 {

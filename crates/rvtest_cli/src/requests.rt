@@ -98,7 +98,7 @@ fn is_help(word: &str) -> bool
     word == "help"
 }
 
-// Whether the words request help for a command: `help`, and a topic that is not `keys`, `--help` or `-h`.
+// Whether `word` and `topic` are `help COMMAND`: `word` is `help`, and `topic` is not `keys`, `--help` or `-h`.
 fn is_command_help(word: &str, topic: &str) -> bool
     ensures { result ≡ is_command_help word.now topic.now }
 {
@@ -117,6 +117,7 @@ fn command_help<'a, T: AsStr>(alloc: Global, words: &[T]) -> Result<Option<Reque
     }
 }
 
+// Parses arguments other than `help` and `help COMMAND`, and returns their request.
 fn read_request<'a, T: AsStr>(
     alloc: Global,
     words: &'a [T],
@@ -135,6 +136,7 @@ fn read_request<'a, T: AsStr>(
     }
 }
 
+// Returns the request of the subcommand that `clap` matched, or an error if it misuses an option; `None` without a subcommand.
 fn matched_request<'a>(
     alloc: Global,
     matches: &ArgMatches<'a>,
@@ -148,6 +150,7 @@ fn matched_request<'a>(
     }
 }
 
+// Returns the request of the subcommand `name` with these values, or an error if they misuse an option.
 fn subcommand_request<'a>(
     alloc: Global,
     name: &str,

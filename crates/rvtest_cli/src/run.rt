@@ -103,7 +103,7 @@ fn valid_run_request<'a>(
     Ok(Some(Request::Run(run_args(alloc, values, list, group)?)))
 }
 
-/// Returns the arguments of a command that runs jobs of `list` in chunks of `group` jobs.
+/// Returns the arguments of a command that runs jobs of `list` in chunks of `group` jobs, with its options taken from `values`.
 #[tactic(auto, unfolding(crate::specs::RvtestWords::run_words))]
 pub(crate) fn run_args<'a>(
     alloc: Global,
@@ -144,7 +144,7 @@ pub(crate) fn run_args<'a>(
     })
 }
 
-// Returns the first error in the options of `run`, if there is one.
+// Returns the first misuse of the options of `run`; `None` if there is no misuse.
 fn run_misuse(values: &ArgMatches<'_>) -> Option<Misuse>
     ensures { result ≡ run_misuse (rows_of (found_of values.now)) }
 {
@@ -177,7 +177,7 @@ fn run_misuse(values: &ArgMatches<'_>) -> Option<Misuse>
     }
 }
 
-// Whether the rows are saved: by `--report`, `--into`, `--junit` or `--shard`.
+// Whether an option saves the rows: `--report`, `--into`, `--junit` or `--shard`.
 fn are_rows_saved(values: &ArgMatches<'_>) -> bool
     ensures { result ≡ are_rows_saved (rows_of (found_of values.now)) }
 {
@@ -206,7 +206,8 @@ fn is_into_stdout(values: &ArgMatches<'_>) -> bool
     is_into_path(values, "-")
 }
 
-// Whether `--report` and `--failed` name one path, so that the rows of the other jobs would be lost.
+// Whether `--report` and `--failed` name the same path, so that the new report would replace the old one and lose the rows of jobs that do
+// not run.
 fn is_failed_report_overwritten(values: &ArgMatches<'_>) -> bool
     ensures { result ≡ is_failed_report_overwritten (rows_of (found_of values.now)) }
 {

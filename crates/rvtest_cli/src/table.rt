@@ -12,7 +12,7 @@ pub(crate) const COMMANDS: [Subcommand<'static>; 14] = [
     HELP,
 ];
 
-/// Returns the numbers that an option accepts, given its name.
+/// Returns the range of the numbers that the option `name` accepts; `None` if its value is not a number.
 pub(crate) fn number_bounds(name: &str) -> Option<Bounds> {
     if name == "group" {
         return Some(GROUP_BOUNDS);

@@ -19,8 +19,8 @@ pub(crate) enum FirstWord {
     Topic,
 }
 
-/// Returns the text of an error. Of `clap`'s tips, only one that suggests an option is kept, and only if at most a third of that option's
-/// letters differ from what was written. The help and the version are as `clap` writes them.
+/// Returns the text to print for an error of `clap`. Of its tips, only one that suggests an option is kept, and only if at most a third of
+/// that option's letters differ from the option that the user wrote. The help and the version are left unchanged.
 pub(crate) fn error_text(
     alloc: Global,
     error: &Error,
@@ -34,7 +34,8 @@ pub(crate) fn error_text(
     }
 }
 
-// Returns the text without misleading tips. A word in it may contain any characters, so each line is printed like a text from a file.
+// Returns the text of an error without misleading tips. Since the words that it quotes may contain any characters, each line is made
+// printable.
 fn text_with_tips(alloc: Global, told: &str, first: FirstWord) -> Result<String, AllocError> {
     let written = unknown_option(told);
     let mut text = Vec::new(alloc);
@@ -53,7 +54,7 @@ fn text_with_tips(alloc: Global, told: &str, first: FirstWord) -> Result<String,
     Ok(String::from_utf8(text).unwrap_or(String::new(alloc)))
 }
 
-// Appends a line. What is wrong with a number is replaced by what is expected.
+// Appends a line of an error; if it rejects a number, the explanation of `clap` is replaced by the range of valid numbers.
 fn push_line(text: &mut Vec<u8>, line: &str) -> Result<(), AllocError> {
     match rejected_number(line) {
         Some((front, option, bounds)) => push_spans(
@@ -73,7 +74,8 @@ fn push_line(text: &mut Vec<u8>, line: &str) -> Result<(), AllocError> {
     }
 }
 
-// If a line rejects a number, returns its beginning with the value, the option, and which numbers the option accepts.
+// If a line rejects a number, returns the line up to the rejected value, the option, and the range of numbers that the option accepts;
+// otherwise `None`.
 fn rejected_number(line: &str) -> Option<(&str, &str, Bounds)> {
     let (front, behind) = line.rsplit_once("' for '--")?;
     let (option, _) = behind.split_once(" <N>': ")?;
@@ -85,7 +87,7 @@ fn rejected_number(line: &str) -> Option<(&str, &str, Bounds)> {
     }
 }
 
-// Appends a tip above a usage, if an unknown word is probably the name of a job or the topic `keys`.
+// Appends a tip before the usage, if the unknown word in an error is probably the name of a job or the topic `keys`.
 fn push_tip(
     alloc: Global,
     text: &mut Vec<u8>,
@@ -114,11 +116,12 @@ fn push_tip(
     Ok(())
 }
 
+// Whether the word may be the name of a job: it is a valid name, and does not begin with `-`.
 fn is_job_name(word: &str) -> bool {
     is_name(word.as_bytes()) && !word.starts_with("-")
 }
 
-// Returns the word between the first words of a text and the next of these words; empty if the text does not begin so.
+// If `told` begins with `front`, returns the text between `front` and the next `behind`; otherwise an empty text.
 fn word_between<'a>(told: &'a str, front: &str, behind: &str) -> &'a str {
     match told.strip_prefix(front) {
         Some(rest) => match rest.split_once(behind) {
@@ -129,7 +132,7 @@ fn word_between<'a>(told: &'a str, front: &str, behind: &str) -> &'a str {
     }
 }
 
-// Returns the rejected option without its dashes; empty if there is none.
+// Returns the unknown option that an error rejects, without its dashes; an empty text if it rejects none.
 fn unknown_option(told: &str) -> &str {
     match told.split_once("'--") {
         Some((_, behind)) => match behind.split_once("' found") {
@@ -140,7 +143,7 @@ fn unknown_option(told: &str) -> &str {
     }
 }
 
-// Whether a line is a misleading tip: how to pass an option as a value, or an option that is not similar to `written`.
+// Whether a line is a misleading tip: it explains how to pass an option as a value, or suggests an option that is not similar to `written`.
 fn is_tip_wrong(alloc: Global, written: &str, line: &str) -> Result<bool, AllocError> {
     if line.starts_with("  tip: to pass '") {
         return Ok(true);

@@ -19,7 +19,7 @@ pub enum WordsError {
 }
 
 impl WordsError {
-    /// Converts an error of `clap`: to its own text, with better tips. No contract of `clap` describes its texts.
+    /// Returns the error for an error of `clap`, with the text of `clap` and better tips. No contract of `clap` describes its texts.
     pub(crate) fn of_clap(alloc: Global, error: &Error, first: FirstWord) -> WordsError
         ensures { IsErrorOfKind (kind_of error.now) result }
     {
@@ -38,13 +38,14 @@ impl From<AllocError> for WordsError {
 
     ghost from_gives = { λ _ error. error ≡ OutOfMemory };
 
+    // Returns `OutOfMemory`.
     fn from(_: AllocError) -> WordsError {
         WordsError::OutOfMemory
     }
 }
 
-/// Returns an error that `clap` does not find, in the form of `clap`'s own: `error: ` and `what`, the usage of the command, and where to
-/// find help. `what` does not end with a line feed.
+/// Returns an error that `clap` does not find, with a text in the form that `clap` uses: `error: ` and `what`, the usage of the command,
+/// and the hint to try `--help`. `what` does not end with a line feed.
 pub fn usage_error(
     alloc: Global,
     command: Result<Command<'_>, AllocError>,
@@ -59,6 +60,7 @@ pub fn usage_error(
     }
 }
 
+// Returns the text of an error: the message `what`, the usage of the command, and the hint to try `--help`.
 fn text_with_usage(
     alloc: Global,
     command: Result<Command<'_>, AllocError>,
@@ -70,7 +72,7 @@ fn text_with_usage(
     usage_error_text(alloc, what, usage.as_str())
 }
 
-// Returns the text of an error: the message `what`, the usage of a command, and where to find help.
+// Returns the text of an error: the message `what`, the usage of a command, and the hint to try `--help`.
 fn usage_error_text(alloc: Global, what: &str, usage: &str) -> Result<String, AllocError>
     ensures { IfOk result (λ text. string_bytes text ≡ usage_error_text what.now usage.now) }
 {

@@ -25,12 +25,14 @@ pub enum SampleError {
 }
 
 impl From<AllocError> for SampleError {
+    // Returns `OutOfMemory`.
     fn from(_: AllocError) -> SampleError {
         SampleError::OutOfMemory
     }
 }
 
 impl From<FromHexError> for SampleError {
+    // Returns the error of a sample whose hexadecimal digits have this error.
     fn from(error: FromHexError) -> SampleError {
         match error {
             FromHexError::OutOfMemory => SampleError::OutOfMemory,
@@ -70,7 +72,7 @@ fn push_number(alloc: Global, bytes: &mut Vec<u8>, number: &str) -> Result<(), S
     Ok(())
 }
 
-/// Returns the bytes of groups of hexadecimal digits, separated by spaces, in the order of the digits.
+/// Returns the bytes that groups of hexadecimal digits, separated by spaces, encode, in the order of the digits.
 pub fn file_bytes(alloc: Global, text: &str) -> Result<Vec<u8>, SampleError> {
     let mut bytes = Vec::new(alloc);
     for group in text.split(' ') {

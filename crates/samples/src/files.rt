@@ -40,7 +40,7 @@ fn program(alloc: Global, text: &str) -> Result<Vec<u8>, SampleError> {
     Ok(bytes)
 }
 
-// Returns a file with changes, in the form that `file` describes.
+// Returns a file with these changes, which have the form that `sample_file` describes.
 fn changed(alloc: Global, file: &[u8], changes: &str) -> Result<Vec<u8>, SampleError> {
     let mut bytes = file.to_vec(alloc)?;
     for change in changes.split(' ') {
@@ -62,7 +62,7 @@ fn count(text: &str) -> Result<usize, SampleError> {
     }
 }
 
-// Overwrites the bytes from `at` on with a field; an error if it extends past the end.
+// Overwrites the bytes at index `at` with a field; returns an error if the field extends past the end.
 fn set(bytes: &mut Vec<u8>, at: usize, field: &[u8]) -> Result<(), SampleError> {
     for (place, byte) in field.iter().enumerate() {
         match bytes.get_mut(at.saturating_add(place)) {

@@ -13,7 +13,7 @@ pub fn hex_of(text: &str) -> Result<u32, ParseIntError> {
     u32::from_str_radix(text, 16)
 }
 
-/// Checks that the actual result `answer` is the expected one, `wanted`; if not, the error names the row and both.
+/// Returns an error that names the row, the actual result `answer` and the expected one, `wanted`, if the two differ.
 pub fn agree(row: &str, answer: &str, wanted: &str) -> Result<(), Fail> {
     if answer == wanted {
         Ok(())
@@ -22,7 +22,7 @@ pub fn agree(row: &str, answer: &str, wanted: &str) -> Result<(), Fail> {
     }
 }
 
-/// Checks that a table has this many lines.
+/// Returns an error if the table does not have this many lines.
 pub fn has_lines(rows: &str, count: usize) -> Result<(), Fail> {
     if rows.lines().count() == count {
         Ok(())

@@ -83,7 +83,8 @@ fn push_answers_of_both(
     Ok(())
 }
 
-// Makes one pass of two, as `end` says: they are joined (`join`), meet and are joined (`meet, join`), or meet and the second is dropped.
+// Makes one pass of two, as `end` says: joins them (`join`), lets them meet and joins them (`meet, join`), or lets them meet and drops the
+// second.
 fn one_of(claims: &Claims, first: Pass, second: Pass, end: &str) -> Pass
     requires first { first.draw ≡ claims.now }
     requires second { second.draw ≡ claims.now }
@@ -134,8 +135,8 @@ fn fill(text: &mut String, claims: &Claims, mut pass: Pass) -> Result<Pass, Allo
     Ok(pass)
 }
 
-// Treats a pass as the fifth cell of a line says: `alone` leaves it, `fill` splits and joins it until no pass index is free, and anything
-// else splits it once.
+// Handles a pass as the fifth cell of a line says: `alone` leaves it unchanged, `fill` splits and joins it until no pass index is free, and
+// anything else splits it once.
 fn between(text: &mut String, claims: &Claims, pass: Pass, line: &str) -> Result<Pass, Fail>
     requires { pass.draw ≡ claims.now }
     ensures { IfOk result (λ pass. pass.draw ≡ claims.now) }
@@ -269,7 +270,7 @@ fn take_all_in_four<R: Threads + Sync>(
     both_taken(claims, one, other)
 }
 
-// Whether the numbers are exactly those below their count, each once.
+// Whether the numbers are 0, 1, 2 and so on, each once, in any order.
 fn are_each_once(mut numbers: Vec<u64>) -> bool {
     if numbers.sort().is_err() {
         return false;

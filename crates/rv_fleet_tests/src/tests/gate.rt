@@ -24,7 +24,7 @@ pub(super) struct NotingGate {
 }
 
 impl NotingGate {
-    /// Returns the gate of a line: how many chunks wait, and for how many.
+    /// Returns the gate that a line describes: how many chunks wait at it, and for how many other chunks.
     pub(super) fn of(line: &str) -> NotingGate {
         NotingGate {
             held: number_in(line, 6),
@@ -36,7 +36,7 @@ impl NotingGate {
         }
     }
 
-    /// Appends how often each chunk entered, and whether one waited in vain.
+    /// Appends how often each chunk entered the gate, and whether a chunk waited in vain.
     pub(super) fn push_notes(&self, text: &mut String) -> Result<(), AllocError> {
         let entries = self.entries.load(Ordering::SeqCst);
         let late = self.late.load(Ordering::SeqCst);
@@ -50,6 +50,7 @@ impl NotingGate {
 }
 
 impl Gate for NotingGate {
+    // Records that the chunk `piece` entered, and waits if the gate says so.
     fn enter(&self, piece: u64) {
         if let Some(digit) = DIGITS.get(piece as usize) {
             self.entries.fetch_add(*digit, Ordering::SeqCst);

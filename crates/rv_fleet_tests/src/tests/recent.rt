@@ -28,7 +28,7 @@ fn outcome_of(alloc: Global, size: &str) -> Result<Outcome, Fail> {
     })
 }
 
-// Caches an outcome of a size for the job at an index, if it is small enough.
+// Caches an outcome of this size for the job at an index, if it is small enough.
 fn keep(alloc: Global, recent: &mut Recent, place: usize, size: &str) -> Result<(), Fail> {
     let outcome = outcome_of(alloc, size)?;
     if recent.make_room(outcome.size()) {
@@ -48,7 +48,7 @@ fn kept(alloc: Global, recent: &Recent, places: usize) -> Result<String, Fail> {
     Ok(found)
 }
 
-// Returns the indices whose outcomes are cached after outcomes of the sizes of a line, the first one for index 0 and so on.
+// Returns the indices whose outcomes are cached after outcomes of the sizes in a line were added for the indices 0, 1 and so on.
 pub(super) fn told(alloc: Global, line: &str) -> Result<String, Fail> {
     let sizes = cell_of(line, 1);
     let mut recent = Recent::new(alloc);
@@ -94,7 +94,8 @@ budget = 100
 same_as = 'j2'
 ";
 
-// Makes the row of the job at an index, and returns whether the outcome of the job before it, which is run for the comparison, is cached.
+// Makes the row of the job at an index, and returns whether the outcome of the preceding job, which is run for the comparison, is then
+// cached.
 fn keeps_named(alloc: Global, plan: &Plan, place: usize) -> Result<bool, Fail>
     requires { place < length plan.now.jobs }
 {
@@ -103,7 +104,7 @@ fn keeps_named(alloc: Global, plan: &Plan, place: usize) -> Result<bool, Fail>
     Ok(recent.find(place.saturating_sub(1)).is_some())
 }
 
-// Makes the row of the job at this index of `NAMING`, and returns whether the outcome of the job before it is cached then.
+// Makes the row of the job at this index of `NAMING`, and returns whether the outcome of the preceding job is then cached.
 fn is_named_kept(alloc: Global, place: usize) -> Result<bool, Fail> {
     let plan = plan_in(alloc, NAMING)?;
     if plan.jobs() <= place {
@@ -118,7 +119,7 @@ pub(super) const NAMED: &str = "\
 16,000 words | 1 | true
 one more | 3 | false";
 
-/// Returns whether the outcome of the job that the job of a line names is cached, as text.
+/// Returns as text whether the outcome of the job that the job in a line names is cached.
 pub(super) fn told_of_named(alloc: Global, line: &str) -> Result<String, Fail> {
     let kept = is_named_kept(alloc, number_in(line, 1) as usize)?;
     Ok(format!(in alloc; "{kept}")?)

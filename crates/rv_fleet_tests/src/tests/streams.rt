@@ -27,6 +27,7 @@ impl<'a> RowReporter for Names<'a> {
 
     ghost line = { λ _ _ row. if nat_lt row.steps 2 then [] else (row.name ++ (59 ∷ [])) };
 
+    // Appends the text that the tests use for a row.
     fn push_row_text(
         &self,
         _alloc: Global,
@@ -54,10 +55,12 @@ impl Observer<ReportedRow> for Unobserved {
 
     ghost stops = { λ _. ⊥ };
 
+    // Does nothing, and returns that the run should continue.
     fn see(&mut self, _made: &ReportedRow) -> Flow {
         Flow::GoOn
     }
 
+    // Does nothing, and returns that the run should continue.
     fn pause(&mut self) -> Flow {
         Flow::GoOn
     }
@@ -77,7 +80,7 @@ struct NotingSink<'a> {
 }
 
 impl<'a> NotingSink<'a> {
-    // Creates a sink that accepts at most `most` bytes per write and fails at the write with the number `fails_at`, or never for 0.
+    // Creates a sink that accepts at most `most` bytes per write; its write number `fails_at` fails, or none if that is 0.
     fn new(alloc: Global, most: usize, fails_at: u64, asked: &'a AtomicU64) -> NotingSink<'a> {
         NotingSink {
             bytes: Vec::new(alloc),
@@ -96,6 +99,7 @@ impl<'a> Sink for NotingSink<'a> {
 
     ghost failed = { λ sink. sink.failures };
 
+    // Accepts leading bytes and records how many rows were reported before, or fails if it is the write that must fail.
     fn put(&mut self, bytes: &[u8]) -> Result<usize, SinkFailed> {
         let asked = self.asked.load(Ordering::SeqCst);
         let _ = write!(self.notes, " {asked}");
@@ -108,6 +112,7 @@ impl<'a> Sink for NotingSink<'a> {
         Err(SinkFailed)
     }
 
+    // Returns the number of failed writes.
     fn failures(&self) -> u64 {
         self.failures
     }
@@ -140,7 +145,7 @@ the second, and no job is run behind it | 3 3 3 3 | xxxx | 1 | 1 | 2 | j0; at 1 
 the last | 3 3 | xx | 1 | 1 | 2 | j0; at 1 2 of 2: write failed
 the only one | 3 3 | xx | 1 | 2 | 1 | at 2 of 2: write failed";
 
-// Appends the output, how many rows were reported before each write, and in all.
+// Appends the output, the number of rows that were reported before each write, and the number of all rows.
 fn push_out(text: &mut String, out: &NotingSink<'_>) -> Result<(), AllocError> {
     let sent = std::str::from_utf8(out.bytes.as_slice()).unwrap_or("no text");
     let (notes, asked) = (out.notes.as_str(), out.asked.load(Ordering::SeqCst));
@@ -170,7 +175,7 @@ fn text_of(
     Ok(text)
 }
 
-// Returns the result of streaming the jobs of a line into writes of at most `most` bytes; the write with the number `fails_at` fails.
+// Returns the result of streaming the jobs of a line into writes of at most `most` bytes, of which number `fails_at` fails.
 fn told<R: Threads + Wait + Sync>(
     rt: &R,
     alloc: Global,
@@ -199,7 +204,7 @@ fn told<R: Threads + Wait + Sync>(
     text_of(alloc, &out, &ran)
 }
 
-// Returns the result of streaming the jobs of a line, which gives the number of the write that fails.
+// Returns the result of streaming the jobs of a line; the line has the number of the write that fails.
 pub(super) fn told_of_put<R: Threads + Wait + Sync>(
     rt: &R,
     alloc: Global,
@@ -208,13 +213,13 @@ pub(super) fn told_of_put<R: Threads + Wait + Sync>(
     told(rt, alloc, line, usize::MAX, number_in(line, 5))
 }
 
-// Whether the first `sent` bytes of the whole output were written, and the call failed exactly if these are not all.
+// Whether exactly the first `sent` bytes of the whole output were written, and the call failed unless these are all bytes.
 fn is_cut(told: &str, whole: &str, sent: usize) -> bool {
     let (out, notes) = told.split_once(" at").unwrap_or(("", ""));
     whole.get(..sent) == Some(out) && notes.ends_with("write failed") == (sent < whole.len())
 }
 
-// Checks that if each write accepts one byte and one write fails, exactly the bytes before it are written.
+// Checks that if each write accepts one byte and one write fails, exactly the bytes before it have been written.
 fn check_puts<R: Threads + Wait + Sync>(rt: &R, alloc: Global, line: &str) -> Result<(), Fail> {
     let whole = cell_of(line, 5);
     for sent in 0..whole.len() + 1 {

@@ -21,7 +21,7 @@ fn piece_count(plan: &Plan, group: u32) -> u64
     plan.jobs().div_ceil(group as usize) as u64
 }
 
-/// Makes chunks until none is left, and returns the pass and the chunks in the order in which it drew them.
+/// Computes chunks until none is left, and returns the pass and the chunks in the order in which it drew them.
 fn work_alone(
     alloc: Global,
     claims: &Claims,
@@ -39,7 +39,7 @@ fn work_alone(
     Ok((pass, pieces))
 }
 
-/// Makes chunks in two threads until none is left, and returns the joined pass and the chunks of both.
+/// Computes chunks in two threads until none is left, and returns the joined pass and the chunks of both threads.
 fn work_in_two<R: Threads>(
     rt: &R,
     alloc: Global,
@@ -76,7 +76,7 @@ fn work_in_two<R: Threads>(
     Ok((claims.join(first, second), pieces))
 }
 
-// Makes the chunks of a plan by one worker or by two, and returns the pass and the chunks.
+// Computes the chunks of a plan with one worker or with two, and returns the pass and the chunks.
 fn worked<R: Threads>(
     rt: &R,
     alloc: Global,
@@ -106,7 +106,7 @@ struct PiecesMade {
     finished: bool,
 }
 
-// Makes the chunks of a plan by the workers of a line.
+// Computes the chunks of a plan with the workers of a line, and returns the result.
 fn made<R: Threads>(
     rt: &R,
     alloc: Global,
@@ -130,7 +130,8 @@ fn made<R: Threads>(
     })
 }
 
-// Appends the number and the rows of a chunk: of the one at the index `wanted` if one worker drew them, else of the one with that number.
+// Appends the number and the rows of a chunk: if one worker drew all chunks, of the chunk at the index `wanted`, and otherwise of the chunk
+// with this number.
 fn push_piece(
     text: &mut String,
     pieces: &[Piece],
@@ -157,8 +158,8 @@ fn push_pieces(text: &mut String, pieces: &[Piece], alone: bool) -> Result<(), A
     Ok(())
 }
 
-// Returns the chunks that were made, whether the pass ended and holds every pass index, the order of one worker's chunks, and what the gate
-// recorded.
+// Returns as text the computed chunks, whether the pass has ended and has every pass index, the order of one worker's chunks, and what the
+// gate recorded.
 fn text_of(
     alloc: Global,
     made: &PiecesMade,
@@ -174,7 +175,7 @@ fn text_of(
     Ok(text)
 }
 
-/// Returns the chunks that the workers of a line make, and what the gate recorded.
+/// Returns as text the chunks that the workers of a line compute, and what the gate recorded.
 pub(super) fn told<R: Threads>(rt: &R, alloc: Global, line: &str) -> Result<String, Fail> {
     let plan = plan_of(alloc, cell_of(line, 1))?;
     let gate = NotingGate::of(line);

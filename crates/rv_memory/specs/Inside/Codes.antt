@@ -17,17 +17,17 @@ region_code =
     (λ r. (r.base, (r.size, r.writable)))
     (λ p. record { base = p.0; size = p.1.0; writable = p.1.1 }) (λ _. refl)
 
--- how the treatment of misaligned accesses is stored: as whether they are allowed
+-- how the treatment of misaligned accesses is stored: as a Boolean, which is true if they are allowed
 abbrev pub allows : Choice → Bool
 allows Fault = false
 allows Allow = true
 
--- the treatment of misaligned accesses, recovered from whether they are allowed
+-- the treatment of misaligned accesses: allowed if the Boolean is true, and rejected with a fault if it is false
 abbrev pub choice_of : Bool → Choice
 choice_of false = Fault
 choice_of true = Allow
 
--- storing and recovering the treatment of misaligned accesses leaves it unchanged
+-- a treatment of misaligned accesses that is stored as `allows` says and then recovered is unchanged
 abbrev pub choice_round_trips : (m : Choice) → choice_of (allows m) ≡ m
 choice_round_trips Fault = refl
 choice_round_trips Allow = refl
