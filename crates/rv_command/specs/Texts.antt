@@ -11,7 +11,7 @@ use Rattle.rv_report.specs.declared.saved.SavedReport.{SavedReport}
 abbrev pub IsTextAt : Option FileContents → List ℕ → List ℕ → Type 0
 IsTextAt known path text = IfSome known (λ files. files path ≡ Some text)
 
--- the bytes of an optional text
+-- the bytes of a text, or `None` if there is no text
 abbrev pub optional_text : Option (Bor (List ℕ)) → Option (List ℕ)
 optional_text text = option_map (λ text. text.now) text
 
@@ -20,7 +20,7 @@ pub record IsReportText (bytes : List ℕ) (report : SavedReport) : Type 0 where
   pub saved : IsSaved report
   pub text : saved_text report ≡ bytes
 
--- the file at the path is the text of this report
+-- if the contents of files are known, the file at the path has the text of this report
 pub record IsReportAt (known : Option FileContents) (path : List ℕ) (report : SavedReport) : Type 0 where
   pub bytes : List ℕ
   pub read : IsTextAt known path bytes
@@ -31,7 +31,7 @@ pub record IsReportRead (partial : Bool) (bytes : List ℕ) (read : PartialRepor
   pub is : IsReadAs bytes read.is_cut_off read.report
   pub taken : read.is_cut_off ≡ true → partial ≡ true
 
--- the file at the path is parsed as this report, which may be truncated only if `partial` is true
+-- if the contents of files are known, the file at the path is parsed as this report, which may be truncated only if `partial` is true
 pub record IsReportReadAt (known : Option FileContents) (partial : Bool) (path : List ℕ) (read : PartialReport)
     : Type 0 where
   pub bytes : List ℕ

@@ -40,8 +40,10 @@ impl From<AllocError> for FleetError {
 }
 
 /// Runs all jobs of a plan on `workers` threads, or one per chunk if there are fewer chunks, and returns their rows in list order. The
-/// report does not depend on the number of workers, from 1 to 64, or the number of jobs in a chunk, from 1 to 4,096. Each thread draws the
-/// next chunk when it is free. The function joins all threads that it started, even after an error. The gate is entered for each chunk.
+/// report does not depend on the number of workers, from 1 to 64, or the number of jobs in a chunk, from 1 to 4,096.
+///
+/// Each thread draws the next chunk when it is free. The function joins all threads that it started, even after an error. The gate is
+/// entered for each chunk.
 pub fn run_fleet<R: Threads + Wait, G: Gate>(
     rt: &R,
     alloc: Global,

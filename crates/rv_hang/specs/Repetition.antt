@@ -43,8 +43,8 @@ abbrev pub first_again : Option Again → ℕ → ℕ
 first_again None place = place
 first_again (Some again) place = again.first
 
--- the first and the last step before which the hart has these values and after which no step can change the bus, updated for step `place`,
--- before which the state is `s`
+-- the first and the last step before which the hart has these values and after which no step can change the bus, or `None` if there is
+-- none; updated for step `place`, before which the state is `s`
 abbrev pub again_after : Option Again → ℕ → HartValues → State → Option Again
 again_after again place values s =
     if is_step_quiet s then (if has_values values s

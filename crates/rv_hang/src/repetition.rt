@@ -63,8 +63,8 @@ struct Again {
     last: u32,
 }
 
-// Returns the first and the last step before which the hart has the values `end` and after which nothing can change the bus. `again` has
-// those before step `place`, and `machine` is the machine before this step.
+// Returns the first and the last step before which the hart has the values `end` and after which nothing can change the bus, or `None` if
+// there is none. `again` has these steps up to step `place`, and `machine` is the machine before this step.
 fn again_at(again: Option<Again>, machine: &Machine, place: u32, end: &HartValues) -> Option<Again>
     ensures { result ≡ again_after again place end.now (state_of machine.now) }
 {

@@ -14,8 +14,8 @@ use Rattle.rv_history.specs.declared.stops.Stops.{Stops}
 abbrev pub last_at : Option StopInfo → ℕ → Bool → Option StopInfo
 last_at last place is_break = if is_break then Some (record { place = place; found = found.Break }) else last
 
--- the last stop after the search has passed the step `place`, given the last stop before, whether there is a breakpoint at `place`, and the
--- result of the step from there
+-- the last stop after the search has passed the step `place`, or `None` if it has found none; given the last stop before, whether there is
+-- a breakpoint at `place`, and the result of the step from there
 abbrev pub last_stop_after : Option StopInfo → ℕ → Bool → Stepped → Option StopInfo
 last_stop_after last place is_break stepped.Changed = Some (record { place = place + 1; found = found.Change })
 last_stop_after last place is_break stepped.Quiet = last_at last place is_break

@@ -93,8 +93,8 @@ fn search_part<I: Interrupt>(
     Ok(Some(Part { begin, last }))
 }
 
-/// Returns the last stop after the search has passed the step `place`. `last` is the last stop before, `is_break` is whether there is a
-/// breakpoint at `place`, and `stepped` is the result of the step from there.
+/// Returns the last stop after the search has passed the step `place`, or `None` if it has found none. `last` is the last stop before,
+/// `is_break` is whether there is a breakpoint at `place`, and `stepped` is the result of the step from there.
 pub(crate) fn last_stop_after(
     last: Option<StopInfo>,
     place: u32,

@@ -2,8 +2,9 @@
 ghost use Rattle.rv_isa.specs.Bits.{field as bits_of, sign_extended};
 ghost use Rattle.std.specs.Prelude.{ℕ, ◌≡◌, ◌+◌, ◌*◌, ◌-◌, ◌<◌, ◌≤◌, ◌^◌};
 
-/// Returns the signed value of `value`, a two's complement number of `bits` bits. `bits` must be from 1 to 32, and `value` must be below
-/// 2^`bits`.
+/// Returns the signed value of `value`, a two's complement number of `bits` bits.
+///
+/// `bits` must be from 1 to 32, and `value` must be below 2^`bits`.
 #[inline]
 pub fn sign_extend(value: u32, bits: u32) -> i32
     requires some { 1 ≤ bits }

@@ -58,7 +58,7 @@ pub fn no_halfword_has_two_rows()
     ensures { (isa : Set) (half : ℕ) → count_by (fits16 isa half) rows16 ≤ 1 }
 {}
 
-// Decodes a halfword, as [`decode16`] does.
+// Returns the instruction to which a halfword decodes, or `None` if it decodes to none in this instruction set, as [`decode16`] does.
 #[inline(always)]
 #[tactic(auto, using(crate::proofs::ByQuadrant::by_set))]
 fn instr_of_half(half: u16, isa: Isa) -> Option<Instr>

@@ -33,7 +33,7 @@ pub fn no_word_has_two_rows()
     ensures { (isa : Set) (word : ℕ) → count_by (fits isa word) rows ≤ 1 }
 {}
 
-// Decodes a 32-bit word, as [`decode32`] does.
+// Returns the instruction to which a 32-bit word decodes, or `None` if it decodes to none in this instruction set, as [`decode32`] does.
 #[inline(always)]
 #[tactic(auto, using(crate::proofs::ByOpcode::by_opcode))]
 fn instr_of_word(word: u32, isa: Isa) -> Option<Instr>

@@ -54,8 +54,9 @@ impl<'a> Answers<'a> {
         })
     }
 
-    /// Reads a path, unless it already has a result, and returns the results with the index of this path's result. A new path is searched
-    /// for only once: the search that would find it inserts it.
+    /// Reads a path, unless it already has a result, and returns the results with the index of this path's result.
+    ///
+    /// A new path is searched for only once: the search that would find it inserts it.
     pub(crate) fn read_path_once<S: Store>(
         self,
         alloc: Global,

@@ -3,6 +3,6 @@ use Rattle.std.specs.Prelude.{string_bytes}
 use Rattle.rv_list_locations.specs.JobKeys.{BeginsWithName}
 use Rattle.rv_list_locations.specs.declared.keys.JobKey.{JobKey}
 
--- the text of the found key begins with a key of its name, or with the header of its table
+-- the text of the found key begins with a key whose first part is its name, or with the header of the table of a job with its name
 abbrev pub IsNamedKey : JobKey → Type 0
 IsNamedKey found = BeginsWithName (string_bytes found.name) found.text.now

@@ -8,19 +8,19 @@ use Rattle.rv_list_locations.specs.declared.scan.Step as code
 use Rattle.rv_list_locations.specs.JobLocations.{Step}
 use Rattle.std.specs.Prelude.{Option}
 
--- the code returned the expected remaining text, or an error if there is none, unless memory ran out
+-- the result is the expected remaining text, or an error if none is expected, or memory ran out
 abbrev pub ReturnsText : Result (Bor (List ℕ)) ParseError → Option (List ℕ) → Type 0
 ReturnsText result expected = Gives (λ rest. rest.now) result expected
 
--- a scanned header, entry or element of the code, as the definitions have it
+-- a `Step` of the code as contracts see it
 abbrev pub step_view : code.Step → Step
 step_view step = (step.is_job, step.next, step.rest.now)
 
--- the code returned the expected header, entry or element, or an error if there is none, unless memory ran out
+-- the result is the expected header, entry or element, or an error if none is expected, or memory ran out
 abbrev pub GivesStep : Result code.Step ParseError → Option Step → Type 0
 GivesStep result expected = Gives step_view result expected
 
--- `P` holds, unless the result is that memory ran out
+-- `P` is true, or the result is that memory ran out
 abbrev pub UnlessMemory : {A : Type 0} → Result A ParseError → Type 0 → Type 0
 UnlessMemory result P = MatchResult result (λ _. P) (λ e. (e ≡ OutOfMemory → ⊥) → P)
 

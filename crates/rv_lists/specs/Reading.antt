@@ -26,20 +26,20 @@ abbrev pub reading_or_default : {X Y : Type 0} → (X → Result Y What) → Y �
 reading_or_default f y None = Ok y
 reading_or_default f y (Some x) = f x
 
--- a result whose error, if it is one, gets the number of its job
+-- the value, or the error with the number `n` of its job
 abbrev pub numbered_reading : {A : Type 0} → ℕ → Result A What → Result A JobError
 numbered_reading n (Ok x) = Ok x
 numbered_reading n (Err w) = Err (record { job = n; what = w })
 
--- the elements `front` and then those of a list that was read, or the error of reading it
+-- the list with the elements `front` before its own, or the error
 abbrev pub with_front : {F A : Type 0} → List A → Result (List A) F → Result (List A) F
 with_front front (Ok xs) = Ok (front ++ xs)
 with_front front (Err e) = Err e
 
--- a function returned `r`, which is the specified result `read`, unless memory ran out
+-- the result `r` is the specified result `read`, or memory ran out
 abbrev pub Gives : {X : Type 0} → Result X What → Result X What → Type 0
 Gives r read = MatchResult r (λ x. read ≡ Ok x) (λ e. (e ≡ OutOfMemory → ⊥) → read ≡ Err e)
 
--- a function on lists returned `r`, which is the specified result `read`, unless memory ran out; errors have the number of their job
+-- the result `r` is the specified result `read`, whose errors have the number of their job, or memory ran out
 abbrev pub GivesJobs : {X : Type 0} → Result X JobError → Result X JobError → Type 0
 GivesJobs r read = MatchResult r (λ x. read ≡ Ok x) (λ e. (e.what ≡ OutOfMemory → ⊥) → read ≡ Err e)
