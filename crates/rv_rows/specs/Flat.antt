@@ -42,6 +42,6 @@ flat_outcome_of bytes budget =
     if nat_lt image_room (length bytes) then refused_outcome refusal.ImageTooLong
     else outcome_of_run (run_of budget (flat_state bytes)) None
 
--- the row of a flat image with these bytes within a budget of steps; it has no verdict
+-- the row of a flat image with these bytes within a budget of steps; its verdict is `none`
 unfoldable pub flat_row_of : List ℕ → ℕ → Row
 flat_row_of bytes budget = row_of_outcome flat_name (flat_outcome_of bytes budget) verdict.Unasked
