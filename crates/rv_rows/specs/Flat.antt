@@ -18,8 +18,8 @@ use Rattle.rv_rows.specs.Rows.{row_of_outcome}
 abbrev pub image_room : ℕ
 image_room = 0x10_0000
 
--- the contents of the bus for a flat image: its bytes from 0x8000_0000 on in zeroed memory, an empty script, and misaligned accesses
--- rejected
+-- the contents of the bus for a flat image: its bytes are at 0x8000_0000 in memory that is otherwise zero, the script is empty, and
+-- misaligned accesses are rejected
 abbrev pub flat_contents : List ℕ → Contents
 flat_contents bytes = with_bytes (new_bus default_regions [] Fault) 0x8000_0000 bytes
 

@@ -48,7 +48,7 @@ plain_front_len text =
 abbrev pub escape : ℕ → List ℕ
 escape byte = codes "\\x" ++ encode_lower (byte ∷ [])
 
--- what is shown for the byte `byte` at the beginning of a text: the byte itself if it begins a character that is shown unchanged, and
+-- the printed form of the byte `byte` at the beginning of a text: the byte itself if it begins a character that is shown unchanged, and
 -- otherwise its escape
 abbrev pub printable_first : List ℕ → ℕ → List ℕ
 printable_first text byte = if plain_front_len text == 0 then escape byte else byte ∷ []
