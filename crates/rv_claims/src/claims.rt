@@ -95,8 +95,8 @@ impl Claims {
         }
     }
 
-    /// Merges two passes into one with the indices and draws of both, first those of `first`, then those of `second`. The result has ended
-    /// if one of the passes has.
+    /// Merges two passes into one with the indices and draws of both, first the ones of `first`, then the ones of `second`. The result has
+    /// ended if one of the passes has.
     pub fn join(&self, mut first: Pass, second: Pass) -> Pass
         requires first { first.draw ≡ self.now }
         requires second { second.draw ≡ self.now }

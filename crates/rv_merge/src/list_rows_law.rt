@@ -15,8 +15,8 @@ ghost use Rattle.rv_merge.specs.Numbers.{EndsInWords, HasNumbers, HasWords};
 use rv_jobs::Bytes;
 use rv_rows::{Row, RowEnd, Words};
 
-/// Proves that the rows of a list that was read may be those of a list, whatever the results for its paths are: there are up to 4,096, with
-/// distinct valid names, numbers of 32 bits, consoles of bytes, signatures of at most 65,536 words, and no refusal for lack of memory.
+/// Proves that the rows of a list that was read can be the rows of a list, whatever the results for its paths are: there are up to 4,096,
+/// with distinct valid names, numbers of 32 bits, consoles of bytes, signatures of at most 65,536 words, and no refusal for lack of memory.
 pub fn rows_are_those_of_a_list(rows: &[Row])
     ensures { (bytes : List ℕ) (list : List Job) (answers : List Answer)
         → job_list_of bytes ≡ Ok list → rows.now ≡ rows_of (plan_of_jobs list answers)

@@ -8,8 +8,8 @@ use Rattle.rv_call_tree.specs.Trees.{own_in}
 use Rattle.rv_call_tree.specs.declared.spot.Spot.{Spot}
 use Rattle.rv_profile.specs.declared.function.FunctionProfile.{FunctionProfile}
 
--- the counts of a function: its own steps, those of the nodes that end in it; its inclusive steps, those of the nodes whose path has it,
--- each node counted once; and how often runs entered it
+-- the counts of a function: its own steps, which are the steps of the nodes whose path ends with it; its inclusive steps, which are the
+-- steps of the nodes whose path contains it, each node counted once; and how often runs entered it
 pub record Profiled : Type 0 where
   pub name : List ℕ
   -- the address of the function

@@ -220,7 +220,7 @@ const PAST_64_BITS: [&str; 2] = [
     "rvcounts 1\nimage e3b0c44298fc1c149afbf4c8996fb92427ae41e4649b934ca495991b7852b855 a.elf\nspot 0 00000000 18446744073709551615 0 f\nspot 1 00000000 1 0 f\ndone 1 1\n",
 ];
 
-// Returns the profile of the first image in a table.
+// Returns the profile of the image `FILE`, computed from a table.
 fn profile_in(alloc: Global, table: &CountTable) -> Result<ImageProfile<'_>, Fail>
     requires { IsTable table.now }
 {
@@ -231,7 +231,7 @@ fn profile_in(alloc: Global, table: &CountTable) -> Result<ImageProfile<'_>, Fai
     Ok(profile_of_image(alloc, stacks)?)
 }
 
-// Checks that the lines of the image in this table are the expected ones.
+// Checks that the lines of the image `FILE`, computed from a table, are the expected ones.
 fn lines_are(
     alloc: Global,
     table: &str,
@@ -249,7 +249,7 @@ fn lines_are(
     Ok(())
 }
 
-// Checks that the CSV rows of the image in this table are the expected ones.
+// Checks that the CSV rows of the image `FILE`, computed from a table, are the expected ones.
 fn rows_are(
     alloc: Global,
     table: &str,
@@ -272,7 +272,7 @@ fn rows_are(
     Ok(())
 }
 
-// Tests that the functions of an image are sorted by their own steps.
+// The functions of an image are sorted by their own steps.
 #[test]
 fn functions_stand_by_own_steps(rt: HostRuntime) -> Result<(), Fail> {
     let alloc = rt.alloc();
@@ -282,7 +282,7 @@ fn functions_stand_by_own_steps(rt: HostRuntime) -> Result<(), Fail> {
     lines_are(alloc, MUTUAL, None, "a,b.elf", MUTUAL_LINES)
 }
 
-// Tests that numbers of any size are aligned in their columns.
+// Numbers of any size are aligned in their columns.
 #[test]
 fn columns_line_up(rt: HostRuntime) -> Result<(), Fail> {
     let alloc = rt.alloc();
@@ -294,7 +294,7 @@ fn columns_line_up(rt: HostRuntime) -> Result<(), Fail> {
     Ok(())
 }
 
-// Tests the CSV rows.
+// The CSV rows of an image are the expected ones.
 #[test]
 fn rows_are_for_tools(rt: HostRuntime) -> Result<(), Fail> {
     let alloc = rt.alloc();
@@ -302,7 +302,7 @@ fn rows_are_for_tools(rt: HostRuntime) -> Result<(), Fail> {
     rows_are(alloc, MUTUAL, Some(1), "a,b.elf", MUTUAL_ROWS)
 }
 
-// Tests that sums of steps or calls that do not fit in 64 bits are rejected.
+// Sums of steps or calls that do not fit in 64 bits are rejected.
 #[test]
 fn sums_have_64_bits(rt: HostRuntime) -> Result<(), Fail> {
     let alloc = rt.alloc();
@@ -315,7 +315,7 @@ fn sums_have_64_bits(rt: HostRuntime) -> Result<(), Fail> {
     Ok(())
 }
 
-// Tests which tables have call stacks.
+// A table has call stacks exactly if it has a call tree for at least one image.
 #[test]
 fn some_tables_have_stacks(rt: HostRuntime) -> Result<(), Fail> {
     let alloc = rt.alloc();

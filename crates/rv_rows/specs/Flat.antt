@@ -18,8 +18,8 @@ use Rattle.rv_rows.specs.Rows.{row_of_outcome}
 abbrev pub image_room : ℕ
 image_room = 0x10_0000
 
--- the contents of the bus for a flat image: its bytes from 0x8000_0000 on in zeroed memory, an empty script, and misaligned accesses
--- rejected
+-- the contents of the bus for a flat image: its bytes are at 0x8000_0000 in memory that is otherwise zero, the script is empty, and
+-- misaligned accesses are rejected
 abbrev pub flat_contents : List ℕ → Contents
 flat_contents bytes = with_bytes (new_bus default_regions [] Fault) 0x8000_0000 bytes
 
@@ -42,6 +42,6 @@ flat_outcome_of bytes budget =
     if nat_lt image_room (length bytes) then refused_outcome refusal.ImageTooLong
     else outcome_of_run (run_of budget (flat_state bytes)) None
 
--- the row of a flat image with these bytes within a budget of steps; it has no verdict
+-- the row of a flat image with these bytes within a budget of steps; its verdict is `none`
 unfoldable pub flat_row_of : List ℕ → ℕ → Row
 flat_row_of bytes budget = row_of_outcome flat_name (flat_outcome_of bytes budget) verdict.Unasked

@@ -50,7 +50,7 @@ fn flat_machine(alloc: Global, bytes: &[u8]) -> Result<Machine, AllocError>
     Machine::new(alloc, flat_bus(alloc, bytes)?, ENTRY, Isa::Imc)
 }
 
-// Returns the bus of a flat image: its bytes from 0x8000_0000 on in zeroed memory.
+// Returns the bus of a flat image: its bytes are at 0x8000_0000 in memory that is otherwise zero.
 fn flat_bus(alloc: Global, bytes: &[u8]) -> Result<Bus, AllocError>
     requires { length bytes.now ≤ image_room }
     ensures contents { IfOk result (λ bus. bus ≡ flat_contents bytes.now) }

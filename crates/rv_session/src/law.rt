@@ -17,8 +17,8 @@ pub fn reads_can_be_split()
         → IsReceived end_text behind session (front ++ rest) (out ++ more) next }
 {}
 
-/// If no 0x03 is received, the session and the received bytes determine what is sent and the resulting session, once all requested moves
-/// are made.
+/// If no 0x03 is received, the session and the received bytes determine the bytes that are sent and the resulting session, once all
+/// requested moves have been made.
 pub fn answers_are_determined()
     ensures { (end_text : List ℕ) (session one other : Session) (bytes out more : List ℕ)
         → HasNoInterrupt bytes → IsReceived end_text false session bytes out one → one.requested ≡ None

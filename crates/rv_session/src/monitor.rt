@@ -49,7 +49,7 @@ impl Session {
         Ok(text.into_bytes())
     }
 
-    // Returns the output of the `monitor` command about the input script: how many of its bytes the program has consumed.
+    // Returns the output of `monitor input`: how many bytes of the input script the program has consumed.
     fn input_text(&self, alloc: Global) -> Result<Vec<u8>, AllocError>
         ensures { IfOk result (λ text. text.items
             ≡ decimal (script_bytes_consumed self.now) ++ codes " of " ++ decimal self.now.script ++ codes " bytes read\n") }

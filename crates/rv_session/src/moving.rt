@@ -61,7 +61,7 @@ impl Session {
         self.stop_reply(alloc, requested, stop, text)
     }
 
-    // Makes a move, and returns why it ended.
+    // Makes a move, and returns the reason why it ended.
     fn go<I: Interrupt>(
         &mut self,
         alloc: Global,

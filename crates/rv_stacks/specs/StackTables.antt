@@ -181,13 +181,13 @@ IsOfNamesOrMemory error = (error ≡ OutOfMemory) ⊎ ((function : ℕ) × (erro
 
 -- ---- parts and shards
 
--- the tables are those of the parts of the indices, in order, each with the counts and the call trees of the jobs in its part
+-- `tables` has the table of each part of the indices, in order, with the counts and the call trees of the jobs in the part
 abbrev pub AreTablesWithStacksOfParts : Planned → List (List ℕ) → List CountTable → Type 0
 AreTablesWithStacksOfParts plan [] [] = Unit {0}
 AreTablesWithStacksOfParts plan (p ∷ ps) (t ∷ ts) = IsTableWithStacks plan p t × AreTablesWithStacksOfParts plan ps ts
 AreTablesWithStacksOfParts plan _ _ = ⊥
 
--- the indices that the shard `number` has: those that leave the remainder `number` when divided by `shards`
+-- the indices of the shard `number`: the indices that leave the remainder `number` when divided by `shards`
 abbrev pub places_of_shard : ℕ → List ℕ → ℕ → List ℕ
 places_of_shard shards places number = filter (λ place. place % shards == number) places
 

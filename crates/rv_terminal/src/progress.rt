@@ -114,7 +114,7 @@ impl<'k, W: Write + Drop> Progress<'k, W> {
     }
 
     // Whether the caller may show the line: true once in each tenth of a second after the first one of the run, for only one of several
-    // threads.
+    // threads; false if the clock cannot be read.
     fn claim_line_turn<C: Clock>(&self, clock: &C) -> bool {
         match clock_tenths(clock) {
             Some(now) => {

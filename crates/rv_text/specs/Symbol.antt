@@ -7,11 +7,11 @@ use Rattle.rv_text.specs.Printable.{printable_name}
 abbrev pub hexadecimal : ℕ → List ℕ
 hexadecimal number = digits 16 false number
 
--- a location as `NAME+0xOFFSET`, from the name of a symbol and the offset from it
+-- the text `NAME+0xOFFSET` for the name of a symbol and the offset from it
 unfoldable pub symbol_text : List ℕ × ℕ → List ℕ
 symbol_text place = printable_name place.0 ++ codes "+0x" ++ hexadecimal place.1
 
--- a location as ` (NAME+0xOFFSET)`, or nothing if it has no symbol
+-- the text ` (NAME+0xOFFSET)` for the name of a symbol and the offset from it; empty if there is no symbol
 abbrev pub symbol_in_brackets : Option (List ℕ × ℕ) → List ℕ
 symbol_in_brackets None = []
 symbol_in_brackets (Some place) = codes " (" ++ symbol_text place ++ codes ")"

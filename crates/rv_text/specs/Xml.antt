@@ -31,23 +31,23 @@ character_reference within c =
     else if c == 38 then Some (codes "&amp;") else if c == 34 then Some (codes "&quot;")
     else if c == 0xD then Some (codes "&#13;") else space_reference within c
 
--- the reference if there is one, else the character `c` in UTF-8
+-- the reference if it is given, and otherwise the character `c` in UTF-8
 abbrev pub reference_or_character : Option (List ℕ) → ℕ → List ℕ
 reference_or_character (Some text) c = text
 reference_or_character None c = encode_utf8 c
 
--- a character of XML as it is written in an attribute or an element: as its reference, or as it is in UTF-8
+-- the text of a character in an attribute or an element: its reference if it has one, and otherwise the character in UTF-8
 abbrev pub character_text : Within → ℕ → List ℕ
 character_text within c = reference_or_character (character_reference within c) c
 
 -- ---- the first character
 
--- the bytes of the character that the first byte begins, or all bytes if there are fewer
+-- the first of these bytes, as many as the UTF-8 character has that the first byte begins, or all bytes if there are fewer
 abbrev pub xml_front_bytes : List ℕ → List ℕ
 xml_front_bytes [] = []
 xml_front_bytes (byte ∷ rest) = take (continuation_len byte + 1) (byte ∷ rest)
 
--- the character if there is one and XML 1.0 allows it, else `None`
+-- the character if XML 1.0 allows it; `None` if it does not, or no character is given
 abbrev pub filter_xml_character : Option ℕ → Option ℕ
 filter_xml_character None = None
 filter_xml_character (Some c) = if is_xml_character c then Some c else None
@@ -61,7 +61,7 @@ front_xml_character bytes = let front = xml_front_bytes bytes in
 abbrev pub escape : ℕ → List ℕ
 escape byte = codes "\\x" ++ encode_lower (byte ∷ [])
 
--- the text of an XML character, or the escape of `byte` if there is none
+-- the text of an XML character, or the escape of `byte` if no character is given
 abbrev pub character_or_escape : Within → ℕ → Option ℕ → List ℕ
 character_or_escape within byte (Some c) = character_text within c
 character_or_escape within byte None = escape byte
@@ -73,30 +73,31 @@ more_front_bytes None = 0
 
 -- ---- the text
 
--- the bytes as text in XML, where the first `left` bytes are left out, since they belong to a character that began before them
+-- the text in XML for the bytes after the first `left`, which continue a character that began before them
 unfoldable pub xml_text_from : Within → ℕ → List ℕ → List ℕ
 xml_text_from within left [] = []
 xml_text_from within zero (byte ∷ rest) = let front = front_xml_character (byte ∷ rest) in
     character_or_escape within byte front ++ xml_text_from within (more_front_bytes front) rest
 xml_text_from within (suc left) (byte ∷ rest) = xml_text_from within left rest
 
--- the bytes as text in an attribute or an element: each XML character as it is or as its reference, and every other byte as its escape
+-- the text in XML, in an attribute or an element, for these bytes: XML characters are unchanged or replaced by their references, and every
+-- other byte is replaced by its escape
 abbrev pub xml_text : Within → List ℕ → List ℕ
 xml_text within bytes = xml_text_from within 0 bytes
 
 -- ---- the beginning of the bytes: a character or one byte
 
--- the text of the first XML character of these bytes, or the escape of the first byte if they begin with none
+-- the text in XML for the first XML character of these bytes, or for their first byte if they do not begin with an XML character
 abbrev pub xml_front_text : Within → List ℕ → List ℕ
 xml_front_text within bytes = character_or_escape within (slice_index bytes 0) (front_xml_character bytes)
 
--- the bytes after their first XML character, or after the first byte if they begin with none
+-- the bytes without their first XML character, or without their first byte if they do not begin with an XML character
 abbrev pub after_xml_front : List ℕ → List ℕ
 after_xml_front bytes = drop (more_front_bytes (front_xml_character bytes) + 1) bytes
 
 -- ---- text of XML documents
 
--- the text consists of XML characters, each as its reference, if it has one, or as it is in UTF-8
+-- the text consists of XML characters, each in UTF-8 or, if it has a reference, as that reference
 pub record IsXmlText (within : Within) (text : List ℕ) : Type 0 where
   pub characters : List ℕ
   pub taken : list_all is_xml_character characters ≡ true

@@ -9,8 +9,8 @@ ghost use Rattle.rv_text.specs.Printable.{printable_within};
 use crate::slices::{byte_at, char_len, tail_from};
 use std::alloc::AllocError;
 
-/// Appends a text as it is shown: characters as they are, and each byte of a control character, of a format character or of invalid UTF-8
-/// as `\xNN`.
+/// Appends the printable form of a text: characters are unchanged, but each byte of a control character, of a format character or of
+/// invalid UTF-8 is replaced by `\xNN`.
 pub fn push_printable_text(bytes: &mut Vec<u8>, text: &[u8]) -> Result<(), AllocError>
     ensures { OnOk result (bytes.new.items ≡ bytes.old.items ++ printable_text text.now) }
 {
@@ -64,14 +64,14 @@ fn push_printable_within(
     Ok(())
 }
 
-// Returns the number of characters that the first character or byte is shown as: one, or four for `\xNN`.
+// Returns the number of printed characters for the first character or byte: 1, or 4 if it is printed as `\xNN`.
 fn front_width(text: &[u8]) -> usize
     ensures { result ≡ front_width text.now }
 {
     if plain_front_len(text) == 0 { 4 } else { 1 }
 }
 
-// Appends the first character or byte as it is shown, and returns the rest of the text.
+// Appends the printable form of the first character or byte, and returns the rest of the text.
 fn push_printable_front<'a>(bytes: &mut Vec<u8>, text: &'a [u8]) -> Result<&'a [u8], AllocError>
     requires { 0 < length text.now }
     ensures shown { OnOk result (bytes.new.items ≡ bytes.old.items ++ printable_front text.now) }
@@ -87,7 +87,8 @@ fn push_printable_front<'a>(bytes: &mut Vec<u8>, text: &'a [u8]) -> Result<&'a [
     Ok(tail_from(text, plain))
 }
 
-// Returns the number of leading bytes that are shown as they are: those of one character, if it is not a control or format character.
+// Returns the number of bytes of the first character if it is shown unchanged, that is, if it is valid UTF-8 and neither a control nor a
+// format character; otherwise 0.
 #[tactic(auto, unfolding(crate::specs::Printable::plain_front_len))]
 fn plain_front_len(text: &[u8]) -> usize
     ensures value { result ≡ plain_front_len text.now }
@@ -101,7 +102,7 @@ fn plain_front_len(text: &[u8]) -> usize
     }
 }
 
-// Returns the bytes of the character that the first byte begins, or all bytes if there are fewer.
+// Returns the first bytes of a text, as many as the UTF-8 character has that the first byte begins, or all bytes if there are fewer.
 fn front_character_bytes(text: &[u8]) -> &[u8]
     ensures front { result.now ≡ front_character_bytes text.now }
     ensures within { length result.now ≤ length text.now }
@@ -142,7 +143,7 @@ fn begins_with_format(text: &[u8]) -> bool
     }
 }
 
-// Whether there is a character, and it is a format character.
+// Whether a character is given, and it is a format character.
 fn is_format_if_any(character: Option<char>) -> bool
     ensures { result ≡ is_format_if_any character }
 {

@@ -3,14 +3,14 @@
 ghost use Rattle.std.specs.Prelude.{◌≡◌, ◌+◌, drop, slice_index};
 ghost use Rattle.std.specs.Str.{continuation_len};
 
-/// Returns the byte at an index, or 0 if the text is not that long.
+/// Returns the byte at an index, or 0 if there is no such index.
 pub fn byte_at(text: &[u8], place: usize) -> u8
     ensures { result ≡ slice_index text.now place }
 {
     if place < text.len() { text[place] } else { 0 }
 }
 
-/// Returns the bytes after the first `count`, which are none if there are no more.
+/// Returns the text without its first `count` bytes; empty if it has no more bytes than that.
 pub fn tail_from(text: &[u8], count: usize) -> &[u8]
     ensures { result.now ≡ drop count text.now }
 {
@@ -21,7 +21,7 @@ pub fn tail_from(text: &[u8], count: usize) -> &[u8]
     }
 }
 
-/// Returns the length in bytes of the character that a byte begins.
+/// Returns the length in bytes of the UTF-8 character that this byte begins.
 pub(crate) fn char_len(first: u8) -> usize
     ensures { result ≡ continuation_len first + 1 }
 {
@@ -36,7 +36,7 @@ pub(crate) fn char_len(first: u8) -> usize
     }
 }
 
-/// Returns the actual and the expected bytes from an index on.
+/// Returns the actual and the expected bytes, both without the bytes before the index `place`.
 pub fn actual_and_expected_from<'a>(
     place: usize,
     actual: &'a [u8],

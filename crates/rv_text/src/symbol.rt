@@ -7,7 +7,7 @@ use crate::spans::{Span, push_spans};
 use rv_elf::SymbolAt;
 use std::alloc::{AllocError, Global};
 
-/// Appends a location as ` (NAME+0xOFFSET)`, or nothing if it has no symbol.
+/// Appends ` (NAME+0xOFFSET)` for a symbol and the offset from it; nothing if there is no symbol.
 pub fn push_symbol_in_brackets(
     alloc: Global,
     bytes: &mut Vec<u8>,
@@ -22,8 +22,8 @@ pub fn push_symbol_in_brackets(
     }
 }
 
-/// Appends a location as the name of a symbol, as [`push_printable_name`](crate::printable::push_printable_name) shows it, and the offset
-/// from it: `main+0x1c`.
+/// Appends a symbol and the offset from it, as in `main+0x1c`; the name is in the form of
+/// [`push_printable_name`](crate::printable::push_printable_name).
 pub fn push_symbol(
     alloc: Global,
     bytes: &mut Vec<u8>,
@@ -35,7 +35,7 @@ pub fn push_symbol(
     push_symbol_between(alloc, bytes, "", symbol, "")
 }
 
-// Appends a text, a location as `NAME+0xOFFSET`, and another text.
+// Appends the text `before`, a symbol and the offset from it as `NAME+0xOFFSET`, and the text `behind`.
 #[tactic(auto, unfolding(crate::specs::Symbol::symbol_text))]
 fn push_symbol_between<'a>(
     alloc: Global,

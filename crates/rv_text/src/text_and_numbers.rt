@@ -32,14 +32,14 @@ pub fn push_count(bytes: &mut Vec<u8>, number: u64, noun: &str) -> Result<(), Al
     push_text(bytes, plural_ending(number))
 }
 
-// Returns the ending of a noun after a number: nothing after 1, else `s`.
+// Returns the ending of a noun after this number: empty for 1, and `s` for any other number.
 fn plural_ending(number: u64) -> &'static str
     ensures { result.now ≡ plural_ending number }
 {
     if number == 1 { "" } else { "s" }
 }
 
-/// Appends an exit code in decimal. If its top bit is set, it is written as a negative number, followed by the number that a list has: `-1
+/// Appends an exit code in decimal; if its top bit is set, as a negative number followed by the unsigned one that lists use: `-1
 /// (4294967295)`.
 #[tactic(auto, unfolding(crate::specs::Words::exit_code_text))]
 pub fn push_exit_code(bytes: &mut Vec<u8>, code: u32) -> Result<(), AllocError>

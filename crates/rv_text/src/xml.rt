@@ -16,7 +16,8 @@ pub enum Within {
     Element,
 }
 
-/// Appends bytes as text in XML: each XML character as it is or as its reference, and every other byte as `\xNN`.
+/// Appends the text in XML for these bytes: XML characters are unchanged or replaced by their references, and every other byte is replaced
+/// by `\xNN`.
 pub fn push_xml_text(
     alloc: Global,
     text: &mut String,
@@ -33,7 +34,8 @@ pub fn push_xml_text(
     Ok(())
 }
 
-// Appends the first XML character of the bytes, or the first byte as `\xNN` if they begin with none, and returns the remaining bytes.
+// Appends the text in XML for the first XML character of the bytes, or for their first byte if they do not begin with an XML character, and
+// returns the remaining bytes.
 fn push_xml_front<'a>(
     alloc: Global,
     text: &mut String,
@@ -58,7 +60,7 @@ fn push_xml_front<'a>(
     }
 }
 
-// Returns the XML character that the bytes begin with, or `None` if they begin with none.
+// Returns the XML character at the beginning of the bytes, or `None` if they do not begin with an XML character.
 fn front_xml_character(bytes: &[u8]) -> Option<char>
     ensures { result ≡ front_xml_character bytes.now }
 {
@@ -68,7 +70,7 @@ fn front_xml_character(bytes: &[u8]) -> Option<char>
     }
 }
 
-// Returns the character if there is one and XML 1.0 allows it, else `None`.
+// Returns the character if XML 1.0 allows it; `None` if it does not, or no character is given.
 fn filter_xml_character(character: Option<char>) -> Option<char>
     ensures { result ≡ filter_xml_character character }
 {
@@ -78,7 +80,7 @@ fn filter_xml_character(character: Option<char>) -> Option<char>
     }
 }
 
-// Returns the bytes of the character that the first byte begins, or all bytes if there are fewer.
+// Returns the first of these bytes, as many as the UTF-8 character has that the first byte begins, or all bytes if there are fewer.
 fn xml_front_bytes(bytes: &[u8]) -> &[u8]
     ensures { result.now ≡ xml_front_bytes bytes.now }
 {
@@ -93,7 +95,8 @@ fn xml_front_bytes(bytes: &[u8]) -> &[u8]
     }
 }
 
-// Whether XML 1.0 allows a character: tab, line feed, carriage return, and from U+0020 on all but the surrogates, U+FFFE and U+FFFF.
+// Whether XML 1.0 allows a character: tab, line feed, carriage return, and all characters from U+0020 except the surrogates, U+FFFE and
+// U+FFFF.
 fn is_xml_character(character: char) -> bool
     ensures { result ≡ is_xml_character character }
 {
@@ -103,7 +106,7 @@ fn is_xml_character(character: char) -> bool
     )
 }
 
-// Appends a character as its reference, or as it is.
+// Appends the reference of a character if it has one, and otherwise the character in UTF-8.
 fn push_character(text: &mut String, within: Within, character: char) -> Result<(), AllocError>
     ensures { OnOk result (string_bytes text.new
         ≡ string_bytes text.old ++ character_text within character) }
@@ -114,7 +117,7 @@ fn push_character(text: &mut String, within: Within, character: char) -> Result<
     }
 }
 
-// Returns the reference of a character that is markup or that an XML parser would change, or `None` for any other.
+// Returns the reference of a character that is markup, or that an XML parser would change; `None` for any other character.
 fn character_reference(within: Within, character: char) -> Option<&'static str>
     ensures { option_map (λ text. text.now) result ≡ character_reference within character }
 {

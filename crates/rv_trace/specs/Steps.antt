@@ -33,15 +33,15 @@ access_of op.Sh = access.Store width.Half
 access_of op.Sw = access.Store width.Word
 access_of _ = access.Neither
 
--- what the instruction `i` writes in the state `s`: a load writes a register, from its address; a store writes the low bytes of rs2 to its
--- address; any other instruction writes rd, unless it is x0
+-- the target that the instruction `i` writes in the state `s`: a load writes a register, from its address; a store writes the low bytes of
+-- rs2 to its address; any other instruction writes rd, unless it is x0
 abbrev pub instruction_write_target : Access → Instr → State → WriteTarget
 instruction_write_target access.Load i s = aim.Load i.rd (address s i)
 instruction_write_target (access.Store width) i s =
     aim.Store (address s i) width (rs2_value s i % 2 ^ (8 * size_of width))
 instruction_write_target access.Neither i s = if i.rd == 0 then aim.Nothing else aim.Register i.rd
 
--- what an instruction writes in the state `s`; `Nothing` if there is no instruction
+-- the target that an instruction writes in the state `s`; `Nothing` if there is no instruction
 abbrev pub write_target : Option Instr → State → WriteTarget
 write_target None s = aim.Nothing
 write_target (Some i) s = instruction_write_target (access_of i.op) i s
@@ -54,8 +54,8 @@ HasRegister _ = Unit {0}
 
 -- ---- what an instruction wrote
 
--- what a completed instruction wrote: the new value of a register is read from the state `t` after the instruction, and the value of a
--- store is in the target
+-- the effect of a completed write to this target: the new value of a register is read from the state `t` after the instruction, and the
+-- value of a store is in the target
 abbrev pub completed_write : WriteTarget → State → WriteEffect
 completed_write aim.Nothing t = wrote.Nothing
 completed_write (aim.Register number) t = wrote.Register number (register t number)

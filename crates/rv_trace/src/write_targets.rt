@@ -47,7 +47,7 @@ pub(crate) fn access_of(op: Op) -> Access
     }
 }
 
-/// Returns what the instruction at the machine's pc, which has this encoding, is going to write.
+/// Returns the target that the instruction at the machine's pc, which has this encoding, is going to write.
 pub(crate) fn write_target(machine: &Machine, code: Option<Code>) -> WriteTarget
     requires { code ≡ code_at (state_of machine.now).bus (state_of machine.now).pc }
     ensures value { result ≡ write_target (instr_at (state_of machine.now)) (state_of machine.now) }
@@ -62,7 +62,7 @@ pub(crate) fn write_target(machine: &Machine, code: Option<Code>) -> WriteTarget
     }
 }
 
-// Returns what an instruction is going to write in the machine's current state.
+// Returns the target that an instruction is going to write in the machine's current state.
 fn instruction_write_target(access: Access, instr: Instr, machine: &Machine) -> WriteTarget
     requires { IsWellFormed instr }
     ensures value { result ≡ instruction_write_target access instr (state_of machine.now) }

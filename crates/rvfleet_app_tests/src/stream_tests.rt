@@ -33,8 +33,8 @@ impl Write for CountingWriter {
     }
 }
 
-// Writes ten bytes to a stream over a writer whose write number `fails_at`, or whose flushes, fail. Returns whether all bytes were
-// accepted, the number of failures, and the numbers of writes and of flushes.
+// Writes ten bytes to a stream over a writer whose write number `fails_at` fails (none if it is 0), and whose flushes fail if `flush_fails`
+// is true. Returns whether all bytes were accepted, the number of failures, and the numbers of writes and of flushes.
 fn put_ten(fails_at: u64, flush_fails: bool) -> (bool, u64, u64, u64) {
     let mut stream = StreamSink::new(CountingWriter {
         writes: 0,

@@ -79,7 +79,7 @@ struct MemoryReader<'a> {
 }
 
 impl<'a> Read for MemoryReader<'a> {
-    // Copies the next bytes of the input to the buffer, and returns how many, or fails if it is the read that must fail.
+    // Copies the next bytes of the input to the buffer, and returns how many; at the end of the input, fails if requested.
     fn read(&mut self, buffer: &mut [u8]) -> io::Result<usize> {
         let count = self.bytes.len().min(buffer.len()).min(self.most);
         if count == 0 && self.fails {

@@ -21,8 +21,9 @@ use Rattle.rvtest_app.specs.Runs.{IsRunAt}
 use Rattle.rvtest_app.specs.CommandOutputs.{IsOnlyStandardOutput, CommandOutputs}
 use Rattle.rvtest_app.specs.Shows.{IsShownAt}
 
--- a command did what the request asks for: its `status`, and everything that it output and committed between `before` and `after`. `known`
--- and `input` are the contents of files and of standard input, if known; `is_terminal` says whether standard output is a terminal
+-- a command did what the request asks for: `status` is its exit status, and `before` and `after` are the outputs before and after it.
+-- `known` and `input` are the contents of files and of standard input, if they are known; `is_terminal` says whether standard output is a
+-- terminal
 abbrev pub IsCommandDone : Option FileContents → Option (List ℕ) → Bool → Request → ℕ → CommandOutputs → CommandOutputs → Type 0
 IsCommandDone known input is_terminal (request.Run words) status before after =
     IsRunAt known words status before after

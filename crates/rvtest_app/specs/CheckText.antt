@@ -134,8 +134,8 @@ job_counts_line jobs refused warned =
 abbrev pub texts_of_jobs : (ℕ → Job → List ℕ) → List Job → List ℕ
 texts_of_jobs text jobs = flat_map (λ entry. text entry.0 entry.1) (enumerate_from 0 jobs)
 
--- the output of `check` for a list without errors: `path` and `text` are those of the list, `root` is the directory of `--root`, and
--- `unread` are the files that could not be read
+-- the output of `check` for the list with the path `path` and the text `text`, which has no errors; `root` is the directory of `--root`,
+-- and `unread` are the files that could not be read
 unfoldable pub check_text : List ℕ → List ℕ → Option (List ℕ) → Planned → List UnreadablePath → List ℕ
 check_text path text root plan unread = let lines = job_begin_lines text in
     texts_of_jobs (refused_job_text path lines plan unread) plan.jobs

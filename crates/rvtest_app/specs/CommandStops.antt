@@ -59,7 +59,7 @@ abbrev pub IsConsoleStop : Option FileContents → ConsoleArgs → Stop → Type
 IsConsoleStop known words why = IsListUnreadStop known words.list.now why
     ⊎ ((text : List ℕ) × (IsTextAt known words.list.now text × IsNoJobStop words.list.now text words.name.now why))
 
--- why `gdb` could not open the job: the list could not be read, it has an error or no job of this name, or the job is refused
+-- why `gdb` could not open the job: the list could not be read or has an error, no job has the requested name, or the job is refused
 abbrev pub IsUnopenedAtStop : Option FileContents → GdbArgs → Stop → Type 0
 IsUnopenedAtStop known words why = IsListUnreadStop known words.list.now why
     ⊎ ((text : List ℕ) × (IsTextAt known words.list.now text

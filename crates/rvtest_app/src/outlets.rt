@@ -260,7 +260,7 @@ fn stdout_result(written: Result<(), WriteError>) -> Result<(), Stop>
     }
 }
 
-// Returns the result of writing a text to the file for a path, with the error as a stop; `reason` is why a write failed.
+// Returns the result of writing a text to the file for a path, with the error as a stop; `reason` is the reason of a failed write.
 fn file_result(
     alloc: Global,
     path: &str,

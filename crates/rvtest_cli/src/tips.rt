@@ -121,7 +121,7 @@ fn is_job_name(word: &str) -> bool {
     is_name(word.as_bytes()) && !word.starts_with("-")
 }
 
-// If `told` begins with `front`, returns the text between `front` and the next `behind`; otherwise an empty text.
+// If `told` begins with `front` and has `behind` after that, returns the text between them; otherwise an empty text.
 fn word_between<'a>(told: &'a str, front: &str, behind: &str) -> &'a str {
     match told.strip_prefix(front) {
         Some(rest) => match rest.split_once(behind) {
