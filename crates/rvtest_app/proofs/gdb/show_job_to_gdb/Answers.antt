@@ -5,8 +5,8 @@ use Rattle.rv_session.specs.declared.session.Session.{Session}
 use Rattle.rvtest_app.specs.Debugging.{job_end_text}
 use Rattle.rvtest_app.proofs.gdb.show_job_to_gdb.Goals as goal
 
-pub serve-requires-clause-asked : goal.serve-requires-clause-asked
-serve-requires-clause-asked g c =
+pub serve-requires-clause-requested : goal.serve-requires-clause-requested
+serve-requires-clause-requested g c =
     let opened = c.in_ok-opened.ensures.opened in λ lifetimes outlive.
     ap (λ (s : Session). s.requested) c.set_memory.ensures
     ∙ ap (λ (s : Session). s.requested) (opened.of_list.of_job.over (single_job [] 0 [])).session_is
