@@ -9,11 +9,9 @@ ghost use Rattle.rv_trace.specs.Trace.{job_at};
 ghost use Rattle.rv_counting.specs.Counters.{HasCounted};
 ghost use Rattle.rv_counting.specs.Coverage.{AreCountsOf, AreCountsOfJob};
 
-use crate::counter::Counter;
+use crate::runs_counter::RunsCounter;
 use rv_count_tables::Addresses;
 use rv_machine::Machine;
-use rv_rows::{Spare, machine_at_reusing};
-use rv_trace::JobImage;
 use std::alloc::{AllocError, Global};
 
 /// Counts a machine's run within a budget of steps. Takes longer than the run alone, and a lookup among the addresses so far for each
@@ -22,70 +20,7 @@ use std::alloc::{AllocError, Global};
 pub fn count_run(alloc: Global, machine: Machine, budget: u32) -> Result<Addresses, AllocError>
     ensures { IfOk result (λ counts. AreCountsOf budget (state_of machine) counts) }
 {
-    let (counts, _) = count_run_of(alloc, machine, budget)?;
-    Ok(counts)
-}
-
-// Counts a machine's run, and returns the machine, too.
-fn count_run_of(
-    alloc: Global,
-    machine: Machine,
-    budget: u32,
-) -> Result<(Addresses, Machine), AllocError>
-    ensures { IfOk result (λ both. AreCountsOf budget (state_of machine) both.0) }
-{
-    let (counter, machine) = counter_of_run(alloc, machine, budget)?;
-    Ok((counter.into_addresses(), machine))
-}
-
-// Runs the machine and returns the counter of the run.
-fn counter_of_run(
-    alloc: Global,
-    machine: Machine,
-    budget: u32,
-) -> Result<(Counter, Machine), AllocError>
-    ensures { IfOk result (λ both. HasCounted budget (state_of machine) both.0) }
-{
-    let mut machine = machine;
-    let mut counter = Counter::new(alloc)?;
-    let mut left = budget;
-    'steps: while left > 0 {
-        let block = counter.find_block(&machine, left);
-        if block.steps == 0 {
-            if !counter.step_uncached(&mut machine)?.completed {
-                return Ok((counter, machine));
-            }
-            left -= 1;
-        } else {
-            if counter.run_block(&mut machine, block)?.steps != block.steps {
-                return Ok((counter, machine));
-            }
-            left -= block.steps;
-        }
-    }
-    Ok((counter, machine))
-}
-
-/// Counts the run of a job within its budget; `None` if the job is refused. A table can hold the counts. Reuses the memory of the last run,
-/// and keeps that of this one.
-pub fn count_job(
-    alloc: Global,
-    job: &JobImage<'_>,
-    spare: &mut Spare,
-) -> Result<Option<Addresses>, AllocError>
-    ensures counts { IfOk result (λ counts. (d : AJob) → AreCountsOfJob
-        (job_at job.now.plan.now job.now.place d).budget
-        (start_in job.now.plan.now.answers (job_at job.now.plan.now job.now.place d)) counts) }
-    ensures table { IfOk result (λ counts. IfSome counts AreCounts) }
-    ensures few { IfOk result (λ counts. IfSome counts (λ counts. (address : ℕ) → begun_at address counts < 2 ^ 32)) }
-{
-    match machine_at_reusing(alloc, job.plan, job.place, job.image, spare)? {
-        Ok(machine) => {
-            let budget = job.plan.job(job.place).budget;
-            let (counts, machine) = count_run_of(alloc, machine, budget)?;
-            spare.keep_bus(machine.into_bus());
-            Ok(Some(counts))
-        }
-        Err(_) => Ok(None),
-    }
+    let mut counter = RunsCounter::new(alloc)?;
+    let _machine = counter.count_run(machine, budget)?;
+    Ok(counter.counter.into_addresses())
 }

@@ -13,14 +13,16 @@ mod count_work;
 mod counter;
 mod known;
 mod law;
+mod pieces;
 mod places;
+mod runs_counter;
 mod step;
 mod table_of_job;
 mod table_sum;
 mod tally;
 
 pub use block::{Block, first_of};
-pub use count::{count_job, count_run};
+pub use count::count_run;
 pub use count_work::JobTable;
 pub use counter::{Counter, Stepped};
 pub use law::{

@@ -1,0 +1,98 @@
+-- Runs that are counted in addition to others.
+use Rattle.std.proofs.Common.{◌≡◌, ◌∙◌, ◌+◌, ◌*◌, ◌%◌, ◌^◌, ◌<◌, ◌≤◌, ℕ, true, false, List, [], ◌∷◌, ◌++◌, Option, Some, None, Result, Ok, Err, refl, sym, ap, subst, arith}
+use Rattle.std.specs.Prelude.{is_ok, is_some}
+use Rattle.std.proofs.lemmas.List.Sums.{sum_by-append}
+use Rattle.std.specs.List.{sum_by}
+use Rattle.std.specs.Result.{result_ok}
+use Rattle.rv_count_tables.specs.declared.table.AddressCounts.{AddressCounts}
+use Rattle.rv_count_tables.specs.Table.{begun_at, taken_at}
+use Rattle.rv_jobs.specs.declared.answers.Answer.{Answer}
+use Rattle.rv_jobs.specs.declared_job.Job.{Job}
+use Rattle.rv_machine.specs.State.{State}
+use Rattle.rv_report.specs.declared.row.Refusal.{Refusal}
+use Rattle.rv_rows.specs.Rows.{start_in}
+use Rattle.rv_counting.proofs.Evens.{few_begin, none_at_odd}
+use Rattle.rv_counting.specs.declared.runs_counter.RunsCounter.{RunsCounter}
+use Rattle.rv_counting.specs.Counters.{counts_of, HasCountedOn}
+use Rattle.rv_counting.specs.Coverage.{once_if}
+use Rattle.rv_counting.specs.JobTables.{begun_from, taken_from, runs_by}
+use Rattle.rv_counting.specs.RunCounts.{begun_of, taken_of, AddsJob, AddsRun, CanCountRuns, HasCountedJobs}
+
+-- ---- one run more
+
+pub adds_none : (budget : ℕ) (start : Option State) (c : RunsCounter) → CanCountRuns c → start ≡ None → AddsRun budget start c c
+adds_none budget start c h none = subst (λ (o : Option State). AddsRun budget o c c) (sym none) (
+    record {
+      ready = h;
+      runs = omega arith;
+      begun = λ at. omega arith;
+      taken = λ at. omega arith;
+    }
+    )
+
+module _ (budget g : ℕ) (s : State) (base : List AddressCounts) (old new : RunsCounter) (fits : budget < 2 ^ 32) (h : CanCountRuns old)
+    (same : base ≡ counts_of old.counter) (early : g ≡ old.counter.codes.generation) (even : s.pc % 2 ≡ 0)
+    (counted : HasCountedOn base g budget s new.counter) (one : new.runs ≡ old.runs + 1) where
+  begun_more : (at : ℕ) → begun_at at (counts_of new.counter) ≡ begun_at at (counts_of old.counter) + begun_from at budget (Some s)
+  begun_more at = counted.sums.begun at ∙ ap (λ cs. begun_at at cs + begun_from at budget (Some s)) same
+
+  pub adds_run : AddsRun budget (Some s) old new
+  adds_run = record {
+    ready = record {
+      tallied = counted.sums.tallied;
+      indexed = counted.indexed;
+      codes = counted.codes;
+      few = λ at.
+          let b = begun_more at in
+          let f = h.few at in
+          let m = few_begin budget at s in
+          omega (arith, b, f, m, fits, one);
+      even = λ at odd.
+          let b = begun_more at in
+          let e = h.even at odd in
+          let n = none_at_odd budget at s even odd in
+          omega (arith, b, e, n);
+      generations = (let k = counted.generations in let e = h.generations in omega (arith, k, e, early, fits, one));
+    };
+    runs = one;
+    begun = begun_more;
+    taken = λ at. counted.sums.taken at ∙ ap (λ cs. taken_at at cs + taken_from at budget (Some s)) same;
+  }
+
+-- ---- the runs of jobs
+
+ok_is_some : (r : Result State Refusal) → once_if (is_some (result_ok r)) ≡ once_if (is_ok r)
+ok_is_some (Ok s) = refl
+ok_is_some (Err why) = refl
+
+pub one_job_more : (answers : List Answer) (js : List Job) (j : Job) (old new : RunsCounter) → HasCountedJobs answers js old
+    → AddsJob answers j old new → HasCountedJobs answers (js ++ j ∷ []) new
+one_job_more answers js j old new h adds = record {
+  ready = adds.ready;
+  runs = (let a = adds.runs in
+      let r = h.runs in
+      let o = ok_is_some (start_in answers j) in
+      let e = sum_by-append (runs_by answers) js (j ∷ []) in
+      omega (arith, a, r, o, e));
+  begun = λ at.
+      let a = adds.begun at in
+      let b = h.begun at in
+      let e = sum_by-append (begun_of answers at) js (j ∷ []) in
+      omega (arith, a, b, e);
+  taken = λ at.
+      let a = adds.taken at in
+      let b = h.taken at in
+      let e = sum_by-append (taken_of answers at) js (j ∷ []) in
+      omega (arith, a, b, e);
+}
+
+at_most_one : (o : Option State) → once_if (is_some o) ≤ 1
+at_most_one (Some s) = omega arith
+at_most_one None = omega arith
+
+pub few_runs_more : (budget k : ℕ) (start : Option State) (old new : RunsCounter) → AddsRun budget start old new → old.runs ≤ k
+    → new.runs ≤ k + 1
+few_runs_more budget k start old new adds few =
+    let a = adds.runs in
+    let o = at_most_one start in
+    omega (arith, a, o, few)
