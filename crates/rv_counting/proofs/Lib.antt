@@ -11,6 +11,7 @@ pub mod Evens
 pub mod Counting
 pub mod Counters
 pub mod FetchedAgain
+pub mod Pieces
 pub mod RunCounts
 pub mod Lookups
 pub mod Sorted

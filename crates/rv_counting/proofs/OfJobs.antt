@@ -24,7 +24,7 @@ use Rattle.rv_machine.specs.State.{State}
 use Rattle.rv_report.specs.declared.row.Refusal.{Refusal}
 use Rattle.rv_rows.specs.Rows.{start_in}
 use Rattle.rv_text.specs.Printable.{printable_text}
-use Rattle.rv_counting.specs.Coverage.{once_if, begun_in_run, taken_in_run, AreCountsOf, AreCountsOfJob}
+use Rattle.rv_counting.specs.Coverage.{once_if, begun_in_run, taken_in_run, AreCountsOf}
 use Rattle.rv_counting.specs.JobTables.{has_digest, start_over, begun_from, taken_from, begun_by, taken_by, path_by, runs_by, first_path, table_of_runs, HasNoStacks, IsTableOfFew, IsTableOfJobs}
 use Rattle.rv_trace.specs.Trace.{image_bytes}
 

@@ -1,5 +1,5 @@
 -- Runs that are counted in addition to others.
-use Rattle.std.proofs.Common.{◌≡◌, ◌∙◌, ◌+◌, ◌*◌, ◌%◌, ◌^◌, ◌<◌, ◌≤◌, ℕ, true, false, List, [], ◌∷◌, ◌++◌, Option, Some, None, Result, Ok, Err, refl, sym, ap, subst, arith}
+use Rattle.std.proofs.Common.{◌≡◌, ◌∙◌, ◌+◌, ◌*◌, ◌%◌, ◌^◌, ◌<◌, ◌≤◌, ℕ, true, false, List, [], ◌∷◌, ◌++◌, Option, Some, None, Result, Ok, Err, length, refl, sym, ap, subst, arith}
 use Rattle.std.specs.Prelude.{is_ok, is_some}
 use Rattle.std.proofs.lemmas.List.Sums.{sum_by-append}
 use Rattle.std.specs.List.{sum_by}
@@ -12,6 +12,7 @@ use Rattle.rv_machine.specs.State.{State}
 use Rattle.rv_report.specs.declared.row.Refusal.{Refusal}
 use Rattle.rv_rows.specs.Rows.{start_in}
 use Rattle.rv_counting.proofs.Evens.{few_begin, none_at_odd}
+use Rattle.rv_counting.proofs.Starts.{start_even}
 use Rattle.rv_counting.specs.declared.runs_counter.RunsCounter.{RunsCounter}
 use Rattle.rv_counting.specs.Counters.{counts_of, HasCountedOn}
 use Rattle.rv_counting.specs.Coverage.{once_if}
@@ -31,7 +32,7 @@ adds_none budget start c h none = subst (λ (o : Option State). AddsRun budget o
     )
 
 module _ (budget g : ℕ) (s : State) (base : List AddressCounts) (old new : RunsCounter) (fits : budget < 2 ^ 32) (h : CanCountRuns old)
-    (same : base ≡ counts_of old.counter) (early : g ≡ old.counter.codes.generation) (even : s.pc % 2 ≡ 0)
+    (same : base ≡ counts_of old.counter) (early : g ≡ old.counter.codes.generation)
     (counted : HasCountedOn base g budget s new.counter) (one : new.runs ≡ old.runs + 1) where
   begun_more : (at : ℕ) → begun_at at (counts_of new.counter) ≡ begun_at at (counts_of old.counter) + begun_from at budget (Some s)
   begun_more at = counted.sums.begun at ∙ ap (λ cs. begun_at at cs + begun_from at budget (Some s)) same
@@ -47,11 +48,6 @@ module _ (budget g : ℕ) (s : State) (base : List AddressCounts) (old new : Run
           let f = h.few at in
           let m = few_begin budget at s in
           omega (arith, b, f, m, fits, one);
-      even = λ at odd.
-          let b = begun_more at in
-          let e = h.even at odd in
-          let n = none_at_odd budget at s even odd in
-          omega (arith, b, e, n);
       generations = (let k = counted.generations in let e = h.generations in omega (arith, k, e, early, fits, one));
     };
     runs = one;
@@ -86,13 +82,28 @@ one_job_more answers js j old new h adds = record {
       omega (arith, a, b, e);
 }
 
-at_most_one : (o : Option State) → once_if (is_some o) ≤ 1
-at_most_one (Some s) = omega arith
-at_most_one None = omega arith
+-- there are no more runs than jobs
+at_most_one : (r : Result State Refusal) → once_if (is_ok r) ≤ 1
+at_most_one (Ok s) = omega arith
+at_most_one (Err why) = omega arith
 
-pub few_runs_more : (budget k : ℕ) (start : Option State) (old new : RunsCounter) → AddsRun budget start old new → old.runs ≤ k
-    → new.runs ≤ k + 1
-few_runs_more budget k start old new adds few =
-    let a = adds.runs in
-    let o = at_most_one start in
-    omega (arith, a, o, few)
+pub few_runs : (answers : List Answer) (js : List Job) → sum_by (runs_by answers) js ≤ length js
+few_runs answers [] = omega arith
+few_runs answers (j ∷ js) =
+    let first = at_most_one (start_in answers j) in let rest = few_runs answers js in omega (arith, first, rest)
+
+-- no run executes an instruction at an odd address
+module _ (answers : List Answer) (at : ℕ) (odd : at % 2 ≡ 1) where
+  none_of_job : (j : Job) → begun_of answers at j ≡ 0
+  none_of_job j = by (start_in answers j) refl
+    where
+      by : (r : Result State Refusal) → start_in answers j ≡ r → begun_from at j.budget (result_ok r) ≡ 0
+      by (Ok s) start = none_at_odd j.budget at s (start_even j s answers start) odd
+      by (Err why) start = refl
+
+  none_of_jobs : (js : List Job) → sum_by (begun_of answers at) js ≡ 0
+  none_of_jobs [] = refl
+  none_of_jobs (j ∷ js) = let first = none_of_job j in let rest = none_of_jobs js in omega (arith, first, rest)
+
+  pub none_counted_at_odd : (js : List Job) (c : RunsCounter) → HasCountedJobs answers js c → begun_at at (counts_of c.counter) ≡ 0
+  none_counted_at_odd js c h = h.begun at ∙ none_of_jobs js

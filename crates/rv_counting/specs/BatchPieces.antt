@@ -1,7 +1,6 @@
 -- The pieces of a batch.
 use Rattle.std.specs.Prelude.{◌≡◌, ◌-◌, ◌<◌, ◌≤◌, ℕ, zero, suc, List, length, take, drop, slice_index_or}
 use Rattle.rv_jobs.specs.declared_job.Job.{Job}
-use Rattle.rv_jobs.specs.Limits.{most_jobs}
 use Rattle.rv_jobs.specs.Plans.{Planned}
 use Rattle.rv_trace.specs.Trace.{job_at}
 use Rattle.rv_counting.specs.declared.pieces.Piece.{Piece}
@@ -29,8 +28,12 @@ pub record IsPiece (plan : Planned) (places : List ℕ) (from : ℕ) (piece : Pi
   pub within : piece.to ≤ length places
   pub same : HaveOneImage plan (places_of places piece)
 
--- one after another, the pieces are all the indices
-pub record ArePieces (plan : Planned) (places : List ℕ) (pieces : List Piece) : Type 0 where
-  pub few : length pieces ≤ length places
+-- one after another, the pieces are the first `to` indices
+pub record ArePiecesTo (plan : Planned) (places : List ℕ) (to : ℕ) (pieces : List Piece) : Type 0 where
+  pub few : length pieces ≤ to
   pub each : (k : ℕ) → k < length pieces → IsPiece plan places (start_of pieces k) (piece_in pieces k)
-  pub all : start_of pieces (length pieces) ≡ length places
+  pub all : start_of pieces (length pieces) ≡ to
+
+-- they are all the indices
+abbrev pub ArePieces : Planned → List ℕ → List Piece → Type 0
+ArePieces plan places pieces = ArePiecesTo plan places (length places) pieces

@@ -1,5 +1,5 @@
 -- The counts of several runs.
-use Rattle.std.specs.Prelude.{◌≡◌, ◌+◌, ◌*◌, ◌%◌, ◌^◌, ◌<◌, ◌≤◌, ℕ, is_some, Option, List, map}
+use Rattle.std.specs.Prelude.{◌≡◌, ◌+◌, ◌*◌, ◌^◌, ◌<◌, ◌≤◌, ℕ, is_some, Option, List, map}
 use Rattle.std.specs.List.{sum_by}
 use Rattle.std.specs.Result.{result_ok}
 use Rattle.rv_count_tables.specs.Table.{begun_at, taken_at}
@@ -14,13 +14,12 @@ use Rattle.rv_counting.specs.Coverage.{once_if, EachTallied}
 use Rattle.rv_counting.specs.JobTables.{begun_from, taken_from, runs_by}
 use Rattle.rv_counting.specs.Tallies.{IsIndexed}
 
--- another run can be counted: its counts are few enough, and stand at even addresses
+-- another run can be counted: there are few counts, and few generations of the code
 pub record CanCountRuns (c : RunsCounter) : Type 0 where
   pub tallied : EachTallied (counts_of c.counter)
   pub indexed : IsIndexed c.counter.tally
   pub codes : HasKnownPlaces c.counter.codes
   pub few : (at : ℕ) → begun_at at (counts_of c.counter) ≤ c.runs * 2 ^ 32
-  pub even : (at : ℕ) → at % 2 ≡ 1 → begun_at at (counts_of c.counter) ≡ 0
   pub generations : c.counter.codes.generation ≤ 1 + c.runs * 2 ^ 32
 
 -- a run that begins in this state, if there is one, was counted in addition to the others

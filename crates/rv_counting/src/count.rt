@@ -1,15 +1,14 @@
 //! The counts of a run.
 
-ghost use Rattle.std.specs.Prelude.{◌^◌, ◌<◌, ℕ, IfOk, IfSome};
-ghost use Rattle.rv_count_tables.specs.Table.{AreCounts, begun_at};
-ghost use Rattle.rv_jobs.specs.declared_job.Job.{Job as AJob};
+ghost use Rattle.std.specs.Prelude.{◌^◌, ◌<◌, ℕ, IfOk, OnOk};
+ghost use Rattle.rv_count_tables.specs.Table.{begun_at};
 ghost use Rattle.rv_machine.specs.Machine.{state_of};
-ghost use Rattle.rv_rows.specs.Rows.{start_in};
-ghost use Rattle.rv_trace.specs.Trace.{job_at};
-ghost use Rattle.rv_counting.specs.Counters.{HasCounted};
-ghost use Rattle.rv_counting.specs.Coverage.{AreCountsOf, AreCountsOfJob};
+ghost use Rattle.rv_counting.specs.Blocks.{AreRight};
+ghost use Rattle.rv_counting.specs.Counters.{counts_of, HasCountedOn};
+ghost use Rattle.rv_counting.specs.Coverage.{AreCountsOf, EachTallied};
+ghost use Rattle.rv_counting.specs.Tallies.{IsIndexed};
 
-use crate::runs_counter::RunsCounter;
+use crate::counter::Counter;
 use rv_count_tables::Addresses;
 use rv_machine::Machine;
 use std::alloc::{AllocError, Global};
@@ -20,7 +19,39 @@ use std::alloc::{AllocError, Global};
 pub fn count_run(alloc: Global, machine: Machine, budget: u32) -> Result<Addresses, AllocError>
     ensures { IfOk result (λ counts. AreCountsOf budget (state_of machine) counts) }
 {
-    let mut counter = RunsCounter::new(alloc)?;
-    let _machine = counter.count_run(machine, budget)?;
-    Ok(counter.counter.into_addresses())
+    let mut counter = Counter::new(alloc)?;
+    let _machine = follow_run(&mut counter, machine, budget)?;
+    Ok(counter.into_addresses())
+}
+
+/// Runs a machine and counts what it executes, in addition to earlier counts. Returns the machine after the run.
+pub(crate) fn follow_run(
+    counter: &mut Counter,
+    machine: Machine,
+    budget: u32,
+) -> Result<Machine, AllocError>
+    requires tallied { EachTallied (counts_of counter.old) }
+    requires few { (at : ℕ) → begun_at at (counts_of counter.old) < 2 ^ 61 }
+    requires indexed { IsIndexed counter.old.tally }
+    requires right { AreRight counter.old.codes (state_of machine) }
+    requires generations { counter.old.codes.generation < 2 ^ 61 }
+    ensures { OnOk result (HasCountedOn (counts_of counter.old) counter.old.codes.generation budget (state_of machine) counter.new) }
+{
+    let mut machine = machine;
+    let mut left = budget;
+    'steps: while left > 0 {
+        let block = counter.find_block(&machine, left);
+        if block.steps == 0 {
+            if !counter.step_uncached(&mut machine)?.completed {
+                return Ok(machine);
+            }
+            left -= 1;
+        } else {
+            if counter.run_block(&mut machine, block)?.steps != block.steps {
+                return Ok(machine);
+            }
+            left -= block.steps;
+        }
+    }
+    Ok(machine)
 }

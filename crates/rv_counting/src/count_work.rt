@@ -1,4 +1,4 @@
-//! The table of each job of a batch.
+//! The table of each piece of a batch.
 
 ghost use Rattle.std.specs.Prelude.{◌≡◌};
 ghost use Rattle.rv_count_tables.specs.Table.{IsTable};
@@ -13,7 +13,7 @@ use rv_fleet::Batch;
 use std::alloc::{AllocError, Global};
 use std::marker::Model;
 
-/// The table of a job.
+/// The table of one or more jobs.
 #[derive(Drop)]
 pub struct JobTable {
     table: CountTable,
@@ -31,7 +31,7 @@ impl Model for JobTable {
 }
 
 impl JobTable {
-    /// Wraps the table of a run.
+    /// Wraps the table of their runs.
     pub fn new(table: CountTable) -> JobTable
         requires { IsTable table }
         ensures { result ≡ table }

@@ -16,8 +16,8 @@ use std::sync::Wait;
 use std::thread::Threads;
 
 /// Returns the table of a batch's jobs: the sum of their runs' tables, identical for every crew. Each job is run once more, by the threads
-/// of the crew. Takes memory for the tables that wait to be added, for two sums, and 256 KiB for each thread's decode cache. With so few
-/// jobs no number reaches 2^64.
+/// of the crew. Consecutive jobs of one image are counted together, at most 64 of them, whatever the crew's group. Takes memory for the
+/// tables that wait to be added, for two sums, and 256 KiB for each thread's decode cache. With so few jobs no number reaches 2^64.
 pub fn count_batch<R: Threads + Wait + Sync>(
     crew: &Crew<'_, R>,
     batch: &Batch<'_>,
@@ -29,8 +29,9 @@ pub fn count_batch<R: Threads + Wait + Sync>(
         batch,
         pieces: pieces.as_slice(),
     };
+    let crew = Crew::new(crew.rt, crew.alloc, crew.workers, 1);
     let (sum, ran) = run_jobs::<Brand, JobTable, R, CountWork<'_>, TableSum>(
-        crew,
+        &crew,
         &work,
         TableSum::new(crew.alloc),
     );

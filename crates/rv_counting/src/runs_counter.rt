@@ -1,17 +1,14 @@
 //! The counts of several runs of one image.
 
-ghost use Rattle.std.specs.Prelude.{◌≡◌, ◌%◌, ◌^◌, ◌<◌, ℕ, List, [], IfOk, OnOk, Some};
-ghost use Rattle.rv_count_tables.specs.Table.{begun_at};
+ghost use Rattle.std.specs.Prelude.{◌<◌, [], IfOk, OnOk, Some};
 ghost use Rattle.rv_jobs.specs.declared.answers.Answer.{Answer};
 ghost use Rattle.rv_jobs.specs.declared_job.Job.{Job as AJob};
+ghost use Rattle.rv_jobs.specs.Limits.{most_jobs};
 ghost use Rattle.rv_machine.specs.Machine.{state_of};
 ghost use Rattle.rv_trace.specs.Trace.{job_at};
-ghost use Rattle.rv_counting.specs.Blocks.{AreRight};
-ghost use Rattle.rv_counting.specs.Counters.{counts_of, HasCountedOn};
-ghost use Rattle.rv_counting.specs.Coverage.{EachTallied};
 ghost use Rattle.rv_counting.specs.RunCounts.{AddsJob, AddsRun, CanCountRuns, HasCountedJobs};
-ghost use Rattle.rv_counting.specs.Tallies.{IsIndexed};
 
+use crate::count::follow_run;
 use crate::counter::Counter;
 use rv_machine::Machine;
 use rv_rows::{Spare, machine_at_reusing};
@@ -43,7 +40,7 @@ impl RunsCounter {
         spare: &mut Spare,
     ) -> Result<(), AllocError>
         requires ready { CanCountRuns self.old }
-        requires few { self.old.runs < 2 ^ 20 }
+        requires few { self.old.runs < most_jobs }
         ensures { OnOk result ((d : AJob) → AddsJob job.now.plan.now.answers (job_at job.now.plan.now job.now.place d) self.old self.new) }
     {
         let Ok(machine) = machine_at_reusing(alloc, job.plan, job.place, job.image, spare)? else {
@@ -62,8 +59,7 @@ impl RunsCounter {
         budget: u32,
     ) -> Result<Machine, AllocError>
         requires ready { CanCountRuns self.old }
-        requires few { self.old.runs < 2 ^ 20 }
-        requires even { (state_of machine).pc % 2 ≡ 0 }
+        requires few { self.old.runs < most_jobs }
         ensures { OnOk result (AddsRun budget (Some (state_of machine)) self.old self.new) }
     {
         self.counter.codes.fetch_again(machine.bus());
@@ -71,36 +67,4 @@ impl RunsCounter {
         self.runs += 1;
         Ok(machine)
     }
-}
-
-// Runs a machine and counts what it executed, in addition to earlier counts. Returns the machine after the run.
-fn follow_run(
-    counter: &mut Counter,
-    machine: Machine,
-    budget: u32,
-) -> Result<Machine, AllocError>
-    requires tallied { EachTallied (counts_of counter.old) }
-    requires few { (at : ℕ) → begun_at at (counts_of counter.old) < 2 ^ 61 }
-    requires indexed { IsIndexed counter.old.tally }
-    requires right { AreRight counter.old.codes (state_of machine) }
-    requires generations { counter.old.codes.generation < 2 ^ 61 }
-    ensures { OnOk result (HasCountedOn (counts_of counter.old) counter.old.codes.generation budget (state_of machine) counter.new) }
-{
-    let mut machine = machine;
-    let mut left = budget;
-    'steps: while left > 0 {
-        let block = counter.find_block(&machine, left);
-        if block.steps == 0 {
-            if !counter.step_uncached(&mut machine)?.completed {
-                return Ok(machine);
-            }
-            left -= 1;
-        } else {
-            if counter.run_block(&mut machine, block)?.steps != block.steps {
-                return Ok(machine);
-            }
-            left -= block.steps;
-        }
-    }
-    Ok(machine)
 }

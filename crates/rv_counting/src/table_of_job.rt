@@ -1,18 +1,18 @@
-//! The table of one job of a plan.
+//! The table of jobs of one image.
 
-ghost use Rattle.std.specs.Prelude.{◌≡◌, ◌<◌, ◌∷◌, [], IfOk, true, length};
+ghost use Rattle.std.specs.Prelude.{◌≡◌, ◌%◌, ◌<◌, ◌≤◌, ◌∷◌, [], ℕ, IfOk, List, OnOk, true, length};
 ghost use Rattle.std.specs.List.{AllByRecursion};
 ghost use Rattle.std.specs.Str.{IsUtf8};
 ghost use Rattle.sha2.specs.Sha256.{sha256};
+ghost use Rattle.rv_count_tables.specs.declared.table.AddressCounts.{AddressCounts};
 ghost use Rattle.rv_count_tables.specs.Lines.{lacks};
 ghost use Rattle.rv_count_tables.specs.Sum.{no_counts};
-ghost use Rattle.rv_count_tables.specs.Table.{AreCounts, IsTable};
+ghost use Rattle.rv_count_tables.specs.Table.{begun_at, IsTable};
+ghost use Rattle.rv_fleet.specs.Choices.{AreJobIndices};
 ghost use Rattle.rv_jobs.specs.declared_job.Job.{Job as AJob};
+ghost use Rattle.rv_jobs.specs.Limits.{most_jobs};
 ghost use Rattle.rv_text.specs.Printable.{printable_text};
 ghost use Rattle.rv_trace.specs.Trace.{job_at};
-ghost use Rattle.rv_jobs.specs.Limits.{most_jobs};
-ghost use Rattle.rv_fleet.specs.Choices.{AreJobIndices};
-ghost use Rattle.rv_count_tables.specs.declared.table.AddressCounts.{AddressCounts};
 ghost use Rattle.rv_counting.specs.BatchPieces.{HaveOneImage};
 ghost use Rattle.rv_counting.specs.Counters.{counts_of};
 ghost use Rattle.rv_counting.specs.JobTables.{IsTableOfPiece, table_of_runs};
@@ -67,7 +67,7 @@ fn count_place(
 ) -> Result<(), AllocError>
     requires within { place < length plan.now.jobs }
     requires ready { CanCountRuns counter.old }
-    requires few { counter.old.runs < 2 ^ 20 }
+    requires few { counter.old.runs < most_jobs }
     ensures { OnOk result ((d : AJob) → AddsJob plan.now.answers (job_at plan.now place d) counter.old counter.new) }
 {
     let Some(bytes) = image_bytes(plan, place) else {
@@ -102,13 +102,14 @@ fn table_of_runs(
     counter: RunsCounter,
 ) -> Result<CountTable, AllocError>
     requires ready { CanCountRuns counter }
+    requires even { (at : ℕ) → at % 2 ≡ 1 → begun_at at (counts_of counter.counter) ≡ 0 }
     requires few { counter.runs ≤ most_jobs }
     ensures value { IfOk result (λ table. (addresses : List AddressCounts) × IsSorted (counts_of counter.counter) addresses
         × (table ≡ table_of_runs counter.runs path.now bytes.now addresses)) }
     ensures table { IfOk result IsTable }
 {
     let runs = counter.runs;
-    let addresses = counter.counter.into_addresses();
+    let addresses = counter.counter.tally.into_addresses();
     let digest = digest_of(alloc, bytes)?;
     let path = shown_text(alloc, path.as_bytes())?;
     let images = images_of_one(

@@ -7,16 +7,15 @@ use Rattle.rv_counting.proofs.runs_counter.RunsCounter.new.Goals as goal
 
 pub returns : goal.returns
 returns c = λ answers.
-    let none = c.in_ok-counter.ensures.none in record {
+    let is = c.in_ok-counter.ensures.new in record {
       ready = record {
-        tallied = subst (λ (cs : List AddressCounts). EachTallied cs) (sym none) tt;
-        indexed = c.in_ok-counter.ensures.indexed;
-        codes = c.in_ok-counter.ensures.codes;
-        few = λ at. let e = ap (begun_at at) none in omega (arith, e);
-        even = λ at odd. ap (begun_at at) none;
-        generations = (let f = c.in_ok-counter.ensures.first in omega (arith, f));
+        tallied = subst (λ (cs : List AddressCounts). EachTallied cs) (sym is.none) tt;
+        indexed = is.indexed;
+        codes = is.codes;
+        few = λ at. let e = ap (begun_at at) is.none in omega (arith, e);
+        generations = (let f = is.first in omega (arith, f));
       };
       runs = omega arith;
-      begun = λ at. ap (begun_at at) none;
-      taken = λ at. ap (taken_at at) none;
+      begun = λ at. ap (begun_at at) is.none;
+      taken = λ at. ap (taken_at at) is.none;
     }

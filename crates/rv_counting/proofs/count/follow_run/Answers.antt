@@ -4,7 +4,7 @@ use Rattle.rv_machine.specs.Machine.{state_of}
 use Rattle.rv_counting.specs.Counters.{counts_of, IsCountingOn}
 use Rattle.rv_counting.proofs.Counted.{none_so_far}
 use Rattle.rv_counting.proofs.Counters.{counted_all_on, equal_tests, ready_on, unequal_tests}
-use Rattle.rv_counting.proofs.runs_counter.follow_run.Goals as goal
+use Rattle.rv_counting.proofs.count.follow_run.Goals as goal
 
 pub steps-init : goal.steps-init
 steps-init c =

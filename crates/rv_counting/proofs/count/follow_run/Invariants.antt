@@ -2,7 +2,7 @@
 use Rattle.std.proofs.Common.{◌-◌, ◌≤◌}
 use Rattle.rv_machine.specs.Machine.{state_of}
 use Rattle.rv_counting.specs.Counters.{counts_of, IsCountingOn}
-use Rattle.rv_counting.proofs.runs_counter.follow_run.Given as goal
+use Rattle.rv_counting.proofs.count.follow_run.Given as goal
 
 abbrev pub invariant-steps : goal.invariant-steps
 invariant-steps l = record {
