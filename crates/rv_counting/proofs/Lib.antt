@@ -11,7 +11,7 @@ pub mod Evens
 pub mod Counting
 pub mod Counters
 pub mod FetchedAgain
-pub mod Pieces
+pub mod ImagePieces
 pub mod RunCounts
 pub mod Lookups
 pub mod Sorted

@@ -1,7 +1,10 @@
 -- The table of jobs of one image.
-use Rattle.std.proofs.Common.{◌≡◌, ◌∙◌, ◌+◌, ◌*◌, ◌^◌, ◌<◌, ◌≤◌, ℕ, Bool, true, false, cond, List, [], ◌∷◌, zero, suc, Option, Some, None, Result, Ok, Err, option_map, refl, sym, ap, subst, arith}
-use Rattle.std.specs.Prelude.{is_ok}
+use Rattle.std.proofs.Common.{◌≡◌, ◌∙◌, ◌+◌, ◌*◌, ◌^◌, ◌<◌, ◌≤◌, ℕ, Bool, true, false, cond, List, [], ◌∷◌, zero, suc, Option, Some, None, Result, Ok, Err, get_or, length, map, option_map, refl, sym, ap, subst, arith}
+use Rattle.std.proofs.lemmas.List.{length-map}
+use Rattle.std.proofs.lemmas.List.Sums.{sum_by-cons}
+use Rattle.std.specs.Prelude.{is_ok, IfOk}
 use Rattle.std.specs.List.{sum_by, AllByRecursion}
+use Rattle.std.specs.declared.alloc.AllocError.{AllocError}
 use Rattle.std.specs.Result.{result_ok}
 use Rattle.std.specs.Str.{bytes_eq}
 use Rattle.sha2.specs.Sha256.{sha256}
@@ -12,16 +15,21 @@ use Rattle.rv_count_tables.specs.Sum.{no_counts}
 use Rattle.rv_count_tables.specs.Table.{begun_at, taken_at, is_before, least_path, least_path_of, IsTable}
 use Rattle.rv_jobs.specs.declared.answers.Answer.{Answer}
 use Rattle.rv_jobs.specs.declared_job.Job.{Job}
+use Rattle.rv_jobs.specs.Jobs.{single_job}
+use Rattle.rv_jobs.specs.Plans.{kept_for, Planned}
 use Rattle.rv_machine.specs.State.{State}
 use Rattle.rv_report.specs.declared.row.Refusal.{Refusal}
-use Rattle.rv_rows.specs.Rows.{start_in}
+use Rattle.rv_rows.specs.Rows.{content_if_read, start_in}
 use Rattle.rv_text.specs.Printable.{printable_text}
-use Rattle.rv_trace.specs.Trace.{image_bytes}
-use Rattle.rv_counting.proofs.OfJobs.{no_counts_are_few, no_counts_have_none, no_counts_is_table, not_over, run_has_none}
+use Rattle.rv_trace.specs.Trace.{image_bytes, job_at}
+use Rattle.rv_counting.proofs.OfJobs.{no_counts_are_few, no_counts_have_none, no_counts_is_table, none_if_no_ok, not_ok_if_none, not_over, run_has_none}
+use Rattle.rv_counting.proofs.RunCounts.{few_runs}
+use Rattle.rv_counting.proofs.Starts.{no_bytes}
 use Rattle.rv_counting.specs.declared.runs_counter.RunsCounter.{RunsCounter}
+use Rattle.rv_counting.specs.BatchPieces.{HaveOneImage}
 use Rattle.rv_counting.specs.Counters.{counts_of}
 use Rattle.rv_counting.specs.Coverage.{once_if}
-use Rattle.rv_counting.specs.JobTables.{has_digest, start_over, begun_from, taken_from, begun_by, taken_by, path_by, runs_by, first_path, table_of_runs, IsTableOfFew, IsTableOfJobs}
+use Rattle.rv_counting.specs.JobTables.{has_digest, start_over, begun_from, taken_from, begun_by, taken_by, path_by, runs_by, first_path, jobs_at, table_of_runs, IsTableOfFew, IsTableOfJobs, IsTableOfPiece}
 use Rattle.rv_counting.specs.RunCounts.{begun_of, taken_of, HasCountedJobs}
 use Rattle.rv_counting.specs.Tallies.{IsSorted}
 
@@ -53,15 +61,17 @@ module _ (answers : List Answer) where
       → sum_by f js ≡ 0
   none_of_all f each [] none = refl
   none_of_all f each (j ∷ js) none =
-      let first = each j (omega (arith, none)) in
-      let rest = none_of_all f each js (omega (arith, none)) in
-      omega (arith, first, rest)
+      let runs = sum_by-cons (runs_by answers) j js in
+      let first = each j (omega (arith, none, runs)) in
+      let rest = none_of_all f each js (omega (arith, none, runs)) in
+      omega (arith, first, rest, sum_by-cons f j js)
 
   no_first_path : (digest : List ℕ) (js : List Job) → sum_by (runs_by answers) js ≡ 0 → first_path answers digest js ≡ None
   no_first_path digest [] none = refl
   no_first_path digest (j ∷ js) none =
-      (λ i. least_path_of (no_path j (omega (arith, none)) digest i) (first_path answers digest js))
-      ∙ no_first_path digest js (omega (arith, none))
+      let runs = sum_by-cons (runs_by answers) j js in
+      (λ i. least_path_of (no_path j (omega (arith, none, runs)) digest i) (first_path answers digest js))
+      ∙ no_first_path digest js (omega (arith, none, runs))
 
   pub none_ran : (js : List Job) → sum_by (runs_by answers) js ≡ 0 → IsTableOfJobs answers js no_counts
   none_ran js none = record {
@@ -96,11 +106,11 @@ module _ (answers : List Answer) where
     sums_to true f g each (j ∷ js) over =
         let first = each j over.0 in
         let rest = sums_to true f g each js over.1 in
-        omega (arith, first, rest)
+        omega (arith, first, rest, sum_by-cons f j js, sum_by-cons g j js)
     sums_to false f g each (j ∷ js) over =
         let first = each j over.0 in
         let rest = sums_to false f g each js over.1 in
-        omega (arith, first, rest)
+        omega (arith, first, rest, sum_by-cons f j js)
 
     same_least : (p : List ℕ) → least_path p p ≡ p
     same_least p = by (is_before p p)
@@ -127,10 +137,11 @@ module _ (answers : List Answer) where
         → first_path answers digest js ≡ cond (bytes_eq (sha256 file) digest) (Some shown) None
     path_first digest [] over some = absurd (omega (arith, some))
     path_first digest (j ∷ js) over some =
+        let runs = sum_by-cons (runs_by answers) j js in
         (λ i. least_path_of (option_map (λ (s : State). printable_text (over.0.image i)) (over_file digest j over.0 i))
         (first_path answers digest js))
         ∙ first_is_path (bytes_eq (sha256 file) digest) (start_in answers j) (first_path answers digest js) (sum_by (runs_by answers) js)
-        (no_first_path digest js, path_first digest js over.1) some
+        (no_first_path digest js, path_first digest js over.1) (omega (arith, some, runs))
 
     picked_few : (b : Bool) (n m : ℕ) → n ≤ m → cond b n 0 ≤ m
     picked_few true n m h = h
@@ -177,3 +188,62 @@ module _ (answers : List Answer) where
             stacks = run_has_none c.runs path file cs;
           }
           )
+
+-- ---- the jobs at some indices
+
+pub both_ok : (r : Result CountTable AllocError) (P Q R : CountTable → Type 0) → ((t : CountTable) → P t → Q t → R t)
+    → IfOk r P → IfOk r Q → IfOk r R
+both_ok (Ok t) P Q R f p q = f t p q
+both_ok (Err why) P Q R f p q = tt
+
+module _ (plan : Planned) (places : List ℕ) where
+  abbrev no_job : Job
+  no_job = single_job [] 0 []
+
+  abbrev job : ℕ → Job
+  job k = job_at plan (get_or places k 0) no_job
+
+  pub nothing_ran : (t : CountTable) → t ≡ no_counts → sum_by (runs_by plan.answers) (jobs_at plan places) ≡ 0
+      → IsTableOfPiece plan places t
+  nothing_ran t is none = subst (IsTableOfPiece plan places) (sym is)
+      (record { table = none_ran plan.answers (jobs_at plan places) none; few = no_counts_are_few (length places) })
+
+  module _ (same : HaveOneImage plan places) where
+    each_of : (P : Job → Type 0) (ps : List ℕ) → ((k : ℕ) → k < length ps → P (job_at plan (get_or ps k 0) no_job))
+        → AllByRecursion P (jobs_at plan ps)
+    each_of P [] h = tt
+    each_of P (p ∷ ps) h = (h 0 (omega arith), each_of P ps (λ k lt. h (suc k) (omega (arith, lt))))
+
+    same_bytes : (k : ℕ) → k < length places → image_bytes plan.answers (job k) ≡ image_bytes plan.answers (job 0)
+    same_bytes k lt = ap (λ (path : List ℕ). content_if_read (Some (kept_for plan.answers path))) (same k no_job lt)
+
+    -- without an image
+    none_of_each : (js : List Job) → AllByRecursion (λ j. runs_by plan.answers j ≡ 0) js → sum_by (runs_by plan.answers) js ≡ 0
+    none_of_each [] h = refl
+    none_of_each (j ∷ js) h =
+        let first = h.0 in
+        let rest = none_of_each js h.1 in
+        omega (arith, first, rest, sum_by-cons (runs_by plan.answers) j js)
+
+    no_run : image_bytes plan.answers (job 0) ≡ None → (k : ℕ) → k < length places → runs_by plan.answers (job k) ≡ 0
+    no_run none k lt =
+        let start = start_in plan.answers (job k) in
+        ap once_if (not_ok_if_none start (none_if_no_ok start (λ s is. no_bytes (job k) s plan.answers (same_bytes k lt ∙ none) is)))
+
+    pub no_image_ran : (t : CountTable) → t ≡ no_counts → image_bytes plan.answers (job 0) ≡ None → IsTableOfPiece plan places t
+    no_image_ran t is none = nothing_ran t is (none_of_each (jobs_at plan places) (each_of _ places (no_run none)))
+
+    -- with an image
+    pub image_ran : (file path : List ℕ) (c : RunsCounter) (cs : List AddressCounts) (t : CountTable)
+        → image_bytes plan.answers (job 0) ≡ Some file → (job 0).image ≡ path
+        → HasCountedJobs plan.answers (jobs_at plan places) c → 0 < c.runs → IsSorted (counts_of c.counter) cs
+        → t ≡ table_of_runs c.runs path file cs → IsTable t → IsTableOfPiece plan places t
+    image_ran file path c cs t bytes image h some sorted is table =
+        let over = each_of (IsOver plan.answers file path) places
+        (λ k lt. record { bytes = same_bytes k lt ∙ bytes; image = same k no_job lt ∙ image }) in
+        let few = few_runs plan.answers (jobs_at plan places) in
+        let long = length-map places (λ place. job_at plan place no_job) in
+        let runs = h.runs in record {
+          table = some_ran plan.answers file path (jobs_at plan places) over c cs h sorted t is some table;
+          few = few_ran plan.answers file path (jobs_at plan places) over c cs h sorted t is (length places) (omega (arith, few, long, runs));
+        }

@@ -1,22 +1,27 @@
 -- Runs that are counted in addition to others.
-use Rattle.std.proofs.Common.{◌≡◌, ◌∙◌, ◌+◌, ◌*◌, ◌%◌, ◌^◌, ◌<◌, ◌≤◌, ℕ, true, false, List, [], ◌∷◌, ◌++◌, Option, Some, None, Result, Ok, Err, length, refl, sym, ap, subst, arith}
+use Rattle.std.proofs.Common.{◌≡◌, ◌∙◌, ◌+◌, ◌*◌, ◌%◌, ◌^◌, ◌<◌, ◌≤◌, ℕ, true, false, List, [], ◌∷◌, ◌++◌, Option, Some, None, Result, Ok, Err, get_or, length, map, take, refl, sym, ap, subst, arith}
 use Rattle.std.specs.Prelude.{is_ok, is_some}
-use Rattle.std.proofs.lemmas.List.Sums.{sum_by-append}
+use Rattle.std.proofs.lemmas.List.{map-append, take_more}
+use Rattle.std.proofs.lemmas.List.Sums.{sum_by_push, sum_by-cons}
 use Rattle.std.specs.List.{sum_by}
 use Rattle.std.specs.Result.{result_ok}
 use Rattle.rv_count_tables.specs.declared.table.AddressCounts.{AddressCounts}
 use Rattle.rv_count_tables.specs.Table.{begun_at, taken_at}
 use Rattle.rv_jobs.specs.declared.answers.Answer.{Answer}
 use Rattle.rv_jobs.specs.declared_job.Job.{Job}
+use Rattle.rv_jobs.specs.Jobs.{single_job}
+use Rattle.rv_jobs.specs.Plans.{Planned}
 use Rattle.rv_machine.specs.State.{State}
 use Rattle.rv_report.specs.declared.row.Refusal.{Refusal}
 use Rattle.rv_rows.specs.Rows.{start_in}
+use Rattle.rv_trace.specs.Trace.{job_at}
 use Rattle.rv_counting.proofs.Evens.{few_begin, none_at_odd}
+use Rattle.rv_counting.proofs.OfJobs.{none_if_no_ok}
 use Rattle.rv_counting.proofs.Starts.{start_even}
 use Rattle.rv_counting.specs.declared.runs_counter.RunsCounter.{RunsCounter}
 use Rattle.rv_counting.specs.Counters.{counts_of, HasCountedOn}
 use Rattle.rv_counting.specs.Coverage.{once_if}
-use Rattle.rv_counting.specs.JobTables.{begun_from, taken_from, runs_by}
+use Rattle.rv_counting.specs.JobTables.{begun_from, taken_from, jobs_at, runs_by}
 use Rattle.rv_counting.specs.RunCounts.{begun_of, taken_of, AddsJob, AddsRun, CanCountRuns, HasCountedJobs}
 
 -- ---- one run more
@@ -30,6 +35,21 @@ adds_none budget start c h none = subst (λ (o : Option State). AddsRun budget o
       taken = λ at. omega arith;
     }
     )
+
+-- a refused job has no run
+pub refused_job : (answers : List Answer) (job : Job) (c : RunsCounter) → CanCountRuns c → ((s : State) → start_in answers job ≡ Ok s → ⊥)
+    → AddsJob answers job c c
+refused_job answers job c h none =
+    adds_none job.budget (result_ok (start_in answers job)) c h (none_if_no_ok (start_in answers job) none)
+
+pub refused_as : (answers : List Answer) (job : Job) (why : Refusal) (c : RunsCounter) → CanCountRuns c → start_in answers job ≡ Err why
+    → AddsJob answers job c c
+refused_as answers job why c h is = adds_none job.budget (result_ok (start_in answers job)) c h (ap result_ok is)
+
+pub ran_job : (answers : List Answer) (job : Job) (s : State) (old new : RunsCounter) → start_in answers job ≡ Ok s
+    → AddsRun job.budget (Some s) old new → AddsJob answers job old new
+ran_job answers job s old new start adds =
+    subst (λ (r : Result State Refusal). AddsRun job.budget (result_ok r) old new) (sym start) adds
 
 module _ (budget g : ℕ) (s : State) (base : List AddressCounts) (old new : RunsCounter) (fits : budget < 2 ^ 32) (h : CanCountRuns old)
     (same : base ≡ counts_of old.counter) (early : g ≡ old.counter.codes.generation)
@@ -68,19 +88,30 @@ one_job_more answers js j old new h adds = record {
   runs = (let a = adds.runs in
       let r = h.runs in
       let o = ok_is_some (start_in answers j) in
-      let e = sum_by-append (runs_by answers) js (j ∷ []) in
+      let e = sum_by_push (runs_by answers) js j in
       omega (arith, a, r, o, e));
   begun = λ at.
       let a = adds.begun at in
       let b = h.begun at in
-      let e = sum_by-append (begun_of answers at) js (j ∷ []) in
+      let e = sum_by_push (begun_of answers at) js j in
       omega (arith, a, b, e);
   taken = λ at.
       let a = adds.taken at in
       let b = h.taken at in
-      let e = sum_by-append (taken_of answers at) js (j ∷ []) in
+      let e = sum_by_push (taken_of answers at) js j in
       omega (arith, a, b, e);
 }
+
+module _ (plan : Planned) (places : List ℕ) where
+  pub next_job : (k : ℕ) (old new : RunsCounter) → k < length places → HasCountedJobs plan.answers (jobs_at plan (take k places)) old
+      → ((d : Job) → AddsJob plan.answers (job_at plan (get_or places k 0) d) old new)
+      → HasCountedJobs plan.answers (jobs_at plan (take (k + 1) places)) new
+  next_job k old new lt h adds =
+      let no_job = single_job [] 0 [] in
+      let place = get_or places k 0 in
+      subst (λ ps. HasCountedJobs plan.answers (jobs_at plan ps) new) (sym (take_more places k 0 lt))
+      (subst (λ js. HasCountedJobs plan.answers js new) (sym (map-append (λ place. job_at plan place no_job) (take k places) (place ∷ [])))
+      (one_job_more plan.answers (jobs_at plan (take k places)) (job_at plan place no_job) old new h (adds no_job)))
 
 -- there are no more runs than jobs
 at_most_one : (r : Result State Refusal) → once_if (is_ok r) ≤ 1
@@ -90,7 +121,9 @@ at_most_one (Err why) = omega arith
 pub few_runs : (answers : List Answer) (js : List Job) → sum_by (runs_by answers) js ≤ length js
 few_runs answers [] = omega arith
 few_runs answers (j ∷ js) =
-    let first = at_most_one (start_in answers j) in let rest = few_runs answers js in omega (arith, first, rest)
+    let first = at_most_one (start_in answers j) in
+    let rest = few_runs answers js in
+    omega (arith, first, rest, sum_by-cons (runs_by answers) j js)
 
 -- no run executes an instruction at an odd address
 module _ (answers : List Answer) (at : ℕ) (odd : at % 2 ≡ 1) where
@@ -103,7 +136,8 @@ module _ (answers : List Answer) (at : ℕ) (odd : at % 2 ≡ 1) where
 
   none_of_jobs : (js : List Job) → sum_by (begun_of answers at) js ≡ 0
   none_of_jobs [] = refl
-  none_of_jobs (j ∷ js) = let first = none_of_job j in let rest = none_of_jobs js in omega (arith, first, rest)
+  none_of_jobs (j ∷ js) =
+      let first = none_of_job j in let rest = none_of_jobs js in omega (arith, first, rest, sum_by-cons (begun_of answers at) j js)
 
   pub none_counted_at_odd : (js : List Job) (c : RunsCounter) → HasCountedJobs answers js c → begun_at at (counts_of c.counter) ≡ 0
   none_counted_at_odd js c h = h.begun at ∙ none_of_jobs js

@@ -1,6 +1,6 @@
 //! The counts of several runs of one image.
 
-ghost use Rattle.std.specs.Prelude.{◌<◌, [], IfOk, OnOk, Some};
+ghost use Rattle.std.specs.Prelude.{◌<◌, [], IfOk, List, OnOk, Some};
 ghost use Rattle.rv_jobs.specs.declared.answers.Answer.{Answer};
 ghost use Rattle.rv_jobs.specs.declared_job.Job.{Job as AJob};
 ghost use Rattle.rv_jobs.specs.Limits.{most_jobs};
