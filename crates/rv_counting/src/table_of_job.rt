@@ -108,8 +108,8 @@ fn table_of_runs(
         × (table ≡ table_of_runs counter.runs path.now bytes.now addresses)) }
     ensures table { IfOk result IsTable }
 {
-    let runs = counter.runs;
-    let addresses = counter.counter.tally.into_addresses();
+    let RunsCounter { counter, runs } = counter;
+    let addresses = counter.tally.into_addresses();
     let digest = digest_of(alloc, bytes)?;
     let path = shown_text(alloc, path.as_bytes())?;
     let images = images_of_one(
