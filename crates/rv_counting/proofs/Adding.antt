@@ -195,7 +195,7 @@ wanting n m t u Runs few h k no_sum =
 -- ---- the tables of pieces
 
 take_both : (n m : ℕ) (xs : List ℕ) → take (n + m) xs ≡ take n xs ++ take m (drop n xs)
-take_both zero m xs = refl
+take_both zero m xs = let on : zero + m ≡ m = omega arith in ap (λ k. take k xs) on
 take_both (suc n) zero [] = let on : suc n + 0 ≡ suc (n + 0) = omega arith in ap (λ k. take k []) on
 take_both (suc n) (suc m) [] = let on : suc n + suc m ≡ suc (n + suc m) = omega arith in ap (λ k. take k []) on
 take_both (suc n) m (x ∷ xs) =
@@ -219,7 +219,9 @@ module _ (plan : Planned) (places : List ℕ) (pieces : List Piece) (are : ArePi
       let piece = piece_in pieces n in
       let h = are.each n lt in
       let some = h.some in
-      let more : start_of pieces (n + 1) ≡ piece.from + (piece.to - piece.from) = omega (arith, some) in
+      let on : n + 1 ≡ suc n = omega arith in
+      let next : start_of pieces (n + 1) ≡ piece.to = ap (λ k. start_of pieces k) on in
+      let more : start_of pieces (n + 1) ≡ piece.from + (piece.to - piece.from) = omega (arith, some, next) in
       ap (λ m. take m places ++ places_of places piece) (sym h.starts)
       ∙ sym (take_both piece.from (piece.to - piece.from) places) ∙ ap (λ m. take m places) (sym more)
 

@@ -86,7 +86,7 @@ module _ (plan : Planned) (places : List ℕ) (from : ℕ) (pieces : List Piece)
         (sym e) last)
         (λ (apart : k ≢ length pieces). let n = long in earlier k (omega (arith, lt, n, apart)))
         (cases_eq k (length pieces));
-    all = ap (start_of (pieces ++ piece ∷ [])) (long ∙ one_on) ∙ ap (λ (p : Piece). p.to) here;
+    all = ap (λ n. start_of (pieces ++ piece ∷ []) n) (long ∙ one_on) ∙ ap (λ (p : Piece). p.to) here;
   }
     where
       one_on : length pieces + 1 ≡ suc (length pieces)

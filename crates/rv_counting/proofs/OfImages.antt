@@ -1,5 +1,5 @@
 -- The table of jobs of one image.
-use Rattle.std.proofs.Common.{◌≡◌, ◌∙◌, ◌+◌, ◌*◌, ◌^◌, ◌<◌, ◌≤◌, ℕ, Bool, true, false, cond, List, [], ◌∷◌, zero, suc, Option, Some, None, Result, Ok, Err, get_or, length, map, option_map, refl, sym, ap, subst, arith}
+use Rattle.std.proofs.Common.{◌≡◌, ◌∙◌, ◌+◌, ◌*◌, ◌^◌, ◌<◌, ◌≤◌, ℕ, Bool, true, false, cond, List, [], ◌∷◌, zero, suc, Option, Some, None, Result, Ok, Err, get_or, length, option_map, refl, sym, ap, subst, arith}
 use Rattle.std.proofs.lemmas.List.{length-map}
 use Rattle.std.proofs.lemmas.List.Sums.{sum_by-cons}
 use Rattle.std.specs.Prelude.{is_ok, IfOk}
@@ -12,7 +12,7 @@ use Rattle.rv_count_tables.proofs.Public.{none_behind}
 use Rattle.rv_count_tables.specs.declared.table.AddressCounts.{AddressCounts}
 use Rattle.rv_count_tables.specs.declared.table.CountTable.{CountTable}
 use Rattle.rv_count_tables.specs.Sum.{no_counts}
-use Rattle.rv_count_tables.specs.Table.{begun_at, taken_at, is_before, least_path, least_path_of, IsTable}
+use Rattle.rv_count_tables.specs.Table.{begun_at, is_before, least_path, least_path_of, IsTable}
 use Rattle.rv_jobs.specs.declared.answers.Answer.{Answer}
 use Rattle.rv_jobs.specs.declared_job.Job.{Job}
 use Rattle.rv_jobs.specs.Jobs.{single_job}
@@ -38,7 +38,7 @@ none_if_not_ok (Ok s) h = cc
 none_if_not_ok (Err why) h = refl
 
 not_ok_if_no_run : (r : Result State Refusal) → once_if (is_ok r) ≡ 0 → is_ok r ≡ false
-not_ok_if_no_run (Ok s) h = cc
+not_ok_if_no_run (Ok s) h = absurd (omega (arith, h))
 not_ok_if_no_run (Err why) h = refl
 
 module _ (answers : List Answer) where
@@ -197,10 +197,10 @@ both_ok (Ok t) P Q R f p q = f t p q
 both_ok (Err why) P Q R f p q = tt
 
 module _ (plan : Planned) (places : List ℕ) where
-  abbrev no_job : Job
+  abbrev pub no_job : Job
   no_job = single_job [] 0 []
 
-  abbrev job : ℕ → Job
+  abbrev pub job : ℕ → Job
   job k = job_at plan (get_or places k 0) no_job
 
   pub nothing_ran : (t : CountTable) → t ≡ no_counts → sum_by (runs_by plan.answers) (jobs_at plan places) ≡ 0

@@ -1,30 +1,27 @@
 -- Tables of jobs: of one, of some more, and of the same in another order.
-use Rattle.std.proofs.Common.{Fits, w8, ◌≡◌, ◌∙◌, ◌==◌, ◌+◌, ◌^◌, ◌<◌, ◌≤◌, inl, inr, ℕ, suc, Bool, true, false, cond, List, [], ◌∷◌, ◌++◌, Option, Some, None, Result, Ok, Err, option_map, get_or, refl, sym, ap, subst, arith}
+use Rattle.std.proofs.Common.{Fits, w8, ◌≡◌, ◌∙◌, ◌==◌, ◌+◌, ◌^◌, ◌<◌, inl, inr, ℕ, suc, Bool, true, false, cond, List, [], ◌∷◌, ◌++◌, Option, Some, None, Result, Ok, Err, option_map, get_or, refl, sym, ap, subst, arith}
 use Rattle.std.proofs.lemmas.Bool.{false≢true}
 use Rattle.std.proofs.lemmas.List.Sums.{sum_by-append}
 use Rattle.std.specs.Prelude.{is_ok}
-use Rattle.std.specs.Prelude.{IfOk}
 use Rattle.std.specs.List.{AllByRecursion}
-use Rattle.std.specs.declared.alloc.AllocError.{AllocError}
 use Rattle.std.specs.Result.{result_ok}
 use Rattle.std.specs.Cmp.Lexicographic.{bytes_decides}
 use Rattle.std.specs.Str.{bytes_eq}
 use Rattle.sha2.specs.Sha256.{sha256}
-use Rattle.rv_count_tables.proofs.Public.{any_first, none_behind}
+use Rattle.rv_count_tables.proofs.Public.{any_first}
 use Rattle.rv_count_tables.specs.declared.table.AddressCounts.{AddressCounts}
 use Rattle.rv_count_tables.specs.declared.table.CountTable.{CountTable}
 use Rattle.rv_count_tables.specs.declared.table.FunctionName.{FunctionName}
 use Rattle.rv_count_tables.specs.declared.table.ImageCounts.{ImageCounts}
 use Rattle.rv_count_tables.specs.declared.sum.SumError.TheVariants.{Names}
 use Rattle.rv_count_tables.specs.Sum.{HasName, HasNameIn, HaveNoSum, IsSum, no_counts}
-use Rattle.rv_count_tables.specs.Table.{begun_at, taken_at, name_at, name_in, least_path, least_path_of, digests_rise, names_rise, AreNames, AreNamesOf, AreSpots, IsImage, IsTable}
+use Rattle.rv_count_tables.specs.Table.{name_at, name_in, least_path, least_path_of, digests_rise, names_rise, AreNames, AreNamesOf, AreSpots, IsImage, IsTable}
 use Rattle.rv_jobs.specs.declared.answers.Answer.{Answer}
 use Rattle.rv_jobs.specs.declared_job.Job.{Job}
 use Rattle.rv_machine.specs.State.{State}
 use Rattle.rv_report.specs.declared.row.Refusal.{Refusal}
 use Rattle.rv_rows.specs.Rows.{start_in}
-use Rattle.rv_text.specs.Printable.{printable_text}
-use Rattle.rv_counting.specs.Coverage.{once_if, begun_in_run, taken_in_run, AreCountsOf}
+use Rattle.rv_counting.specs.Coverage.{begun_in_run, taken_in_run}
 use Rattle.rv_counting.specs.JobTables.{has_digest, start_over, begun_from, taken_from, begun_by, taken_by, path_by, runs_by, first_path, table_of_runs, HasNoStacks, IsTableOfFew, IsTableOfJobs}
 use Rattle.rv_trace.specs.Trace.{image_bytes}
 
