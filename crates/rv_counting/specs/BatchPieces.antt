@@ -1,5 +1,5 @@
 -- The pieces of a batch.
-use Rattle.std.specs.Prelude.{◌≡◌, ◌-◌, ◌<◌, ◌≤◌, ℕ, zero, suc, List, length, take, drop, slice_index_or}
+use Rattle.std.specs.Prelude.{◌≡◌, ◌<◌, ◌≤◌, ℕ, zero, suc, List, length, slice_index_or, slice_range}
 use Rattle.rv_jobs.specs.declared_job.Job.{Job}
 use Rattle.rv_jobs.specs.Plans.{Planned}
 use Rattle.rv_trace.specs.Trace.{job_at}
@@ -15,7 +15,7 @@ piece_in pieces k = slice_index_or pieces k (record { from = 0; to = 0 })
 
 -- the indices of a piece
 abbrev pub places_of : List ℕ → Piece → List ℕ
-places_of places piece = take (piece.to - piece.from) (drop piece.from places)
+places_of places piece = slice_range places piece.from piece.to
 
 -- where a piece must begin: at the end of the one before it
 abbrev pub start_of : List Piece → ℕ → ℕ
