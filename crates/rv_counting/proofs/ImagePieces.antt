@@ -2,7 +2,7 @@
 use Rattle.std.proofs.Common.{◌≡◌, ◌∙◌, ◌+◌, ◌-◌, ◌<◌, ◌≤◌, ◌≢◌, ⊎_elim, ℕ, zero, suc, List, [], ◌∷◌, ◌++◌, length, take, drop, get_or, refl, sym, ap, subst, arith}
 use Rattle.std.proofs.Math.Seq.{get_or-append_seam}
 use Rattle.std.proofs.lemmas.Bool.{cases_eq}
-use Rattle.std.proofs.lemmas.List.{get_or-drop, get_or-take, get_or_append_left, get_or_read, length-append, length-drop, length-take}
+use Rattle.std.proofs.lemmas.List.{get_or-drop, get_or-take, get_or_append_left, length-append, length-drop, length-take}
 use Rattle.std.proofs.lemmas.List.Elements.{All-drop, All-take}
 use Rattle.rv_fleet.specs.Choices.{AreJobIndices}
 use Rattle.rv_jobs.specs.declared_job.Job.{Job}
@@ -94,24 +94,27 @@ module _ (plan : Planned) (places : List ℕ) (from : ℕ) (pieces : List Piece)
       one_on : length pieces + 1 ≡ suc (length pieces)
       one_on = omega arith
 
--- ---- one of them that was read
+-- ---- one of them
 
-module _ (plan : Planned) (places : List ℕ) (pieces : List Piece) (are : ArePieces plan places pieces) (number : ℕ) (piece : Piece)
-    (lt : number < length pieces) (read : piece ≡ get_or pieces number piece) where
-  pub piece_read : piece ≡ piece_in pieces number
-  piece_read = get_or_read pieces number piece lt read (record { from = 0; to = 0 })
+module _ (plan : Planned) (places : List ℕ) (pieces : List Piece) (are : ArePieces plan places pieces) (number : ℕ)
+    (lt : number < length pieces) where
+  abbrev pub piece : Piece
+  piece = piece_in pieces number
 
-  pub is_read : IsPiece plan places (start_of pieces number) piece
-  is_read = subst (λ (p : Piece). IsPiece plan places (start_of pieces number) p) (sym piece_read) (are.each number lt)
-
-  pub long_read : length (places_of places piece) ≡ piece.to - piece.from
-  long_read =
+  piece_long : length (places_of places piece) ≡ piece.to - piece.from
+  piece_long =
       let taken = length-take (piece.to - piece.from) (drop piece.from places) in
       let rest = length-drop piece.from places in
-      let within = is_read.within in
+      let within = (are.each number lt).within in
       omega (arith, taken, rest, within)
 
-  pub indices_read : AreJobIndices plan places → AreJobIndices plan (places_of places piece)
-  indices_read h =
+  pub piece_some : 0 < length (places_of places piece)
+  piece_some = let long = piece_long in let some = (are.each number lt).some in omega (arith, long, some)
+
+  pub piece_few : length (places_of places piece) ≤ length places
+  piece_few = let long = piece_long in let within = (are.each number lt).within in omega (arith, long, within)
+
+  pub piece_indices : AreJobIndices plan places → AreJobIndices plan (places_of places piece)
+  piece_indices h =
       All-take (λ (place : ℕ). place < length plan.jobs) (piece.to - piece.from) (drop piece.from places)
       (All-drop (λ (place : ℕ). place < length plan.jobs) piece.from places h)
