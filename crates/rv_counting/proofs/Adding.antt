@@ -231,12 +231,12 @@ module _ (plan : Planned) (places : List ℕ) (pieces : List Piece) (are : ArePi
       let qs = places_of places (piece_in pieces n) in
       let long = length-append ps qs in
       subst (λ rs. IsTableOfPiece plan rs next) (joined_places n lt) (
-          record {
-            table = subst (λ js. IsTableOfJobs plan.answers js next) (sym (map-append _ ps qs))
-                (joined plan.answers (jobs_at plan ps) (jobs_at plan qs) t u next h.table one.table sums);
-            few = subst (λ m. IsTableOfFew m next) (sym long) (few_more (length ps) (length qs) t u next h.few one.few sums);
-          }
-          )
+      record {
+        table = subst (λ js. IsTableOfJobs plan.answers js next) (sym (map-append _ ps qs))
+            (joined plan.answers (jobs_at plan ps) (jobs_at plan qs) t u next h.table one.table sums);
+        few = subst (λ m. IsTableOfFew m next) (sym long) (few_more (length ps) (length qs) t u next h.few one.few sums);
+      }
+      )
 
   module _ (added : Added) (ran : Result Flow RunError)
       (received : IsRunDelivered (λ n u. IsTableOfPiece plan (places_of places (piece_in pieces n)) u) (length pieces)

@@ -53,11 +53,7 @@ impl RunsCounter {
     }
 
     /// Counts a machine's run within a budget of steps, and returns the machine after it.
-    pub(crate) fn count_run(
-        &mut self,
-        machine: Machine,
-        budget: u32,
-    ) -> Result<Machine, AllocError>
+    pub(crate) fn count_run(&mut self, machine: Machine, budget: u32) -> Result<Machine, AllocError>
         requires ready { CanCountRuns self.old }
         requires few { self.old.runs < most_jobs }
         ensures { OnOk result (AddsRun budget (Some (state_of machine)) self.old self.new) }
