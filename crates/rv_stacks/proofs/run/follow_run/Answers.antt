@@ -70,6 +70,24 @@ steps-preserved c =
           (advance.goes_on c.if-not-branch-2.false n (n - left) start (omega (arith, w, few)) here);
     }
 
+pub returns-then-not-branch-clause-counts : goal.returns-then-not-branch-clause-counts
+returns-then-not-branch-clause-counts c =
+    let n = c.args.budget in
+    let left = c.steps.left in
+    let w = c.steps.invariant.within in
+    let some = c.steps-test.true in
+    c.in_ok-step.ensures.counted.ended c.if-not-branch.true [] 1 n (n - left) (state_of c.args.machine) (omega (arith, w, some))
+    c.steps.invariant.counting
+
+pub returns-then-not-branch-2-clause-counts : goal.returns-then-not-branch-2-clause-counts
+returns-then-not-branch-2-clause-counts c =
+    let n = c.args.budget in
+    let left = c.steps.left in
+    let w = c.steps.invariant.within in
+    let few = c.straight_block-block.ensures.few in
+    c.in_ok-run_block.ensures.counted.ended c.if-not-branch-2.true [] 1 n (n - left) (state_of c.args.machine) (omega (arith, w, few))
+    c.steps.invariant.counting
+
 pub returns-then-not-branch-2-clause-stacks : goal.returns-then-not-branch-2-clause-stacks
 returns-then-not-branch-2-clause-stacks c =
     let function = function_at c.args.symbols.now.image.now c.args.symbols.now.bytes.now in
