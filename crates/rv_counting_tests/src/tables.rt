@@ -68,6 +68,15 @@ xxxxxxx | rvcounts 1/image 3d532673a6769bd4f209aaf85d6b5ee537f98383bacb4bda774fc
     80000004 4 0/80000008 4 3/8000000c 1 0/80000010 1 0/done 2 5/
 ";
 
+// The jobs of a list of one image, and the text of their table.
+const JOBS_OF_ONE_IMAGE: usize = 24;
+
+const ALL_OF_ONE_IMAGE: &str = "xxxxxxxxxxxxxxxxxxxxxxxx";
+
+const TABLE_OF_ONE_IMAGE: &str =
+    "rvcounts 1/image d24fffbfb7fd2907c5e8ad3a9c8089351ae371ea3c79687b9539f1d1708ee183 loop/80000000 24 0/\
+    80000004 48 0/80000008 48 36/8000000c 12 0/80000010 12 0/done 1 24/";
+
 // Returns the marks of a selection, one for each letter of `choice`: true for `x`.
 fn marks_of(alloc: Global, choice: &str) -> Result<Vec<bool>, AllocError> {
     let mut marks = Vec::new(alloc);
@@ -136,6 +145,33 @@ fn jobs_are_counted(rt: HostRuntime) -> Result<(), Fail> {
     has_lines(TABLES, 7)?;
     for row in TABLES.lines() {
         check(&rt, alloc, &plan, row)?;
+    }
+    Ok(())
+}
+
+// Returns a list of jobs of one image, every other of which ends within the loop.
+fn list_of_one_image(alloc: Global) -> Result<String, AllocError> {
+    let region = "[{ base = 0x80000000, size = 4096 }]";
+    let mut list = String::new(alloc);
+    for number in 0..JOBS_OF_ONE_IMAGE {
+        let budget = if number % 2 == 0 { 99 } else { 3 };
+        write!(
+            list,
+            "[[job]]\nname = 'n{number}'\nimage = 'loop'\nbudget = {budget}\nregion = {region}\n"
+        )?;
+    }
+    Ok(list)
+}
+
+#[test]
+fn jobs_of_one_image_are_counted_together(rt: HostRuntime) -> Result<(), Fail> {
+    let alloc = rt.alloc();
+    let list = list_of_one_image(alloc)?;
+    let jobs = read_jobs(alloc, list.as_bytes())?;
+    let plan = gather(alloc, jobs, &mut Files { faults: 0 })?;
+    for workers in [1, 3] {
+        let told = told(&rt, alloc, &plan, ALL_OF_ONE_IMAGE, workers)?;
+        agree("one image", told.as_str(), TABLE_OF_ONE_IMAGE)?;
     }
     Ok(())
 }
