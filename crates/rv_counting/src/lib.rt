@@ -7,9 +7,9 @@
 //! as soon as all earlier ones are added.
 #![tactic(auto)]
 
+mod batch;
 mod block;
 mod count;
-mod count_batch;
 mod count_work;
 mod counter;
 mod decode_cache;
@@ -21,9 +21,9 @@ mod table_of_job;
 mod table_sum;
 mod tally;
 
+pub use batch::count_batch;
 pub use block::{Block, first_of};
 pub use count::count_run;
-pub use count_batch::count_batch;
 pub use count_work::JobTable;
 pub use counter::{Counter, Stepped};
 pub use law::{

@@ -8,7 +8,7 @@ use Rattle.rv_counting.specs.declared.pieces.Piece.{Piece}
 use Rattle.rv_counting.specs.BatchPieces.{ArePieces}
 use Rattle.rv_counting.specs.JobTables.{IsTableOfPlaces}
 use Rattle.rv_counting.proofs.Adding.{all_counted, memory_alone}
-use Rattle.rv_counting.proofs.count_batch.count_batch.Goals as goal
+use Rattle.rv_counting.proofs.batch.count_batch.Goals as goal
 
 pub returns-in-Ok : goal.returns-in-Ok
 returns-in-Ok g c =

@@ -1,7 +1,7 @@
 use Rattle.std.proofs.Common.{length}
 use Rattle.rv_counting.specs.BatchPieces.{piece_in, places_of}
 use Rattle.rv_counting.specs.JobTables.{IsTableOfPiece}
-use Rattle.rv_counting.proofs.count_batch.count_batch.Given as goal
+use Rattle.rv_counting.proofs.batch.count_batch.Given as goal
 
 abbrev pub ghosts-run_jobs : goal.ghosts-run_jobs
 ghosts-run_jobs g a =
