@@ -53,29 +53,5 @@ pub(crate) fn follow_run(
             left -= block.steps;
         }
     }
-    Ok((counter, machine))
-}
-
-/// Runs a job within its budget, and returns the counts of the run, or `None` if the job is refused. The counts are valid in a table.
-/// Reuses the memory of the previous run in `spare`, and leaves the memory of this run there.
-pub fn count_job(
-    alloc: Global,
-    job: &JobImage<'_>,
-    spare: &mut Spare,
-) -> Result<Option<Addresses>, AllocError>
-    ensures counts { IfOk result (λ counts. (d : AJob) → AreCountsOfJob
-        (job_at job.now.plan.now job.now.place d).budget
-        (start_in job.now.plan.now.answers (job_at job.now.plan.now job.now.place d)) counts) }
-    ensures table { IfOk result (λ counts. IfSome counts AreCounts) }
-    ensures few { IfOk result (λ counts. IfSome counts (λ counts. (address : ℕ) → executed_at address counts < 2 ^ 32)) }
-{
-    match machine_at_reusing(alloc, job.plan, job.place, job.image, spare)? {
-        Ok(machine) => {
-            let budget = job.plan.job(job.place).budget;
-            let (counts, machine) = count_run_of(alloc, machine, budget)?;
-            spare.keep_bus(machine.into_bus());
-            Ok(Some(counts))
-        }
-        Err(_) => Ok(None),
-    }
+    Ok(machine)
 }

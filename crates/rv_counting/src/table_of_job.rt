@@ -48,7 +48,7 @@ pub(crate) fn count_places(
     };
     let mut counter = RunsCounter::new(alloc)?;
     for k in 0..places.len() {
-        job_table(alloc, plan, places[k], &mut counter, spare)?;
+        count_job_at(alloc, plan, places[k], &mut counter, spare)?;
     }
     if counter.runs == 0 {
         return Ok(empty_table(alloc));
@@ -58,7 +58,7 @@ pub(crate) fn count_places(
 }
 
 // Counts the run of the job at an index, unless the job is refused.
-fn job_table(
+fn count_job_at(
     alloc: Global,
     plan: &Plan,
     place: usize,

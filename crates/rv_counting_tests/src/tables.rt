@@ -70,6 +70,15 @@ xxxxxxx | rvcounts 1/image 3d532673a6769bd4f209aaf85d6b5ee537f98383bacb4bda774fc
     80000004 4 0/80000008 4 3/8000000c 1 0/80000010 1 0/done 2 5/
 ";
 
+// The jobs of a list of one image, and the text of their table.
+const JOBS_OF_ONE_IMAGE: usize = 24;
+
+const ALL_OF_ONE_IMAGE: &str = "xxxxxxxxxxxxxxxxxxxxxxxx";
+
+const TABLE_OF_ONE_IMAGE: &str =
+    "rvcounts 1/image d24fffbfb7fd2907c5e8ad3a9c8089351ae371ea3c79687b9539f1d1708ee183 loop/80000000 24 0/\
+    80000004 48 0/80000008 48 36/8000000c 12 0/80000010 12 0/done 1 24/";
+
 // Returns the selection that `choice` describes with one letter for each job: `x` selects it.
 fn marks_of(alloc: Global, choice: &str) -> Result<Vec<bool>, AllocError> {
     let mut marks = Vec::new(alloc);

@@ -22,19 +22,19 @@ pub loop-k-preserved : goal.loop-k-preserved
 loop-k-preserved c =
     let t = c.loop-k-test.true in record {
       within = omega (arith, t);
-      counted = next_job c.args.plan.now c.args.places.now c.loop-k.k c.loop-k.counter c.job_table.new.counter t c.loop-k.invariant.counted
-          c.in_ok-job_table.ensures;
+      counted = next_job c.args.plan.now c.args.places.now c.loop-k.k c.loop-k.counter c.count_job_at.new.counter t c.loop-k.invariant.counted
+          c.in_ok-count_job_at.ensures;
     }
 
-pub job_table-requires-clause-within : goal.job_table-requires-clause-within
-job_table-requires-clause-within c =
+pub count_job_at-requires-clause-within : goal.count_job_at-requires-clause-within
+count_job_at-requires-clause-within c =
     All-get_or (λ (place : ℕ). place < length c.args.plan.now.jobs) c.args.places.now c.loop-k.k 0 c.loop-k-test.true c.requires.within
 
-pub job_table-requires-clause-ready : goal.job_table-requires-clause-ready
-job_table-requires-clause-ready c = c.loop-k.invariant.counted.ready
+pub count_job_at-requires-clause-ready : goal.count_job_at-requires-clause-ready
+count_job_at-requires-clause-ready c = c.loop-k.invariant.counted.ready
 
-pub job_table-requires-clause-few : goal.job_table-requires-clause-few
-job_table-requires-clause-few c =
+pub count_job_at-requires-clause-few : goal.count_job_at-requires-clause-few
+count_job_at-requires-clause-few c =
     let plan = c.args.plan.now in
     let places = c.args.places.now in
     let first = take c.loop-k.k places in

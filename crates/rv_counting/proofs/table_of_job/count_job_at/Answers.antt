@@ -7,7 +7,7 @@ use Rattle.rv_jobs.specs.declared_job.Job.{Job}
 use Rattle.rv_trace.specs.Trace.{job_at}
 use Rattle.rv_counting.proofs.RunCounts.{refused_job}
 use Rattle.rv_counting.proofs.Starts.{no_bytes, no_image}
-use Rattle.rv_counting.proofs.table_of_job.job_table.Goals as goal
+use Rattle.rv_counting.proofs.table_of_job.count_job_at.Goals as goal
 
 pub returns-in_default : goal.returns-in_default
 returns-in_default c = λ d.
