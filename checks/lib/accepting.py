@@ -97,7 +97,7 @@ def end_entry(chance, end):
     return entry(chance, "expect_end", basic(wrong_fault(chance, end) if turned else end))
 
 
-def count_job_at(chance, folder, number):
+def job_table(chance, folder, number):
     """The table of a job, whose image and golden files are made."""
     name, console, end = f"job{number}", text_of(chance, 12), chance.choice(ENDS)
     words = [chance.randrange(2**31) for _ in range(chance.randrange(3))]
@@ -134,7 +134,7 @@ def golden(chance, path, right):
 
 def list_of(chance, folder):
     text = chance.choice(["", "# A list.\n\n"]) + "\n".join(
-        count_job_at(chance, folder, number) for number in range(chance.randrange(1, 6))
+        job_table(chance, folder, number) for number in range(chance.randrange(1, 6))
     )
     data = text.encode()
     if chance.random() < 0.2 and b"'''" not in data and b'"""' not in data:
