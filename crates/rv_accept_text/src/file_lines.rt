@@ -11,8 +11,7 @@ use crate::job_lines::job_name;
 use rv_accept::{
     GoldenFileOutcome, GoldenText, Part, Target, first_of_another_text, first_on_file,
 };
-use rv_jobs::{Bytes, Job};
-use rv_text::{Span, push_spans, push_text};
+use rv_rows::{Bytes, Job, Span, push_spans, push_text};
 use std::alloc::AllocError;
 
 /// Appends the lines about a golden file that is written, or nothing if it is not written.

@@ -2,7 +2,7 @@
 
 ghost use Rattle.std.specs.Prelude.{◌≡◌, ◌++◌, IfOk, IfSome, IsTrue, List, None, Ok, OnOk, Option, drop, option_map, slice_get};
 ghost use Rattle.std.specs.Vec.Iter.{into_iter_items};
-ghost use Rattle.rv_lists.specs.JobList.{job_list_of};
+ghost use Rattle.rv_rows.specs.JobList.{job_list_of};
 ghost use Rattle.rv_accept.specs.Edits.{edited_from};
 ghost use Rattle.rv_accept.specs.IntendedJobs.{intended_jobs};
 ghost use Rattle.rv_accept.specs.declared.edits.Edit.{Edit as AnEdit};
@@ -13,9 +13,8 @@ use rv_accept::{
     Edit, JobRun, SkipReason, ValueKey, are_intended_jobs, edited_text, is_value_changed,
     push_new_value,
 };
-use rv_jobs::{Bytes, Job, What, read_jobs};
 use rv_list_locations::{ValueSpan, line_and_column, value_spans};
-use rv_rows::Row;
+use rv_rows::{Bytes, Job, Row, What, read_jobs};
 use std::alloc::{AllocError, Global};
 use std::vec::IntoIter;
 

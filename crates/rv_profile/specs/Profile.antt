@@ -3,9 +3,9 @@ use Rattle.std.specs.Prelude.{◌==◌, ◌≤◌, ◌&&◌, ◌||◌, ℕ, Bool
 use Rattle.std.specs.List.{All, sum_by}
 use Rattle.std.specs.List.Sorted.{IsPermutation, IsSortedBy}
 use Rattle.rv_count_tables.specs.declared.table.FunctionName.{FunctionName}
-use Rattle.rv_call_tree.specs.Profiles.{arrivals_in, inclusive_after}
-use Rattle.rv_call_tree.specs.Trees.{own_in}
-use Rattle.rv_call_tree.specs.declared.spot.Spot.{Spot}
+use Rattle.rv_count_tables.specs.Profiles.{arrivals_in, inclusive_after}
+use Rattle.rv_count_tables.specs.Trees.{own_in}
+use Rattle.rv_count_tables.specs.declared_spot.Spot.{Spot}
 use Rattle.rv_profile.specs.declared.function.FunctionProfile.{FunctionProfile}
 
 -- the counts of a function: its own steps, which are the steps of the nodes whose path ends with it; its inclusive steps, which are the

@@ -20,9 +20,8 @@ use rv_command::{DONE, Stop, path_message, path_number_message, put_message, rea
 use rv_count_tables::{
     CountTable, Images, ReadError, SumError, read_table, sum_of_tables, table_text,
 };
-use rv_files::{Inputs, Outputs};
-use rv_rows::Sink;
-use rv_text::{Span, text_of_spans};
+use rv_files::{Inputs, Outputs, Sink};
+use rv_job_text::{Span, text_of_spans};
 use rvtest_cli::CountsArgs;
 use std::alloc::{AllocError, Global};
 

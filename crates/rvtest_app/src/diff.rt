@@ -18,9 +18,8 @@ use rv_command::{
     put_results, read_result_file,
 };
 use rv_diff::{Compare, Compared, Differing, push_diff, rows_in_both};
-use rv_files::{Inputs, Outputs};
-use rv_report::{Extent, PartialReport, SavedReport};
-use rv_rows::{Row, Sink};
+use rv_files::{Inputs, Outputs, Sink};
+use rv_rows::{Extent, PartialReport, Row, SavedReport};
 use rvtest_cli::DiffArgs;
 use std::alloc::{AllocError, Global};
 

@@ -2,7 +2,7 @@
 
 ghost use Rattle.std.specs.Prelude.{◌≡◌, ◌<◌, ◌⊎◌, IfErr, IfOk, MatchOption, false, is_ok, length, slice_index_or};
 ghost use Rattle.std.specs.Coded.{Coded-set};
-ghost use Rattle.rv_lists.specs.declared.job.Job.{Job as AJob};
+ghost use Rattle.rv_rows.specs.declared_job.Job.{Job as AJob};
 ghost use Rattle.rv_command.specs.Stops.{IsStop};
 ghost use Rattle.rv_command.specs.Texts.{optional_text};
 ghost use Rattle.rv_expect.specs.Judgement.{judging_by_rule};
@@ -10,7 +10,7 @@ ghost use Rattle.rv_expect.specs.declared.passing.Rule.TheVariants.{Strict};
 ghost use Rattle.rv_files.specs.UnreadPaths.{contents_below, resolved_path};
 ghost use Rattle.rv_gdb.specs.JobSessions.{IsSessionOf};
 ghost use Rattle.rv_job_text.specs.RowReporter.{row_line};
-ghost use Rattle.rv_machine.proofs.Public.{state_code};
+ghost use Rattle.rv_rows.proofs.Public.{state_code};
 ghost use Rattle.rv_rows.specs.Rows.{row_of, start_in};
 ghost use Rattle.rvtest_app.specs.CommandStops.{IsGdbStopped, IsNoJobStop, IsUnopenedAtStop};
 ghost use Rattle.rvtest_app.specs.Debugging.{IsBrokenStop, IsGdbAnswered, IsJobOpened, IsNoGdbStop, IsOpenedAt, IsOpenedOf, IsUnopenedOfStop, IsUnopenedStop, job_end_text, job_start};
@@ -20,15 +20,14 @@ use crate::destinations::Destinations;
 use crate::host::Host;
 use crate::job_end::JobEnd;
 use crate::named_job::{NamedJob, find_named_job};
-use rv_base::Bytes;
 use rv_command::{DONE, Stop, file_error_stop, path_message, read_list_text};
 use rv_expect::{Judge, Rule};
-use rv_files::{FileError, Inputs, Outputs, RecordingStore, UnreadablePath, resolved_path};
-use rv_gdb::{SessionContext, SessionError, serve, session_at};
+use rv_files::{
+    Bytes, FileError, Inputs, Outputs, RecordingStore, Sink, UnreadablePath, resolved_path,
+};
+use rv_gdb::{Session, SessionContext, SessionError, serve, session_at};
 use rv_job_text::{TextReporter, Verbosity};
-use rv_jobs::{Plan, gather_jobs};
-use rv_rows::{Sink, row_at};
-use rv_session::Session;
+use rv_rows::{Plan, gather_jobs, row_at};
 use rvtest_cli::GdbArgs;
 use std::alloc::{AllocError, Global};
 use std::io::Read;
