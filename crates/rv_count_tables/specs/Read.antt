@@ -1,4 +1,4 @@
--- The first line of a text that no table has there.
+-- The first invalid line of a text: some table begins with the lines before it, but no table begins with these lines and this one.
 use Rattle.std.specs.Prelude.{◌≡◌, ◌==◌, ◌+◌, ◌-◌, if◌then◌else◌, ℕ, List, ◌++◌, length, take, drop, Result, Ok, Err}
 use Rattle.rv_count_tables.specs.declared.table.CountTable.{CountTable}
 use Rattle.rv_count_tables.specs.declared.read.ReadError.{ReadError}

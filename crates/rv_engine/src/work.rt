@@ -18,7 +18,7 @@ pub trait Work<H> {
     // What holds for the state of a worker before and after each of its jobs.
     ghost is_worker_state: { Self → WorkerState → Type 0 };
 
-    // Returns the number of jobs.
+    /// Returns the number of jobs.
     fn jobs(&self) -> usize
         ensures value { result ≡ jobs self.now }
         ensures few { result ≤ most_jobs };
