@@ -16,8 +16,8 @@ pub record IsLeastRefusedLine (line : ℕ) (bytes : List ℕ) : Type 0 where
   pub before : BeginsTable (first_lines (line - 1) bytes)
   pub refused : BeginsTable (first_lines line bytes) → ⊥
 
--- `Line` names the first line for which no table begins with the bytes up to its end; `CutOff` says that some table begins with all lines
--- that end with a line feed; `OutOfMemory` says nothing
+-- `Line` has the number of the first line for which no table begins with the bytes up to its end; if the error is `CutOff`, some table
+-- begins with all lines that end with a line feed; `OutOfMemory` is always true
 abbrev pub IsLeast : ReadError → List ℕ → Type 0
 IsLeast OutOfMemory bytes = Unit {0}
 IsLeast (Line line) bytes = IsLeastRefusedLine line bytes
