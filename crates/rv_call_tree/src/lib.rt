@@ -1,7 +1,7 @@
 //! Call trees: paths of functions, each of which called the next, and how much of a run was spent in each.
 //!
-//! The nodes, [`Spot`]s, are in preorder, so that each one stores only how its path differs from the preceding node's. A [`Walk`] builds
-//! them as a run moves from node to node: it enters functions, returns from them, and counts instructions. [`sum_of_spots`] adds two trees.
+//! The nodes, [`Spot`]s, are in preorder, so that each one stores only how its path differs from the preceding node's. A `Walk` of
+//! `rv_stacks` builds them as a run enters functions, returns from them, and counts instructions. [`sum_of_spots`] adds two trees.
 #![tactic(auto)]
 
 mod index;

@@ -13,7 +13,7 @@ use std::marker::Model;
 #[derive(Drop)]
 pub struct Pass {
     pub(crate) seat: Seat<(), View>,
-    // Bit p is set if the pass has index p.
+    /// Bit p is set if the pass has index p.
     pub(crate) bits: u64,
     pub(crate) ended: bool,
 }

@@ -25,7 +25,7 @@ impl Play<(), View> for Draw {
     ghost then = { IsDraw };
 }
 
-/// Asking for an index: writes 1 to its word. The seat gets the index if it found 0.
+/// A request for an index: writes 1 to its word. The seat gets the index if it found 0.
 pub(crate) struct Sit;
 
 impl Play<(), View> for Sit {
@@ -34,7 +34,7 @@ impl Play<(), View> for Sit {
     ghost then = { IsSeatRequest };
 }
 
-/// A look: reads word 0. The seat learns what the rule says about what it holds.
+/// A look: reads word 0. The seat learns that its draws and the draws that it has noted are in one history.
 pub(crate) struct Look;
 
 impl Play<(), View> for Look {

@@ -1,4 +1,4 @@
--- The first line of a text that no table has there.
+-- The first invalid line of a text: some table begins with the lines before it, but no table begins with these lines and this one.
 use Rattle.std.specs.Prelude.{◌≡◌, ◌==◌, ◌+◌, ◌-◌, if◌then◌else◌, ℕ, List, ◌++◌, length, take, drop, Result, Ok, Err}
 use Rattle.rv_count_tables.specs.declared.table.CountTable.{CountTable}
 use Rattle.rv_count_tables.specs.declared.read.ReadError.{ReadError}
@@ -16,8 +16,8 @@ pub record IsLeastRefusedLine (line : ℕ) (bytes : List ℕ) : Type 0 where
   pub before : BeginsTable (first_lines (line - 1) bytes)
   pub refused : BeginsTable (first_lines line bytes) → ⊥
 
--- `Line` names the first line for which no table begins with the bytes up to its end; `CutOff` says that some table begins with all lines
--- that end with a line feed; `OutOfMemory` says nothing
+-- `Line` has the number of the first line for which no table begins with the bytes up to its end; if the error is `CutOff`, some table
+-- begins with all lines that end with a line feed; `OutOfMemory` is always true
 abbrev pub IsLeast : ReadError → List ℕ → Type 0
 IsLeast OutOfMemory bytes = Unit {0}
 IsLeast (Line line) bytes = IsLeastRefusedLine line bytes

@@ -56,7 +56,7 @@ abbrev pub entry_line : Entry → List ℕ
 entry_line (OfAddress c) = address_line c
 entry_line (OfSpot n) = spot_line n
 
--- the entry of a node, with the name that a list gives its function
+-- the entry of a node, with the name of its function in a list
 abbrev pub entry_of_spot : List FunctionName → Spot → Entry
 entry_of_spot names s = OfSpot (named names s)
 

@@ -14,7 +14,7 @@ use Rattle.rv_call_tree.specs.declared.spot.Spot.{Spot}
 abbrev pub words_of_function : ℕ → List ℕ → FunctionWords
 words_of_function function name = record { digits = word_digits function; name = name }
 
--- the index maps each function to its words, with the first name that the list gives it, and has no other functions
+-- the index maps each function in the list to its words, with its first name there, and has no other functions
 abbrev pub IsIndexOf : List FunctionName → BTreeMap ℕ FunctionWords → Type 0
 IsIndexOf names index = (function : ℕ)
     → get nat_cmp index function ≡ option_map (words_of_function function) (name_of function names)

@@ -1,5 +1,5 @@
--- The sum of two tables of counts: each count of each image is the sum of both counts. Tables have no sum if they give a function of an
--- image different names.
+-- The sum of two tables of counts: each count of each image is the sum of both counts. Two tables have no sum if a function of an image has
+-- different names in them.
 use Rattle.std.specs.Prelude.{◌≡◌, ◌+◌, ◌^◌, ◌≤◌, ◌⊎◌, ℕ, true, List, [], ◌∷◌, Option, Some, None}
 use Rattle.rv_count_tables.specs.declared.table.AddressCounts.{AddressCounts}
 use Rattle.rv_count_tables.specs.declared.table.FunctionName.{FunctionName}
@@ -24,7 +24,7 @@ Agree None other = Unit {0}
 Agree (Some name) None = Unit {0}
 Agree (Some name) (Some other) = name ≡ other
 
--- the lists `a` and `b` never give a function different names, and `sum` has the name of each function of either list
+-- no function has different names in the lists `a` and `b`, and `sum` has the name of each function of either list
 pub record IsSumOfNames (a b sum : List FunctionName) : Type 0 where
   pub names : AreNames sum
   pub agree : (function : ℕ) → Agree (name_at function a) (name_at function b)
@@ -56,19 +56,19 @@ abbrev pub sum_error_of : SpotSumError → SumError
 sum_error_of spots.OutOfMemory = OutOfMemory
 sum_error_of (spots.Count function) = Spot function
 
--- the list gives the function this name
+-- the function has this name in the list
 abbrev pub HasName : ℕ → List ℕ → List FunctionName → Type 0
 HasName function name [] = ⊥
 HasName function name (n ∷ ns) = ((n.function ≡ function) × (n.name ≡ name)) ⊎ HasName function name ns
 
--- the image with this digest gives the function this name
+-- the function has this name in the image with this digest
 abbrev pub HasNameIn : List ℕ → ℕ → List ℕ → List ImageCounts → Type 0
 HasNameIn digest function name [] = ⊥
 HasNameIn digest function name (i ∷ is) =
     ((i.digest ≡ digest) × HasName function name i.functions) ⊎ HasNameIn digest function name is
 
--- the error is true of the two tables: the counts that it names add up to 2^64 or more, or the tables give the function that it names
--- different names; `OutOfMemory` is always true
+-- the error is true of the two tables: the counts that it names add up to 2^64 or more, or the function that it names has different names
+-- in them; `OutOfMemory` is always true
 abbrev pub HaveNoSum : SumError → CountTable → CountTable → Type 0
 HaveNoSum OutOfMemory a b = Unit {0}
 HaveNoSum (Count address) a b = (digest : List ℕ)

@@ -31,7 +31,7 @@ pub record IsNextCount (a b : List AddressCounts) (next : NextCount) : Type 0 wh
   pub ahead : (others : List AddressCounts) → AddsUp (drop next.of_a a) (drop next.of_b b) others
       → AddsUp a b (next.sum ∷ others)
 
--- if the functions in `a` and in `b` increase, then those in `sum` do, the lists never give a function different names, and `sum` has the
+-- if the functions in `a` and in `b` increase, then those in `sum` do, no function has different names in the two lists, and `sum` has the
 -- name of each function of either list
 pub record NamesAddUp (a b sum : List FunctionName) : Type 0 where
   pub each : AllByRecursion IsName sum

@@ -138,7 +138,7 @@ abbrev pub has_name : Option (List ℕ) → Bool
 has_name None = false
 has_name (Some name) = true
 
--- the first name that a list gives a function, or `None` if it gives none
+-- the first name of a function in a list, or `None` if it has none there
 abbrev pub name_of : ℕ → List FunctionName → Option (List ℕ)
 name_of function [] = None
 name_of function (n ∷ ns) = if n.function == function then Some n.name else name_of function ns

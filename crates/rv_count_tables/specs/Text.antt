@@ -38,11 +38,11 @@ abbrev pub name_or_nothing : Option (List ℕ) → List ℕ
 name_or_nothing None = []
 name_or_nothing (Some name) = name
 
--- a node with the name that the list gives its function, or with an empty name if it gives none
+-- a node with the name of its function in the list, or with an empty name if it has none there
 abbrev pub named : List FunctionName → Spot → NamedSpot
 named names s = record { spot = s; name = name_or_nothing (name_of s.function names) }
 
--- the line of a node, with the name that the list gives its function
+-- the line of a node, with the name of its function in the list
 abbrev pub line_of_spot : List FunctionName → Spot → List ℕ
 line_of_spot names s = spot_line (named names s)
 

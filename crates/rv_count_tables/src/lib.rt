@@ -2,8 +2,8 @@
 //! and sums.
 //!
 //! A [`CountTable`] has an entry for each executed address, by image. [`table_text`] formats a table. [`read_table`] parses it, or names
-//! the first line that no table has there ([`ReadError`]). [`sum_of_tables`] adds two tables and returns a [`SumError`] for a sum with a
-//! number of 2^64 or more; [`add_table`] does the same, but takes the tables by value. A sum does not depend on the order of the tables:
+//! the first invalid line ([`ReadError`]). [`sum_of_tables`] adds two tables and returns a [`SumError`] for a sum with a number of 2^64 or
+//! more; [`add_table`] does the same, but takes the tables by value. A sum does not depend on the order of the tables:
 //! [`sums_of_counts_commute`] and [`sums_of_counts_associate`].
 #![tactic(auto)]
 

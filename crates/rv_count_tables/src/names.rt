@@ -8,7 +8,7 @@ ghost use Rattle.rv_count_tables.specs.Table.{name_of};
 use crate::table::FunctionName;
 use std::alloc::AllocError;
 
-/// Returns the first name that the list gives a function, or `None` if it gives none. Takes time linear in the number of names.
+/// Returns the first name of a function in the list, or `None` if it has none. Takes time linear in the number of names.
 pub fn name_of(names: &[FunctionName], function: u32) -> Option<&str>
     ensures { option_map (λ name. name.now) result ≡ name_of function names.now }
 {
@@ -37,7 +37,8 @@ pub fn add_name(names: &mut Vec<FunctionName>, name: FunctionName) -> Result<(),
     Ok(())
 }
 
-// Returns how many entries at the start of the list are names of functions at addresses lower than `function`.
+// Returns the index at which the list has the name of a function, or at which it would be inserted: the number of names of functions at
+// lower addresses.
 fn lower_functions(names: &[FunctionName], function: u32) -> usize
     ensures { result ≡ prefix_len (λ m. nat_lt m.function function) names.now }
 {

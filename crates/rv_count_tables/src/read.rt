@@ -1,4 +1,4 @@
-//! Parses a table, or finds the first line that no table has there.
+//! Parses a table, or finds the first invalid line.
 
 ghost use Rattle.std.specs.Prelude.{◌≡◌, ◌+◌, ◌≤◌, IfOk, IfErr, length, take, drop};
 ghost use Rattle.rv_count_tables.specs.declared.table.CountTable.{CountTable as Counted};
@@ -21,7 +21,7 @@ pub enum ReadError {
     /// An allocation failed.
     #[error("out of memory")]
     OutOfMemory,
-    /// The first line, counted from 1, that no table has there.
+    /// The first invalid line, counted from 1: some table begins with the lines before it, but none with these lines and this one.
     #[error("invalid line {0}")]
     Line(usize),
     /// The text is truncated: its complete lines begin some table.

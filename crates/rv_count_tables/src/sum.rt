@@ -23,7 +23,7 @@ pub enum SumError {
     /// A number of a node of this function is 2^64 or more, in one image.
     #[error("a stack count of the function at {0:08x} does not fit in 64 bits")]
     Spot(u32),
-    /// The two tables give this function of an image different names.
+    /// This function of an image has different names in the two tables.
     #[error("the function at {0:08x} has two names in one image")]
     Names(u32),
     /// The number of runs is 2^64 or more.

@@ -13,8 +13,8 @@ use crate::table::{FunctionName, FunctionNames};
 use rv_call_tree::Text;
 use std::alloc::{AllocError, Global};
 
-/// Returns the names of all functions in both lists, sorted by function, or an error if the lists give a function different names.
-/// Allocates only the result.
+/// Returns the names of all functions in both lists, sorted by function, or an error if a function has different names in them. Allocates
+/// only the result.
 pub(crate) fn sum_of_names(
     alloc: Global,
     a: &[FunctionName],
@@ -45,8 +45,8 @@ pub(crate) struct NextName {
     pub(crate) of_b: usize,
 }
 
-// Returns the name of the lowest function in both lists, and how many entries of each list it is made of, or an error if they give the
-// function different names.
+// Returns the name of the lowest function in both lists, and how many entries of each list it is made of, or an error if the function has
+// different names in them.
 fn next_name(alloc: Global, a: &[FunctionName], b: &[FunctionName]) -> Result<NextName, SumError>
     requires a { AllByRecursion IsName a.now }
     requires b { AllByRecursion IsName b.now }

@@ -58,6 +58,7 @@ fn sum_is(alloc: Global, a: &str, b: &str, expected: &str) -> Result<(), Fail> {
     }
 }
 
+// The sum of two tables does not depend on their order, and runs without images are added, too.
 #[test]
 fn adds_tables(rt: HostRuntime) -> Result<(), Fail> {
     let alloc = rt.alloc();
@@ -106,6 +107,7 @@ const REFUSED: [(&str, usize); 16] = [
     ),
 ];
 
+// Each text in `REFUSED` is rejected at its line.
 #[test]
 fn refuses_texts(rt: HostRuntime) -> Result<(), Fail> {
     for (text, expected) in REFUSED {
@@ -135,6 +137,7 @@ image 428abbe1347171d7e00df3badf31776c1ef4445e0516044cf7a638356db5f470 a.elf
 done 1 0
 ";
 
+// Two tables have no sum if a count or the number of runs would not fit in 64 bits.
 #[test]
 fn refuses_sums(rt: HostRuntime) -> Result<(), Fail> {
     let full = read_table(rt.alloc(), FULL.as_bytes())?;
@@ -199,6 +202,7 @@ spot 0 80000060 1 1 sum of all
 done 1 2
 ";
 
+// The call trees of two tables are added.
 #[test]
 fn adds_stacks(rt: HostRuntime) -> Result<(), Fail> {
     let alloc = rt.alloc();
@@ -214,6 +218,7 @@ spot 0 80000060 1 1 add
 done 1 1
 ";
 
+// Two tables have no sum if a function has different names in them.
 #[test]
 fn refuses_two_names(rt: HostRuntime) -> Result<(), Fail> {
     let first = read_table(rt.alloc(), STACKS.as_bytes())?;
@@ -244,6 +249,7 @@ const REFUSED_STACKS: [(&str, usize); 13] = [
     ),
 ];
 
+// Each text in `REFUSED_STACKS` is rejected at its line.
 #[test]
 fn refuses_stacks(rt: HostRuntime) -> Result<(), Fail> {
     let alloc = rt.alloc();

@@ -94,7 +94,7 @@ verdict_words old new = codes "verdict " ++ becomes (verdict_name old) (verdict_
 abbrev pub change_begin : List ℕ → List ℕ
 change_begin name = codes "! " ++ name ++ codes ": "
 
--- the line for a field of the job with this name, or nothing if the Bool says that the field is equal in both rows
+-- the line for a field of the job with this name, or nothing if `same` is true, that is, if the field is equal in both rows
 abbrev pub change_line : List ℕ → Bool → List ℕ → List ℕ
 change_line name same words = if same then [] else line (change_begin name ++ words)
 

@@ -3,16 +3,16 @@
 use Rattle.std.specs.Prelude.{ℕ, List, [], ◌∷◌, ◌++◌, Option, Bool, codes, bit_and, find, ◌==◌}
 use Rattle.rv_disasm.specs.declared.unsimulated.Row.{Row as CodesRow}
 
--- a line of a listing: an encoding matches it if its bits in `mask` equal `pattern`
+-- a row of a listing: an encoding matches it if its bits in `mask` equal `pattern`
 pub record Row : Type 0 where
-  -- the bits that the line fixes
+  -- the bits that the row fixes
   pub mask : ℕ
-  -- the values of the bits that the line fixes
+  -- the values of the bits that the row fixes
   pub pattern : ℕ
   pub mnemonic : List ℕ
   pub extension : List ℕ
 
--- the line of a listing with this mask, pattern, mnemonic and extension
+-- the row of a listing with this mask, pattern, mnemonic and extension
 abbrev pub row : ℕ → ℕ → List ℕ → List ℕ → Row
 row mask pattern mnemonic extension =
     record { mask = mask; pattern = pattern; mnemonic = mnemonic; extension = extension }
@@ -21,7 +21,7 @@ row mask pattern mnemonic extension =
 abbrev pub row_of_code : CodesRow → Row
 row_of_code seen = row seen.0 seen.1 seen.2.now seen.3.now
 
--- whether an encoding matches a line: it has the line's values at the bits that the line fixes
+-- whether an encoding matches a row: it has the row's values at the bits that the row fixes
 abbrev pub is_row_of : ℕ → Row → Bool
 is_row_of code r = bit_and code r.mask == r.pattern
 

@@ -17,7 +17,7 @@ pub(crate) enum Operand {
     Rd,
     /// The name of the first source register.
     Rs1,
-    // The name of the second source register.
+    /// The name of the second source register.
     Rs2,
     /// The immediate, in decimal.
     Imm,
@@ -29,7 +29,7 @@ pub(crate) enum Operand {
     Target,
     /// The predecessor set of a FENCE.
     Predecessors,
-    // The successor set of a FENCE.
+    /// The successor set of a FENCE.
     Successors,
 }
 

@@ -27,7 +27,7 @@ pub struct Segment {
     pub filesz: u32,
     /// The number of its bytes in memory. Those beyond the file's bytes are zero.
     pub memsz: u32,
-    // p_flags: only bit 0 (PF_X) is read, by [`Segment::is_executable`].
+    /// p_flags: only bit 0 (PF_X) is read, by [`Segment::is_executable`].
     pub(crate) flags: u32,
 }
 

@@ -5,7 +5,7 @@ ghost use Rattle.rv_engine.specs.declared.listener.Flow.TheVariants.{GoOn, Stop}
 
 use crate::listener::{Flow, Listener, Observer};
 
-/// An observer and a second recipient of the same results. A run stops when either says so.
+/// An observer and a second recipient of the same results. A run stops when one of them returns `Stop`.
 #[derive(Drop)]
 pub struct Both<A: Drop, B: Drop> {
     pub first: A,

@@ -44,7 +44,8 @@ impl From<AllocError> for RunError {
 /// after an error, those of the first jobs. A free thread draws the next chunk; when the run ends, each thread finishes the chunk that it
 /// is computing. All threads are joined.
 ///
-/// `J` is the run's `Brand`: it gives the results, jobs and chunks a name that contracts can use, and the caller picks its ghost members.
+/// `H` is the type of a job's result. `J` specifies the run: its ghost members are the results that each job can have, the number of jobs,
+/// and the chunk size. The caller chooses them, with a `Brand` of its own.
 pub fn run_jobs<
     J: RunSpec<H> + Send + Sync,
     H: Drop + Send,

@@ -12,10 +12,10 @@ pub trait Listener<H> {
     ghost use Rattle.std.specs.Prelude.{◌≡◌, ◌∷◌, ◌++◌, [], List};
     ghost use Rattle.rv_engine.specs.declared.listener.Flow.TheVariants.{GoOn, Stop};
 
-    // What holds once the listener has received these results.
+    // What is true of the listener once it has received these results.
     ghost has_received: { Self → List H → Type 0 };
 
-    // What holds once the listener has returned `Stop`.
+    // What is true of the listener once it has returned `Stop`.
     ghost stops: { Self → Type 0 };
 
     /// Receives the result of the next job, and returns whether the run continues. It is not called again after it returned `Stop`.
@@ -38,10 +38,10 @@ pub trait Observer<H> {
     ghost use Rattle.std.specs.Prelude.{◌≡◌, ◌∷◌, ◌++◌, [], List};
     ghost use Rattle.rv_engine.specs.declared.listener.Flow.TheVariants.{GoOn, Stop};
 
-    // What holds once the observer has seen these results.
+    // What is true of the observer once it has seen these results.
     ghost has_seen: { Self → List H → Type 0 };
 
-    // What holds once the observer has returned `Stop`.
+    // What is true of the observer once it has returned `Stop`.
     ghost stops: { Self → Type 0 };
 
     /// Sees the result of the next job, and returns whether the run continues. It is not called again after it returned `Stop`.

@@ -15,10 +15,10 @@ pub trait Work<H> {
     // Which results the job with a number can have.
     ghost is_made: { Self → ℕ → H → Type 0 };
 
-    // What holds for the state of a worker before and after each of its jobs.
+    // What is true of a worker's state before and after each of its jobs.
     ghost is_worker_state: { Self → WorkerState → Type 0 };
 
-    // Returns the number of jobs.
+    /// Returns the number of jobs.
     fn jobs(&self) -> usize
         ensures value { result ≡ jobs self.now }
         ensures few { result ≤ most_jobs };

@@ -82,7 +82,7 @@ pub(crate) fn first_word_difference(met: &[u32], expected: &[u32]) -> Option<Dif
     }
 }
 
-/// Returns the first difference between a console and the expected one, or `None` if they are equal or none is expected. `file` holds the
+/// Returns the first difference between a console and the expected one, or `None` if they are equal or none is expected. `file` has the
 /// bytes of the file with the expected text, if it was read.
 pub(crate) fn console_difference(
     expected: &Option<ExpectedConsole>,

@@ -17,8 +17,8 @@ pub(crate) enum Reference {
     BadLine(usize),
 }
 
-/// Returns the first difference between a signature and the expected one, or `None` if they are equal or none is expected. `reference`
-/// holds the bytes of the file with the expected signature, if it was read. Allocates the expected words.
+/// Returns the first difference between a signature and the expected one, or `None` if they are equal or none is expected. `reference` has
+/// the bytes of the file with the expected signature, if it was read. Allocates the expected words.
 pub(crate) fn signature_difference(
     alloc: Global,
     expected: &Option<Text>,

@@ -99,7 +99,7 @@ fn unmet_end(job: &Job, ending: RowEnd) -> Option<Unmet>
     }
 }
 
-// Returns the expectation of a console, or `None` if the job does not have it or the row meets it. `file` holds the bytes of the file with
+// Returns the expectation of a console, or `None` if the job does not have it or the row meets it. `file` has the bytes of the file with
 // the expected text, if it was read.
 fn unmet_console(job: &Job, file: Option<&[u8]>, row: &Row) -> Option<Unmet>
     ensures { result ≡ unmet_console job.now (option_map (λ bytes. bytes.now) file.entry) row.now }

@@ -33,7 +33,7 @@ impl From<io::Error> for FileError {
 
     ghost from_gives = { λ refused error. error ≡ file_error (error_kind refused) };
 
-    // Returns the error for an error of the system: out of memory, or a failure with the system's reason.
+    // Converts an error of the system: to `OutOfMemory` if memory ran out, and otherwise to a failure with its reason.
     fn from(error: io::Error) -> FileError {
         match error.kind() {
             ErrorKind::OutOfMemory => FileError::OutOfMemory,

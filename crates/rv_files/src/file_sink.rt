@@ -15,7 +15,7 @@ use std::io::{ErrorKind, Write};
 #[derive(Drop)]
 pub struct FileSink<W: Drop> {
     pub(crate) stream: StreamSink<W>,
-    // Whether the file is on a disk, unlike a pipe.
+    /// Whether the file is on a disk, unlike a pipe.
     pub(crate) is_on_disk: bool,
 }
 

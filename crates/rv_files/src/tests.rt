@@ -84,6 +84,7 @@ where
     Ok(())
 }
 
+// Checks the outcomes of writing a second file at the pairs of paths in `PAIRS`.
 #[test]
 fn files_of_one_command(rt: HostRuntime) -> Result<(), Fail> {
     for line in PAIRS.lines() {
@@ -115,6 +116,7 @@ link|report.new|yes
 /dev/null|/dev/null|no
 ";
 
+// Checks which files are replaced by writing to the paths in `REPLACED`.
 #[test]
 fn written_paths_are_compared_with_read_ones(rt: HostRuntime) -> Result<(), Fail> {
     fs::write(&rt, "report", "old")?;
@@ -158,6 +160,7 @@ absent|file|no
 inner|inner/lost|no
 ";
 
+// Checks which of the files in `BELOW` are in their directories or below them.
 #[test]
 fn a_file_is_below_a_directory(rt: HostRuntime) -> Result<(), Fail> {
     fs::create_dir(&rt, "inner")?;
@@ -188,6 +191,7 @@ fn a_file_is_below_a_directory(rt: HostRuntime) -> Result<(), Fail> {
     Ok(())
 }
 
+// A path is rejected if a read-only file is there, or if its directory does not exist.
 #[test]
 fn a_path_that_takes_no_file_is_refused(rt: HostRuntime) -> Result<(), Fail> {
     fs::write(&rt, "fixed", "old")?;
@@ -207,6 +211,7 @@ fn a_path_that_takes_no_file_is_refused(rt: HostRuntime) -> Result<(), Fail> {
     Ok(())
 }
 
+// While one command writes a file, no other command can write it.
 #[test]
 fn a_file_has_one_writer(rt: HostRuntime) -> Result<(), Fail> {
     let mut first = SystemOutputs::new(&rt, rt.alloc());
@@ -228,6 +233,7 @@ fn a_file_has_one_writer(rt: HostRuntime) -> Result<(), Fail> {
     Ok(())
 }
 
+// A new file has the mode of the file that it replaces. A read-only file is not replaced.
 #[test]
 fn modes_are_kept(rt: HostRuntime) -> Result<(), Fail> {
     for mode in [0o600, 0o644, 0o664, 0o755] {
@@ -252,6 +258,7 @@ fn modes_are_kept(rt: HostRuntime) -> Result<(), Fail> {
     Ok(())
 }
 
+// An abandoned file leaves the file at its path unchanged, and its temporary file is removed.
 #[test]
 fn a_file_is_abandoned(rt: HostRuntime) -> Result<(), Fail> {
     fs::write(&rt, "kept", "old")?;
@@ -267,6 +274,7 @@ fn a_file_is_abandoned(rt: HostRuntime) -> Result<(), Fail> {
     Ok(())
 }
 
+// If a directory is at the path in the meantime, placing the file fails, and its temporary file is removed.
 #[test]
 fn a_file_that_cannot_be_placed_is_taken_away(rt: HostRuntime) -> Result<(), Fail> {
     fs::write(&rt, "turned", "old")?;
@@ -286,6 +294,7 @@ fn a_file_that_cannot_be_placed_is_taken_away(rt: HostRuntime) -> Result<(), Fai
     Ok(())
 }
 
+// Outputs in memory fail after the number of steps that they allow.
 #[test]
 fn steps_are_refused(rt: HostRuntime) -> Result<(), Fail> {
     for (steps, wanted, count) in [
@@ -310,6 +319,7 @@ fn memory_file(alloc: Global, path: &str, bytes: &[u8]) -> Result<MemoryFile, Al
     })
 }
 
+// Files in memory are read at paths relative to a directory, if one is given.
 #[test]
 fn memory_is_read(rt: HostRuntime) -> Result<(), Fail> {
     let mut files = Vec::new(rt.alloc());

@@ -220,7 +220,7 @@ kinds_of_keys =
     ∷ (codes "misaligned", kind.Text)
     ∷ []
 
--- whether a value has the type of this kind
+-- whether a value has this type
 abbrev pub is_of_kind : Kind → Data → Bool
 is_of_kind kind.Text = is_text
 is_of_kind kind.Number = is_number
@@ -231,7 +231,7 @@ is_of_kind kind.Regions = is_region_array
 abbrev pub is_of_other_kind : Members → List ℕ × Kind → Bool
 is_of_other_kind ms known = not (absent_or (is_of_kind known.1) known.0 ms)
 
--- a key and its kind in the code's table, as contracts see them
+-- a key and its type in the code's table, as contracts see them
 abbrev pub key_and_kind : Bor (List ℕ) × Kind → List ℕ × Kind
 key_and_kind known = (known.0.now, known.1)
 

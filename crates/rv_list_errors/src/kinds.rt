@@ -50,7 +50,7 @@ fn first_key_of_other_kind<'k>(
         .find(|known| is_value_of_other_kind(table, known.0, known.1))
 }
 
-// Whether there is a value at a key and its type is not the one that this kind requires.
+// Whether there is a value at a key and it does not have this type.
 fn is_value_of_other_kind(table: &Table, key: &str, kind: Kind) -> bool
     ensures { result ≡ not (absent_or (is_of_kind kind) key.now (table_view table.now)) }
 {
@@ -60,7 +60,7 @@ fn is_value_of_other_kind(table: &Table, key: &str, kind: Kind) -> bool
     }
 }
 
-/// Whether a value has the type of this kind.
+/// Whether a value has this type.
 pub(crate) fn is_of_toml_kind(kind: Kind, value: &Value) -> bool
     ensures { result ≡ is_of_kind kind (view value.now) }
 {
@@ -153,7 +153,7 @@ fn is_other_than_boolean(value: Option<&Value>) -> bool
 
 const NUMBER: &str = "expected an integer";
 
-/// Appends a key whose value does not have the type of this kind, its value, and the expected type. For regions, appends the bad region.
+/// Appends a key whose value does not have this type, its value, and the expected type. For regions, appends the bad region.
 pub(crate) fn push_value_of_wrong_kind(message: &mut Message, table: &Table, key: &str, kind: Kind)
     ensures { AddsSome message.old message.new (ExplainsWrongType key.now kind (table_view table.now)) }
 {

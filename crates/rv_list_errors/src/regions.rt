@@ -33,7 +33,7 @@ pub(crate) fn are_map(elements: &[Value]) -> bool {
     elements.len() <= regions.len() && Map::of(&regions[..elements.len()]).is_ok()
 }
 
-// Returns the regions of the first four elements. A missing or bad element gives an empty region.
+// Returns the regions of the first four elements. The region of a missing or bad element is empty.
 fn first_regions(elements: &[Value]) -> [Region; 4] {
     [
         region_or_empty(elements, 0),

@@ -13,7 +13,9 @@ use Rattle.rv_list_locations.specs.declared.scan.Next.{Next}
 use Rattle.rv_list_locations.specs.declared.scan.Next.TheVariants.{Element, Table, Top}
 use Rattle.rv_list_locations.specs.LinesAndColumns.{line_at}
 
+-- the second step, if the first succeeded
 infixl 10 ◌>>=◌
+-- the result of `f` for the value of the first step, or `None` if it has none
 abbrev ◌>>=◌ : {A B : Type 0} → Option A → (A → Option B) → Option B
 o >>= f = option_and_then f o
 

@@ -18,7 +18,7 @@ use toml_parser::text::{byte_at, first, skip, skip_ws};
 use toml_parser::{ErrorKind, ParseError, dotted_key};
 
 /// Returns the line, counted from 1, on which each job of a list begins: the line of its header, or of its element if the list is an array.
-/// A text that is not TOML is scanned up to the first place that cannot be scanned.
+/// A text that is not TOML is scanned up to where the scan fails.
 pub fn job_line_numbers(alloc: Global, text: &str) -> Result<Vec<usize>, AllocError>
     ensures lines { IfOk result (λ lines. lines.items ≡ spec.job_lines text.now) }
     ensures rising { IfOk result (λ lines. IsNonDecreasing lines.items) }

@@ -24,7 +24,7 @@ pub struct ValueSpan {
 }
 
 /// Returns the locations of the values of the jobs that have a header `[[job]]`, in order. Values in inline tables, at dotted keys and in
-/// tables below a job are not included. A text that is not TOML is scanned up to the first place that cannot be scanned.
+/// tables below a job are not included. A text that is not TOML is scanned up to where the scan fails.
 pub fn value_spans(alloc: Global, text: &str) -> Result<Vec<ValueSpan>, AllocError>
     ensures { IfOk result (λ spans. All (IsSpanIn text.now) spans.items) }
 {

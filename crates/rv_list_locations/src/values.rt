@@ -41,7 +41,7 @@ fn skip_brackets(alloc: Global, text: &str) -> Result<&str, ParseError>
     }
 }
 
-// Returns the text after the blanks, line ends and comments with which it begins.
+/// Returns the text after the blanks, line ends and comments with which it begins.
 pub(crate) fn skip_blank_lines(text: &str) -> &str
     ensures rest { result.now ≡ behind_blank text.now }
     ensures within { length result.now ≤ length text.now }

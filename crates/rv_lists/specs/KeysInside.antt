@@ -5,7 +5,7 @@ use Rattle.rv_lists.specs.declared.keys.Kind.{Kind}
 use Rattle.rv_lists.specs.declared.keys.Kind.TheVariants.{Text, Number, Texts, Regions}
 use Rattle.rv_lists.specs.Keys.{is_text, is_number, is_text_array, is_region_array}
 
--- whether a value has the type that this kind of key requires
+-- whether a value has this type
 abbrev pub is_value_of_kind : Kind → Data → Bool
 is_value_of_kind Text = is_text
 is_value_of_kind Number = is_number

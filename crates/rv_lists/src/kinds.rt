@@ -73,7 +73,7 @@ fn has_kinds_of_keys(table: &Table, keys: &[(&str, Kind)]) -> bool
         .all(|key| is_absent_or_kind(table, key.0, key.1))
 }
 
-// Whether the key is missing, or its value has the type that this kind requires.
+// Whether the key is missing, or its value has this type.
 fn is_absent_or_kind(table: &Table, key: &str, kind: Kind) -> bool
     ensures { result ≡ absent_or (is_value_of_kind kind) key.now (table_view table.now) }
 {
@@ -83,7 +83,7 @@ fn is_absent_or_kind(table: &Table, key: &str, kind: Kind) -> bool
     }
 }
 
-// Whether a value has the type that this kind requires.
+// Whether a value has this type.
 fn is_value_of_kind(kind: Kind, value: &Value) -> bool
     ensures { result ≡ is_value_of_kind kind (view value.now) }
 {

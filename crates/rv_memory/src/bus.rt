@@ -22,15 +22,15 @@ use std::marker::Model;
 #[derive(Drop)]
 pub struct Bus {
     pub(crate) map: Map,
-    // The bytes of all regions, concatenated, and their marks.
+    /// The bytes of all regions, concatenated.
     pub(crate) bytes: Vec<u8>,
     /// The mark of each byte.
     pub(crate) marks: Vec<u16>,
-    // A byte counts as stored if its mark equals this generation; older marks are below it.
+    /// A byte counts as stored if its mark equals this generation; older marks are below it.
     pub(crate) generation: u16,
     pub(crate) console: Vec<u8>,
     pub(crate) script: Vec<u8>,
-    // The number of script bytes read.
+    /// The number of script bytes read.
     pub(crate) script_position: usize,
     pub(crate) misaligned: Misaligned,
 }

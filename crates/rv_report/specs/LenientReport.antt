@@ -1,5 +1,5 @@
--- The report that is read from a text leniently: any text gives one. Whether the text is a report is found by writing the lenient report
--- and comparing.
+-- The report that the lenient reader returns for a text; it returns one for every text. A text is a report if it equals the text of its
+-- lenient report.
 use Rattle.std.specs.Prelude.{◌==◌, if◌then◌else◌, ◌+◌, ◌-◌, ◌*◌, ◌^◌, ◌&&◌, ◌||◌, ℕ, zero, suc}
 use Rattle.std.specs.Prelude.{nat_lt, nat_le, min, Bool, true, false, not, List, [], ◌∷◌, ◌++◌}
 use Rattle.std.specs.Prelude.{length, replicate, take, drop, slice_index, Option, Some, None}

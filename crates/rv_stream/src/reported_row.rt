@@ -5,7 +5,7 @@ ghost use Rattle.std.specs.Prelude.{◌≡◌};
 use rv_fleet::{Batch, Row, RowReporter, Work, WorkerState, row_at_with_recent};
 use std::alloc::{AllocError, Global};
 
-/// The row of a job, with the text that a reporter makes of it.
+/// The row of a job, with the text that a reporter returns for it.
 #[derive(Drop)]
 pub struct ReportedRow {
     /// The job's index in its list.
@@ -14,7 +14,7 @@ pub struct ReportedRow {
     pub text: Vec<u8>,
 }
 
-/// Makes the rows of a batch and their texts.
+/// Computes the rows of a batch and their texts.
 #[derive(Drop)]
 pub(crate) struct ReportedRowWork<'b, 't, T: RowReporter> {
     pub(crate) batch: &'b Batch<'b>,

@@ -12,7 +12,7 @@ use rv_base::Sink;
 use rv_fleet::{Flow, Observer, RowReporter, WriteError};
 use std::alloc::Global;
 
-/// Sends the text that a reporter of its own gives of each row to a sink. Rows that arrive together are written at once. Without a sink it
+/// Sends to a sink the text that its own reporter returns for each row. Rows that arrive together are written at once. Without a sink it
 /// sends nothing.
 #[derive(Drop)]
 pub struct RowSender<'t, J: StreamSpec, T: RowReporter, W: Sink + Drop> {

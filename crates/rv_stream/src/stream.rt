@@ -34,7 +34,7 @@ pub struct ReporterOutput<'t, T: RowReporter, W: Sink + Drop> {
 /// the texts of all earlier rows have been written. An observer sees each row with its text. Returns the sink, the observer and the rows.
 /// If it returns the rows, the sink has received all texts and the observer has seen all rows; after an error, only a prefix of them.
 ///
-/// `J` is the stream's `Brand`, whose ghost members the caller chooses.
+/// `J` specifies the stream: the caller chooses its ghost members, with a `Brand` of its own.
 pub fn stream_rows<
     J: StreamSpec + Send,
     R: Threads + Wait + Sync,

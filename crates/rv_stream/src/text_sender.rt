@@ -10,7 +10,7 @@ use rv_base::Sink;
 use rv_fleet::{Flow, Observer, WriteError};
 use std::alloc::Global;
 
-/// An observer that writes the texts that the workers made of the rows. Rows that arrive together are written at once.
+/// An observer that writes the texts that the workers computed for the rows. Rows that arrive together are written at once.
 #[derive(Drop)]
 pub(crate) struct TextSender<J: StreamSpec, W: Sink + Drop> {
     pub(crate) outbox: Outbox<J, W>,
