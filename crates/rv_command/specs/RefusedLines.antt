@@ -65,6 +65,7 @@ is_job_list text = are_faults_of_list (list_faults text)
 
 -- ---- the messages
 
+-- whether the line begins with this text
 abbrev begins : List ℕ → List ℕ → Bool
 begins line words = starts_with nat_eq line words
 

@@ -1,4 +1,4 @@
--- The pieces of a batch.
+-- The pieces of a batch: consecutive indices whose jobs name one image, so that one worker can count them together.
 use Rattle.std.specs.Prelude.{◌≡◌, ◌<◌, ◌≤◌, ℕ, zero, suc, List, length, slice_index_or, slice_range}
 use Rattle.rv_trace.specs.declared_job.Job.{Job}
 use Rattle.rv_trace.specs.Plans.{Planned}
@@ -10,30 +10,32 @@ abbrev pub HaveOneImage : Planned → List ℕ → Type 0
 HaveOneImage plan places = (k : ℕ) (d : Job) → k < length places
     → (job_at plan (slice_index_or places k 0) d).image ≡ (job_at plan (slice_index_or places 0 0) d).image
 
+-- the piece with this number, counted from 0; an empty one if there is no such piece
 abbrev pub piece_in : List Piece → ℕ → Piece
 piece_in pieces k = slice_index_or pieces k (record { from = 0; to = 0 })
 
--- the indices of a piece
+-- the indices of the batch that are in this piece
 abbrev pub places_of : List ℕ → Piece → List ℕ
 places_of places piece = slice_range places piece.from piece.to
 
--- where a piece must begin: at the end of the one before it
+-- where the piece with this number must begin: at the end of the one before it, or at 0
 abbrev pub start_of : List Piece → ℕ → ℕ
 start_of pieces zero = 0
 start_of pieces (suc k) = (piece_in pieces k).to
 
+-- the piece begins at `from`, is not empty, ends within the batch, and its jobs name one image
 pub record IsPiece (plan : Planned) (places : List ℕ) (from : ℕ) (piece : Piece) : Type 0 where
   pub starts : piece.from ≡ from
   pub some : piece.from < piece.to
   pub within : piece.to ≤ length places
   pub same : HaveOneImage plan (places_of places piece)
 
--- one after another, the pieces are the first `to` indices
+-- the pieces, one after another, have exactly the first `to` indices of the batch
 pub record ArePiecesTo (plan : Planned) (places : List ℕ) (to : ℕ) (pieces : List Piece) : Type 0 where
   pub few : length pieces ≤ to
   pub each : (k : ℕ) → k < length pieces → IsPiece plan places (start_of pieces k) (piece_in pieces k)
   pub all : start_of pieces (length pieces) ≡ to
 
--- they are all the indices
+-- the pieces, one after another, have exactly all indices of the batch
 abbrev pub ArePieces : Planned → List ℕ → List Piece → Type 0
 ArePieces plan places pieces = ArePiecesTo plan places (length places) pieces

@@ -33,14 +33,15 @@ pub record AddsRun (budget : ℕ) (start : Option State) (old new : RunsCounter)
 abbrev pub AddsJob : List Answer → Job → RunsCounter → RunsCounter → Type 0
 AddsJob answers job old new = AddsRun job.budget (result_ok (start_in answers job)) old new
 
--- how often a job's run executes the instruction at an address, and takes the branch there
+-- how often a job's run executes the instruction at an address; 0 if the job is refused
 abbrev pub begun_of : List Answer → ℕ → Job → ℕ
 begun_of answers at job = begun_from at job.budget (result_ok (start_in answers job))
 
+-- how often a job's run takes the branch at an address; 0 if the job is refused
 abbrev pub taken_of : List Answer → ℕ → Job → ℕ
 taken_of answers at job = taken_from at job.budget (result_ok (start_in answers job))
 
--- the runs of jobs were counted
+-- the counter has the counts of the runs of these jobs, and can count another run
 pub record HasCountedJobs (answers : List Answer) (jobs : List Job) (c : RunsCounter) : Type 0 where
   pub ready : CanCountRuns c
   pub runs : c.runs ≡ sum_by (runs_by answers) jobs

@@ -162,6 +162,7 @@ fn list_of_one_image(alloc: Global) -> Result<String, AllocError> {
     Ok(list)
 }
 
+// The table of many jobs of one image is the expected one, whether one thread or three compute it.
 #[test]
 fn jobs_of_one_image_are_counted_together(rt: HostRuntime) -> Result<(), Fail> {
     let alloc = rt.alloc();

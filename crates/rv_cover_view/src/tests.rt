@@ -81,6 +81,7 @@ const TEXT: &str =
 never run: last, idle
 ";
 
+// Functions are sorted by address, and of several at one address only the first is returned.
 #[test]
 fn functions_stand_by_address(rt: HostRuntime) -> Result<(), Fail> {
     let alloc = rt.alloc();
@@ -105,6 +106,7 @@ fn functions_stand_by_address(rt: HostRuntime) -> Result<(), Fail> {
     Ok(())
 }
 
+// The lines of an image have the expected totals, and the names of the functions that never ran.
 #[test]
 #[tactic(auto, unfolding(rv_count_tables::specs::Table::rise_from))]
 fn functions_are_counted(rt: HostRuntime) -> Result<(), Fail> {
@@ -150,6 +152,7 @@ build/a.elf,2,1,30,20,5,3,1
 \"a \"\"b\"\", c.elf\",2,1,30,20,5,3,1
 ";
 
+// A CSV field that has a comma or a quote is put in quotes, and its own quotes are doubled.
 #[test]
 fn a_field_with_a_comma_or_a_quote_is_quoted(rt: HostRuntime) -> Result<(), Fail> {
     let amounts = Amounts {

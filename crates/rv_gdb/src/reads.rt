@@ -14,7 +14,7 @@ use std::sync::atomic::Ordering::SeqCst;
 // The maximum number of bytes in a read. gdb's packets have up to 16,384.
 const CHUNK: usize = 16_384;
 
-// Reads once, and returns the bytes that were read; there are none only at the end of the input.
+/// Reads once, and returns the bytes that were read; there are none only at the end of the input.
 pub(crate) fn read_chunk<I: Read>(alloc: Global, input: &mut I) -> Result<Vec<u8>, SessionError>
     ensures read { IfOk result (λ chunk. IsChunkRead (I.remaining input.old) (I.remaining input.new) chunk.items) }
     ensures failed { IfErr result (λ broken. broken ≢ SessionError.ReplyWriteFailed) }
@@ -26,8 +26,8 @@ pub(crate) fn read_chunk<I: Read>(alloc: Global, input: &mut I) -> Result<Vec<u8
     }
 }
 
-// Returns an error if a move was interrupted although the bytes that were read do not interrupt it. The reading thread never raises such an
-// interrupt, but no contract says what another thread stores, so this is checked at run time.
+/// Returns an error if a move was interrupted although the bytes that were read do not interrupt it. The reading thread never raises such
+/// an interrupt, but no contract says what another thread stores, so this is checked at run time.
 pub(crate) fn check_raised(was_seen: bool, chunk: &[u8]) -> Result<(), SessionError>
     ensures raised { OnOk result (was_seen ≡ true → is_interrupted chunk.now true ≡ true) }
     ensures failed { IfErr result (λ broken. broken ≢ SessionError.ReplyWriteFailed) }
@@ -38,7 +38,7 @@ pub(crate) fn check_raised(was_seen: bool, chunk: &[u8]) -> Result<(), SessionEr
     Ok(())
 }
 
-// Reads once, and returns the bytes that were read. Raises the interrupt if they interrupt a move or if the read failed.
+/// Reads once, and returns the bytes that were read. Raises the interrupt if they interrupt a move or if the read failed.
 pub(crate) fn read_ahead<I: Read>(
     alloc: Global,
     input: &mut I,

@@ -48,7 +48,7 @@ pub(crate) fn push_compared_name(
     push_spans(bytes, &[Span::Text(before), Span::Shown(name.as_bytes())])
 }
 
-// Returns the contents of a file, or no bytes if there are none.
+/// Returns the contents of a file, or no bytes if there are none.
 pub(crate) fn bytes_or_empty(file: Option<&[u8]>) -> &[u8]
     ensures { result.now ≡ unwrap_or (option_map (λ bytes. bytes.now) file.entry) [] }
 {

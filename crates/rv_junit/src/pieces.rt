@@ -62,7 +62,7 @@ fn push_count(text: &mut String, number: u64, noun: &str) -> Result<(), AllocErr
     text.push_str(if number == 1 { "" } else { "s" })
 }
 
-// Appends an XML attribute with a name and a text as its value, which is escaped.
+/// Appends an XML attribute with a name and a text as its value, which is escaped.
 #[tactic(auto, unfolding(crate::specs::Pieces::attribute))]
 pub(crate) fn push_attribute(
     alloc: Global,

@@ -24,7 +24,7 @@ const STAT_BYTES: u32 = 64;
 const READABLE_FILE: u32 = 0x8124;
 
 impl Session {
-    // Handles `vFile:open:`: opens the image file as descriptor 5, and refuses any other file.
+    /// Handles `vFile:open:`: opens the image file as descriptor 5, and refuses any other file.
     pub(crate) fn open_file(&self, alloc: Global, path: &[u8]) -> Result<Reply, AllocError>
         ensures { IfOk result (λ reply. reply
             ≡ (if bytes_eq self.now.program.path path.now then with_body (codes "F5") else refused refusal.OtherFile)) }
@@ -36,7 +36,7 @@ impl Session {
         }
     }
 
-    // Handles `vFile:fstat:5`: returns big-endian words of four bytes, all 0 except the mode and the size.
+    /// Handles `vFile:fstat:5`: returns big-endian words of four bytes, all 0 except the mode and the size.
     pub(crate) fn file_size(&self, alloc: Global) -> Result<Reply, AllocError>
         ensures { IfOk result (λ reply. reply ≡ size_reply (length self.now.program.image)) }
     {
@@ -47,7 +47,7 @@ impl Session {
         Ok(Reply::with_body(alloc, body))
     }
 
-    // Handles `vFile:pread:5,`: returns a part of the image file.
+    /// Handles `vFile:pread:5,`: returns a part of the image file.
     pub(crate) fn read_file(&self, alloc: Global, part: Part) -> Result<Reply, AllocError>
         ensures { IfOk result (λ reply. reply ≡ file_reply (file_part self.now.program.image part)) }
     {

@@ -14,7 +14,7 @@ const HELP: &str =
     "when: how many steps were executed\nconsole: the output up to here\ninput: how much of the script was read\nreset, reset halt: go back to the start of the run\n";
 
 impl Session {
-    // Handles `qRcmd,`: runs a `monitor` command, and returns its output and `OK`.
+    /// Handles `qRcmd,`: runs a `monitor` command, and returns its output and `OK`.
     pub(crate) fn command(&mut self, alloc: Global, text: &[u8]) -> Result<Reply, AllocError>
         ensures { IfOk result (λ reply. IsCommanded self.old text.now reply self.new) }
     {

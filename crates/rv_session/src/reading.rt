@@ -18,7 +18,7 @@ use std::alloc::{AllocError, Global};
 const MOST_BYTES: u32 = 8184;
 
 impl Session {
-    // Handles `g`: returns the reply with the values of x0 to x31 and the pc.
+    /// Handles `g`: returns the reply with the values of x0 to x31 and the pc.
     pub(crate) fn registers(&self, alloc: Global) -> Result<Reply, AllocError>
         ensures { IfOk result (λ reply. reply ≡ with_body (registers_here self.now)) }
     {
@@ -28,7 +28,7 @@ impl Session {
         Ok(Reply::with_body(alloc, body))
     }
 
-    // Handles `p`: returns the reply with the value of a register.
+    /// Handles `p`: returns the reply with the value of a register.
     pub(crate) fn register(&self, alloc: Global, register: Register) -> Result<Reply, AllocError>
         ensures { IfOk result (λ reply. reply ≡ with_body (register_text (value_of self.now register))) }
     {
@@ -37,7 +37,7 @@ impl Session {
         Ok(Reply::with_body(alloc, body))
     }
 
-    // Returns the value of a register of the target description at the current step.
+    /// Returns the value of a register of the target description at the current step.
     pub(crate) fn value(&self, register: Register) -> u32
         ensures { result ≡ value_of self.now register }
     {
@@ -69,7 +69,7 @@ impl Session {
         self.script.saturating_sub(left)
     }
 
-    // Handles `m`: returns the reply with the bytes of a range before the first address that is in no region.
+    /// Handles `m`: returns the reply with the bytes of a range before the first address that is in no region.
     pub(crate) fn memory(&self, alloc: Global, range: Range) -> Result<Reply, AllocError>
         ensures { IfOk result (λ reply. reply ≡ memory_reply (bytes_from (here self.now).bus range)) }
     {

@@ -118,7 +118,7 @@ impl Session {
         Ok(())
     }
 
-    // Appends a reply's packets, and stores the last one in case gdb requests it again.
+    /// Appends a reply's packets, and stores the last one in case gdb requests it again.
     pub(crate) fn send(
         &mut self,
         alloc: Global,

@@ -21,7 +21,7 @@ use std::alloc::{AllocError, Global};
 const END_OF_ADDRESSES: u64 = 0x1_0000_0000;
 
 impl Session {
-    // Handles `G`: returns `OK` if the write would change no register, and otherwise a refusal.
+    /// Handles `G`: returns `OK` if the write would change no register, and otherwise a refusal.
     pub(crate) fn write_registers(&self, alloc: Global, bytes: &[u8]) -> Result<Reply, AllocError>
         ensures { IfOk result (λ reply. reply
             ≡ granted_if (bytes_eq (registers_here self.now) (encode_lower bytes.now)) refusal.WouldChange) }
@@ -35,8 +35,8 @@ impl Session {
         Reply::granted_if(alloc, same, Refusal::WouldChange)
     }
 
-    // Handles `P`: a write to a register of the hart is granted only if the value does not change; a write to a count of the run moves to
-    // the first step at which the count has this value.
+    /// Handles `P`: a write to a register of the hart is granted only if the value does not change; a write to a count of the run moves to
+    /// the first step at which the count has this value.
     pub(crate) fn write_register(
         &mut self,
         alloc: Global,
@@ -56,7 +56,7 @@ impl Session {
         }
     }
 
-    // Handles `M` and `X`: returns `OK` if the write would change no byte of memory, and otherwise a refusal.
+    /// Handles `M` and `X`: returns `OK` if the write would change no byte of memory, and otherwise a refusal.
     pub(crate) fn write_memory(
         &self,
         alloc: Global,

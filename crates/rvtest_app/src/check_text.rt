@@ -30,7 +30,7 @@ pub(crate) struct CheckedList<'a> {
     ghost few: { length plan.now.jobs ≤ most_jobs },
 }
 
-// An expectation file of a job, if it names one: what was kept of its path, and the path.
+// An expectation file of a job: its contents as the plan has them, and its path; both are `None` if the job names no file.
 #[derive(Clone, Copy)]
 struct Reference<'a> {
     kept: Option<&'a Kept>,
