@@ -10,10 +10,10 @@ use Rattle.rv_rows.specs.Jobs.{console_path}
 use Rattle.rv_rows.specs.declared_job.Job.{Job}
 use Rattle.rv_rows.specs.Verdict.{lines_of_signature}
 use Rattle.rv_accept.proofs.Elements.{all_left, all_right, any_last, any_left, none_passes}
-use Rattle.rv_accept.specs.GoldenTexts.{claims_if_named, golden_texts_of_run, golden_texts_of_runs, text_if}
-use Rattle.rv_accept.specs.GoldenOutcomes.{outcome_of_golden_file, names_file}
+use Rattle.rv_accept.specs.GoldenTexts.{golden_text_if_named, golden_texts_of_run, golden_texts_of_runs, text_if}
+use Rattle.rv_accept.specs.GoldenOutcomes.{outcome_of_golden_file, is_for_file}
 use Rattle.rv_accept.specs.Runs.{is_accepted_run}
-use Rattle.rv_accept.specs.Targets.{is_of_accepted, is_target, target_of, with_target}
+use Rattle.rv_accept.specs.Targets.{is_accepted_entry, is_target, target_of, with_target}
 use Rattle.rv_accept.specs.declared.golden_texts.GoldenText.{GoldenText}
 use Rattle.rv_accept.specs.declared.golden_texts.Part.{Part}
 use Rattle.rv_accept.specs.declared.golden_texts.Part.TheVariants as part
@@ -42,7 +42,7 @@ module _ (P : GoldenText → Type 0) where
 
   -- and of that on a file that is named
   claim_named : (place : ℕ) (part : Part) (text : Option (List ℕ)) (named : Option (List ℕ)) (path : List ℕ)
-      → named ≡ Some path → All P (claims_if_named place part text named)
+      → named ≡ Some path → All P (golden_text_if_named place part text named)
       → P (record { job = place; part = part; path = path; text = text })
   claim_named place part text None path is each = cc
   claim_named place part text (Some other) path is each =
@@ -81,12 +81,12 @@ pub console_claim_among : (P : GoldenText → Type 0) (place : ℕ) (jobs : List
     → console_path job.expect_console ≡ Some path → P (console_claim place run path)
 console_claim_among P place jobs runs job run path each at ran accepted named =
     let text = text_if (not (is_some run.skipped)) run.row.console in
-    let rest = claims_if_named place part.Signature
+    let rest = golden_text_if_named place part.Signature
     (text_if (not (is_some run.skipped)) (lines_of_signature run.row.signature)) job.expect_signature in
     subst (λ text. P (record { job = place; part = part.Console; path = path; text = text }))
     (given run run.row.console accepted)
     (claim_named P place part.Console text (console_path job.expect_console) path named
-    (all_left P (claims_if_named place part.Console text (console_path job.expect_console)) rest
+    (all_left P (golden_text_if_named place part.Console text (console_path job.expect_console)) rest
     (among_first P place jobs runs job run each at ran)))
 
 pub signature_claim_among : (P : GoldenText → Type 0) (place : ℕ) (jobs : List Job) (runs : List (Option JobRun)) (job : Job)
@@ -96,12 +96,12 @@ pub signature_claim_among : (P : GoldenText → Type 0) (place : ℕ) (jobs : Li
 signature_claim_among P place jobs runs job run path each at ran accepted named =
     let lines = lines_of_signature run.row.signature in
     let text = text_if (not (is_some run.skipped)) lines in
-    let first = claims_if_named place part.Console (text_if (not (is_some run.skipped)) run.row.console)
+    let first = golden_text_if_named place part.Console (text_if (not (is_some run.skipped)) run.row.console)
     (console_path job.expect_console) in
     subst (λ text. P (record { job = place; part = part.Signature; path = path; text = text }))
     (given run lines accepted)
     (claim_named P place part.Signature text job.expect_signature path named
-    (all_right P first (claims_if_named place part.Signature text job.expect_signature)
+    (all_right P first (golden_text_if_named place part.Signature text job.expect_signature)
     (among_first P place jobs runs job run each at ran)))
 
 -- ---- targets
@@ -110,7 +110,7 @@ signature_claim_among P place jobs runs job run path each at ran accepted named 
 one_more_stays : (path : List ℕ) (runs : List (Option JobRun)) (claims : List GoldenText) (targets : List Target)
     (claim : GoldenText) → is_target path targets ≡ true → is_target path (with_target runs claims targets claim) ≡ true
 one_more_stays path runs claims targets claim is =
-    go (is_of_accepted (slice_get runs claim.job) && not (is_target claim.path targets))
+    go (is_accepted_entry (slice_get runs claim.job) && not (is_target claim.path targets))
   where
     go : (added : Bool) → is_target path (if added then targets ++ target_of claims claim ∷ [] else targets) ≡ true
     go true = any_left (λ target. bytes_eq path target.path) targets _ is
@@ -124,7 +124,7 @@ stays path runs claims (claim ∷ rest) targets is = stays path runs claims rest
 
 -- a claim of an accepted job on a file
 abbrev is_accepted_claim : List (Option JobRun) → List ℕ → GoldenText → Bool
-is_accepted_claim runs path claim = names_file path claim && is_of_accepted (slice_get runs claim.job)
+is_accepted_claim runs path claim = is_for_file path claim && is_accepted_entry (slice_get runs claim.job)
 
 both : (a b : Bool) → (a && b) ≡ true → (a ≡ true) × (b ≡ true)
 both true true holds = (refl, refl)
@@ -136,14 +136,14 @@ added : (path : List ℕ) (runs : List (Option JobRun)) (claims : List GoldenTex
     → is_accepted_claim runs path claim ≡ true → is_target path (with_target runs claims targets claim) ≡ true
 added path runs claims targets claim is = go (is_target claim.path targets) refl
   where
-    parts : (names_file path claim ≡ true) × (is_of_accepted (slice_get runs claim.job) ≡ true)
-    parts = both (names_file path claim) _ is
+    parts : (is_for_file path claim ≡ true) × (is_accepted_entry (slice_get runs claim.job) ≡ true)
+    parts = both (is_for_file path claim) _ is
 
     same : path ≡ claim.path
     same = (bytes_eq-Decides path claim.path).0 parts.0
 
     go : (there : Bool) → is_target claim.path targets ≡ there
-        → is_target path (if is_of_accepted (slice_get runs claim.job) && not there
+        → is_target path (if is_accepted_entry (slice_get runs claim.job) && not there
         then targets ++ target_of claims claim ∷ [] else targets) ≡ true
     go true is = rw parts.1 (rw same is)
     go false is = rw parts.1 (any_last (λ target. bytes_eq path target.path) targets (target_of claims claim) parts.0)
@@ -176,7 +176,7 @@ found test xs x missing passes = go (list_any test xs) refl
 -- the test that a claim of an accepted job passes
 accepted_claim : (runs : List (Option JobRun)) (place : ℕ) (run : JobRun) (path : List ℕ)
     → slice_get runs place ≡ Some (Some run) → is_accepted_run run ≡ true
-    → (bytes_eq path path && is_of_accepted (slice_get runs place)) ≡ true
+    → (bytes_eq path path && is_accepted_entry (slice_get runs place)) ≡ true
 accepted_claim runs place run path ran accepted = rw ((bytes_eq-Decides path path).1 refl) (rw ran accepted)
 
 -- the file of an accepted job's console is a target
@@ -210,7 +210,7 @@ HasFate claims target = target.fate ≡ outcome_of_golden_file target.path claim
 one_more_fate : (runs : List (Option JobRun)) (claims : List GoldenText) (targets : List Target) (claim : GoldenText)
     → All (HasFate claims) targets → All (HasFate claims) (with_target runs claims targets claim)
 one_more_fate runs claims targets claim each =
-    go (is_of_accepted (slice_get runs claim.job) && not (is_target claim.path targets))
+    go (is_accepted_entry (slice_get runs claim.job) && not (is_target claim.path targets))
   where
     go : (added : Bool) → All (HasFate claims) (if added then targets ++ target_of claims claim ∷ [] else targets)
     go true = All-append (HasFate claims) targets _ each

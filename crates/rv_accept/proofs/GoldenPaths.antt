@@ -7,9 +7,9 @@ use Rattle.std.proofs.lemmas.List.Elements.{All-append, All-cons, All-head, All-
 use Rattle.std.proofs.lemmas.Slice.Eq.{bytes_eq-Decides}
 use Rattle.rv_rows.specs.Jobs.{console_path}
 use Rattle.rv_rows.specs.declared_job.Job.{Job}
-use Rattle.rv_accept.specs.GoldenTexts.{claims_if_named, golden_texts_of_run, golden_texts_of_runs}
-use Rattle.rv_accept.specs.Sharing.{is_path, names_golden_file}
-use Rattle.rv_accept.specs.Targets.{is_of_accepted, is_target, target_of, with_target}
+use Rattle.rv_accept.specs.GoldenTexts.{golden_text_if_named, golden_texts_of_run, golden_texts_of_runs}
+use Rattle.rv_accept.specs.Sharing.{is_same_path, names_golden_file}
+use Rattle.rv_accept.specs.Targets.{is_accepted_entry, is_target, target_of, with_target}
 use Rattle.rv_accept.specs.declared.golden_texts.GoldenText.{GoldenText}
 use Rattle.rv_accept.specs.declared.golden_texts.Part.{Part}
 use Rattle.rv_accept.specs.declared.runs.JobRun.{JobRun}
@@ -35,7 +35,7 @@ same_bytes bytes = (bytes_eq-Decides bytes bytes).1 refl
 
 if_named : (jobs : List Job) (place : ℕ) (part : Part) (text path : Option (List ℕ))
     → ((named : List ℕ) → path ≡ Some named → list_any (names_golden_file named) jobs ≡ true)
-    → All (OfClaim jobs) (claims_if_named place part text path)
+    → All (OfClaim jobs) (golden_text_if_named place part text path)
 if_named jobs place part text None names = All-nil (OfClaim jobs)
 if_named jobs place part text (Some path) names =
     All-cons (OfClaim jobs) _ [] (names path refl) (All-nil (OfClaim jobs))
@@ -46,10 +46,10 @@ of_run jobs place job None = All-nil (OfClaim (job ∷ jobs))
 of_run jobs place job (Some run) = All-append (OfClaim (job ∷ jobs)) _ _
     (if_named (job ∷ jobs) place _ _ (console_path job.expect_console)
     (λ path is. or_left (names_golden_file path job) _
-    (or_left (is_path path (console_path job.expect_console)) _ (rw is (same_bytes path)))))
+    (or_left (is_same_path path (console_path job.expect_console)) _ (rw is (same_bytes path)))))
     (if_named (job ∷ jobs) place _ _ job.expect_signature
     (λ path is. or_left (names_golden_file path job) _
-    (or_right (is_path path (console_path job.expect_console)) _ (rw is (same_bytes path)))))
+    (or_right (is_same_path path (console_path job.expect_console)) _ (rw is (same_bytes path)))))
 
 one_more_job : (job : Job) (jobs : List Job) (claims : List GoldenText) → All (OfClaim jobs) claims
     → All (OfClaim (job ∷ jobs)) claims
@@ -67,7 +67,7 @@ one_more_target : (jobs : List Job) (runs : List (Option JobRun)) (claims : List
     (claim : GoldenText) → All (OfTarget jobs) targets → OfClaim jobs claim
     → All (OfTarget jobs) (with_target runs claims targets claim)
 one_more_target jobs runs claims targets claim each is =
-    go (is_of_accepted (slice_get runs claim.job) && not (is_target claim.path targets))
+    go (is_accepted_entry (slice_get runs claim.job) && not (is_target claim.path targets))
   where
     go : (added : Bool) → All (OfTarget jobs) (if added then targets ++ target_of claims claim ∷ [] else targets)
     go true = All-append (OfTarget jobs) targets _ each

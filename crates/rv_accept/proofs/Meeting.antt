@@ -19,8 +19,8 @@ use Rattle.rv_rows.specs.Verdict.{has_expected_signature, lines_of_signature, me
 use Rattle.rv_accept.specs.declared.ends.Acceptance.{Acceptance}
 use Rattle.rv_accept.specs.declared.ends.Acceptance.TheVariants as acceptance
 use Rattle.rv_accept.specs.Accepted.{accepted_job, actual_console, actual_end, actual_exit}
-use Rattle.rv_accept.specs.Passing.{EndedWell}
-use Rattle.rv_accept.specs.Ends.{ended_as_expected, ended_in_expected_way, is_accepted, is_accepted_end}
+use Rattle.rv_accept.specs.Passing.{HasExpectedEnd}
+use Rattle.rv_accept.specs.Ends.{ended_as_expected, ended_with_expected_kind, is_accepted, is_accepted_end}
 
 -- what is known of an end that meets its expectations once they are those of the run
 pub record Met (exit : Option ℕ) (how : Option ExpectedEnd) (end : RowEnd) : Type 0 where
@@ -58,7 +58,7 @@ of_expected exit how end holds =
     let third = both (has_expected_end how end) _ second.1 in
     record { ran = first.0; code = exit_holds exit end second.0; way = end_holds how end third.0 }
 
-of_way : (exit : Option ℕ) (how : Option ExpectedEnd) (end : RowEnd) → ended_in_expected_way exit how end ≡ true
+of_way : (exit : Option ℕ) (how : Option ExpectedEnd) (end : RowEnd) → ended_with_expected_kind exit how end ≡ true
     → Met exit how end
 of_way (Some code) None (ending.Exit met) holds = record { ran = refl; code = eq-eqb met met refl; way = refl }
 of_way None (Some (expected.Fault kind)) (ending.Fault met pc value) holds =
@@ -80,14 +80,14 @@ either false b holds = inr holds
 pub met : (acceptance : Acceptance) (exit : Option ℕ) (how : Option ExpectedEnd) (end : RowEnd)
     → is_accepted acceptance exit how end ≡ true → Met exit how end
 met acceptance.Expected exit how end holds = of_expected exit how end holds
-met acceptance.InExpectedWay exit how end holds = go (either (ended_as_expected exit how end) _ holds)
+met acceptance.ExpectedKind exit how end holds = go (either (ended_as_expected exit how end) _ holds)
   where
-    go : (ended_as_expected exit how end ≡ true) ⊎ (ended_in_expected_way exit how end ≡ true) → Met exit how end
+    go : (ended_as_expected exit how end ≡ true) ⊎ (ended_with_expected_kind exit how end ≡ true) → Met exit how end
     go (inl holds) = of_expected exit how end holds
     go (inr holds) = of_way exit how end holds
 
 -- so does an end that is the expected one
-pub met_if_ended_well : (job : Job) (row : Row) → EndedWell job row → Met job.expect_exit job.expect_end row.ending
+pub met_if_ended_well : (job : Job) (row : Row) → HasExpectedEnd job row → Met job.expect_exit job.expect_end row.ending
 met_if_ended_well job row well = record {
   ran = well.ran;
   code = exit_holds job.expect_exit row.ending well.exit;

@@ -13,12 +13,12 @@ use Rattle.rv_rows.specs.declared_row.Row.{Row}
 use Rattle.rv_rows.specs.declared_row.RowEnd.{RowEnd}
 use Rattle.rv_rows.specs.declared_row.RowEnd.TheVariants as ending
 use Rattle.rv_rows.specs.declared_row.Verdict.TheVariants as verdict
-use Rattle.rv_rows.specs.Verdict.{expects_anything, lines_of_signature, verdict_of}
+use Rattle.rv_rows.specs.Verdict.{has_expectations, lines_of_signature, verdict_of}
 use Rattle.rv_accept.proofs.Meeting.{Met, meets_over, met, met_if_ended_well}
 use Rattle.rv_accept.specs.Accepted.{accepted_job, actual_console, actual_end, actual_exit}
 use Rattle.rv_accept.specs.Ends.{is_accepted_end}
-use Rattle.rv_accept.specs.Passing.{EndedWell, is_pass_or_none}
-use Rattle.rv_accept.specs.Runs.{takes_from_run, chosen_skip_reason, text_skip_reason}
+use Rattle.rv_accept.specs.Passing.{HasExpectedEnd, is_pass_or_none}
+use Rattle.rv_accept.specs.Runs.{has_replaceable_expectation, chosen_skip_reason, text_skip_reason}
 use Rattle.rv_accept.specs.declared.ends.Acceptance.{Acceptance}
 use Rattle.rv_accept.specs.declared.runs.SkipReason.{SkipReason}
 use Rattle.rv_accept.specs.declared.runs.SkipReason.TheVariants as why
@@ -52,8 +52,8 @@ console_there (Some (Text text)) bytes = refl
 console_there (Some (File path)) bytes = refl
 
 -- nothing is expected of a job from whose run nothing is taken, and which names no other
-unasked : (job : Job) (end : RowEnd) (bytes : List ℕ) → takes_from_run job ≡ false → job.same_as ≡ None
-    → expects_anything (accepted_job job end bytes) ≡ false
+unasked : (job : Job) (end : RowEnd) (bytes : List ℕ) → has_replaceable_expectation job ≡ false → job.same_as ≡ None
+    → has_expectations (accepted_job job end bytes) ≡ false
 unasked job end bytes nothing alone =
     let first = both_false (is_some job.expect_exit) _ nothing in
     let second = both_false (is_some job.expect_end) _ first.1 in
@@ -78,16 +78,16 @@ no_failure true false all = all refl
 
 -- a job from whose run nothing is taken, and which names no other, is not asked anything
 pub unasked_passes : (job : Job) (end : RowEnd) (bytes : List ℕ) (outcome : Outcome) (reference console : Option (List ℕ))
-    (other : Option Outcome) → takes_from_run job ≡ false → job.same_as ≡ None
+    (other : Option Outcome) → has_replaceable_expectation job ≡ false → job.same_as ≡ None
     → is_pass_or_none (verdict_of (accepted_job job end bytes) outcome reference console other) ≡ true
 unfolding verdict_of
 unasked_passes job end bytes outcome reference console other nothing alone =
-    no_failure (expects_anything (accepted_job job end bytes)) _
+    no_failure (has_expectations (accepted_job job end bytes)) _
     (λ asked. absurd (false≢true (sym (unasked job end bytes nothing alone) ∙ asked)))
 
 -- one that is not left met its end, or what its end becomes
-pub met_if_kept : (acceptance : Acceptance) (stands : CurrentVerdict) (job : Job) (row : Row) → takes_from_run job ≡ true
-    → chosen_skip_reason acceptance stands job row ≡ None → (stands ≡ standing.Passes → EndedWell job row)
+pub met_if_kept : (acceptance : Acceptance) (stands : CurrentVerdict) (job : Job) (row : Row) → has_replaceable_expectation job ≡ true
+    → chosen_skip_reason acceptance stands job row ≡ None → (stands ≡ standing.Passes → HasExpectedEnd job row)
     → Met job.expect_exit job.expect_end row.ending
 met_if_kept acceptance standing.Passes job row takes kept well = met_if_ended_well job row (well refl)
 met_if_kept acceptance standing.Fails job row takes kept well = met acceptance job.expect_exit job.expect_end row.ending
@@ -103,5 +103,5 @@ pub accepted_passes : (job : Job) (outcome : Outcome) (reference console : Optio
     ≡ true
 unfolding verdict_of
 accepted_passes job outcome reference console other met alone lines bytes =
-    no_failure (expects_anything (accepted_job job outcome.ending outcome.console)) _
+    no_failure (has_expectations (accepted_job job outcome.ending outcome.console)) _
     (λ asked. meets_over job outcome reference console other met alone lines bytes)

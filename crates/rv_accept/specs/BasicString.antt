@@ -14,18 +14,18 @@ short_escape byte =
     else if byte == 13 then Some (codes "\\r") else None
 
 -- whether a byte is an ASCII control character
-abbrev pub is_other_control : ℕ → Bool
-is_other_control byte = is_in_range 0 31 byte || byte == 127
+abbrev pub is_control : ℕ → Bool
+is_control byte = is_in_range 0 31 byte || byte == 127
 
 -- a byte in a TOML string: its escape, if there is one; else `\u00` and two digits for a control character, or the byte itself
-abbrev pub byte_text_unless_short : Option (List ℕ) → ℕ → List ℕ
-byte_text_unless_short (Some escape) byte = escape
-byte_text_unless_short None byte =
-    if is_other_control byte then codes "\\u00" ++ encode_lower (byte ∷ []) else byte ∷ []
+abbrev pub byte_text_given_escape : Option (List ℕ) → ℕ → List ℕ
+byte_text_given_escape (Some escape) byte = escape
+byte_text_given_escape None byte =
+    if is_control byte then codes "\\u00" ++ encode_lower (byte ∷ []) else byte ∷ []
 
 -- a byte as it is written in a TOML string: escaped if necessary
 abbrev pub byte_text : ℕ → List ℕ
-byte_text byte = byte_text_unless_short (short_escape byte) byte
+byte_text byte = byte_text_given_escape (short_escape byte) byte
 
 -- the text as a TOML basic string on one line
 unfoldable pub basic_string : List ℕ → List ℕ

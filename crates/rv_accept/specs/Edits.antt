@@ -7,6 +7,6 @@ abbrev pub piece : ℕ → ℕ → List ℕ → List ℕ
 piece from to text = take (to - from) (drop from text)
 
 -- the text after its first `from` bytes, in which each edit's range is replaced by the edit's text; the edits are in text order
-unfoldable pub edited_from : ℕ → List ℕ → List Edit → List ℕ
-edited_from from text [] = drop from text
-edited_from from text (edit ∷ edits) = piece from edit.begin text ++ edit.text ++ edited_from edit.end text edits
+unfoldable pub edited_rest : ℕ → List ℕ → List Edit → List ℕ
+edited_rest from text [] = drop from text
+edited_rest from text (edit ∷ edits) = piece from edit.begin text ++ edit.text ++ edited_rest edit.end text edits

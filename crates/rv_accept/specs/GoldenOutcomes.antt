@@ -7,12 +7,12 @@ use Rattle.rv_accept.specs.declared.golden_outcomes.GoldenFileOutcome.{GoldenFil
 use Rattle.rv_accept.specs.declared.golden_outcomes.GoldenFileOutcome.TheVariants as fate
 
 -- whether this golden text is for the file at the path
-abbrev pub names_file : List ℕ → GoldenText → Bool
-names_file path claim = bytes_eq path claim.path
+abbrev pub is_for_file : List ℕ → GoldenText → Bool
+is_for_file path claim = bytes_eq path claim.path
 
 -- whether this golden text is for the file at the path, and its job was skipped, so that there is no text
 abbrev pub is_of_skipped_job : List ℕ → GoldenText → Bool
-is_of_skipped_job path claim = names_file path claim && not (is_some claim.text)
+is_of_skipped_job path claim = is_for_file path claim && not (is_some claim.text)
 
 -- whether the second text exists and equals `text`
 abbrev pub is_text : List ℕ → Option (List ℕ) → Bool
@@ -20,8 +20,8 @@ is_text text None = false
 is_text text (Some given) = bytes_eq text given
 
 -- whether this golden text is for the file at the path, and its text is missing or differs from `text`
-abbrev pub gives_another_text : List ℕ → List ℕ → GoldenText → Bool
-gives_another_text path text claim = names_file path claim && not (is_text text claim.text)
+abbrev pub has_other_text : List ℕ → List ℕ → GoldenText → Bool
+has_other_text path text claim = is_for_file path claim && not (is_text text claim.text)
 
 -- the outcome for a golden file to which `job` gives this text: the text, or that the job of the other golden text gives it a different one
 abbrev pub outcome_unless_another : ℕ → List ℕ → Option GoldenText → GoldenFileOutcome
@@ -31,9 +31,9 @@ outcome_unless_another job text (Some other) = fate.Differ job other.job
 -- the outcome for the golden file at the path, to which its first job `job` gives this text: the text, or that two jobs differ, or that
 -- `job` was skipped
 abbrev pub outcome_of_given_text : List ℕ → List GoldenText → ℕ → Option (List ℕ) → GoldenFileOutcome
-outcome_of_given_text path claims job None = fate.LeftBy job
+outcome_of_given_text path claims job None = fate.SkippedBy job
 outcome_of_given_text path claims job (Some text) =
-    outcome_unless_another job text (find (gives_another_text path text) claims)
+    outcome_unless_another job text (find (has_other_text path text) claims)
 
 -- the outcome for the golden file at the path, given its first golden text; `Unclaimed` if there is none
 abbrev pub outcome_of_first : List ℕ → List GoldenText → Option GoldenText → GoldenFileOutcome
@@ -42,8 +42,8 @@ outcome_of_first path claims (Some first) = outcome_of_given_text path claims fi
 
 -- the outcome for the golden file at the path, given the first golden text of a skipped job; if there is one, the file is left as it is
 abbrev pub outcome_unless_skipped : List ℕ → List GoldenText → Option GoldenText → GoldenFileOutcome
-outcome_unless_skipped path claims (Some claim) = fate.LeftBy claim.job
-outcome_unless_skipped path claims None = outcome_of_first path claims (find (names_file path) claims)
+outcome_unless_skipped path claims (Some claim) = fate.SkippedBy claim.job
+outcome_unless_skipped path claims None = outcome_of_first path claims (find (is_for_file path) claims)
 
 -- the outcome for the golden file at the path: the text on which all jobs that name it agree, or why there is none
 unfoldable pub outcome_of_golden_file : List ℕ → List GoldenText → GoldenFileOutcome

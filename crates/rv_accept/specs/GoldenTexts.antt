@@ -14,16 +14,16 @@ abbrev pub text_if : Bool → List ℕ → Option (List ℕ)
 text_if accepted text = if accepted then Some text else None
 
 -- the golden text of the job at index `job` for the file at this path, as a list; empty if no path is named
-abbrev pub claims_if_named : ℕ → Part → Option (List ℕ) → Option (List ℕ) → List GoldenText
-claims_if_named job part text None = []
-claims_if_named job part text (Some path) = record { job = job; part = part; path = path; text = text } ∷ []
+abbrev pub golden_text_if_named : ℕ → Part → Option (List ℕ) → Option (List ℕ) → List GoldenText
+golden_text_if_named job part text None = []
+golden_text_if_named job part text (Some path) = record { job = job; part = part; path = path; text = text } ∷ []
 
 -- the golden texts of a job, first for its console and then for its signature, if it names golden files for them; they have no text if the
 -- job is not accepted
 abbrev pub golden_texts_of_job : ℕ → Bool → Job → Row → List GoldenText
 golden_texts_of_job place accepted job row =
-    claims_if_named place part.Console (text_if accepted row.console) (console_path job.expect_console)
-    ++ claims_if_named place part.Signature (text_if accepted (lines_of_signature row.signature)) job.expect_signature
+    golden_text_if_named place part.Console (text_if accepted row.console) (console_path job.expect_console)
+    ++ golden_text_if_named place part.Signature (text_if accepted (lines_of_signature row.signature)) job.expect_signature
 
 -- the golden texts of a job; empty if it was not run, and without texts if it was skipped
 abbrev pub golden_texts_of_run : ℕ → Job → Option JobRun → List GoldenText

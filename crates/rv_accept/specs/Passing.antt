@@ -1,7 +1,7 @@
 -- A run of an accepted job, with its files.
 use Rattle.std.specs.Prelude.{◌≡◌, Bool, true, false, IfSome, IsTrue, List}
 use Rattle.rv_rows.specs.Jobs.{console_path}
-use Rattle.rv_rows.specs.Plans.{result_for_path}
+use Rattle.rv_rows.specs.Plans.{result_or_unreadable}
 use Rattle.rv_rows.specs.declared_answers.Answer.{Answer}
 use Rattle.rv_rows.specs.declared_kept.Kept.TheVariants as kept
 use Rattle.rv_rows.specs.declared_job.Job.{Job}
@@ -26,13 +26,13 @@ outcome_of_row row = record {
 }
 
 -- a later run of the job reads the same image, if the job ran, and finds the results of its row in its golden files
-pub record FindsItsFiles (earlier later : List Answer) (job : Job) (row : Row) : Type 0 where
-  pub image : IsTrue (did_run row.ending) → result_for_path later job.image ≡ result_for_path earlier job.image
-  pub signature : IfSome job.expect_signature (λ path. result_for_path later path ≡ kept.Content (lines_of_signature row.signature))
-  pub console : IfSome (console_path job.expect_console) (λ path. result_for_path later path ≡ kept.Content row.console)
+pub record AreFilesUpdated (earlier later : List Answer) (job : Job) (row : Row) : Type 0 where
+  pub image : IsTrue (did_run row.ending) → result_or_unreadable later job.image ≡ result_or_unreadable earlier job.image
+  pub signature : IfSome job.expect_signature (λ path. result_or_unreadable later path ≡ kept.Content (lines_of_signature row.signature))
+  pub console : IfSome (console_path job.expect_console) (λ path. result_or_unreadable later path ≡ kept.Content row.console)
 
 -- the job ran, and ended as it expects
-pub record EndedWell (job : Job) (row : Row) : Type 0 where
+pub record HasExpectedEnd (job : Job) (row : Row) : Type 0 where
   pub ran : IsTrue (did_run row.ending)
   pub exit : IsTrue (has_expected_exit job.expect_exit row.ending)
   pub end : IsTrue (has_expected_end job.expect_end row.ending)

@@ -23,31 +23,31 @@ end_skip_reason asked job end = if is_accepted_end asked job end then None else 
 -- the reason to skip a job because of its console, or `None`: the list contains the expected text, and the actual console is not UTF-8
 abbrev pub text_skip_reason : Job → Row → Option SkipReason
 text_skip_reason job row =
-    if is_value_changed key.Console job row && not (is_utf8 row.console) then Some why.NoText else None
+    if is_value_changed key.Console job row && not (is_utf8 row.console) then Some why.NotUtf8 else None
 
 -- the reason to skip a job because of its end or its console, or `None` if both can be accepted
 abbrev pub skip_reason : Acceptance → Job → Row → Option SkipReason
 skip_reason asked job row = if is_accepted_end asked job row.ending then text_skip_reason job row else Some why.End
 
 -- whether a job has an expectation whose new value its run provides: an exit, an end, a console or a signature
-abbrev pub takes_from_run : Job → Bool
-takes_from_run job = is_some job.expect_exit || (is_some job.expect_end || (is_some job.expect_console
+abbrev pub has_replaceable_expectation : Job → Bool
+has_replaceable_expectation job = is_some job.expect_exit || (is_some job.expect_end || (is_some job.expect_console
     || is_some job.expect_signature))
 
 -- the reason to skip a job that differs from its `same_as` job: its end, if that is not accepted, or else the difference
 abbrev pub differing_skip_reason : Acceptance → Job → RowEnd → SkipReason
-differing_skip_reason asked job end = if takes_from_run job && not (is_accepted_end asked job end) then why.End else why.Differs
+differing_skip_reason asked job end = if has_replaceable_expectation job && not (is_accepted_end asked job end) then why.End else why.Differs
 
 -- the reason to skip a chosen job, or `None` if it currently passes, or fails and its run can be accepted
 abbrev pub chosen_skip_reason : Acceptance → CurrentVerdict → Job → Row → Option SkipReason
 chosen_skip_reason asked standing.Passes job row = None
-chosen_skip_reason asked standing.Fails job row = if takes_from_run job then skip_reason asked job row else Some why.End
+chosen_skip_reason asked standing.Fails job row = if has_replaceable_expectation job then skip_reason asked job row else Some why.End
 chosen_skip_reason asked standing.Differs job row = Some (differing_skip_reason asked job row.ending)
 
 -- the reason to skip a job that is not chosen, or `None` if it currently passes or ended exactly as expected
-abbrev pub sharing_skip_reason : CurrentVerdict → Job → RowEnd → Option SkipReason
-sharing_skip_reason standing.Passes job end = None
-sharing_skip_reason _ job end = end_skip_reason acceptance.Expected job end
+abbrev pub unchosen_skip_reason : CurrentVerdict → Job → RowEnd → Option SkipReason
+unchosen_skip_reason standing.Passes job end = None
+unchosen_skip_reason _ job end = end_skip_reason acceptance.Expected job end
 
 -- the run of a job with this row: whether the job is chosen, and the reason if it is skipped
 abbrev pub judged_run : Acceptance → Job → Candidate → Row → JobRun
@@ -55,7 +55,7 @@ judged_run asked job candidate row = record {
   row = row;
   is_chosen = candidate.is_chosen;
   skipped = if candidate.is_chosen then chosen_skip_reason asked candidate.standing job row
-      else sharing_skip_reason candidate.standing job row.ending;
+      else unchosen_skip_reason candidate.standing job row.ending;
 }
 
 -- the first row if the job is selected, or else `None`
@@ -63,13 +63,13 @@ abbrev pub row_if : Bool → List Row → Option Row
 row_if marked rows = if marked then slice_get rows 0 else None
 
 -- the rows of the jobs after this one: all but the first row if the job is selected, or else all
-abbrev pub rest_if : Bool → List Row → List Row
-rest_if marked rows = if marked then drop 1 rows else rows
+abbrev pub rows_after : Bool → List Row → List Row
+rows_after marked rows = if marked then drop 1 rows else rows
 
 -- one entry for each job: its row if it is selected, or else `None`; the second list has the rows of the selected jobs, in order
 unfoldable pub indexed_rows : List Bool → List Row → List (Option Row)
 indexed_rows [] rows = []
-indexed_rows (marked ∷ marks) rows = row_if marked rows ∷ indexed_rows marks (rest_if marked rows)
+indexed_rows (marked ∷ marks) rows = row_if marked rows ∷ indexed_rows marks (rows_after marked rows)
 
 -- the row at an index, or `None` if the index is past the end or has no row
 abbrev pub row_or_none : Option (Option Row) → Option Row

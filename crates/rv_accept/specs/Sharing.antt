@@ -6,13 +6,13 @@ use Rattle.rv_rows.specs.declared_job.Job.{Job}
 use Rattle.rv_rows.specs.Jobs.{console_path}
 
 -- whether the second path exists and equals `path`
-abbrev pub is_path : List ℕ → Option (List ℕ) → Bool
-is_path path None = false
-is_path path (Some named) = bytes_eq path named
+abbrev pub is_same_path : List ℕ → Option (List ℕ) → Bool
+is_same_path path None = false
+is_same_path path (Some named) = bytes_eq path named
 
 -- whether the job names the golden file at the path, for its console or its signature
 abbrev pub names_golden_file : List ℕ → Job → Bool
-names_golden_file path job = is_path path (console_path job.expect_console) || is_path path job.expect_signature
+names_golden_file path job = is_same_path path (console_path job.expect_console) || is_same_path path job.expect_signature
 
 -- whether one of the selected jobs names the golden file at the path
 unfoldable pub is_named_by_selected : List ℕ → List Job → List Bool → Bool
@@ -32,31 +32,31 @@ shares_with_selected jobs marks job = is_file_of_selected jobs marks (console_pa
     || is_file_of_selected jobs marks job.expect_signature
 
 -- for each job, whether it is chosen or shares a golden file with a chosen job; `all` and `chosen` are for the whole list
-unfoldable pub sharing_marks : List Job → List Bool → List Job → List Bool → List Bool
-sharing_marks all chosen [] marks = []
-sharing_marks all chosen (job ∷ jobs) [] = []
-sharing_marks all chosen (job ∷ jobs) (marked ∷ marks) =
-    (marked || shares_with_selected all chosen job) ∷ sharing_marks all chosen jobs marks
+unfoldable pub with_sharing_jobs : List Job → List Bool → List Job → List Bool → List Bool
+with_sharing_jobs all chosen [] marks = []
+with_sharing_jobs all chosen (job ∷ jobs) [] = []
+with_sharing_jobs all chosen (job ∷ jobs) (marked ∷ marks) =
+    (marked || shares_with_selected all chosen job) ∷ with_sharing_jobs all chosen jobs marks
 
 -- whether the second index exists and equals `place`
-abbrev pub is_place : ℕ → Option ℕ → Bool
-is_place place None = false
-is_place place (Some named) = place == named
+abbrev pub is_index : ℕ → Option ℕ → Bool
+is_index place None = false
+is_index place (Some named) = place == named
 
 -- whether one of the selected jobs names the job at the index `place` by `same_as`
 unfoldable pub is_compared_with : ℕ → List Job → List Bool → Bool
 is_compared_with place [] marks = false
 is_compared_with place (job ∷ jobs) [] = false
 is_compared_with place (job ∷ jobs) (marked ∷ marks) =
-    (marked && is_place place job.same_as) || is_compared_with place jobs marks
+    (marked && is_index place job.same_as) || is_compared_with place jobs marks
 
 -- for each job, whether it is selected or a later selected job names it by `same_as`; `place` is the index of the first job
-unfoldable pub marks_with_compared : ℕ → List Job → List Bool → List Bool
-marks_with_compared place [] marks = []
-marks_with_compared place (job ∷ jobs) [] = []
-marks_with_compared place (job ∷ jobs) (marked ∷ marks) =
-    (marked || is_compared_with place jobs marks) ∷ marks_with_compared (place + 1) jobs marks
+unfoldable pub with_compared_jobs : ℕ → List Job → List Bool → List Bool
+with_compared_jobs place [] marks = []
+with_compared_jobs place (job ∷ jobs) [] = []
+with_compared_jobs place (job ∷ jobs) (marked ∷ marks) =
+    (marked || is_compared_with place jobs marks) ∷ with_compared_jobs (place + 1) jobs marks
 
 -- for each job, whether it must run: it is chosen, it shares a golden file with a chosen job, or one of these jobs names it by `same_as`
 abbrev pub jobs_to_run : List Job → List Bool → List Bool
-jobs_to_run jobs chosen = marks_with_compared 0 jobs (sharing_marks jobs chosen jobs chosen)
+jobs_to_run jobs chosen = with_compared_jobs 0 jobs (with_sharing_jobs jobs chosen jobs chosen)

@@ -9,9 +9,9 @@ use Rattle.rv_accept.specs.declared.runs.JobRun.{JobRun}
 use Rattle.rv_accept.specs.declared.targets.Target.{Target}
 
 -- whether there is a run and it is accepted: its job is chosen and was not skipped
-abbrev pub is_of_accepted : Option (Option JobRun) → Bool
-is_of_accepted (Some (Some run)) = is_accepted_run run
-is_of_accepted _ = false
+abbrev pub is_accepted_entry : Option (Option JobRun) → Bool
+is_accepted_entry (Some (Some run)) = is_accepted_run run
+is_accepted_entry _ = false
 
 -- whether the list already has the golden file at the path
 abbrev pub is_target : List ℕ → List Target → Bool
@@ -29,5 +29,5 @@ target_of claims claim = record {
 -- the list with the golden file of this golden text added, if the text's job is accepted and the list does not have the file yet
 abbrev pub with_target : List (Option JobRun) → List GoldenText → List Target → GoldenText → List Target
 with_target runs claims targets claim =
-    if is_of_accepted (slice_get runs claim.job) && not (is_target claim.path targets)
+    if is_accepted_entry (slice_get runs claim.job) && not (is_target claim.path targets)
     then targets ++ target_of claims claim ∷ [] else targets

@@ -1,7 +1,7 @@
 //! Texts as TOML basic strings.
 
 ghost use Rattle.std.specs.Prelude.{◌≡◌, ◌++◌, ◌∷◌, [], OnOk, option_map};
-ghost use Rattle.rv_accept.specs.BasicString.{basic_string, byte_text, byte_text_unless_short, is_other_control, short_escape};
+ghost use Rattle.rv_accept.specs.BasicString.{basic_string, byte_text, byte_text_given_escape, is_control, short_escape};
 
 use std::alloc::{AllocError, Global};
 
@@ -24,7 +24,7 @@ fn push_byte(alloc: Global, out: &mut Vec<u8>, byte: u8) -> Result<(), AllocErro
 {
     match short_escape(byte) {
         Some(escape) => out.extend_from_slice(escape.as_bytes()),
-        None => push_unless_short(alloc, out, byte),
+        None => push_without_short_escape(alloc, out, byte),
     }
 }
 
@@ -45,10 +45,10 @@ fn short_escape(byte: u8) -> Option<&'static str>
 }
 
 // Appends a byte that has no two-character escape: a control character as `\u00` and two digits, and any other byte unchanged.
-fn push_unless_short(alloc: Global, out: &mut Vec<u8>, byte: u8) -> Result<(), AllocError>
-    ensures { OnOk result (out.new.items ≡ out.old.items ++ byte_text_unless_short None byte) }
+fn push_without_short_escape(alloc: Global, out: &mut Vec<u8>, byte: u8) -> Result<(), AllocError>
+    ensures { OnOk result (out.new.items ≡ out.old.items ++ byte_text_given_escape None byte) }
 {
-    if !is_other_control(byte) {
+    if !is_control(byte) {
         out.push(byte)?;
         return Ok(());
     }
@@ -58,8 +58,8 @@ fn push_unless_short(alloc: Global, out: &mut Vec<u8>, byte: u8) -> Result<(), A
 }
 
 // Whether a byte is an ASCII control character.
-fn is_other_control(byte: u8) -> bool
-    ensures { result ≡ is_other_control byte }
+fn is_control(byte: u8) -> bool
+    ensures { result ≡ is_control byte }
 {
     byte <= 31 || byte == 127
 }

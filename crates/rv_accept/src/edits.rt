@@ -1,7 +1,7 @@
 //! Texts with some ranges replaced.
 
 ghost use Rattle.std.specs.Prelude.{◌≡◌, IfOk, drop};
-ghost use Rattle.rv_accept.specs.Edits.{edited_from, piece};
+ghost use Rattle.rv_accept.specs.Edits.{edited_rest, piece};
 
 use rv_rows::Bytes;
 use std::alloc::{AllocError, Global};
@@ -16,7 +16,7 @@ pub struct Edit {
 
 /// Returns the text in which each edit's range is replaced by the edit's text. The edits are in text order.
 pub fn edited_text(alloc: Global, text: &[u8], edits: &[Edit]) -> Result<Vec<u8>, AllocError>
-    ensures { IfOk result (λ edited. edited.items ≡ edited_from 0 text.now edits.now) }
+    ensures { IfOk result (λ edited. edited.items ≡ edited_rest 0 text.now edits.now) }
 {
     let mut edited = Vec::new(alloc);
     let mut from = 0;
@@ -25,7 +25,7 @@ pub fn edited_text(alloc: Global, text: &[u8], edits: &[Edit]) -> Result<Vec<u8>
         edited.extend_from_slice(edit.text.as_slice())?;
         from = edit.end;
     }
-    edited.extend_from_slice(rest_from(text, from))?;
+    edited.extend_from_slice(text_from(text, from))?;
     Ok(edited)
 }
 
@@ -33,12 +33,12 @@ pub fn edited_text(alloc: Global, text: &[u8], edits: &[Edit]) -> Result<Vec<u8>
 fn piece(text: &[u8], from: usize, to: usize) -> &[u8]
     ensures { result.now ≡ piece from to text.now }
 {
-    let rest = rest_from(text, from);
+    let rest = text_from(text, from);
     &rest[..to.saturating_sub(from).min(rest.len())]
 }
 
 // Returns the bytes of a text after its first `from` bytes.
-fn rest_from(text: &[u8], from: usize) -> &[u8]
+fn text_from(text: &[u8], from: usize) -> &[u8]
     ensures { result.now ≡ drop from text.now }
 {
     &text[from.min(text.len())..]

@@ -1,7 +1,7 @@
 //! Which ends of a run are accepted.
 
 ghost use Rattle.std.specs.Prelude.{◌≡◌};
-ghost use Rattle.rv_accept.specs.Ends.{ended_as_expected, ended_in_expected_way, is_accepted_end};
+ghost use Rattle.rv_accept.specs.Ends.{ended_as_expected, ended_with_expected_kind, is_accepted_end};
 
 use rv_rows::{ExpectedEnd, Job, RowEnd, did_run, has_expected_end, has_expected_exit};
 
@@ -11,7 +11,7 @@ pub enum Acceptance {
     /// Only the expected end.
     Expected,
     /// Also another exit code if one is expected, or another kind of fault if one is.
-    InExpectedWay,
+    ExpectedKind,
 }
 
 /// Whether the end of a job's run is accepted: it is as expected, or, if `acceptance` allows that, an exit or a fault where one is
@@ -21,8 +21,8 @@ pub fn is_accepted_end(acceptance: Acceptance, job: &Job, ending: RowEnd) -> boo
 {
     match acceptance {
         Acceptance::Expected => ended_as_expected(job, ending),
-        Acceptance::InExpectedWay => ended_as_expected(job, ending)
-            || ended_in_expected_way(job, ending),
+        Acceptance::ExpectedKind => ended_as_expected(job, ending)
+            || ended_with_expected_kind(job, ending),
     }
 }
 
@@ -39,8 +39,8 @@ fn ended_as_expected(job: &Job, ending: RowEnd) -> bool
 }
 
 // Whether the job exited and expects only an exit code, or faulted and expects only a fault, whatever the code or the kind.
-fn ended_in_expected_way(job: &Job, ending: RowEnd) -> bool
-    ensures { result ≡ ended_in_expected_way job.now.expect_exit job.now.expect_end ending }
+fn ended_with_expected_kind(job: &Job, ending: RowEnd) -> bool
+    ensures { result ≡ ended_with_expected_kind job.now.expect_exit job.now.expect_end ending }
 {
     match (job.expect_exit, job.expect_end, ending) {
         (Some(_), None, RowEnd::Exit(_)) => true,

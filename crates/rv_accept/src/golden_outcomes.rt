@@ -2,7 +2,7 @@
 
 ghost use Rattle.std.specs.Prelude.{◌≡◌, IfOk, option_map};
 ghost use Rattle.std.specs.List.{find};
-ghost use Rattle.rv_accept.specs.GoldenOutcomes.{outcome_of_golden_file, outcome_of_first, outcome_of_given_text, gives_another_text, is_of_skipped_job, is_text, names_file};
+ghost use Rattle.rv_accept.specs.GoldenOutcomes.{outcome_of_golden_file, outcome_of_first, outcome_of_given_text, has_other_text, is_of_skipped_job, is_text, is_for_file};
 
 use crate::golden_texts::GoldenText;
 use rv_rows::Bytes;
@@ -14,7 +14,7 @@ pub enum GoldenFileOutcome {
     /// Nothing: no job that was run names it.
     Unclaimed,
     /// It is skipped, since the job at this index names it and was skipped.
-    LeftBy(usize),
+    SkippedBy(usize),
     /// It is skipped, since the jobs at these two indices give it different texts.
     Differ(usize, usize),
     /// It gets this text, on which all jobs that name it agree.
@@ -30,8 +30,8 @@ pub fn outcome_of_golden_file(
 ) -> Result<GoldenFileOutcome, AllocError>
     ensures { IfOk result (λ fate. fate ≡ outcome_of_golden_file path.now claims.now) }
 {
-    match first_of_skipped_job(path, claims) {
-        Some(claim) => Ok(GoldenFileOutcome::LeftBy(claim.job)),
+    match first_skipped_text(path, claims) {
+        Some(claim) => Ok(GoldenFileOutcome::SkippedBy(claim.job)),
         None => outcome_of_first(alloc, path, claims),
     }
 }
@@ -43,9 +43,9 @@ fn outcome_of_first(
     claims: &[GoldenText],
 ) -> Result<GoldenFileOutcome, AllocError>
     ensures { IfOk result (λ fate. fate ≡ outcome_of_first path.now claims.now
-        (find (names_file path.now) claims.now)) }
+        (find (is_for_file path.now) claims.now)) }
 {
-    match first_on_file(path, claims) {
+    match first_text_for_file(path, claims) {
         Some(first) => outcome_of_given_text(alloc, path, claims, first),
         None => Ok(GoldenFileOutcome::Unclaimed),
     }
@@ -63,46 +63,46 @@ fn outcome_of_given_text(
         ≡ outcome_of_given_text path.now claims.now first.now.job first.now.text) }
 {
     let Some(text) = &first.text else {
-        return Ok(GoldenFileOutcome::LeftBy(first.job));
+        return Ok(GoldenFileOutcome::SkippedBy(first.job));
     };
     let text = text.as_slice();
-    match first_of_another_text(path, text, claims) {
+    match first_other_text(path, text, claims) {
         Some(other) => Ok(GoldenFileOutcome::Differ(first.job, other.job)),
         None => Ok(GoldenFileOutcome::Agreed(Bytes::new(text.to_vec(alloc)?))),
     }
 }
 
 // Returns the first golden text for the file at the path whose job was skipped, or `None` if there is none.
-fn first_of_skipped_job<'a>(path: &str, claims: &'a [GoldenText]) -> Option<&'a GoldenText>
+fn first_skipped_text<'a>(path: &str, claims: &'a [GoldenText]) -> Option<&'a GoldenText>
     ensures { option_map (λ claim. claim.now) result ≡ find (is_of_skipped_job path.now) claims.now }
 {
     claims.iter().find(|claim| is_of_skipped_job(path, claim))
 }
 
 /// Returns the first golden text for the file at the path, or `None` if there is none.
-pub fn first_on_file<'a>(path: &str, claims: &'a [GoldenText]) -> Option<&'a GoldenText>
-    ensures { option_map (λ claim. claim.now) result ≡ find (names_file path.now) claims.now }
+pub fn first_text_for_file<'a>(path: &str, claims: &'a [GoldenText]) -> Option<&'a GoldenText>
+    ensures { option_map (λ claim. claim.now) result ≡ find (is_for_file path.now) claims.now }
 {
-    claims.iter().find(|claim| names_file(path, claim))
+    claims.iter().find(|claim| is_for_file(path, claim))
 }
 
 /// Returns the first golden text for the file at the path that differs from `text`, or `None` if there is none.
-pub fn first_of_another_text<'a>(
+pub fn first_other_text<'a>(
     path: &str,
     text: &[u8],
     claims: &'a [GoldenText],
 ) -> Option<&'a GoldenText>
     ensures { option_map (λ claim. claim.now) result
-        ≡ find (gives_another_text path.now text.now) claims.now }
+        ≡ find (has_other_text path.now text.now) claims.now }
 {
     claims
         .iter()
-        .find(|claim| gives_another_text(path, text, claim))
+        .find(|claim| has_other_text(path, text, claim))
 }
 
 // Whether this golden text is for the file at the path.
-fn names_file(path: &str, claim: &GoldenText) -> bool
-    ensures { result ≡ names_file path.now claim.now }
+fn is_for_file(path: &str, claim: &GoldenText) -> bool
+    ensures { result ≡ is_for_file path.now claim.now }
 {
     path == claim.path.as_str()
 }
@@ -111,14 +111,14 @@ fn names_file(path: &str, claim: &GoldenText) -> bool
 fn is_of_skipped_job(path: &str, claim: &GoldenText) -> bool
     ensures { result ≡ is_of_skipped_job path.now claim.now }
 {
-    names_file(path, claim) && claim.text.is_none()
+    is_for_file(path, claim) && claim.text.is_none()
 }
 
 // Whether this golden text is for the file at the path, and its text is missing or differs from `text`.
-fn gives_another_text(path: &str, text: &[u8], claim: &GoldenText) -> bool
-    ensures { result ≡ gives_another_text path.now text.now claim.now }
+fn has_other_text(path: &str, text: &[u8], claim: &GoldenText) -> bool
+    ensures { result ≡ has_other_text path.now text.now claim.now }
 {
-    names_file(path, claim) && !is_text(text, &claim.text)
+    is_for_file(path, claim) && !is_text(text, &claim.text)
 }
 
 // Whether `given` is a text and equals `text`.

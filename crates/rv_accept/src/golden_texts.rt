@@ -5,7 +5,7 @@ ghost use Rattle.std.specs.List.{flat_map};
 ghost use Rattle.rv_rows.specs.Jobs.{console_path};
 ghost use Rattle.rv_rows.specs.Report.{word_line};
 ghost use Rattle.rv_rows.specs.Verdict.{lines_of_signature};
-ghost use Rattle.rv_accept.specs.GoldenTexts.{claims_if_named, golden_texts_of_job, golden_texts_of_run, golden_texts_of_runs, text_if};
+ghost use Rattle.rv_accept.specs.GoldenTexts.{golden_text_if_named, golden_texts_of_job, golden_texts_of_run, golden_texts_of_runs, text_if};
 
 use crate::runs::JobRun;
 use rv_rows::{Bytes, Job, Row, Text, Words, word_line};
@@ -44,12 +44,12 @@ fn push_golden_texts(
 {
     let (job, row) = ran;
     if let Some(path) = console_path(job) {
-        let text = console_if(alloc, is_accepted, row)?;
-        push_claim(alloc, claims, (place, Part::Console), path, text)?;
+        let text = console_if_accepted(alloc, is_accepted, row)?;
+        push_golden_text(alloc, claims, (place, Part::Console), path, text)?;
     }
     if let Some(path) = &job.expect_signature {
-        let text = signature_if(alloc, is_accepted, row)?;
-        push_claim(alloc, claims, (place, Part::Signature), path.as_str(), text)?;
+        let text = signature_if_accepted(alloc, is_accepted, row)?;
+        push_golden_text(alloc, claims, (place, Part::Signature), path.as_str(), text)?;
     }
     Ok(())
 }
@@ -122,14 +122,14 @@ pub fn console_path(job: &Job) -> Option<&str>
 }
 
 // Appends the golden text for the file at the path: `of` is the index of its job and the kind of result that it contains.
-fn push_claim(
+fn push_golden_text(
     alloc: Global,
     claims: &mut Vec<GoldenText>,
     of: (usize, Part),
     path: &str,
     text: Option<Bytes>,
 ) -> Result<(), AllocError>
-    ensures { OnOk result (claims.new.items ≡ claims.old.items ++ claims_if_named of.0 of.1 text (Some path.now)) }
+    ensures { OnOk result (claims.new.items ≡ claims.old.items ++ golden_text_if_named of.0 of.1 text (Some path.now)) }
 {
     let (job, part) = of;
     let path = Text::copy(alloc, path)?;
@@ -143,7 +143,7 @@ fn push_claim(
 }
 
 // Returns the console of a run, or `None` if it is not accepted.
-fn console_if(alloc: Global, is_accepted: bool, row: &Row) -> Result<Option<Bytes>, AllocError>
+fn console_if_accepted(alloc: Global, is_accepted: bool, row: &Row) -> Result<Option<Bytes>, AllocError>
     ensures { IfOk result (λ text. text ≡ text_if is_accepted row.now.console) }
 {
     if !is_accepted {
@@ -154,7 +154,7 @@ fn console_if(alloc: Global, is_accepted: bool, row: &Row) -> Result<Option<Byte
 }
 
 // Returns the lines of the signature of a run, or `None` if it is not accepted.
-fn signature_if(alloc: Global, is_accepted: bool, row: &Row) -> Result<Option<Bytes>, AllocError>
+fn signature_if_accepted(alloc: Global, is_accepted: bool, row: &Row) -> Result<Option<Bytes>, AllocError>
     ensures { IfOk result (λ text. text ≡ text_if is_accepted (lines_of_signature row.now.signature)) }
 {
     if !is_accepted {

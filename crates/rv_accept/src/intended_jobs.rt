@@ -72,7 +72,7 @@ fn are_intended_values(job: &Job, accepted: Option<&Row>, other: &Job) -> bool
         Some(row) => {
             actual_exit(job.expect_exit, row.ending) == other.expect_exit
                 && actual_end(job.expect_end, row.ending) == other.expect_end
-                && is_met_console(
+                && is_actual_console(
                     &job.expect_console,
                     row.console.as_slice(),
                     &other.expect_console,
@@ -102,7 +102,7 @@ fn actual_end(expected: Option<ExpectedEnd>, ending: RowEnd) -> Option<ExpectedE
 }
 
 // Whether `other` is the new value of `expect_console`: the actual console if the list contains the expected text, otherwise the old value.
-fn is_met_console(
+fn is_actual_console(
     expected: &Option<ExpectedConsole>,
     console: &[u8],
     other: &Option<ExpectedConsole>,

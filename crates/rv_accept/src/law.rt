@@ -16,8 +16,8 @@ ghost use Rattle.rv_accept.specs.declared.golden_texts.GoldenText.{GoldenText as
 ghost use Rattle.rv_accept.specs.declared.golden_outcomes.GoldenFileOutcome.TheVariants as fate;
 ghost use Rattle.rv_accept.specs.Accepted.{accepted_job};
 ghost use Rattle.rv_accept.specs.Ends.{is_accepted_end};
-ghost use Rattle.rv_accept.specs.GoldenOutcomes.{outcome_of_golden_file, names_file};
-ghost use Rattle.rv_accept.specs.Passing.{EndedWell, FindsItsFiles, is_pass_or_none};
+ghost use Rattle.rv_accept.specs.GoldenOutcomes.{outcome_of_golden_file, is_for_file};
+ghost use Rattle.rv_accept.specs.Passing.{HasExpectedEnd, AreFilesUpdated, is_pass_or_none};
 ghost use Rattle.rv_accept.specs.Runs.{chosen_skip_reason};
 
 /// Proves that an accepted job without `same_as` meets all its expectations once they are the results of its run: its golden files contain
@@ -33,18 +33,18 @@ pub fn accepted_jobs_meet_their_expectations()
 /// Proves that a golden file gets a text only if every job that names the file gives it this text; so none of these jobs was skipped.
 pub fn an_agreed_text_is_given_by_each_job()
     ensures { (path text : List ℕ) (claims : List AClaim) → outcome_of_golden_file path claims ≡ fate.Agreed text
-        → All (λ claim. IsTrue (names_file path claim) → claim.text ≡ Some text) claims }
+        → All (λ claim. IsTrue (is_for_file path claim) → claim.text ≡ Some text) claims }
 {}
 
 /// Proves that a chosen job that is not skipped does not fail in a later run: its verdict is pass, or none if it has no expectations. This
 /// holds if it ran without its expectations, has no `same_as`, and the list now has its actual values, and if the later run reads the same
 /// image and finds the earlier results in its golden files. A job that currently passes must have ended as it expects.
-pub fn accepted_jobs_pass_over_their_files()
+pub fn accepted_jobs_pass_with_their_files()
     ensures { (acceptance : AnAcceptance) (stands : AStanding) (job : Job) (earlier later : Planned) (row : Row)
         → row ≡ row_of earlier (without_expectations job)
         → chosen_skip_reason acceptance stands job row ≡ None
-        → (stands ≡ standing.Passes → EndedWell job row)
+        → (stands ≡ standing.Passes → HasExpectedEnd job row)
         → job.same_as ≡ None
-        → FindsItsFiles earlier.answers later.answers job row
+        → AreFilesUpdated earlier.answers later.answers job row
         → IsTrue (is_pass_or_none (row_of later (accepted_job job row.ending row.console)).verdict) }
 {}

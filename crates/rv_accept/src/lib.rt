@@ -23,12 +23,12 @@ pub use current_verdict::{Candidate, CurrentVerdict};
 pub use edits::{Edit, edited_text};
 pub use ends::{Acceptance, is_accepted_end};
 pub use golden_outcomes::{
-    GoldenFileOutcome, first_of_another_text, first_on_file, outcome_of_golden_file,
+    GoldenFileOutcome, first_other_text, first_text_for_file, outcome_of_golden_file,
 };
 pub use golden_texts::{GoldenText, Part, console_path, golden_texts_of_runs};
 pub use intended_jobs::are_intended_jobs;
 pub use law::{
-    accepted_jobs_meet_their_expectations, accepted_jobs_pass_over_their_files,
+    accepted_jobs_meet_their_expectations, accepted_jobs_pass_with_their_files,
     an_agreed_text_is_given_by_each_job,
 };
 pub use runs::{JobRun, SkipReason, indexed_rows, judged_runs};

@@ -1,8 +1,8 @@
 //! Which jobs run so that the outcome for a golden file is known.
 
 ghost use Rattle.std.specs.Prelude.{◌≡◌, ◌++◌, ◌+◌, ◌^◌, ◌<◌, IfOk, OnOk, length, option_map};
-ghost use Rattle.rv_accept.specs.Sharing.{is_compared_with, is_file_of_selected, is_named_by_selected, is_path, is_place, jobs_to_run};
-ghost use Rattle.rv_accept.specs.Sharing.{marks_with_compared, names_golden_file, shares_with_selected, sharing_marks};
+ghost use Rattle.rv_accept.specs.Sharing.{is_compared_with, is_file_of_selected, is_named_by_selected, is_same_path, is_index, jobs_to_run};
+ghost use Rattle.rv_accept.specs.Sharing.{with_compared_jobs, names_golden_file, shares_with_selected, with_sharing_jobs};
 
 use crate::golden_texts::console_path;
 use rv_rows::Job;
@@ -14,27 +14,27 @@ pub fn jobs_to_run(alloc: Global, jobs: &[Job], chosen: &[bool]) -> Result<Vec<b
     ensures { IfOk result (λ marks. marks.items ≡ jobs_to_run jobs.now chosen.now) }
 {
     let mut sharing = Vec::new(alloc);
-    push_sharing_marks(&mut sharing, (jobs, chosen), jobs, chosen)?;
+    push_with_sharing_jobs(&mut sharing, (jobs, chosen), jobs, chosen)?;
     let mut marks = Vec::new(alloc);
-    push_marks_with_compared(&mut marks, 0, jobs, sharing.as_slice())?;
+    push_with_compared_jobs(&mut marks, 0, jobs, sharing.as_slice())?;
     Ok(marks)
 }
 
 // Appends for each job whether it is selected or a later selected job names it by `same_as`. `place` is the index of the first job.
-#[tactic(auto, unfolding(crate::specs::Sharing::marks_with_compared))]
-fn push_marks_with_compared(
+#[tactic(auto, unfolding(crate::specs::Sharing::with_compared_jobs))]
+fn push_with_compared_jobs(
     out: &mut Vec<bool>,
     place: usize,
     jobs: &[Job],
     marks: &[bool],
 ) -> Result<(), AllocError>
     requires { place + length jobs.now < 2 ^ 64 }
-    ensures { OnOk result (out.new.items ≡ out.old.items ++ marks_with_compared place jobs.now marks.now) }
+    ensures { OnOk result (out.new.items ≡ out.old.items ++ with_compared_jobs place jobs.now marks.now) }
 {
     match (jobs, marks) {
         ([_job, jobs @ ..], [marked, marks @ ..]) => {
             out.push(*marked || is_compared_with(place, jobs, marks))?;
-            push_marks_with_compared(out, place + 1, jobs, marks)
+            push_with_compared_jobs(out, place + 1, jobs, marks)
         }
         ([], _) => Ok(()),
         ([_job, _jobs @ ..], []) => Ok(()),
@@ -48,7 +48,7 @@ fn is_compared_with(place: usize, jobs: &[Job], marks: &[bool]) -> bool
 {
     match (jobs, marks) {
         ([job, jobs @ ..], [marked, marks @ ..]) => {
-            (*marked && is_place(place, job.same_as)) || is_compared_with(place, jobs, marks)
+            (*marked && is_index(place, job.same_as)) || is_compared_with(place, jobs, marks)
         }
         ([], _) => false,
         ([_job, _jobs @ ..], []) => false,
@@ -56,8 +56,8 @@ fn is_compared_with(place: usize, jobs: &[Job], marks: &[bool]) -> bool
 }
 
 // Whether `named` is an index and equals `place`.
-fn is_place(place: usize, named: Option<usize>) -> bool
-    ensures { result ≡ is_place place named }
+fn is_index(place: usize, named: Option<usize>) -> bool
+    ensures { result ≡ is_index place named }
 {
     match named {
         Some(named) => place == named,
@@ -67,20 +67,20 @@ fn is_place(place: usize, named: Option<usize>) -> bool
 
 // Appends for each job whether it is chosen or shares a golden file with a chosen job. `all` has all jobs of the list, and which of them
 // are chosen.
-#[tactic(auto, unfolding(crate::specs::Sharing::sharing_marks))]
-fn push_sharing_marks(
+#[tactic(auto, unfolding(crate::specs::Sharing::with_sharing_jobs))]
+fn push_with_sharing_jobs(
     marks: &mut Vec<bool>,
     all: (&[Job], &[bool]),
     jobs: &[Job],
     chosen: &[bool],
 ) -> Result<(), AllocError>
     ensures { OnOk result (marks.new.items
-        ≡ marks.old.items ++ sharing_marks all.entry.0.now all.entry.1.now jobs.now chosen.now) }
+        ≡ marks.old.items ++ with_sharing_jobs all.entry.0.now all.entry.1.now jobs.now chosen.now) }
 {
     match (jobs, chosen) {
         ([job, jobs @ ..], [is_chosen, chosen @ ..]) => {
             marks.push(*is_chosen || shares_with_selected(all.0, all.1, job))?;
-            push_sharing_marks(marks, all, jobs, chosen)
+            push_with_sharing_jobs(marks, all, jobs, chosen)
         }
         ([], _) => Ok(()),
         ([_job, _jobs @ ..], []) => Ok(()),
@@ -123,12 +123,12 @@ fn is_named_by_selected(path: &str, jobs: &[Job], marks: &[bool]) -> bool
 fn names_golden_file(path: &str, job: &Job) -> bool
     ensures { result ≡ names_golden_file path.now job.now }
 {
-    is_path(path, console_path(job)) || is_path(path, signature_path(job))
+    is_same_path(path, console_path(job)) || is_same_path(path, signature_path(job))
 }
 
 // Whether `named` is a path and equals `path`.
-fn is_path(path: &str, named: Option<&str>) -> bool
-    ensures { result ≡ is_path path.now (option_map (λ path. path.now) named.entry) }
+fn is_same_path(path: &str, named: Option<&str>) -> bool
+    ensures { result ≡ is_same_path path.now (option_map (λ path. path.now) named.entry) }
 {
     match named {
         Some(named) => path == named,

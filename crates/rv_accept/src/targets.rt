@@ -1,7 +1,7 @@
 //! The golden files that chosen jobs name, and the outcome for each.
 
 ghost use Rattle.std.specs.Prelude.{◌≡◌, [], IfOk, OnOk, fold, option_map, slice_get};
-ghost use Rattle.rv_accept.specs.Targets.{is_of_accepted, is_target, target_of, with_target};
+ghost use Rattle.rv_accept.specs.Targets.{is_accepted_entry, is_target, target_of, with_target};
 
 use crate::golden_outcomes::{GoldenFileOutcome, outcome_of_golden_file};
 use crate::golden_texts::{GoldenText, Part};
@@ -46,7 +46,7 @@ fn add_target(
 ) -> Result<(), AllocError>
     ensures { OnOk result (targets.new.items ≡ with_target runs.now claims.now targets.old.items claim.now) }
 {
-    if is_of_accepted(runs.get(claim.job)) && !is_target(claim.path.as_str(), targets.as_slice()) {
+    if is_accepted_entry(runs.get(claim.job)) && !is_target(claim.path.as_str(), targets.as_slice()) {
         targets.push(target_of(alloc, claim, claims)?)?;
     }
     Ok(())
@@ -65,8 +65,8 @@ fn target_of(alloc: Global, claim: &GoldenText, claims: &[GoldenText]) -> Result
 }
 
 // Whether there is a run and it is accepted: its job is chosen and was not skipped.
-fn is_of_accepted(run: Option<&Option<JobRun>>) -> bool
-    ensures { result ≡ is_of_accepted (option_map (λ run. run.now) run.entry) }
+fn is_accepted_entry(run: Option<&Option<JobRun>>) -> bool
+    ensures { result ≡ is_accepted_entry (option_map (λ run. run.now) run.entry) }
 {
     match run {
         Some(Some(run)) => run.is_accepted(),

@@ -4,7 +4,7 @@ use Rattle.std.specs.Prelude.{slice_get}
 use Rattle.rv_accept.specs.Runs.{is_accepted_run}
 use Rattle.rv_accept.specs.declared.runs.JobRun.{JobRun}
 use Rattle.rv_accept.specs.declared.runs.SkipReason.{SkipReason}
-use Rattle.rv_accept_text.specs.NewLists.{AreLeftFrom, again, skipped_run, skipped_runs, once, run_or_none}
+use Rattle.rv_accept_text.specs.NewLists.{AreSkippedFrom, again, skipped_run, skipped_runs, once, run_or_none}
 
 no : {A : Type 0} → false ≡ true → A
 no is = cc
@@ -44,7 +44,7 @@ kept_run (why ∷ whys) runs (suc place) run is accepted =
     rw (← run_behind runs place) (kept_run whys (drop 1 runs) place run is accepted)
 
 pub accepted_from_the_first : (before after : List (Option JobRun)) (place : ℕ) (run : JobRun)
-    → AreLeftFrom before after → slice_get after place ≡ Some (Some run) → is_accepted_run run ≡ true
+    → AreSkippedFrom before after → slice_get after place ≡ Some (Some run) → is_accepted_run run ≡ true
     → slice_get before place ≡ Some (Some run)
 accepted_from_the_first before _ place run (once whys) is accepted = kept_run whys before place run is accepted
 accepted_from_the_first before _ place run (again whys more) is accepted =

@@ -21,7 +21,7 @@ use Rattle.rv_accept.specs.Values.{has_text, is_value_changed}
 use Rattle.rv_accept.specs.declared.runs.JobRun.{JobRun}
 use Rattle.rv_accept.specs.declared.runs.SkipReason.{SkipReason}
 use Rattle.rv_accept.specs.declared.values.ValueKey.TheVariants as key
-use Rattle.rv_accept_text.specs.NewLists.{skipped_run, skipped_runs, why_changed, why_changed_if_run, whys_changed}
+use Rattle.rv_accept_text.specs.NewLists.{skipped_run, skipped_runs, change_skip_reason, change_skip_reason_if_run, change_skip_reasons}
 
 -- ---- one job
 
@@ -60,7 +60,7 @@ all_fail false true c x y z none = cc
 all_fail false false true x y z none = cc
 all_fail false false false x y z none = (refl, refl, refl)
 
-same_job : (job : Job) (row : Row) → why_changed job row ≡ None → accepted_job job row.ending row.console ≡ job
+same_job : (job : Job) (row : Row) → change_skip_reason job row ≡ None → accepted_job job row.ending row.console ≡ job
 same_job job row none =
     let each = all_fail (is_value_changed key.Exit job row) (is_value_changed key.End job row) (is_value_changed key.Console job row)
     _ _ _ none in
@@ -69,7 +69,7 @@ same_job job row none =
 
 -- ---- one run
 
-meant_if_left : (job : Job) (run : JobRun) (why : Option SkipReason) → why_changed job run.row ≡ why
+meant_if_left : (job : Job) (run : JobRun) (why : Option SkipReason) → change_skip_reason job run.row ≡ why
     → intended_job job (row_if_accepted (skipped_run why run)) ≡ job
 meant_if_left job run why is = go run.is_chosen run.skipped refl refl
   where
@@ -79,21 +79,21 @@ meant_if_left job run why is = go run.is_chosen run.skipped refl refl
     go true (Some other) chosen_is left_is = rw (chosen_is, left_is) refl
     go true None chosen_is left_is = at_why why is
       where
-        at_why : (why : Option SkipReason) → why_changed job run.row ≡ why
+        at_why : (why : Option SkipReason) → change_skip_reason job run.row ≡ why
             → intended_job job (row_if_accepted (skipped_run why run)) ≡ job
         at_why None is = rw (chosen_is, left_is) (same_job job run.row is)
         at_why (Some other) is = rw (chosen_is, left_is) refl
 
 meant_of_run : (job : Job) (run : Option JobRun)
-    → intended_job job (accepted_row (option_map (skipped_run (why_changed_if_run job run)) run)) ≡ job
+    → intended_job job (accepted_row (option_map (skipped_run (change_skip_reason_if_run job run)) run)) ≡ job
 meant_of_run job None = refl
 meant_of_run job (Some run) = meant_if_left job run _ refl
 
 -- ---- the list
 
 pub changed_are_left : (jobs : List Job) (runs : List (Option JobRun))
-    → intended_jobs jobs (skipped_runs (whys_changed jobs runs) runs) ≡ jobs
-unfolding intended_jobs skipped_runs whys_changed
+    → intended_jobs jobs (skipped_runs (change_skip_reasons jobs runs) runs) ≡ jobs
+unfolding intended_jobs skipped_runs change_skip_reasons
 changed_are_left [] runs = refl
 changed_are_left (job ∷ jobs) [] = refl
 changed_are_left (job ∷ jobs) (run ∷ runs) = rw (meant_of_run job run) (rw (changed_are_left jobs runs) refl)

@@ -47,13 +47,13 @@ abbrev pub is_changed : ListFile → GoldenFile → Bool
 is_changed list file = is_some (new_text list file)
 
 -- 1 if the Bool is true, and otherwise 0
-abbrev pub one_if : Bool → ℕ
-one_if true = 1
-one_if false = 0
+abbrev pub address_if : Bool → ℕ
+address_if true = 1
+address_if false = 0
 
 -- the number of files that change: the golden files that are written, and the list if it has a new text
 abbrev pub changed_count : AcceptSummary → ℕ
-changed_count told = count_by (is_changed told.list) told.files.now + one_if (is_some told.new.now.text)
+changed_count told = count_by (is_changed told.list) told.files.now + address_if (is_some told.new.now.text)
 
 -- whether there is a run, and its job is chosen and was skipped
 abbrev pub is_skipped_job : Option JobRun → Bool

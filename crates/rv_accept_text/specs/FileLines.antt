@@ -4,7 +4,7 @@ use Rattle.std.specs.List.{find}
 use Rattle.rv_rows.specs.declared_job.Job.{Job}
 use Rattle.rv_rows.specs.Printable.{printable_text}
 use Rattle.rv_rows.specs.Words.{count_text}
-use Rattle.rv_accept.specs.GoldenOutcomes.{gives_another_text, names_file}
+use Rattle.rv_accept.specs.GoldenOutcomes.{has_other_text, is_for_file}
 use Rattle.rv_accept.specs.declared.golden_texts.GoldenText.{GoldenText}
 use Rattle.rv_accept.specs.declared.golden_texts.Part.{Part}
 use Rattle.rv_accept.specs.declared.golden_texts.Part.TheVariants as part
@@ -28,22 +28,22 @@ part_text part.Signature = codes "signature of "
 -- ---- written files
 
 -- the beginning of the line about a golden file: the sign, its path, and that it has the console or the signature of a job
-abbrev pub file_head : List ℕ → List Job → Target → List ℕ
-file_head sign jobs target = sign ++ printable_text target.path ++ codes ": " ++ part_text target.part
+abbrev pub file_prefix : List ℕ → List Job → Target → List ℕ
+file_prefix sign jobs target = sign ++ printable_text target.path ++ codes ": " ++ part_text target.part
     ++ printable_text (job_name jobs target.job)
 
 -- the differences between the old and the new contents of a golden file: of a console by lines or bytes, of a signature by words
-abbrev pub part_change : Part → List ℕ → List ℕ → List ℕ → List ℕ
-part_change part.Console path old new = text_change (printable_text path) old new
-part_change part.Signature path old new = word_change old new
+abbrev pub golden_change : Part → List ℕ → List ℕ → List ℕ → List ℕ
+golden_change part.Console path old new = text_change (printable_text path) old new
+golden_change part.Signature path old new = word_change old new
 
 -- the lines about a golden file that changes
 abbrev pub changed_file_line : List Job → Target → List ℕ → List ℕ → List ℕ
-changed_file_line jobs target old new = file_head (codes "~ ") jobs target ++ part_change target.part target.path old new
+changed_file_line jobs target old new = file_prefix (codes "~ ") jobs target ++ golden_change target.part target.path old new
 
 -- the line about a golden file that is created
 abbrev pub created_file_line : List Job → Target → List ℕ → List ℕ
-created_file_line jobs target new = file_head (codes "+ ") jobs target ++ (codes ", " ++ count_text (length new) (codes "byte")
+created_file_line jobs target new = file_prefix (codes "+ ") jobs target ++ (codes ", " ++ count_text (length new) (codes "byte")
     ++ codes "\n")
 
 -- the lines about a golden file that is written: it is created if it has no old contents, and changed otherwise
@@ -67,40 +67,40 @@ abbrev pub text_or_empty : Option (List ℕ) → List ℕ
 text_or_empty text = unwrap_or text []
 
 -- the reason that two jobs give a golden file different texts, and where the texts differ
-abbrev pub two_claims_text : List Job → GoldenText → GoldenText → List ℕ
-two_claims_text jobs first other = part_text first.part ++ printable_text (job_name jobs first.job) ++ codes " and "
+abbrev pub disagreeing_texts : List Job → GoldenText → GoldenText → List ℕ
+disagreeing_texts jobs first other = part_text first.part ++ printable_text (job_name jobs first.job) ++ codes " and "
     ++ part_text other.part ++ printable_text (job_name jobs other.job) ++ codes " differ"
     ++ byte_difference (text_or_empty first.text) (text_or_empty other.text)
 
 -- the reason that two jobs give a golden file different texts, or only a line end if there is no second job
-abbrev pub other_claim_text : List Job → GoldenText → Option GoldenText → List ℕ
-other_claim_text jobs first None = codes "\n"
-other_claim_text jobs first (Some other) = two_claims_text jobs first other
+abbrev pub other_text_reason : List Job → GoldenText → Option GoldenText → List ℕ
+other_text_reason jobs first None = codes "\n"
+other_text_reason jobs first (Some other) = disagreeing_texts jobs first other
 
 -- the reason that two jobs give the golden file at the path different texts, given the file's first golden text
-abbrev pub first_claim_text : List Job → List GoldenText → List ℕ → Option GoldenText → List ℕ
-first_claim_text jobs claims path None = codes "\n"
-first_claim_text jobs claims path (Some first) =
-    other_claim_text jobs first (find (gives_another_text path (text_or_empty first.text)) claims)
+abbrev pub first_text_reason : List Job → List GoldenText → List ℕ → Option GoldenText → List ℕ
+first_text_reason jobs claims path None = codes "\n"
+first_text_reason jobs claims path (Some first) =
+    other_text_reason jobs first (find (has_other_text path (text_or_empty first.text)) claims)
 
 -- the reason that two jobs give the golden file at the path different texts: its first golden text, and the first one that differs from it
 abbrev pub disagreement_text : List Job → List GoldenText → List ℕ → List ℕ
-disagreement_text jobs claims path = first_claim_text jobs claims path (find (names_file path) claims)
+disagreement_text jobs claims path = first_text_reason jobs claims path (find (is_for_file path) claims)
 
 -- the reason why a golden file with this outcome is skipped, with the line end
 abbrev pub file_skip_reason : List Job → List GoldenText → List ℕ → GoldenFileOutcome → List ℕ
-file_skip_reason jobs claims path (fate.LeftBy job) = codes "job \"" ++ printable_text (job_name jobs job)
+file_skip_reason jobs claims path (fate.SkippedBy job) = codes "job \"" ++ printable_text (job_name jobs job)
     ++ codes "\" also names this file and was skipped\n"
 file_skip_reason jobs claims path (fate.Differ job other) = disagreement_text jobs claims path
 file_skip_reason jobs claims path (fate.Agreed text) = codes "the list and the images are never overwritten\n"
 file_skip_reason jobs claims path fate.Unclaimed = codes "the list and the images are never overwritten\n"
 
 -- `skipped NAME: `, the beginning of the line about a skipped job or golden file
-abbrev pub skipped_head : List ℕ → List ℕ
-skipped_head name = codes "skipped " ++ printable_text name ++ codes ": "
+abbrev pub skipped_prefix : List ℕ → List ℕ
+skipped_prefix name = codes "skipped " ++ printable_text name ++ codes ": "
 
 -- the line about a skipped golden file; empty if it is not skipped
 unfoldable pub skipped_file_line : ListFile → List GoldenText → GoldenFile → List ℕ
 skipped_file_line list claims file = if is_left list file
-    then skipped_head file.target.path ++ file_skip_reason list.jobs.now claims file.target.path file.target.fate
+    then skipped_prefix file.target.path ++ file_skip_reason list.jobs.now claims file.target.path file.target.fate
     else []

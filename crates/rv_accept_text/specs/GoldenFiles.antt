@@ -17,14 +17,14 @@ abbrev pub is_image_path : List ℕ → List Job → Bool
 is_image_path path jobs = list_any (λ job. bytes_eq path job.image) jobs
 
 -- whether the old contents exist, and equal the list or begin like an ELF file
-abbrev pub is_kept_text : List ℕ → Option (List ℕ) → Bool
-is_kept_text list None = false
-is_kept_text list (Some old) = bytes_eq old list || starts_with nat_eq old elf_magic
+abbrev pub has_protected_contents : List ℕ → Option (List ℕ) → Bool
+has_protected_contents list None = false
+has_protected_contents list (Some old) = bytes_eq old list || starts_with nat_eq old elf_magic
 
 -- whether the golden file is the list or an image, by its path or by its contents: then it is never overwritten
 abbrev pub is_kept : ListFile → GoldenFile → Bool
 is_kept list file = bytes_eq file.resolved_path list.path.now
-    || (is_image_path file.target.path list.jobs.now || is_kept_text list.text.now file.old)
+    || (is_image_path file.target.path list.jobs.now || has_protected_contents list.text.now file.old)
 
 -- the text on which all jobs that name a golden file agree, or `None` if there is none or the Bool says that the file is never overwritten
 abbrev pub agreed_text_of : Bool → GoldenFileOutcome → Option (List ℕ)
@@ -36,14 +36,14 @@ abbrev pub agreed_text : ListFile → GoldenFile → Option (List ℕ)
 agreed_text list file = agreed_text_of (is_kept list file) file.target.fate
 
 -- the text, or `None` if it equals the old contents of the file
-abbrev pub another_text : List ℕ → Option (List ℕ) → Option (List ℕ)
-another_text text None = Some text
-another_text text (Some old) = if bytes_eq text old then None else Some text
+abbrev pub text_if_changed : List ℕ → Option (List ℕ) → Option (List ℕ)
+text_if_changed text None = Some text
+text_if_changed text (Some old) = if bytes_eq text old then None else Some text
 
 -- the text to write to a golden file, on which all jobs agree, or `None` if the file already has it or the Bool says that it is never
 -- overwritten
 abbrev pub new_text_of : Bool → GoldenFileOutcome → Option (List ℕ) → Option (List ℕ)
-new_text_of kept (fate.Agreed text) old = if kept then None else another_text text old
+new_text_of kept (fate.Agreed text) old = if kept then None else text_if_changed text old
 new_text_of kept _ old = None
 
 -- the text to write to the golden file, or `None` if the file is skipped or already has the text
@@ -51,12 +51,12 @@ abbrev pub new_text : ListFile → GoldenFile → Option (List ℕ)
 new_text list file = new_text_of (is_kept list file) file.target.fate file.old
 
 -- whether a golden file with this outcome is skipped; the Bool says that it is never overwritten
-abbrev pub is_left_of : Bool → GoldenFileOutcome → Bool
-is_left_of kept (fate.Agreed text) = kept
-is_left_of kept (fate.LeftBy job) = true
-is_left_of kept (fate.Differ job other) = true
-is_left_of kept fate.Unclaimed = false
+abbrev pub is_skipped_with : Bool → GoldenFileOutcome → Bool
+is_skipped_with kept (fate.Agreed text) = kept
+is_skipped_with kept (fate.SkippedBy job) = true
+is_skipped_with kept (fate.Differ job other) = true
+is_skipped_with kept fate.Unclaimed = false
 
 -- whether the golden file is skipped: it is the list or an image, or the jobs that name it disagree or were skipped
 abbrev pub is_left : ListFile → GoldenFile → Bool
-is_left list file = is_left_of (is_kept list file) file.target.fate
+is_left list file = is_skipped_with (is_kept list file) file.target.fate

@@ -20,15 +20,15 @@ use Rattle.rv_accept.specs.declared.runs.SkipReason.TheVariants as why
 use Rattle.rv_accept.specs.declared.values.ValueKey.{ValueKey}
 use Rattle.rv_accept.specs.declared.values.ValueKey.TheVariants as key
 use Rattle.rv_accept_text.specs.ChangedTexts.{text_change}
-use Rattle.rv_accept_text.specs.FileLines.{job_name, skipped_head}
+use Rattle.rv_accept_text.specs.FileLines.{job_name, skipped_prefix}
 use Rattle.rv_accept_text.specs.declared.new_list.ChangedValue.{ChangedValue}
 use Rattle.rv_rows.specs.Words.{exit_code_text}
 
 -- ---- changed values
 
 -- the beginning of the line about a changed value: the list's path, the line number, the job and the key
-abbrev pub value_head : List ℕ → ChangedValue → Job → List ℕ
-value_head path value job = codes "~ " ++ printable_text path ++ codes ":" ++ decimal value.line ++ codes ": "
+abbrev pub value_prefix : List ℕ → ChangedValue → Job → List ℕ
+value_prefix path value job = codes "~ " ++ printable_text path ++ codes ":" ++ decimal value.line ++ codes ": "
     ++ printable_text job.name ++ codes ": " ++ value_key_name value.key
 
 -- the exit code of a run, or 0 if it did not end with an exit
@@ -41,34 +41,34 @@ abbrev pub exit_change : Option ℕ → RowEnd → List ℕ
 exit_change expected end = codes " " ++ decimal (unwrap_or expected 0) ++ codes " -> " ++ decimal (exit_code end) ++ codes "\n"
 
 -- the value of `expect_end` as the list writes it; empty if there is none
-abbrev pub expected_end_word : Option ExpectedEnd → List ℕ
-expected_end_word (Some (expected.Fault kind)) = fault_name kind
-expected_end_word (Some expected.Budget) = codes "budget"
-expected_end_word None = []
+abbrev pub expected_end_value : Option ExpectedEnd → List ℕ
+expected_end_value (Some (expected.Fault kind)) = fault_name kind
+expected_end_value (Some expected.Budget) = codes "budget"
+expected_end_value None = []
 
 -- the name of the fault that ended a run; empty if it did not end with a fault
-abbrev pub fault_word : RowEnd → List ℕ
-fault_word (ending.Fault kind pc value) = fault_name kind
-fault_word _ = []
+abbrev pub ending_fault_name : RowEnd → List ℕ
+ending_fault_name (ending.Fault kind pc value) = fault_name kind
+ending_fault_name _ = []
 
 -- the rest of a line that shows the old and the new kind of fault
 abbrev pub end_change : Option ExpectedEnd → RowEnd → List ℕ
-end_change how end = codes " " ++ expected_end_word how ++ codes " -> " ++ fault_word end ++ codes "\n"
+end_change how end = codes " " ++ expected_end_value how ++ codes " -> " ++ ending_fault_name end ++ codes "\n"
 
 -- the expected console that the list contains; empty if it contains none
-abbrev pub text_of_list : Option ExpectedConsole → List ℕ
-text_of_list (Some (Text text)) = text
-text_of_list _ = []
+abbrev pub inline_text : Option ExpectedConsole → List ℕ
+inline_text (Some (Text text)) = text
+inline_text _ = []
 
 -- the rest of the line about a changed value, which shows the old and the new value of this key
 abbrev pub value_change : ValueKey → Job → Row → List ℕ
 value_change key.Exit job row = exit_change job.expect_exit row.ending
 value_change key.End job row = end_change job.expect_end row.ending
-value_change key.Console job row = text_change (codes "the expected text") (text_of_list job.expect_console) row.console
+value_change key.Console job row = text_change (codes "the expected text") (inline_text job.expect_console) row.console
 
 -- the lines about one changed value of the list
 abbrev pub value_line : List ℕ → ChangedValue → Job → Row → List ℕ
-value_line path value job row = value_head path value job ++ value_change value.key job row
+value_line path value job row = value_prefix path value job ++ value_change value.key job row
 
 -- ---- skipped jobs
 
@@ -80,46 +80,46 @@ actual_end_text ending.Budget = codes "budget"
 actual_end_text (ending.Refused refusal) = codes "refused " ++ refusal_name refusal
 
 -- `budget` or `fault KIND` for an expected end, or `exit 0` if none is specified
-abbrev pub expected_end_words : Option ExpectedEnd → List ℕ
-expected_end_words (Some expected.Budget) = codes "budget"
-expected_end_words (Some (expected.Fault kind)) = codes "fault " ++ fault_name kind
-expected_end_words None = codes "exit 0"
+abbrev pub expected_end_text : Option ExpectedEnd → List ℕ
+expected_end_text (Some expected.Budget) = codes "budget"
+expected_end_text (Some (expected.Fault kind)) = codes "fault " ++ fault_name kind
+expected_end_text None = codes "exit 0"
 
 -- the end that a job expects, `exit CODE`, `budget` or `fault KIND`; if it expects two ends, the first that this ending does not meet
 abbrev pub expected_text : Option ℕ → Option ExpectedEnd → RowEnd → List ℕ
-expected_text None how end = expected_end_words how
+expected_text None how end = expected_end_text how
 expected_text (Some code) how end =
-    if has_expected_exit (Some code) end then expected_end_words how else codes "exit " ++ exit_code_text code
+    if has_expected_exit (Some code) end then expected_end_text how else codes "exit " ++ exit_code_text code
 
 -- the reason to skip a job because of its end: the actual end and, unless the job was refused, the expected end
-abbrev pub other_end_text : Job → RowEnd → List ℕ
-other_end_text job (ending.Refused refusal) = actual_end_text (ending.Refused refusal)
-other_end_text job end = actual_end_text end ++ (codes ", expected " ++ expected_text job.expect_exit job.expect_end end)
+abbrev pub unexpected_end_text : Job → RowEnd → List ℕ
+unexpected_end_text job (ending.Refused refusal) = actual_end_text (ending.Refused refusal)
+unexpected_end_text job end = actual_end_text end ++ (codes ", expected " ++ expected_text job.expect_exit job.expect_end end)
 
 -- a key with its new value, `KEY = VALUE`, as the list would have it
 abbrev pub new_entry_text : ValueKey → Row → List ℕ
 new_entry_text key row = value_key_name key ++ codes " = " ++ new_value_text key row.ending row.console
 
 -- the name of the job at this index; empty if there is no index
-abbrev pub name_if_named : List Job → Option ℕ → List ℕ
-name_if_named list None = []
-name_if_named list (Some place) = job_name list place
+abbrev pub job_name_if_given : List Job → Option ℕ → List ℕ
+job_name_if_given list None = []
+job_name_if_given list (Some place) = job_name list place
 
 -- the name of the job that `same_as` of this job names; empty if there is none
-abbrev pub name_of_compared : List Job → Job → List ℕ
-name_of_compared list job = name_if_named list job.same_as
+abbrev pub compared_job_name : List Job → Job → List ℕ
+compared_job_name list job = job_name_if_given list job.same_as
 
 -- the reason that the result of a job differs from the result of its `same_as` job
 abbrev pub difference_text : List Job → Job → List ℕ
-difference_text list job = codes "the result differs from that of job \"" ++ printable_text (name_of_compared list job)
+difference_text list job = codes "the result differs from that of job \"" ++ printable_text (compared_job_name list job)
     ++ codes "\" (same_as)"
 
 -- the text of the reason to skip this job
 abbrev pub skip_reason_text : SkipReason → List Job → Job → Row → List ℕ
-skip_reason_text why.End list job row = other_end_text job row.ending
+skip_reason_text why.End list job row = unexpected_end_text job row.ending
 skip_reason_text why.Differs list job row = difference_text list job
-skip_reason_text why.NoText list job row = codes "the console is not valid UTF-8: use expect_console_file instead"
-skip_reason_text (why.NoPlace key) list job row = codes "cannot edit an inline table; set this by hand: "
+skip_reason_text why.NotUtf8 list job row = codes "the console is not valid UTF-8: use expect_console_file instead"
+skip_reason_text (why.NotEditable key) list job row = codes "cannot edit an inline table; set this by hand: "
     ++ new_entry_text key row
 skip_reason_text (why.Made key) list job row = codes "the list is generated by mklist; set this in the files next to the test: "
     ++ new_entry_text key row
@@ -127,7 +127,7 @@ skip_reason_text (why.Made key) list job row = codes "the list is generated by m
 -- the line about a skipped job; empty if it is not skipped
 abbrev pub skipped_line_of : List Job → Job → Row → Option SkipReason → List ℕ
 skipped_line_of list job row None = []
-skipped_line_of list job row (Some left) = skipped_head job.name ++ skip_reason_text left list job row ++ codes "\n"
+skipped_line_of list job row (Some left) = skipped_prefix job.name ++ skip_reason_text left list job row ++ codes "\n"
 
 -- the line about a job that is chosen and was skipped; empty for any other job
 abbrev pub skipped_job_line : List Job → Job → Option JobRun → List ℕ

@@ -24,26 +24,26 @@ skipped_runs [] runs = []
 skipped_runs (why ∷ whys) runs = option_map (skipped_run why) (run_or_none (slice_get runs 0)) ∷ skipped_runs whys (drop 1 runs)
 
 -- the runs are `before`, except that some accepted runs were skipped, in one or two steps
-pub data AreLeftFrom (before : List (Option JobRun)) : List (Option JobRun) → Type 0 where
-  once : (whys : List (Option SkipReason)) → AreLeftFrom before (skipped_runs whys before)
-  again : (whys more : List (Option SkipReason)) → AreLeftFrom before (skipped_runs more (skipped_runs whys before))
+pub data AreSkippedFrom (before : List (Option JobRun)) : List (Option JobRun) → Type 0 where
+  once : (whys : List (Option SkipReason)) → AreSkippedFrom before (skipped_runs whys before)
+  again : (whys more : List (Option SkipReason)) → AreSkippedFrom before (skipped_runs more (skipped_runs whys before))
 
 -- ---- jobs with changed values, if the list is not changed
 
 -- the reason to skip a job, which names its first changed value, or `None` if no value changes
-abbrev pub why_changed : Job → Row → Option SkipReason
-why_changed job row =
-    if is_value_changed key.Exit job row then Some (why.NoPlace key.Exit)
-    else if is_value_changed key.End job row then Some (why.NoPlace key.End)
-    else if is_value_changed key.Console job row then Some (why.NoPlace key.Console) else None
+abbrev pub change_skip_reason : Job → Row → Option SkipReason
+change_skip_reason job row =
+    if is_value_changed key.Exit job row then Some (why.NotEditable key.Exit)
+    else if is_value_changed key.End job row then Some (why.NotEditable key.End)
+    else if is_value_changed key.Console job row then Some (why.NotEditable key.Console) else None
 
 -- the reason to skip a job, which names its first changed value, or `None` if no value changes or the job was not run
-abbrev pub why_changed_if_run : Job → Option JobRun → Option SkipReason
-why_changed_if_run job None = None
-why_changed_if_run job (Some run) = why_changed job run.row
+abbrev pub change_skip_reason_if_run : Job → Option JobRun → Option SkipReason
+change_skip_reason_if_run job None = None
+change_skip_reason_if_run job (Some run) = change_skip_reason job run.row
 
 -- for each run, the reason to skip its job, which names its first changed value, or `None` if no value changes
-unfoldable pub whys_changed : List Job → List (Option JobRun) → List (Option SkipReason)
-whys_changed [] runs = []
-whys_changed (job ∷ jobs) [] = []
-whys_changed (job ∷ jobs) (run ∷ runs) = why_changed_if_run job run ∷ whys_changed jobs runs
+unfoldable pub change_skip_reasons : List Job → List (Option JobRun) → List (Option SkipReason)
+change_skip_reasons [] runs = []
+change_skip_reasons (job ∷ jobs) [] = []
+change_skip_reasons (job ∷ jobs) (run ∷ runs) = change_skip_reason_if_run job run ∷ change_skip_reasons jobs runs

@@ -5,7 +5,7 @@ ghost use Rattle.std.specs.List.{count_by, flat_map};
 ghost use Rattle.rv_accept_text.specs.FileLines.{file_line, skipped_file_line};
 ghost use Rattle.rv_accept_text.specs.GoldenFiles.{is_left};
 ghost use Rattle.rv_accept_text.specs.AcceptLines.{changed_count, count_line, is_changed, is_skipped_job, skipped_count, skipped_job_lines};
-ghost use Rattle.rv_accept_text.specs.AcceptLines.{one_if, accept_lines, value_line_in, value_line_of, writing_word};
+ghost use Rattle.rv_accept_text.specs.AcceptLines.{address_if, accept_lines, value_line_in, value_line_of, writing_word};
 
 use crate::file_lines::{push_file_line, push_skipped_file_line};
 use crate::golden_file::{GoldenFile, ListFile};

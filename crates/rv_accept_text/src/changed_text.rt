@@ -6,7 +6,7 @@ ghost use Rattle.rv_rows.specs.Spans.{span_text};
 ghost use Rattle.rv_accept_text.specs.ChangedTexts.{byte_change, byte_difference, digits_at, text_change, values_from, values_of_both, word_change, word_change_at};
 
 use rv_job_text::push_console_lines;
-use rv_rows::{LINE, Span, is_utf8, push_spans, push_text, tail_from};
+use rv_rows::{WORD_LINE_LEN, Span, is_utf8, push_spans, push_text, tail_from};
 use std::alloc::AllocError;
 
 /// Appends the differences between the old and the new text: by lines if both are UTF-8, and otherwise by bytes. `source` names the old
@@ -112,12 +112,12 @@ fn push_word_change_at<'x>(
 ) -> Result<(), AllocError>
     ensures { OnOk result (out.new.items ≡ out.old.items ++ word_change_at len old.now new.now) }
 {
-    let place = len - len % LINE;
+    let place = len - len % WORD_LINE_LEN;
     push_spans(
         out,
         &[
             Span::Text(": word "),
-            Span::Number((len / LINE) as u64),
+            Span::Number((len / WORD_LINE_LEN) as u64),
             Span::Text(": "),
             Span::Shown(digits_at(tail_from(old, place))),
             Span::Text(" -> "),
@@ -134,7 +134,7 @@ fn digits_at(rest: &[u8]) -> &[u8]
     if rest.is_empty() {
         b"none"
     } else {
-        &rest[..rest.len().min(LINE - 1)]
+        &rest[..rest.len().min(WORD_LINE_LEN - 1)]
     }
 }
 

@@ -1,15 +1,15 @@
 //! The lines about golden files.
 
 ghost use Rattle.std.specs.Prelude.{◌≡◌, ◌++◌, OnOk, option_map};
-ghost use Rattle.rv_accept_text.specs.FileLines.{changed_file_line, disagreement_text, file_head, file_line, skipped_file_line, skipped_head};
-ghost use Rattle.rv_accept_text.specs.FileLines.{created_file_line, other_claim_text, part_change, part_text, text_or_empty, two_claims_text};
+ghost use Rattle.rv_accept_text.specs.FileLines.{changed_file_line, disagreement_text, file_prefix, file_line, skipped_file_line, skipped_prefix};
+ghost use Rattle.rv_accept_text.specs.FileLines.{created_file_line, other_text_reason, golden_change, part_text, text_or_empty, disagreeing_texts};
 ghost use Rattle.rv_accept_text.specs.FileLines.{file_skip_reason, written_file_line};
 
 use crate::changed_text::{push_byte_difference, push_text_change, push_word_change};
 use crate::golden_file::{GoldenFile, ListFile};
 use crate::job_lines::job_name;
 use rv_accept::{
-    GoldenFileOutcome, GoldenText, Part, Target, first_of_another_text, first_on_file,
+    GoldenFileOutcome, GoldenText, Part, Target, first_other_text, first_text_for_file,
 };
 use rv_rows::{Bytes, Job, Span, push_spans, push_text};
 use std::alloc::AllocError;
@@ -54,19 +54,19 @@ fn push_changed_file_line(
 ) -> Result<(), AllocError>
     ensures { OnOk result (out.new.items ≡ out.old.items ++ changed_file_line jobs.now target.now old.now text.now) }
 {
-    push_file_head(out, "~ ", jobs, target)?;
-    push_part_change(out, target.part, target.path.as_str(), old, text)
+    push_file_prefix(out, "~ ", jobs, target)?;
+    push_golden_change(out, target.part, target.path.as_str(), old, text)
 }
 
 // Appends the differences between the old and the new contents of a golden file: of a console by lines or bytes, of a signature by words.
-fn push_part_change(
+fn push_golden_change(
     out: &mut Vec<u8>,
     part: Part,
     path: &str,
     old: &[u8],
     text: &[u8],
 ) -> Result<(), AllocError>
-    ensures { OnOk result (out.new.items ≡ out.old.items ++ part_change part path.now old.now text.now) }
+    ensures { OnOk result (out.new.items ≡ out.old.items ++ golden_change part path.now old.now text.now) }
 {
     match part {
         Part::Console => push_text_change(out, Span::Shown(path.as_bytes()), old, text),
@@ -83,7 +83,7 @@ fn push_created_file_line(
 ) -> Result<(), AllocError>
     ensures { OnOk result (out.new.items ≡ out.old.items ++ created_file_line jobs.now target.now text.now) }
 {
-    push_file_head(out, "+ ", jobs, target)?;
+    push_file_prefix(out, "+ ", jobs, target)?;
     push_spans(
         out,
         &[
@@ -95,13 +95,13 @@ fn push_created_file_line(
 }
 
 // Appends the beginning of the line about a golden file: the sign, its path, and that it has the console or the signature of a job.
-fn push_file_head<'x>(
+fn push_file_prefix<'x>(
     out: &mut Vec<u8>,
     sign: &'static str,
     jobs: &'x [Job],
     target: &'x Target,
 ) -> Result<(), AllocError>
-    ensures { OnOk result (out.new.items ≡ out.old.items ++ file_head sign.now jobs.now target.now) }
+    ensures { OnOk result (out.new.items ≡ out.old.items ++ file_prefix sign.now jobs.now target.now) }
 {
     push_spans(
         out,
@@ -138,13 +138,13 @@ pub(crate) fn push_skipped_file_line(
     if !file.is_left(list) {
         return Ok(());
     }
-    push_skipped_head(out, file.target.path.as_str())?;
+    push_skipped_prefix(out, file.target.path.as_str())?;
     push_file_skip_reason(out, list.jobs, claims, &file.target)
 }
 
 /// Appends `skipped NAME: `, the beginning of the line about a skipped job or golden file.
-pub(crate) fn push_skipped_head(out: &mut Vec<u8>, name: &str) -> Result<(), AllocError>
-    ensures { OnOk result (out.new.items ≡ out.old.items ++ skipped_head name.now) }
+pub(crate) fn push_skipped_prefix(out: &mut Vec<u8>, name: &str) -> Result<(), AllocError>
+    ensures { OnOk result (out.new.items ≡ out.old.items ++ skipped_prefix name.now) }
 {
     push_spans(
         out,
@@ -167,7 +167,7 @@ fn push_file_skip_reason(
         ≡ out.old.items ++ file_skip_reason jobs.now claims.now target.now.path target.now.fate) }
 {
     match &target.fate {
-        GoldenFileOutcome::LeftBy(job) => push_spans(
+        GoldenFileOutcome::SkippedBy(job) => push_spans(
             out,
             &[
                 Span::Text("job \""),
@@ -192,41 +192,41 @@ fn push_disagreement(
 ) -> Result<(), AllocError>
     ensures { OnOk result (out.new.items ≡ out.old.items ++ disagreement_text jobs.now claims.now path.now) }
 {
-    match first_on_file(path, claims) {
-        Some(first) => push_other_claim(
+    match first_text_for_file(path, claims) {
+        Some(first) => push_other_text_reason(
             out,
             jobs,
             first,
-            first_of_another_text(path, text_or_empty(&first.text), claims),
+            first_other_text(path, text_or_empty(&first.text), claims),
         ),
         None => push_text(out, "\n"),
     }
 }
 
 // Appends the reason that two jobs give a golden file different texts, or only a line end if there is no second job.
-fn push_other_claim(
+fn push_other_text_reason(
     out: &mut Vec<u8>,
     jobs: &[Job],
     first: &GoldenText,
     other: Option<&GoldenText>,
 ) -> Result<(), AllocError>
     ensures { OnOk result (out.new.items
-        ≡ out.old.items ++ other_claim_text jobs.now first.now (option_map (λ claim. claim.now) other.entry)) }
+        ≡ out.old.items ++ other_text_reason jobs.now first.now (option_map (λ claim. claim.now) other.entry)) }
 {
     match other {
-        Some(other) => push_two_claims(out, jobs, first, other),
+        Some(other) => push_disagreeing_texts(out, jobs, first, other),
         None => push_text(out, "\n"),
     }
 }
 
 // Appends the reason that two jobs give a golden file different texts, and where the texts differ.
-fn push_two_claims(
+fn push_disagreeing_texts(
     out: &mut Vec<u8>,
     jobs: &[Job],
     first: &GoldenText,
     other: &GoldenText,
 ) -> Result<(), AllocError>
-    ensures { OnOk result (out.new.items ≡ out.old.items ++ two_claims_text jobs.now first.now other.now) }
+    ensures { OnOk result (out.new.items ≡ out.old.items ++ disagreeing_texts jobs.now first.now other.now) }
 {
     push_spans(
         out,

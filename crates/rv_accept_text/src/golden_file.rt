@@ -1,7 +1,7 @@
 //! A golden file, with its current contents.
 
 ghost use Rattle.std.specs.Prelude.{◌≡◌, option_map};
-ghost use Rattle.rv_accept_text.specs.GoldenFiles.{agreed_text, another_text, is_image_path, is_kept, is_kept_text, is_left, new_text};
+ghost use Rattle.rv_accept_text.specs.GoldenFiles.{agreed_text, text_if_changed, is_image_path, is_kept, has_protected_contents, is_left, new_text};
 
 use rv_accept::{GoldenFileOutcome, Target};
 use rv_rows::{Bytes, Job, Text};
@@ -30,7 +30,7 @@ impl GoldenFile {
         ensures { option_map (λ text. text.now) result ≡ new_text list.now self.now }
     {
         match &self.target.fate {
-            GoldenFileOutcome::Agreed(text) if !self.is_kept(list) => another_text(
+            GoldenFileOutcome::Agreed(text) if !self.is_kept(list) => text_if_changed(
                 text.as_slice(),
                 &self.old,
             ),
@@ -54,7 +54,7 @@ impl GoldenFile {
     {
         match &self.target.fate {
             GoldenFileOutcome::Agreed(_) => self.is_kept(list),
-            GoldenFileOutcome::LeftBy(_) | GoldenFileOutcome::Differ(..) => true,
+            GoldenFileOutcome::SkippedBy(_) | GoldenFileOutcome::Differ(..) => true,
             GoldenFileOutcome::Unclaimed => false,
         }
     }
@@ -65,13 +65,13 @@ impl GoldenFile {
     {
         self.resolved_path.as_str() == list.path
             || is_image_path(self.target.path.as_str(), list.jobs)
-            || is_kept_text(list.text, &self.old)
+            || has_protected_contents(list.text, &self.old)
     }
 }
 
 // Returns the text, or `None` if it equals the old contents of the file.
-fn another_text<'a>(text: &'a [u8], old: &Option<Bytes>) -> Option<&'a [u8]>
-    ensures { option_map (λ text. text.now) result ≡ another_text text.now old.now }
+fn text_if_changed<'a>(text: &'a [u8], old: &Option<Bytes>) -> Option<&'a [u8]>
+    ensures { option_map (λ text. text.now) result ≡ text_if_changed text.now old.now }
 {
     match old {
         Some(old) if text == old.as_slice() => None,
@@ -87,8 +87,8 @@ fn is_image_path(path: &str, jobs: &[Job]) -> bool
 }
 
 // Whether the old contents exist, and equal the list or begin like an ELF file.
-fn is_kept_text(list: &[u8], old: &Option<Bytes>) -> bool
-    ensures { result ≡ is_kept_text list.now old.now }
+fn has_protected_contents(list: &[u8], old: &Option<Bytes>) -> bool
+    ensures { result ≡ has_protected_contents list.now old.now }
 {
     match old {
         Some(old) => old.as_slice() == list || old.as_slice().starts_with(b"\x7fELF"),

@@ -2,12 +2,12 @@
 
 ghost use Rattle.std.specs.Prelude.{◌≡◌, ◌++◌, OnOk, option_map, slice_get, unwrap_or};
 ghost use Rattle.rv_accept_text.specs.FileLines.{job_name};
-ghost use Rattle.rv_accept_text.specs.JobLines.{end_change, exit_change, exit_code, expected_end_word, fault_word, skipped_job_line, skipped_line_of};
-ghost use Rattle.rv_accept_text.specs.JobLines.{actual_end_text, new_entry_text, other_end_text, text_of_list, value_change, value_head, value_line};
-ghost use Rattle.rv_accept_text.specs.JobLines.{difference_text, name_of_compared, expected_end_words, expected_text, skip_reason_text};
+ghost use Rattle.rv_accept_text.specs.JobLines.{end_change, exit_change, exit_code, expected_end_value, ending_fault_name, skipped_job_line, skipped_line_of};
+ghost use Rattle.rv_accept_text.specs.JobLines.{actual_end_text, new_entry_text, unexpected_end_text, inline_text, value_change, value_prefix, value_line};
+ghost use Rattle.rv_accept_text.specs.JobLines.{difference_text, compared_job_name, expected_end_text, expected_text, skip_reason_text};
 
 use crate::changed_text::push_text_change;
-use crate::file_lines::push_skipped_head;
+use crate::file_lines::push_skipped_prefix;
 use crate::new_list::ChangedValue;
 use rv_accept::{JobRun, SkipReason, ValueKey, push_new_value};
 use rv_rows::{
@@ -35,18 +35,18 @@ pub(crate) fn push_value_line(
 ) -> Result<(), AllocError>
     ensures { OnOk result (out.new.items ≡ out.old.items ++ value_line path.now value.now job.now row.now) }
 {
-    push_value_head(out, path, value, job)?;
+    push_value_prefix(out, path, value, job)?;
     push_value_change(out, value.key, job, row)
 }
 
 // Appends the beginning of the line about a changed value: the list's path, the line number, the job and the key.
-fn push_value_head<'x>(
+fn push_value_prefix<'x>(
     out: &mut Vec<u8>,
     path: &'x str,
     value: &ChangedValue,
     job: &'x Job,
 ) -> Result<(), AllocError>
-    ensures { OnOk result (out.new.items ≡ out.old.items ++ value_head path.now value.now job.now) }
+    ensures { OnOk result (out.new.items ≡ out.old.items ++ value_prefix path.now value.now job.now) }
 {
     push_spans(
         out,
@@ -78,7 +78,7 @@ fn push_value_change(
         ValueKey::Console => push_text_change(
             out,
             Span::Text("the expected text"),
-            text_of_list(&job.expect_console),
+            inline_text(&job.expect_console),
             row.console.as_slice(),
         ),
     }
@@ -126,17 +126,17 @@ fn push_end_change(
         out,
         &[
             Span::Text(" "),
-            Span::Text(expected_end_word(expected)),
+            Span::Text(expected_end_value(expected)),
             Span::Text(" -> "),
-            Span::Text(fault_word(ending)),
+            Span::Text(ending_fault_name(ending)),
             Span::Text("\n"),
         ],
     )
 }
 
 // Returns the value of `expect_end` as the list writes it, or an empty text if there is none.
-fn expected_end_word(end: Option<ExpectedEnd>) -> &'static str
-    ensures { result.now ≡ expected_end_word end }
+fn expected_end_value(end: Option<ExpectedEnd>) -> &'static str
+    ensures { result.now ≡ expected_end_value end }
 {
     match end {
         Some(ExpectedEnd::Fault(kind)) => kind.name(),
@@ -146,8 +146,8 @@ fn expected_end_word(end: Option<ExpectedEnd>) -> &'static str
 }
 
 // Returns the name of the fault that ended a run, or an empty text if it did not end with a fault.
-fn fault_word(ending: RowEnd) -> &'static str
-    ensures { result.now ≡ fault_word ending }
+fn ending_fault_name(ending: RowEnd) -> &'static str
+    ensures { result.now ≡ ending_fault_name ending }
 {
     match ending {
         RowEnd::Fault(kind, ..) => kind.name(),
@@ -156,8 +156,8 @@ fn fault_word(ending: RowEnd) -> &'static str
 }
 
 // Returns the expected console that the list contains, or an empty text if it contains none.
-fn text_of_list(expected: &Option<ExpectedConsole>) -> &[u8]
-    ensures { result.now ≡ text_of_list expected.now }
+fn inline_text(expected: &Option<ExpectedConsole>) -> &[u8]
+    ensures { result.now ≡ inline_text expected.now }
 {
     match expected {
         Some(ExpectedConsole::Text(text)) => text.as_slice(),
@@ -194,7 +194,7 @@ fn push_skipped_line(
     let Some(why) = run.skipped else {
         return Ok(());
     };
-    push_skipped_head(out, job.name.as_str())?;
+    push_skipped_prefix(out, job.name.as_str())?;
     push_skip_reason(alloc, out, why, (list, job), &run.row)?;
     push_text(out, "\n")
 }
@@ -212,13 +212,13 @@ fn push_skip_reason(
 {
     let (list, job) = of;
     match why {
-        SkipReason::End => push_other_end(out, job, row.ending),
+        SkipReason::End => push_unexpected_end(out, job, row.ending),
         SkipReason::Differs => push_difference(out, list, job),
-        SkipReason::NoText => push_text(
+        SkipReason::NotUtf8 => push_text(
             out,
             "the console is not valid UTF-8: use expect_console_file instead",
         ),
-        SkipReason::NoPlace(key) => {
+        SkipReason::NotEditable(key) => {
             push_text(out, "cannot edit an inline table; set this by hand: ")?;
             push_new_entry(alloc, out, key, row)
         }
@@ -240,15 +240,15 @@ fn push_difference(out: &mut Vec<u8>, list: &[Job], job: &Job) -> Result<(), All
         out,
         &[
             Span::Text("the result differs from that of job \""),
-            Span::Shown(name_of_compared(list, job).as_bytes()),
+            Span::Shown(compared_job_name(list, job).as_bytes()),
             Span::Text("\" (same_as)"),
         ],
     )
 }
 
 // Returns the name of the job that `same_as` of this job names, or an empty text if there is none.
-fn name_of_compared<'x>(list: &'x [Job], job: &Job) -> &'x str
-    ensures { result.now ≡ name_of_compared list.now job.now }
+fn compared_job_name<'x>(list: &'x [Job], job: &Job) -> &'x str
+    ensures { result.now ≡ compared_job_name list.now job.now }
 {
     match job.same_as {
         Some(place) => job_name(list, place),
@@ -270,22 +270,22 @@ fn push_new_entry(
 }
 
 // Appends the actual end of a run and, unless the job is refused, the expected end.
-fn push_other_end(out: &mut Vec<u8>, job: &Job, ending: RowEnd) -> Result<(), AllocError>
-    ensures { OnOk result (out.new.items ≡ out.old.items ++ other_end_text job.now ending) }
+fn push_unexpected_end(out: &mut Vec<u8>, job: &Job, ending: RowEnd) -> Result<(), AllocError>
+    ensures { OnOk result (out.new.items ≡ out.old.items ++ unexpected_end_text job.now ending) }
 {
     match ending {
-        RowEnd::Refused(_) => push_met_end(out, ending),
+        RowEnd::Refused(_) => push_actual_end(out, ending),
         RowEnd::Exit(_) | RowEnd::Fault(..) | RowEnd::Budget => {
-            push_met_end(out, ending)?;
+            push_actual_end(out, ending)?;
             push_text(out, ", expected ")?;
-            push_wanted(out, job.expect_exit, job.expect_end, ending)
+            push_expected(out, job.expect_exit, job.expect_end, ending)
         }
     }
 }
 
 // Appends the end that a job expects, `exit CODE`, `budget` or `fault KIND`; if it expects two ends, the first that this ending does not
 // meet.
-fn push_wanted(
+fn push_expected(
     out: &mut Vec<u8>,
     exit: Option<u32>,
     end: Option<ExpectedEnd>,
@@ -297,13 +297,13 @@ fn push_wanted(
         Some(code) if !has_expected_exit(exit, ending) => {
             push_spans(out, &[Span::Text("exit "), Span::ExitCode(code)])
         }
-        _ => push_wanted_end(out, end),
+        _ => push_expected_end(out, end),
     }
 }
 
 // Appends `budget` or `fault KIND` for an expected end, or `exit 0` if none is specified.
-fn push_wanted_end(out: &mut Vec<u8>, end: Option<ExpectedEnd>) -> Result<(), AllocError>
-    ensures { OnOk result (out.new.items ≡ out.old.items ++ expected_end_words end) }
+fn push_expected_end(out: &mut Vec<u8>, end: Option<ExpectedEnd>) -> Result<(), AllocError>
+    ensures { OnOk result (out.new.items ≡ out.old.items ++ expected_end_text end) }
 {
     match end {
         Some(ExpectedEnd::Budget) => push_text(out, "budget"),
@@ -315,7 +315,7 @@ fn push_wanted_end(out: &mut Vec<u8>, end: Option<ExpectedEnd>) -> Result<(), Al
 }
 
 // Appends how a run ended: `exit CODE`, `fault KIND`, `budget`, or the reason why the job was refused.
-fn push_met_end(out: &mut Vec<u8>, ending: RowEnd) -> Result<(), AllocError>
+fn push_actual_end(out: &mut Vec<u8>, ending: RowEnd) -> Result<(), AllocError>
     ensures { OnOk result (out.new.items ≡ out.old.items ++ actual_end_text ending) }
 {
     match ending {

@@ -3,11 +3,11 @@
 ghost use Rattle.std.specs.Prelude.{◌≡◌, ◌++◌, IfOk, IfSome, IsTrue, List, None, Ok, OnOk, Option, drop, option_map, slice_get};
 ghost use Rattle.std.specs.Vec.Iter.{into_iter_items};
 ghost use Rattle.rv_rows.specs.JobList.{job_list_of};
-ghost use Rattle.rv_accept.specs.Edits.{edited_from};
+ghost use Rattle.rv_accept.specs.Edits.{edited_rest};
 ghost use Rattle.rv_accept.specs.IntendedJobs.{intended_jobs};
 ghost use Rattle.rv_accept.specs.declared.edits.Edit.{Edit as AnEdit};
 ghost use Rattle.rv_accept.specs.declared.runs.SkipReason.{SkipReason as AWhyLeft};
-ghost use Rattle.rv_accept_text.specs.NewLists.{AreLeftFrom, skipped_run, skipped_runs, run_or_none, why_changed, why_changed_if_run, whys_changed};
+ghost use Rattle.rv_accept_text.specs.NewLists.{AreSkippedFrom, skipped_run, skipped_runs, run_or_none, change_skip_reason, change_skip_reason_if_run, change_skip_reasons};
 
 use rv_accept::{
     Edit, JobRun, SkipReason, ValueKey, are_intended_jobs, edited_text, is_value_changed,
@@ -65,12 +65,12 @@ pub fn accept_values(
     ensures meant { IfOk result (λ new. IfSome new.text
         (λ text. job_list_of text.items ≡ Ok (intended_jobs jobs.now new.runs.items))) }
     ensures edited { IfOk result (λ new. IfSome new.text
-        (λ new. (edits : List AnEdit) × (new.items ≡ edited_from 0 text.now edits))) }
+        (λ new. (edits : List AnEdit) × (new.items ≡ edited_rest 0 text.now edits))) }
     ensures unchanged { IfOk result (λ new. new.text ≡ None → intended_jobs jobs.now new.runs.items ≡ jobs.now) }
-    ensures left { IfOk result (λ new. AreLeftFrom runs.items new.runs.items) }
+    ensures left { IfOk result (λ new. AreSkippedFrom runs.items new.runs.items) }
 {
-    let places = places_in(alloc, text)?;
-    let whys = whys_unplaced(alloc, jobs, runs.as_slice(), &places)?;
+    let places = editable_values(alloc, text)?;
+    let whys = uneditable_reasons(alloc, jobs, runs.as_slice(), &places)?;
     let runs = skipped_runs(alloc, whys.as_slice(), runs)?;
     let Changes { edits, values } = changes_at(alloc, text, jobs, runs.as_slice(), &places)?;
     if edits.is_empty() && are_intended_jobs(jobs, runs.as_slice(), jobs) {
@@ -86,12 +86,12 @@ pub fn accept_values(
             values,
             runs,
         }),
-        None => skip_changed(alloc, jobs, runs),
+        None => skip_changed_jobs(alloc, jobs, runs),
     }
 }
 
 // Returns a list without a new text, in which each accepted job with a changed value is skipped.
-fn skip_changed(
+fn skip_changed_jobs(
     alloc: Global,
     jobs: &[Job],
     runs: Vec<Option<JobRun>>,
@@ -101,7 +101,7 @@ fn skip_changed(
     ensures left { IfOk result (λ new. (whys : List (Option AWhyLeft)) × (new.runs.items ≡ skipped_runs whys runs.items)) }
 {
     let mut whys = Vec::new(alloc);
-    push_whys_changed(&mut whys, jobs, runs.as_slice())?;
+    push_change_skip_reasons(&mut whys, jobs, runs.as_slice())?;
     let runs = skipped_runs(alloc, whys.as_slice(), runs)?;
     Ok(NewList {
         text: None,
@@ -111,18 +111,18 @@ fn skip_changed(
 }
 
 // Appends for each run the reason to skip its job, which names its first changed value, or `None` if no value changes.
-#[tactic(auto, unfolding(crate::specs::NewLists::whys_changed))]
-fn push_whys_changed(
+#[tactic(auto, unfolding(crate::specs::NewLists::change_skip_reasons))]
+fn push_change_skip_reasons(
     whys: &mut Vec<Option<SkipReason>>,
     jobs: &[Job],
     runs: &[Option<JobRun>],
 ) -> Result<(), AllocError>
-    ensures { OnOk result (whys.new.items ≡ whys.old.items ++ whys_changed jobs.now runs.now) }
+    ensures { OnOk result (whys.new.items ≡ whys.old.items ++ change_skip_reasons jobs.now runs.now) }
 {
     match (jobs, runs) {
         ([job, jobs @ ..], [run, runs @ ..]) => {
-            whys.push(why_changed_if_run(job, run))?;
-            push_whys_changed(whys, jobs, runs)
+            whys.push(change_skip_reason_if_run(job, run))?;
+            push_change_skip_reasons(whys, jobs, runs)
         }
         ([], _) => Ok(()),
         ([_job, _jobs @ ..], []) => Ok(()),
@@ -130,25 +130,25 @@ fn push_whys_changed(
 }
 
 // Returns the reason to skip a job, which names its first changed value, or `None` if no value changes or the job was not run.
-fn why_changed_if_run(job: &Job, run: &Option<JobRun>) -> Option<SkipReason>
-    ensures { result ≡ why_changed_if_run job.now run.now }
+fn change_skip_reason_if_run(job: &Job, run: &Option<JobRun>) -> Option<SkipReason>
+    ensures { result ≡ change_skip_reason_if_run job.now run.now }
 {
     match run {
-        Some(run) => why_changed(job, &run.row),
+        Some(run) => change_skip_reason(job, &run.row),
         None => None,
     }
 }
 
 // Returns the reason to skip a job, which names its first changed value, or `None` if no value changes.
-fn why_changed(job: &Job, row: &Row) -> Option<SkipReason>
-    ensures { result ≡ why_changed job.now row.now }
+fn change_skip_reason(job: &Job, row: &Row) -> Option<SkipReason>
+    ensures { result ≡ change_skip_reason job.now row.now }
 {
     if is_value_changed(ValueKey::Exit, job, row) {
-        Some(SkipReason::NoPlace(ValueKey::Exit))
+        Some(SkipReason::NotEditable(ValueKey::Exit))
     } else if is_value_changed(ValueKey::End, job, row) {
-        Some(SkipReason::NoPlace(ValueKey::End))
+        Some(SkipReason::NotEditable(ValueKey::End))
     } else if is_value_changed(ValueKey::Console, job, row) {
-        Some(SkipReason::NoPlace(ValueKey::Console))
+        Some(SkipReason::NotEditable(ValueKey::Console))
     } else {
         None
     }
@@ -164,7 +164,7 @@ fn intended_text(
 ) -> Result<Option<Vec<u8>>, AllocError>
     ensures meant { IfOk result (λ found. IfSome found
         (λ text. job_list_of text.items ≡ Ok (intended_jobs jobs.now runs.now))) }
-    ensures edited { IfOk result (λ found. IfSome found (λ new. new.items ≡ edited_from 0 text.now edits.now)) }
+    ensures edited { IfOk result (λ found. IfSome found (λ new. new.items ≡ edited_rest 0 text.now edits.now)) }
 {
     let new = edited_text(alloc, text, edits)?;
     if parses_as_intended(alloc, new.as_slice(), jobs, runs)? {
@@ -184,13 +184,13 @@ fn skipped_runs(
 {
     let mut left = Vec::new(alloc);
     let mut runs = runs.into_iter();
-    push_left_runs(&mut left, whys, &mut runs)?;
+    push_skipped_runs(&mut left, whys, &mut runs)?;
     Ok(left)
 }
 
 // Appends the runs, each accepted one skipped if it has a reason in `whys`.
 #[tactic(auto, unfolding(crate::specs::NewLists::skipped_runs))]
-fn push_left_runs(
+fn push_skipped_runs(
     left: &mut Vec<Option<JobRun>>,
     whys: &[Option<SkipReason>],
     runs: &mut IntoIter<Option<JobRun>>,
@@ -200,8 +200,8 @@ fn push_left_runs(
     match whys {
         [why, whys @ ..] => {
             let run = next_run(runs);
-            left.push(left_if_run(*why, run))?;
-            push_left_runs(left, whys, runs)
+            left.push(skipped_if_run(*why, run))?;
+            push_skipped_runs(left, whys, runs)
         }
         [] => Ok(()),
     }
@@ -219,7 +219,7 @@ fn next_run(runs: &mut IntoIter<Option<JobRun>>) -> Option<JobRun>
 }
 
 // Returns the run of a job, with `why` as its reason to be skipped if it was accepted, or `None` if the job was not run.
-fn left_if_run(why: Option<SkipReason>, run: Option<JobRun>) -> Option<JobRun>
+fn skipped_if_run(why: Option<SkipReason>, run: Option<JobRun>) -> Option<JobRun>
     ensures { result ≡ option_map (skipped_run why) run }
 {
     match run {
@@ -244,11 +244,11 @@ fn skipped_run(why: Option<SkipReason>, run: JobRun) -> JobRun
 }
 
 // The beginning of a list that mklist generated.
-const MADE: &[u8] = b"# Made by mklist";
+const GENERATED_PREFIX: &[u8] = b"# Made by mklist";
 
 // Returns the places of the values in a list that can be edited; a list that mklist generated has none.
-fn places_in(alloc: Global, text: &[u8]) -> Result<EditableValues, AllocError> {
-    let is_made = text.starts_with(MADE);
+fn editable_values(alloc: Global, text: &[u8]) -> Result<EditableValues, AllocError> {
+    let is_made = text.starts_with(GENERATED_PREFIX);
     let spans = match str::from_utf8(text) {
         Ok(text) if !is_made => value_spans(alloc, text)?,
         _ => Vec::new(alloc),
@@ -257,7 +257,7 @@ fn places_in(alloc: Global, text: &[u8]) -> Result<EditableValues, AllocError> {
 }
 
 // Returns for each run the reason to skip its job, which names the first changed value that cannot be edited, or `None` if there is none.
-fn whys_unplaced(
+fn uneditable_reasons(
     alloc: Global,
     jobs: &[Job],
     runs: &[Option<JobRun>],
@@ -266,7 +266,7 @@ fn whys_unplaced(
     let mut whys = Vec::new(alloc);
     for at in 0..runs.len().min(jobs.len()) {
         let why = match &runs[at] {
-            Some(run) => why_unplaced(at, &jobs[at], run, places),
+            Some(run) => uneditable_reason(at, &jobs[at], run, places),
             None => None,
         };
         whys.push(why)?;
@@ -275,13 +275,13 @@ fn whys_unplaced(
 }
 
 // Returns the reason to skip a job, which names the first changed value that cannot be edited, or `None` if there is none.
-fn why_unplaced(at: usize, job: &Job, run: &JobRun, places: &EditableValues) -> Option<SkipReason> {
+fn uneditable_reason(at: usize, job: &Job, run: &JobRun, places: &EditableValues) -> Option<SkipReason> {
     for key in ValueKey::ALL {
-        if is_value_changed(key, job, &run.row) && !has_span(at, key, places.spans.as_slice()) {
+        if is_value_changed(key, job, &run.row) && !is_editable(at, key, places.spans.as_slice()) {
             return Some(if places.is_made {
                 SkipReason::Made(key)
             } else {
-                SkipReason::NoPlace(key)
+                SkipReason::NotEditable(key)
             });
         }
     }
@@ -289,7 +289,7 @@ fn why_unplaced(at: usize, job: &Job, run: &JobRun, places: &EditableValues) -> 
 }
 
 // Whether the value of this key can be edited for the job at the index `at`.
-fn has_span(at: usize, key: ValueKey, spans: &[ValueSpan]) -> bool {
+fn is_editable(at: usize, key: ValueKey, spans: &[ValueSpan]) -> bool {
     spans
         .iter()
         .any(|span| span.job == at && span.key.as_str() == key.name())

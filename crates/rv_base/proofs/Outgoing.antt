@@ -5,7 +5,7 @@ use Rattle.std.proofs.Common.{length-drop, refl}
 use Rattle.std.proofs.Math.Seq.{take-add}
 use Rattle.std.specs.Io.KnownBytes.{Appends, Keeps}
 use Rattle.std.proofs.KnownBytes.{Appends-nil, Appends-trans, Appends-kept}
-use Rattle.rv_base.specs.Sinks.{AppendsBeginning, IsPartlySent}
+use Rattle.rv_base.specs.Sinks.{AppendsPrefix, IsPartlyWritten}
 
 rest_is : (text : List ℕ) (at : ℕ) → at ≤ length text → take (length text - at) (drop at text) ≡ drop at text
 rest_is text at within = take_all (length text - at) (drop at text) (omega (arith, length-drop at text))
@@ -20,7 +20,7 @@ next_taken a b c text at count within before now =
 
 -- the first bytes of a text are a beginning of it
 pub first_bytes : (a b c : Option (List ℕ)) (text : List ℕ) (at : ℕ) → Appends a b (take at text) → Keeps b c
-    → AppendsBeginning a c text
+    → AppendsPrefix a c text
 first_bytes a b c text at before kept = record {
   part = take at text;
   rest = drop at text;
@@ -29,13 +29,13 @@ first_bytes a b c text at before kept = record {
 }
 
 -- nothing went out yet
-pub nothing_under_way : (a : Option (List ℕ)) (gathered text : List ℕ) → gathered ≡ text → IsPartlySent a a gathered text
+pub nothing_under_way : (a : Option (List ℕ)) (gathered text : List ℕ) → gathered ≡ text → IsPartlyWritten a a gathered text
 nothing_under_way a gathered text same = record { sent = []; appended = Appends-nil a; whole = sym same }
 
 -- one more piece is gathered, and a part of all that was gathered goes out
 pub more_under_way : (a b c : Option (List ℕ)) (gathered piece grown left text longer : List ℕ)
-    → IsPartlySent a b gathered text → grown ≡ gathered ++ piece
-    → IsPartlySent b c left grown → longer ≡ text ++ piece → IsPartlySent a c left longer
+    → IsPartlyWritten a b gathered text → grown ≡ gathered ++ piece
+    → IsPartlyWritten b c left grown → longer ≡ text ++ piece → IsPartlyWritten a c left longer
 more_under_way a b c gathered piece grown left text longer before pushed now whole = record {
   sent = before.sent ++ now.sent;
   appended = Appends-trans a b c before.sent now.sent before.appended now.appended;
@@ -44,8 +44,8 @@ more_under_way a b c gathered piece grown left text longer before pushed now who
 }
 
 -- what went out is a beginning of each text that goes on from it
-pub stopped_under_way : (a b : Option (List ℕ)) (gathered text rest longer : List ℕ) → IsPartlySent a b gathered text
-    → longer ≡ text ++ rest → AppendsBeginning a b longer
+pub stopped_under_way : (a b : Option (List ℕ)) (gathered text rest longer : List ℕ) → IsPartlyWritten a b gathered text
+    → longer ≡ text ++ rest → AppendsPrefix a b longer
 stopped_under_way a b gathered text rest longer before whole = record {
   part = before.sent;
   rest = gathered ++ rest;
@@ -54,8 +54,8 @@ stopped_under_way a b gathered text rest longer before whole = record {
 }
 
 -- a beginning of a text is one of each text that goes on from it
-pub beginning_of_longer : (a b : Option (List ℕ)) (text rest longer : List ℕ) → AppendsBeginning a b text
-    → longer ≡ text ++ rest → AppendsBeginning a b longer
+pub beginning_of_longer : (a b : Option (List ℕ)) (text rest longer : List ℕ) → AppendsPrefix a b text
+    → longer ≡ text ++ rest → AppendsPrefix a b longer
 beginning_of_longer a b text rest longer begun whole = record {
   part = begun.part;
   rest = begun.rest ++ rest;
@@ -65,8 +65,8 @@ beginning_of_longer a b text rest longer begun whole = record {
 
 -- one more piece is gathered, and only a beginning of all that was gathered goes out
 pub failed_under_way : (a b c : Option (List ℕ)) (gathered piece grown text longer : List ℕ)
-    → IsPartlySent a b gathered text → grown ≡ gathered ++ piece
-    → AppendsBeginning b c grown → longer ≡ text ++ piece → AppendsBeginning a c longer
+    → IsPartlyWritten a b gathered text → grown ≡ gathered ++ piece
+    → AppendsPrefix b c grown → longer ≡ text ++ piece → AppendsPrefix a c longer
 failed_under_way a b c gathered piece grown text longer before pushed begun whole = record {
   part = before.sent ++ begun.part;
   rest = begun.rest;
@@ -77,7 +77,7 @@ failed_under_way a b c gathered piece grown text longer before pushed begun whol
 }
 
 -- one more piece is gathered, and all goes out
-pub ended_under_way : (a b c : Option (List ℕ)) (gathered piece grown text : List ℕ) → IsPartlySent a b gathered text
+pub ended_under_way : (a b c : Option (List ℕ)) (gathered piece grown text : List ℕ) → IsPartlyWritten a b gathered text
     → grown ≡ gathered ++ piece
     → Appends b c grown → Appends a c (text ++ piece)
 ended_under_way a b c gathered piece grown text before pushed sent =

@@ -6,40 +6,40 @@ abbrev pub is_within : ℕ → ℕ → ℕ → Bool
 is_within low high n = nat_le low n && nat_le n high
 
 -- the maximum number of jobs in a list
-abbrev pub most_jobs : ℕ
-most_jobs = 4096
+abbrev pub max_jobs : ℕ
+max_jobs = 4096
 
 -- the maximum length of a job's name, in bytes
 abbrev pub most_name : ℕ
 most_name = 64
 
 -- the maximum length of a signature symbol's name, in bytes
-abbrev pub most_symbol : ℕ
-most_symbol = 255
+abbrev pub max_symbol_len : ℕ
+max_symbol_len = 255
 
 -- the maximum length of a path, in bytes
-abbrev pub most_path : ℕ
-most_path = 4096
+abbrev pub max_path_len : ℕ
+max_path_len = 4096
 
 -- the maximum number of steps of a job
-abbrev pub most_budget : ℕ
-most_budget = 1000000000
+abbrev pub max_budget : ℕ
+max_budget = 1000000000
 
 -- the maximum length of a script, in bytes
-abbrev pub most_script : ℕ
-most_script = 65536
+abbrev pub max_script_len : ℕ
+max_script_len = 65536
 
 -- the maximum length of an expected console text, in bytes
-abbrev pub most_console : ℕ
-most_console = 65536
+abbrev pub max_console_len : ℕ
+max_console_len = 65536
 
 -- the maximum number of threads of a run
-abbrev pub most_workers : ℕ
-most_workers = 64
+abbrev pub max_workers : ℕ
+max_workers = 64
 
 -- the maximum number of jobs in a chunk, which a thread takes at a time
-abbrev pub most_group : ℕ
-most_group = 4096
+abbrev pub max_group : ℕ
+max_group = 4096
 
 -- the maximum size of a file that is read, in bytes
 abbrev pub most_bytes : ℕ

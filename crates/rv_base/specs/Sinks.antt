@@ -3,7 +3,7 @@ use Rattle.std.specs.Prelude.{◌≡◌, ℕ, List, ◌++◌, Option}
 use Rattle.std.specs.Io.KnownBytes.{Appends}
 
 -- a prefix `part` of the text was appended to the bytes of a sink, which changed from `old` to `new`
-pub record AppendsBeginning (old new : Option (List ℕ)) (text : List ℕ) : Type 0 where
+pub record AppendsPrefix (old new : Option (List ℕ)) (text : List ℕ) : Type 0 where
   pub part : List ℕ
   pub rest : List ℕ
   pub whole : text ≡ part ++ rest
@@ -11,7 +11,7 @@ pub record AppendsBeginning (old new : Option (List ℕ)) (text : List ℕ) : Ty
 
 -- the beginning of the text was appended to the bytes of a sink, which changed from `old` to `new`, and the rest of the text is in the
 -- buffer `gathered`
-pub record IsPartlySent (old new : Option (List ℕ)) (gathered text : List ℕ) : Type 0 where
+pub record IsPartlyWritten (old new : Option (List ℕ)) (gathered text : List ℕ) : Type 0 where
   pub sent : List ℕ
   pub appended : Appends old new sent
   pub whole : text ≡ sent ++ gathered

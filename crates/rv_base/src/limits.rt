@@ -1,31 +1,31 @@
 //! The limits on lists, jobs and files.
 
 /// The maximum number of jobs in a list.
-pub const MOST_JOBS: usize = 4_096;
+pub const MAX_JOBS: usize = 4_096;
 
 /// The maximum length of a job's name, in bytes.
 pub const MOST_NAME: usize = 64;
 
 /// The maximum length of a path, in bytes.
-pub const MOST_PATH: usize = 4_096;
+pub const MAX_PATH_LEN: usize = 4_096;
 
 /// The maximum number of steps of a job.
-pub const MOST_BUDGET: u32 = 1_000_000_000;
+pub const MAX_BUDGET: u32 = 1_000_000_000;
 
 /// The maximum length of a job's script, in bytes.
-pub const MOST_SCRIPT: usize = 0x1_0000;
+pub const MAX_SCRIPT_LEN: usize = 0x1_0000;
 
 /// The maximum length of a job's expected console text, in bytes.
-pub const MOST_CONSOLE: usize = 0x1_0000;
+pub const MAX_CONSOLE_LEN: usize = 0x1_0000;
 
 /// The maximum length of a signature symbol's name, in bytes.
-pub const MOST_SYMBOL: usize = 255;
+pub const MAX_SYMBOL_LEN: usize = 255;
 
 /// The maximum number of threads of a run.
-pub const MOST_WORKERS: u32 = 64;
+pub const MAX_WORKERS: u32 = 64;
 
 /// The maximum number of jobs in a chunk, which a thread takes at a time.
-pub const MOST_GROUP: u32 = 4_096;
+pub const MAX_GROUP: u32 = 4_096;
 
 /// The maximum size of a file that is read, in bytes.
 pub const MOST_BYTES: usize = 0x100_0000;

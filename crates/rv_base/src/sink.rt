@@ -2,7 +2,7 @@
 
 ghost use Rattle.std.specs.Prelude.{◌≡◌, ◌≤◌, ◌<◌, ◌+◌, ℕ, List, Option, None, IfOk, IfErr, OnOk, OnErr, length, take};
 ghost use Rattle.std.specs.Io.KnownBytes.{Appends, Keeps};
-ghost use Rattle.rv_base.specs.Sinks.{AppendsBeginning};
+ghost use Rattle.rv_base.specs.Sinks.{AppendsPrefix};
 ghost use Rattle.rv_base.specs.Counts.{one_more};
 
 /// The error of a sink that failed, and accepted no bytes of the failed call.
@@ -36,7 +36,7 @@ pub trait Sink {
 pub fn put_all<W: Sink>(out: &mut W, bytes: &[u8]) -> Result<(), SinkFailed>
     ensures appended { OnOk result (Appends (W.taken out.old) (W.taken out.new) bytes.now) }
     ensures counted { OnOk result (W.failed out.new ≡ W.failed out.old) }
-    ensures part { OnErr result (AppendsBeginning (W.taken out.old) (W.taken out.new) bytes.now) }
+    ensures part { OnErr result (AppendsPrefix (W.taken out.old) (W.taken out.new) bytes.now) }
     ensures failure { OnErr result (W.failed out.new ≡ one_more (W.failed out.old)) }
 {
     let mut at = 0;

@@ -8,7 +8,7 @@ use Rattle.std.proofs.lemmas.Bool.Decides.{nat_tests}
 use Rattle.std.proofs.lemmas.List.{append-nil, get_or-drop, get_or-take, length-drop, length-take-le, take-append-drop, take_rest}
 use Rattle.std.proofs.lemmas.List.Elements.{filter-append, filter_agree, All-head, All-tail}
 use Rattle.rv_call_tree.specs.declared.subtree.Subtree.{Subtree}
-use Rattle.rv_call_tree.specs.Subtrees.{of_function}
+use Rattle.rv_call_tree.specs.Subtrees.{with_root_function}
 
 -- ---- after a stable sort
 
@@ -23,7 +23,7 @@ abbrev pub key_of : Subtree → ℕ
 key_of s = s.function
 
 pub each_stays : (xs ys : List Subtree) → IsStableByKey key_of nat_cmp xs ys → (f : ℕ)
-    → of_function f ys ≡ of_function f xs
+    → with_root_function f ys ≡ with_root_function f xs
 each_stays xs ys stable f =
     let agree = λ (zs : List Subtree). filter_agree (λ (s : Subtree). s.function == f)
     (ties (λ (x y : Subtree). is_lt (nat_cmp x.function y.function)) (any_of f)) (λ (s : Subtree). sym (tie f s.function)) zs in
@@ -67,7 +67,7 @@ neither_is_same a f h k = grind (arith, nat_tests)
 pub run_is : (f : ℕ) (xs : List Subtree) (start count : ℕ) → start ≤ length xs → count ≤ length (drop start xs)
     → IsPartitionPoint (λ (s : Subtree). ltb s.function f ≡ true) (λ (s : Subtree). ltb s.function f ≡ false) xs start
     → IsPartitionPoint (λ (s : Subtree). leb s.function f ≡ true) (λ (s : Subtree). leb s.function f ≡ false) (drop start xs) count
-    → take count (drop start xs) ≡ of_function f xs
+    → take count (drop start xs) ≡ with_root_function f xs
 run_is f xs start count within few less more =
     let p = λ (s : Subtree). s.function == f in
     let front = take start xs in
@@ -97,9 +97,9 @@ pub run_of_rest : (f : ℕ) (xs : List Subtree) (start count : ℕ) → start �
     → IsPartitionPoint (λ (s : Subtree). ltb s.function f ≡ true) (λ (s : Subtree). ltb s.function f ≡ false) xs start
     → IsPartitionPoint (λ (s : Subtree). leb s.function f ≡ true) (λ (s : Subtree). leb s.function f ≡ false)
     (take (length xs - start) (drop start xs)) count
-    → take count (take (length xs - start) (drop start xs)) ≡ of_function f xs
+    → take count (take (length xs - start) (drop start xs)) ≡ with_root_function f xs
 run_of_rest f xs start count within few less more =
     let P : List Subtree → Type 0 = λ ts. count ≤ length ts
     → IsPartitionPoint (λ (s : Subtree). leb s.function f ≡ true) (λ (s : Subtree). leb s.function f ≡ false) ts count
-    → take count ts ≡ of_function f xs in
+    → take count ts ≡ with_root_function f xs in
     subst P (sym (take_rest xs start)) (λ few more. run_is f xs start count within few less more) few more

@@ -4,8 +4,8 @@ use Rattle.std.proofs.lemmas.Bool.{false≢true, or_cases, or_parts}
 use Rattle.std.proofs.lemmas.List.{take_more}
 use Rattle.std.specs.List.{AllByRecursion}
 use Rattle.rv_call_tree.specs.declared.spot.Spot.{Spot}
-use Rattle.rv_call_tree.specs.Profiles.{has_function, is_last_of_some, own_of_all, times, with_function, AreFunctionsOf}
-use Rattle.rv_call_tree.specs.Trees.{all_steps, once_if, steps_if}
+use Rattle.rv_call_tree.specs.Profiles.{has_function, ends_some_path, own_steps_of_all, times, with_function, AreFunctionsOf}
+use Rattle.rv_call_tree.specs.Trees.{all_steps, one_if, steps_if}
 use Rattle.rv_call_tree.proofs.Tests.{equal_by, equal_test, turned}
 
 -- ---- the sum
@@ -23,7 +23,7 @@ more_times false m n =
     omega (arith, same)
 
 one_spot_more : (fs : List ℕ) (s : Spot) (ss : List Spot)
-    → own_of_all fs (s ∷ ss) ≡ scaled (times s.function fs) s.steps + own_of_all fs ss
+    → own_steps_of_all fs (s ∷ ss) ≡ scaled (times s.function fs) s.steps + own_steps_of_all fs ss
 one_spot_more [] s ss = refl
 one_spot_more (f ∷ fs) s ss =
     let rest = one_spot_more fs s ss in
@@ -31,12 +31,12 @@ one_spot_more (f ∷ fs) s ss =
     let same = ap (λ (b : Bool). steps_if b s.steps) (turned s.function f) in
     omega (arith, rest, here, same)
 
-none_of_all : (fs : List ℕ) → own_of_all fs [] ≡ 0
+none_of_all : (fs : List ℕ) → own_steps_of_all fs [] ≡ 0
 none_of_all [] = refl
 none_of_all (f ∷ fs) = let h = none_of_all fs in omega (arith, h)
 
 summed : (fs : List ℕ) (spots : List Spot) → AllByRecursion (λ (s : Spot). times s.function fs ≡ 1) spots
-    → own_of_all fs spots ≡ all_steps spots
+    → own_steps_of_all fs spots ≡ all_steps spots
 summed fs [] h = none_of_all fs
 summed fs (s ∷ ss) h =
     let rest = summed fs ss h.1 in
@@ -56,17 +56,17 @@ same_test : (x : ℕ) → (x == x) ≡ true
 same_test x = equal_test x x refl
 
 each_once : (fs : List ℕ) (all some : List Spot)
-    → ((f : ℕ) → times f fs ≡ once_if (is_last_of_some f all))
-    → ((f : ℕ) → is_last_of_some f some ≡ true → is_last_of_some f all ≡ true)
+    → ((f : ℕ) → times f fs ≡ one_if (ends_some_path f all))
+    → ((f : ℕ) → ends_some_path f some ≡ true → ends_some_path f all ≡ true)
     → AllByRecursion (λ (s : Spot). times s.function fs ≡ 1) some
 each_once fs all [] h within = tt
 each_once fs all (s ∷ ss) h within = (
-  h s.function ∙ ap once_if (within s.function (or_first (s.function == s.function) (is_last_of_some s.function ss) (same_test s.function))),
-  each_once fs all ss h (λ f there. within f (or_second (s.function == f) (is_last_of_some f ss) there)),
+  h s.function ∙ ap one_if (within s.function (or_first (s.function == s.function) (ends_some_path s.function ss) (same_test s.function))),
+  each_once fs all ss h (λ f there. within f (or_second (s.function == f) (ends_some_path f ss) there)),
 )
 
 pub own_sums : (spots : List Spot) (functions : List ℕ) → AreFunctionsOf spots functions
-    → own_of_all functions spots ≡ all_steps spots
+    → own_steps_of_all functions spots ≡ all_steps spots
 own_sums spots functions h = summed functions spots (each_once functions spots spots h.once (λ f there. there))
 
 -- ---- one function more
@@ -87,9 +87,9 @@ times_more : (f : ℕ) (xs ys : List ℕ) → times f (xs ++ ys) ≡ times f xs 
 times_more f [] ys = omega arith
 times_more f (x ∷ xs) ys = let h = times_more f xs ys in omega (arith, h)
 
-any_more : (f : ℕ) (xs : List Spot) (s : Spot) → is_last_of_some f (xs ++ s ∷ []) ≡ (is_last_of_some f xs || (s.function == f))
+any_more : (f : ℕ) (xs : List Spot) (s : Spot) → ends_some_path f (xs ++ s ∷ []) ≡ (ends_some_path f xs || (s.function == f))
 any_more f [] s = or_none (s.function == f)
-any_more f (x ∷ xs) s = or_moved (x.function == f) (is_last_of_some f xs) (s.function == f) (is_last_of_some f (xs ++ s ∷ [])) (any_more f xs s)
+any_more f (x ∷ xs) s = or_moved (x.function == f) (ends_some_path f xs) (s.function == f) (ends_some_path f (xs ++ s ∷ [])) (any_more f xs s)
 
 -- a list has what stands in it
 has_times : (f : ℕ) (fs : List ℕ) → has_function f fs ≡ false → times f fs ≡ 0
@@ -97,66 +97,66 @@ has_times f [] h = refl
 has_times f (x ∷ xs) h =
     let p = or_parts (x == f) (has_function f xs) h in
     let rest = has_times f xs p.1 in
-    let here = ap once_if p.0 in
+    let here = ap one_if p.0 in
     omega (arith, rest, here)
 
 times_has : (f : ℕ) (fs : List ℕ) → has_function f fs ≡ true → 0 < times f fs
 times_has f [] h = absurd (false≢true h)
 times_has f (x ∷ xs) h = elim (or_cases (x == f) (has_function f xs) h) [
-  | inl here ↦ let one = ap once_if here in omega (arith, one)
+  | inl here ↦ let one = ap one_if here in omega (arith, one)
   | inr there ↦ let rest = times_has f xs there in omega (arith, rest)
 ]
 
-once_true : (b : Bool) → 0 < once_if b → b ≡ true
+once_true : (b : Bool) → 0 < one_if b → b ≡ true
 once_true true h = refl
 once_true false h = absurd (omega arith)
 
-once_false : (b : Bool) → once_if b ≡ 0 → b ≡ false
+once_false : (b : Bool) → one_if b ≡ 0 → b ≡ false
 once_false true h = absurd (omega (arith, h))
 once_false false h = refl
 
 -- a function that is there is of some spot, so another spot of it changes nothing
 there_already : (f g : ℕ) (before : Bool) (test : Bool) → (g == f) ≡ test → (g ≡ f → before ≡ true)
-    → once_if (before || (g == f)) ≡ once_if before
+    → one_if (before || (g == f)) ≡ one_if before
 there_already f g before true is seen =
     let same = equal_by g f is in
     let was = seen same in
-    ap once_if (or_first before (g == f) was ∙ sym was)
-there_already f g before false is seen = ap once_if (ap (λ (b : Bool). before || b) is ∙ or_none_behind before)
+    ap one_if (or_first before (g == f) was ∙ sym was)
+there_already f g before false is seen = ap one_if (ap (λ (b : Bool). before || b) is ∙ or_none_behind before)
 
 new_there : (f g : ℕ) (before : Bool) (test : Bool) → (g == f) ≡ test → (g ≡ f → before ≡ false)
-    → once_if (before || (g == f)) ≡ once_if before + once_if (g == f)
+    → one_if (before || (g == f)) ≡ one_if before + one_if (g == f)
 new_there f g before true is unseen =
     let same = equal_by g f is in
     let was = unseen same in
-    let left = ap once_if (ap (λ (b : Bool). b || (g == f)) was ∙ is) in
-    let right = ap once_if was in
-    let one = ap once_if is in
+    let left = ap one_if (ap (λ (b : Bool). b || (g == f)) was ∙ is) in
+    let right = ap one_if was in
+    let one = ap one_if is in
     omega (arith, left, right, one)
 new_there f g before false is unseen =
-    let left = ap once_if (ap (λ (b : Bool). before || b) is ∙ or_none_behind before) in
-    let none = ap once_if is in
+    let left = ap one_if (ap (λ (b : Bool). before || b) is ∙ or_none_behind before) in
+    let none = ap one_if is in
     omega (arith, left, none)
 
 -- one spot more
-with_spot : (fs : List ℕ) (xs : List Spot) (s : Spot) (there : Bool) → has_function s.function fs ≡ there
+with_node : (fs : List ℕ) (xs : List Spot) (s : Spot) (there : Bool) → has_function s.function fs ≡ there
     → AreFunctionsOf xs fs → AreFunctionsOf (xs ++ s ∷ []) (cond there fs (fs ++ s.function ∷ []))
-with_spot fs xs s true is h = record {
+with_node fs xs s true is h = record {
   once = λ f.
-      let seen : s.function ≡ f → is_last_of_some f xs ≡ true = λ same.
+      let seen : s.function ≡ f → ends_some_path f xs ≡ true = λ same.
       let some = times_has s.function fs is in
       let so = h.once s.function in
-      subst (λ (g : ℕ). is_last_of_some g xs ≡ true) same (once_true (is_last_of_some s.function xs) (omega (arith, some, so))) in
-      h.once f ∙ sym (ap once_if (any_more f xs s) ∙ there_already f s.function (is_last_of_some f xs) (s.function == f) refl seen);
+      subst (λ (g : ℕ). ends_some_path g xs ≡ true) same (once_true (ends_some_path s.function xs) (omega (arith, some, so))) in
+      h.once f ∙ sym (ap one_if (any_more f xs s) ∙ there_already f s.function (ends_some_path f xs) (s.function == f) refl seen);
 }
-with_spot fs xs s false is h = record {
+with_node fs xs s false is h = record {
   once = λ f.
-      let unseen : s.function ≡ f → is_last_of_some f xs ≡ false = λ same.
+      let unseen : s.function ≡ f → ends_some_path f xs ≡ false = λ same.
       let none = has_times s.function fs is in
-      subst (λ (g : ℕ). is_last_of_some g xs ≡ false) same (once_false (is_last_of_some s.function xs) (sym (h.once s.function) ∙ none)) in
+      subst (λ (g : ℕ). ends_some_path g xs ≡ false) same (once_false (ends_some_path s.function xs) (sym (h.once s.function) ∙ none)) in
       let more = times_more f fs (s.function ∷ []) in
       let so = h.once f in
-      let new = ap once_if (any_more f xs s) ∙ new_there f s.function (is_last_of_some f xs) (s.function == f) refl unseen in
+      let new = ap one_if (any_more f xs s) ∙ new_there f s.function (ends_some_path f xs) (s.function == f) refl unseen in
       omega (arith, more, so, new);
 }
 
@@ -164,7 +164,7 @@ pub next_functions : (spots : List Spot) (fs : List ℕ) (k : ℕ) (d : Spot) �
     → AreFunctionsOf (take (k + 1) spots) (with_function (get_or spots k d).function fs)
 next_functions spots fs k d within h =
     subst (λ (zs : List Spot). AreFunctionsOf zs (with_function (get_or spots k d).function fs)) (sym (take_more spots k d within))
-    (with_spot fs (take k spots) (get_or spots k d) (has_function (get_or spots k d).function fs) refl h)
+    (with_node fs (take k spots) (get_or spots k d) (has_function (get_or spots k d).function fs) refl h)
 
 pub no_functions : AreFunctionsOf [] []
 no_functions = record { once = λ f. refl }

@@ -7,11 +7,11 @@ use Rattle.std.specs.Prelude.{nat_lt}
 use Rattle.std.specs.List.{AllByRecursion}
 use Rattle.std.specs.Str.{bytes_eq}
 use Rattle.rv_call_tree.specs.declared.spot.Spot.{Spot}
-use Rattle.rv_call_tree.specs.declared.sum.NextSpot.{NextSpot}
-use Rattle.rv_call_tree.specs.declared.sum.SpotSumError.{SpotSumError}
-use Rattle.rv_call_tree.specs.declared.sum.SpotSumError.TheVariants.{OutOfMemory, Count}
-use Rattle.rv_call_tree.specs.Sums.{both_of, goes_first, next_of, next_of_both, of_first, of_second, IsSumOfSpots, Overflows, IsTooGreatHere, IsTooGreatOf}
-use Rattle.rv_call_tree.specs.Trees.{path_after, last_path, arrivals_of, steps_of, counted_after, ends_with, HasArrivals, IsTree, FollowsInPreorder, FollowInPreorder}
+use Rattle.rv_call_tree.specs.declared.sum.NextNode.{NextNode}
+use Rattle.rv_call_tree.specs.declared.sum.CallTreeSumError.{CallTreeSumError}
+use Rattle.rv_call_tree.specs.declared.sum.CallTreeSumError.TheVariants.{OutOfMemory, Count}
+use Rattle.rv_call_tree.specs.Sums.{sum_of_nodes, comes_first, next_of, next_of_nodes, node_of_first, node_of_second, IsSumOfCallTrees, Overflows, IsOverflowOfFirstNodes, CountsOverflow}
+use Rattle.rv_call_tree.specs.Trees.{path_after, last_path, calls_of_node, steps_of, sum_over_path, ends_with, HasCalls, IsTree, FollowsInPreorder, FollowInPreorder}
 use Rattle.rv_call_tree.proofs.Fronts.{StandsAlike, behind_other}
 use Rattle.rv_call_tree.proofs.Tests.{equal_by, equal_test, less_by, not_less_by}
 use Rattle.rv_call_tree.proofs.Parts.{last_parts, counted_parts, some_of_parts, some_parts, stand_of_parts}
@@ -21,10 +21,10 @@ pub record SoFar (xs ms ys bs sums : List Spot) : Type 0 where
   pub rest_of_a : FollowInPreorder (last_path [] xs) ms
   pub rest_of_b : FollowInPreorder (last_path [] ys) bs
   pub tree : IsTree sums
-  pub some : HasArrivals xs → HasArrivals ys → HasArrivals sums
+  pub some : HasCalls xs → HasCalls ys → HasCalls sums
   pub counted : (count : Spot → ℕ) (path : List ℕ)
-      → ((s t : Spot) → count (both_of s t).spot ≡ count s + count t)
-      → counted_after count path [] sums ≡ counted_after count path [] xs + counted_after count path [] ys
+      → ((s t : Spot) → count (sum_of_nodes s t).spot ≡ count s + count t)
+      → sum_over_path count path [] sums ≡ sum_over_path count path [] xs + sum_over_path count path [] ys
   pub first : StandsAlike (last_path [] xs) (last_path [] sums) ms
   pub second : StandsAlike (last_path [] ys) (last_path [] sums) bs
 
@@ -35,14 +35,14 @@ last_of f (y ∷ z ∷ zs) x = last_of f (z ∷ zs) x
 
 -- ---- one more
 
-more_counted : (count : Spot → ℕ) (path : List ℕ) (xs : List Spot) (s : Spot) → counted_after count path [] (xs ++ s ∷ [])
-    ≡ counted_after count path [] xs + cond (bytes_eq (path_after (last_path [] xs) s) path) (count s) 0
+more_counted : (count : Spot → ℕ) (path : List ℕ) (xs : List Spot) (s : Spot) → sum_over_path count path [] (xs ++ s ∷ [])
+    ≡ sum_over_path count path [] xs + cond (bytes_eq (path_after (last_path [] xs) s) path) (count s) 0
 more_counted count path xs s = let h = counted_parts count path [] xs (s ∷ []) in omega (arith, h)
 
 more_tree : (xs : List Spot) (s : Spot) → IsTree xs → FollowsInPreorder (last_path [] xs) s → IsTree (xs ++ s ∷ [])
 more_tree xs s h k = stand_of_parts [] xs (s ∷ []) h (k, tt)
 
-order_of : (s t : Spot) → goes_first t s ≡ true → (s.depth < t.depth) ⊎ ((s.depth ≡ t.depth) × (t.function < s.function))
+order_of : (s t : Spot) → comes_first t s ≡ true → (s.depth < t.depth) ⊎ ((s.depth ≡ t.depth) × (t.function < s.function))
 order_of s t h = elim (or_cases (nat_lt s.depth t.depth) ((t.depth == s.depth) && nat_lt t.function s.function) h) [
   | inl deep ↦ inl (less_by s.depth t.depth deep)
   | inr low ↦ let both = and_parts (t.depth == s.depth) (nat_lt t.function s.function) low in
@@ -61,7 +61,7 @@ own_rest own front s (x ∷ xs) same h = (
 -- a spot goes before the first of a list
 abbrev AheadOf : Spot → List Spot → Type 0
 AheadOf t [] = Unit {0}
-AheadOf t (s ∷ ss) = goes_first t s ≡ true
+AheadOf t (s ∷ ss) = comes_first t s ≡ true
 
 -- the rest of the other tree
 other_rest : (own front : List ℕ) (t : Spot) (ss : List Spot) → FollowsInPreorder front t → StandsAlike own front ss
@@ -132,7 +132,7 @@ and_rest : (a b : Bool) → a ≡ true → (a && b) ≡ false → b ≡ false
 and_rest true b h k = k
 and_rest false b h k = absurd (false≢true h)
 
-same_order : (s t : Spot) → goes_first s t ≡ false → goes_first t s ≡ false → (t.depth ≡ s.depth) × (t.function ≡ s.function)
+same_order : (s t : Spot) → comes_first s t ≡ false → comes_first t s ≡ false → (t.depth ≡ s.depth) × (t.function ≡ s.function)
 same_order s t one other =
     let p = or_parts (nat_lt t.depth s.depth) ((s.depth == t.depth) && nat_lt s.function t.function) one in
     let q = or_parts (nat_lt s.depth t.depth) ((t.depth == s.depth) && nat_lt t.function s.function) other in
@@ -156,9 +156,9 @@ sum_if false n m = omega arith
 
 -- both
 take_both : (xs ss ys ts sums : List Spot) (s t : Spot) → SoFar xs (s ∷ ss) ys (t ∷ ts) sums → t.depth ≡ s.depth
-    → t.function ≡ s.function → SoFar (xs ++ s ∷ []) ss (ys ++ t ∷ []) ts (sums ++ (both_of s t).spot ∷ [])
+    → t.function ≡ s.function → SoFar (xs ++ s ∷ []) ss (ys ++ t ∷ []) ts (sums ++ (sum_of_nodes s t).spot ∷ [])
 take_both xs ss ys ts sums s t h deep function =
-    let new = (both_of s t).spot in
+    let new = (sum_of_nodes s t).spot in
     let of_a = last_path [] xs in
     let of_b = last_path [] ys in
     let front = last_path [] sums in
@@ -170,10 +170,10 @@ take_both xs ss ys ts sums s t h deep function =
       rest_of_b = subst (λ (path : List ℕ). FollowInPreorder path ts) (sym ends_b) h.rest_of_b.1;
       tree = more_tree sums new h.tree (record { within = h.first.1.within; rising = h.first.1.rising });
       some = λ some_a some_b.
-          let of_first = some_parts xs (s ∷ []) some_a in
-          let of_second = some_parts ys (t ∷ []) some_b in
-          let here = of_first.1.0 in
-          some_of_parts sums (new ∷ []) (h.some of_first.0 of_second.0) (omega (arith, here), tt);
+          let node_of_first = some_parts xs (s ∷ []) some_a in
+          let node_of_second = some_parts ys (t ∷ []) some_b in
+          let here = node_of_first.1.0 in
+          some_of_parts sums (new ∷ []) (h.some node_of_first.0 node_of_second.0) (omega (arith, here), tt);
       counted = λ count path adds.
           let so_far = h.counted count path adds in
           let a = more_counted count path xs s in
@@ -195,34 +195,34 @@ take_both xs ss ys ts sums s t h deep function =
 
 -- ---- the next of both
 
-abbrev Goes : List Spot → List Spot → List Spot → List Spot → List Spot → NextSpot → Type 0
+abbrev Goes : List Spot → List Spot → List Spot → List Spot → List Spot → NextNode → Type 0
 Goes xs ms ys bs sums next = SoFar (xs ++ take next.of_a ms) (drop next.of_a ms) (ys ++ take next.of_b bs) (drop next.of_b bs)
     (sums ++ next.spot ∷ [])
 
 goes_first_alone : (xs ss ys bs sums : List Spot) (s : Spot) → SoFar (xs ++ s ∷ []) ss ys bs (sums ++ s ∷ [])
-    → Goes xs (s ∷ ss) ys bs sums (of_first s)
+    → Goes xs (s ∷ ss) ys bs sums (node_of_first s)
 goes_first_alone xs ss ys bs sums s h =
     subst (λ (zs : List Spot). SoFar (xs ++ s ∷ []) ss zs bs (sums ++ s ∷ [])) (sym (append-nil ys)) h
 
 goes_second_alone : (xs ms ys ts sums : List Spot) (t : Spot) → SoFar xs ms (ys ++ t ∷ []) ts (sums ++ t ∷ [])
-    → Goes xs ms ys (t ∷ ts) sums (of_second t)
+    → Goes xs ms ys (t ∷ ts) sums (node_of_second t)
 goes_second_alone xs ms ys ts sums t h =
     subst (λ (zs : List Spot). SoFar zs ms (ys ++ t ∷ []) ts (sums ++ t ∷ [])) (sym (append-nil xs)) h
 
 goes_both : (xs ss ys ts sums : List Spot) (s t : Spot) → SoFar xs (s ∷ ss) ys (t ∷ ts) sums
-    → Goes xs (s ∷ ss) ys (t ∷ ts) sums (next_of_both s t)
+    → Goes xs (s ∷ ss) ys (t ∷ ts) sums (next_of_nodes s t)
 goes_both xs ss ys ts sums s t h =
-    let P : NextSpot → Type 0 = λ next. Goes xs (s ∷ ss) ys (t ∷ ts) sums next in
-    elim (cases_Bool (goes_first s t)) [
-      | inl one ↦ subst P (sym (ap (λ (b : Bool). cond b (of_first s) (cond (goes_first t s) (of_second t) (both_of s t))) one))
+    let P : NextNode → Type 0 = λ next. Goes xs (s ∷ ss) ys (t ∷ ts) sums next in
+    elim (cases_Bool (comes_first s t)) [
+      | inl one ↦ subst P (sym (ap (λ (b : Bool). cond b (node_of_first s) (cond (comes_first t s) (node_of_second t) (sum_of_nodes s t))) one))
           (goes_first_alone xs ss ys (t ∷ ts) sums s (take_first xs ss ys (t ∷ ts) sums s h one))
       | inr not_one ↦
-          let rest = ap (λ (b : Bool). cond b (of_first s) (cond (goes_first t s) (of_second t) (both_of s t))) not_one in
-          elim (cases_Bool (goes_first t s)) [
-            | inl other ↦ subst P (sym (rest ∙ ap (λ (b : Bool). cond b (of_second t) (both_of s t)) other))
+          let rest = ap (λ (b : Bool). cond b (node_of_first s) (cond (comes_first t s) (node_of_second t) (sum_of_nodes s t))) not_one in
+          elim (cases_Bool (comes_first t s)) [
+            | inl other ↦ subst P (sym (rest ∙ ap (λ (b : Bool). cond b (node_of_second t) (sum_of_nodes s t)) other))
                 (goes_second_alone xs (s ∷ ss) ys ts sums t (take_second xs (s ∷ ss) ys ts sums t h other))
             | inr not_other ↦ let same = same_order s t not_one not_other in
-                subst P (sym (rest ∙ ap (λ (b : Bool). cond b (of_second t) (both_of s t)) not_other))
+                subst P (sym (rest ∙ ap (λ (b : Bool). cond b (node_of_second t) (sum_of_nodes s t)) not_other))
                 (take_both xs ss ys ts sums s t h same.0 same.1)
           ]
     ]
@@ -259,13 +259,13 @@ none_added a b tree_a tree_b = record {
   second = alike_at_first b tree_b;
 }
 
-pub more_added : (a b sums : List Spot) (i j : ℕ) (next : NextSpot) → Added a b i j sums
+pub more_added : (a b sums : List Spot) (i j : ℕ) (next : NextNode) → Added a b i j sums
     → 0 < length (drop i a) + length (drop j b) → next ≡ next_of (drop i a) (drop j b)
     → Added a b (i + next.of_a) (j + next.of_b) (sums ++ next.spot ∷ [])
 more_added a b sums i j next h some is =
     let g = goes (take i a) (drop i a) (take j b) (drop j b) sums some h in
     let there : Goes (take i a) (drop i a) (take j b) (drop j b) sums next =
-    subst (λ (n : NextSpot). Goes (take i a) (drop i a) (take j b) (drop j b) sums n) (sym is) g in
+    subst (λ (n : NextNode). Goes (take i a) (drop i a) (take j b) (drop j b) sums n) (sym is) g in
     subst (λ (zs : List Spot). SoFar (take (i + next.of_a) a) (drop (i + next.of_a) a) zs (drop (j + next.of_b) b) (sums ++ next.spot ∷ []))
     (sym (take-add j next.of_b b))
     (subst (λ (zs : List Spot). SoFar zs (drop (i + next.of_a) a) (take j b ++ take next.of_b (drop j b)) (drop (j + next.of_b) b) (sums ++ next.spot ∷ []))
@@ -275,15 +275,15 @@ more_added a b sums i j next h some is =
     (subst (λ (zs : List Spot). SoFar (take i a ++ take next.of_a (drop i a)) zs (take j b ++ take next.of_b (drop j b)) (drop next.of_b (drop j b)) (sums ++ next.spot ∷ []))
     (drop-drop next.of_a i a) there)))
 
-pub all_added : (a b sums : List Spot) (i j : ℕ) → Added a b i j sums → length a ≤ i → length b ≤ j → IsSumOfSpots a b sums
+pub all_added : (a b sums : List Spot) (i j : ℕ) → Added a b i j sums → length a ≤ i → length b ≤ j → IsSumOfCallTrees a b sums
 all_added a b sums i j h over_a over_b =
-    let whole = λ (count : Spot → ℕ) (path : List ℕ) (adds : (s t : Spot) → count (both_of s t).spot ≡ count s + count t).
+    let whole = λ (count : Spot → ℕ) (path : List ℕ) (adds : (s t : Spot) → count (sum_of_nodes s t).spot ≡ count s + count t).
     h.counted count path adds
-    ∙ (λ k. counted_after count path [] (take_all i a over_a k) + counted_after count path [] (take_all j b over_b k)) in record {
+    ∙ (λ k. sum_over_path count path [] (take_all i a over_a k) + sum_over_path count path [] (take_all j b over_b k)) in record {
       tree = h.tree;
-      some = λ some_a some_b. h.some (subst HasArrivals (sym (take_all i a over_a)) some_a)
-          (subst HasArrivals (sym (take_all j b over_b)) some_b);
-      arrivals = λ path. whole arrivals_of path (λ s t. refl);
+      some = λ some_a some_b. h.some (subst HasCalls (sym (take_all i a over_a)) some_a)
+          (subst HasCalls (sym (take_all j b over_b)) some_b);
+      arrivals = λ path. whole calls_of_node path (λ s t. refl);
       steps = λ path. whole steps_of path (λ s t. refl);
     }
 
@@ -293,14 +293,14 @@ same_bytes : (p : List ℕ) → bytes_eq p p ≡ true
 same_bytes p = (bytes_eq-Decides p p).1 refl
 
 counted_here : (count : Spot → ℕ) (path : List ℕ) (xs ss : List Spot) (s : Spot) → path_after (last_path [] xs) s ≡ path
-    → count s ≤ counted_after count path [] (xs ++ s ∷ ss)
+    → count s ≤ sum_over_path count path [] (xs ++ s ∷ ss)
 counted_here count path xs ss s is =
     let parts = counted_parts count path [] xs (s ∷ ss) in
     let here = ap (λ (b : Bool). cond b (count s) 0) (ap (λ (p : List ℕ). bytes_eq p path) is ∙ same_bytes path) in
     omega (arith, parts, here)
 
-too_great_of : (xs ss ys ts sums : List Spot) (s t : Spot) → SoFar xs (s ∷ ss) ys (t ∷ ts) sums → goes_first s t ≡ false
-    → goes_first t s ≡ false → (function : ℕ) → function ≡ s.function → IsTooGreatOf s t
+too_great_of : (xs ss ys ts sums : List Spot) (s t : Spot) → SoFar xs (s ∷ ss) ys (t ∷ ts) sums → comes_first s t ≡ false
+    → comes_first t s ≡ false → (function : ℕ) → function ≡ s.function → CountsOverflow s t
     → Overflows (Count function) (xs ++ s ∷ ss) (ys ++ t ∷ ts)
 too_great_of xs ss ys ts sums s t h one other function is great =
     let same = same_order s t one other in
@@ -313,21 +313,21 @@ too_great_of xs ss ys ts sums s t h one other function is great =
       path,
       last_of function (take s.depth (last_path [] sums)) s.function ∙ equal_test s.function function (sym is),
       elim great [
-        | inl arrivals ↦ let m = a arrivals_of in let n = b arrivals_of in inl (omega (arith, arrivals, m, n))
+        | inl arrivals ↦ let m = a calls_of_node in let n = b calls_of_node in inl (omega (arith, arrivals, m, n))
         | inr steps ↦ let m = a steps_of in let n = b steps_of in inr (omega (arith, steps, m, n))
       ],
     )
 
-too_great_there : (xs ms ys bs sums : List Spot) (error : SpotSumError) → SoFar xs ms ys bs sums
-    → IsTooGreatHere error ms bs → Overflows error (xs ++ ms) (ys ++ bs)
+too_great_there : (xs ms ys bs sums : List Spot) (error : CallTreeSumError) → SoFar xs ms ys bs sums
+    → IsOverflowOfFirstNodes error ms bs → Overflows error (xs ++ ms) (ys ++ bs)
 too_great_there xs ms ys bs sums OutOfMemory h great = tt
 too_great_there xs [] ys bs sums (Count function) h great = absurd great
 too_great_there xs (s ∷ ss) ys [] sums (Count function) h great = absurd great
 too_great_there xs (s ∷ ss) ys (t ∷ ts) sums (Count function) h great =
     too_great_of xs ss ys ts sums s t h great.0 great.1 function great.2 great.3
 
-pub too_great : (a b sums : List Spot) (i j : ℕ) (error : SpotSumError) → Added a b i j sums
-    → IsTooGreatHere error (drop i a) (drop j b) → Overflows error a b
+pub too_great : (a b sums : List Spot) (i j : ℕ) (error : CallTreeSumError) → Added a b i j sums
+    → IsOverflowOfFirstNodes error (drop i a) (drop j b) → Overflows error a b
 too_great a b sums i j error h great =
     subst (λ (zs : List Spot). Overflows error a zs) (take-append-drop j b)
     (subst (λ (zs : List Spot). Overflows error zs (take j b ++ drop j b)) (take-append-drop i a)
@@ -335,14 +335,14 @@ too_great a b sums i j error h great =
 
 -- ---- how many of each
 
-one_of_both : (b d : Bool) (s t : Spot) → let next = cond b (of_first s) (cond d (of_second t) (both_of s t)) in
+one_of_both : (b d : Bool) (s t : Spot) → let next = cond b (node_of_first s) (cond d (node_of_second t) (sum_of_nodes s t)) in
     (next.of_a ≤ 1) × (next.of_b ≤ 1) × (0 < next.of_a + next.of_b)
 one_of_both true d s t = (omega arith, omega arith, omega arith)
 one_of_both false true s t = (omega arith, omega arith, omega arith)
 one_of_both false false s t = (omega arith, omega arith, omega arith)
 
 -- of each list at most what it has, and of one of them one
-pub record FewOf (ms bs : List Spot) (next : NextSpot) : Type 0 where
+pub record FewOf (ms bs : List Spot) (next : NextNode) : Type 0 where
   pub of_a : next.of_a ≤ length ms
   pub of_b : next.of_b ≤ length bs
   pub some : 0 < next.of_a + next.of_b
@@ -352,6 +352,6 @@ few_of [] [] some = absurd (omega arith)
 few_of (s ∷ ss) [] some = record { of_a = omega arith; of_b = omega arith; some = omega arith }
 few_of [] (t ∷ ts) some = record { of_a = omega arith; of_b = omega arith; some = omega arith }
 few_of (s ∷ ss) (t ∷ ts) some =
-    let h = one_of_both (goes_first s t) (goes_first t s) s t in
+    let h = one_of_both (comes_first s t) (comes_first t s) s t in
     let a = h.0 in
     let b = h.1 in record { of_a = omega (arith, a); of_b = omega (arith, b); some = h.2 }

@@ -2,28 +2,28 @@
 use Rattle.std.proofs.Common.{◌≡◌, ◌∙◌, ◌+◌, ◌≤◌, ℕ, List, [], ◌∷◌, ◌++◌, length, take, refl, sym, ap, arith, length-append}
 use Rattle.std.proofs.lemmas.List.{take-take, length-take-le}
 use Rattle.rv_call_tree.specs.declared.spot.Spot.{Spot}
-use Rattle.rv_call_tree.specs.Trees.{path_after, last_path, path_of_first, counted_after, counted_in_all, HasArrivals, FollowInPreorder}
+use Rattle.rv_call_tree.specs.Trees.{path_after, last_path, path_after_first, sum_over_path, sum_over_nodes, HasCalls, FollowInPreorder}
 
 pub last_parts : (front : List ℕ) (xs ys : List Spot) → last_path front (xs ++ ys) ≡ last_path (last_path front xs) ys
 last_parts front [] ys = refl
 last_parts front (s ∷ ss) ys = last_parts (path_after front s) ss ys
 
 pub counted_parts : (count : Spot → ℕ) (path front : List ℕ) (xs ys : List Spot)
-    → counted_after count path front (xs ++ ys)
-    ≡ counted_after count path front xs + counted_after count path (last_path front xs) ys
+    → sum_over_path count path front (xs ++ ys)
+    ≡ sum_over_path count path front xs + sum_over_path count path (last_path front xs) ys
 counted_parts count path front [] ys = omega arith
 counted_parts count path front (s ∷ ss) ys =
     let h = counted_parts count path (path_after front s) ss ys in omega (arith, h)
 
-pub sum_parts : (count : Spot → ℕ) (xs ys : List Spot) → counted_in_all count (xs ++ ys) ≡ counted_in_all count xs + counted_in_all count ys
+pub sum_parts : (count : Spot → ℕ) (xs ys : List Spot) → sum_over_nodes count (xs ++ ys) ≡ sum_over_nodes count xs + sum_over_nodes count ys
 sum_parts count [] ys = omega arith
 sum_parts count (s ∷ ss) ys = let h = sum_parts count ss ys in omega (arith, h)
 
-pub some_parts : (xs ys : List Spot) → HasArrivals (xs ++ ys) → HasArrivals xs × HasArrivals ys
+pub some_parts : (xs ys : List Spot) → HasCalls (xs ++ ys) → HasCalls xs × HasCalls ys
 some_parts [] ys h = (tt, h)
 some_parts (s ∷ ss) ys h = let k = some_parts ss ys h.1 in ((h.0, k.0), k.1)
 
-pub some_of_parts : (xs ys : List Spot) → HasArrivals xs → HasArrivals ys → HasArrivals (xs ++ ys)
+pub some_of_parts : (xs ys : List Spot) → HasCalls xs → HasCalls ys → HasCalls (xs ++ ys)
 some_of_parts [] ys h k = k
 some_of_parts (s ∷ ss) ys h k = (h.0, some_of_parts ss ys h.1 k)
 
@@ -41,6 +41,6 @@ length_behind front s within =
 
 -- paths of the first spots are the same where these are the same
 pub same_first : (count from : ℕ) (old new : List Spot) → count ≤ from → take from new ≡ take from old
-    → path_of_first count new ≡ path_of_first count old
+    → path_after_first count new ≡ path_after_first count old
 same_first count from old new below same =
     ap (last_path []) (sym (take-take count from new below) ∙ ap (take count) same ∙ take-take count from old below)

@@ -7,9 +7,9 @@ use Rattle.std.proofs.lemmas.List.{drop_more, take-take, take-append-le, take_at
 use Rattle.std.proofs.Math.Seq.{get_or-append_seam}
 use Rattle.rv_call_tree.specs.declared.spot.Spot.{Spot}
 use Rattle.rv_call_tree.specs.declared.subtree.Subtree.{Subtree}
-use Rattle.rv_call_tree.specs.Profiles.{has_function, inclusive_after}
-use Rattle.rv_call_tree.specs.Subtrees.{below, of_function, subtree, subtrees_from, subtrees_of_function}
-use Rattle.rv_call_tree.specs.Trees.{all_steps, counted_in_all, path_after, steps_if, IsTree, FollowInPreorder, FollowsInPreorder}
+use Rattle.rv_call_tree.specs.Profiles.{has_function, inclusive_steps_after}
+use Rattle.rv_call_tree.specs.Subtrees.{below, with_root_function, subtree, subtrees_from, subtrees_of_function}
+use Rattle.rv_call_tree.specs.Trees.{all_steps, sum_over_nodes, path_after, steps_if, IsTree, FollowInPreorder, FollowsInPreorder}
 use Rattle.rv_call_tree.proofs.Tests.{equal_by, equal_test, less_test, not_less_test}
 
 -- ---- which lists have a function
@@ -108,51 +108,51 @@ steps_left (Some depth) ss = all_steps (below depth ss)
 -- the subtrees tell all steps but those that are left
 abbrev Tells : ℕ → ℕ → List ℕ → List Spot → Type 0
 Tells f place front ss = (o : Option ℕ) (end : ℕ) → IsOutermost f front o → EndsAt o place ss end
-    → inclusive_after f front ss ≡ steps_left o ss + inclusive_from end (of_function f (subtrees_from place ss))
+    → inclusive_steps_after f front ss ≡ steps_left o ss + inclusive_from end (with_root_function f (subtrees_from place ss))
 
-of_first : (f place : ℕ) (s : Spot) (ss : List Spot) (b : Bool) → (s.function == f) ≡ b → of_function f (subtrees_from place (s ∷ ss))
-    ≡ cond b (subtree place s ss ∷ of_function f (subtrees_from (place + 1) ss)) (of_function f (subtrees_from (place + 1) ss))
-of_first f place s ss b is =
-    ap (λ (t : Bool). cond t (subtree place s ss ∷ of_function f (subtrees_from (place + 1) ss)) (of_function f (subtrees_from (place + 1) ss))) is
+node_of_first : (f place : ℕ) (s : Spot) (ss : List Spot) (b : Bool) → (s.function == f) ≡ b → with_root_function f (subtrees_from place (s ∷ ss))
+    ≡ cond b (subtree place s ss ∷ with_root_function f (subtrees_from (place + 1) ss)) (with_root_function f (subtrees_from (place + 1) ss))
+node_of_first f place s ss b is =
+    ap (λ (t : Bool). cond t (subtree place s ss ∷ with_root_function f (subtrees_from (place + 1) ss)) (with_root_function f (subtrees_from (place + 1) ss))) is
 
 -- none of the functions in front counts the spot
 first_outside : (f place end : ℕ) (front : List ℕ) (s : Spot) (ss : List Spot) → FollowsInPreorder front s
     → has_function f (take s.depth front) ≡ false → end ≤ place → Tells f (place + 1) (path_after front s) ss
     → (b : Bool) → (s.function == f) ≡ b
-    → inclusive_after f front (s ∷ ss) ≡ inclusive_from end (of_function f (subtrees_from place (s ∷ ss)))
+    → inclusive_steps_after f front (s ∷ ss) ≡ inclusive_from end (with_root_function f (subtrees_from place (s ∷ ss)))
 first_outside f place end front s ss stands none past rest false is =
     let outermost = last_decides f front s stands none false is in
     let here = ap (λ (b : Bool). steps_if b s.steps) (tells f (path_after front s) None outermost) in
     let more = rest None end outermost (omega (arith, past)) in
-    let of = ap (inclusive_from end) (of_first f place s ss false is) in
+    let of = ap (inclusive_from end) (node_of_first f place s ss false is) in
     omega (arith, here, more, of)
 first_outside f place end front s ss stands none past rest true is =
     let outermost = last_decides f front s stands none true is in
     let here = ap (λ (b : Bool). steps_if b s.steps) (tells f (path_after front s) (Some s.depth) outermost) in
     let more = rest (Some s.depth) (subtree place s ss).end outermost refl in
-    let of = ap (inclusive_from end) (of_first f place s ss true is) in
+    let of = ap (inclusive_from end) (node_of_first f place s ss true is) in
     let t = subtree place s ss in
-    let ts = of_function f (subtrees_from (place + 1) ss) in
+    let ts = with_root_function f (subtrees_from (place + 1) ss) in
     let counts = ap (λ (b : Bool). cond b (t.inclusive + inclusive_from t.end ts) (inclusive_from end ts)) (le-leb end place past) in
     omega (arith, here, more, of, counts)
 
 -- the spot is below one that was counted with it
 first_inside : (f place end depth : ℕ) (front : List ℕ) (s : Spot) (ss : List Spot) → FollowsInPreorder front s → FirstAt f front depth
     → depth < s.depth → end ≡ place + length (s ∷ below depth ss) → Tells f (place + 1) (path_after front s) ss
-    → (b : Bool) → (s.function == f) ≡ b → inclusive_after f front (s ∷ ss)
-    ≡ all_steps (s ∷ below depth ss) + inclusive_from end (of_function f (subtrees_from place (s ∷ ss)))
+    → (b : Bool) → (s.function == f) ≡ b → inclusive_steps_after f front (s ∷ ss)
+    ≡ all_steps (s ∷ below depth ss) + inclusive_from end (with_root_function f (subtrees_from place (s ∷ ss)))
 first_inside f place end depth front s ss stands h deep ends rest b is =
     let outermost = kept_there f front s depth stands h deep in
     let here = ap (λ (t : Bool). steps_if t s.steps) (tells f (path_after front s) (Some depth) outermost) in
     let more = rest (Some depth) end outermost (omega (arith, ends)) in
-    let of = ap (inclusive_from end) (of_first f place s ss b is) ∙ skipped b in
+    let of = ap (inclusive_from end) (node_of_first f place s ss b is) ∙ skipped b in
     omega (arith, here, more, of)
   where
     t : Subtree
     t = subtree place s ss
 
     ts : List Subtree
-    ts = of_function f (subtrees_from (place + 1) ss)
+    ts = with_root_function f (subtrees_from (place + 1) ss)
 
     begun : leb end place ≡ false
     begun = lt-leb end place (omega (arith, ends))
@@ -170,8 +170,8 @@ told_from f place front (s ∷ ss) stand None end h ends =
     omega (arith, all)
 told_from f place front (s ∷ ss) stand (Some depth) end h ends =
     let rest = told_from f (place + 1) (path_after front s) ss stand.1 in
-    let P : Bool → Type 0 = λ b. end ≡ place + length (cond b (s ∷ below depth ss) []) → inclusive_after f front (s ∷ ss)
-    ≡ all_steps (cond b (s ∷ below depth ss) []) + inclusive_from end (of_function f (subtrees_from place (s ∷ ss))) in
+    let P : Bool → Type 0 = λ b. end ≡ place + length (cond b (s ∷ below depth ss) []) → inclusive_steps_after f front (s ∷ ss)
+    ≡ all_steps (cond b (s ∷ below depth ss) []) + inclusive_from end (with_root_function f (subtrees_from place (s ∷ ss))) in
     elim (cases_lt depth s.depth) [
       | inl deep ↦ subst P (sym (less_test depth s.depth deep))
           (λ e. first_inside f place end depth front s ss stand.0 h deep e rest (s.function == f) refl) ends
@@ -182,28 +182,28 @@ told_from f place front (s ∷ ss) stand (Some depth) end h ends =
     ]
 
 pub inclusive_told : (f : ℕ) (spots : List Spot) → IsTree spots
-    → inclusive_after f [] spots ≡ inclusive_from 0 (subtrees_of_function f spots)
+    → inclusive_steps_after f [] spots ≡ inclusive_from 0 (subtrees_of_function f spots)
 inclusive_told f spots tree = let all = told_from f 0 [] spots tree None 0 refl (omega arith) in omega (arith, all)
 
 -- ---- what is counted in the spots of a function themselves
 
 one_more : (f place : ℕ) (count : Spot → ℕ) (field : Subtree → ℕ) (s : Spot) (ss : List Spot) → field (subtree place s ss) ≡ count s
-    → counted_in_all (λ (s : Spot). steps_if (s.function == f) (count s)) ss ≡ sum_by field (of_function f (subtrees_from (place + 1) ss))
-    → (b : Bool) → (s.function == f) ≡ b → counted_in_all (λ (s : Spot). steps_if (s.function == f) (count s)) (s ∷ ss)
-    ≡ sum_by field (of_function f (subtrees_from place (s ∷ ss)))
+    → sum_over_nodes (λ (s : Spot). steps_if (s.function == f) (count s)) ss ≡ sum_by field (with_root_function f (subtrees_from (place + 1) ss))
+    → (b : Bool) → (s.function == f) ≡ b → sum_over_nodes (λ (s : Spot). steps_if (s.function == f) (count s)) (s ∷ ss)
+    ≡ sum_by field (with_root_function f (subtrees_from place (s ∷ ss)))
 one_more f place count field s ss own rest true is =
     let counts = ap (λ (b : Bool). steps_if b (count s)) is in
-    let of = ap (sum_by field) (of_first f place s ss true is)
-    ∙ sum_by-cons field (subtree place s ss) (of_function f (subtrees_from (place + 1) ss)) in
+    let of = ap (sum_by field) (node_of_first f place s ss true is)
+    ∙ sum_by-cons field (subtree place s ss) (with_root_function f (subtrees_from (place + 1) ss)) in
     omega (arith, rest, counts, of, own)
 one_more f place count field s ss own rest false is =
     let counts = ap (λ (b : Bool). steps_if b (count s)) is in
-    let of = ap (sum_by field) (of_first f place s ss false is) in
+    let of = ap (sum_by field) (node_of_first f place s ss false is) in
     omega (arith, rest, counts, of)
 
 pub told_of_each : (f place : ℕ) (count : Spot → ℕ) (field : Subtree → ℕ)
     → ((k : ℕ) (s : Spot) (ss : List Spot) → field (subtree k s ss) ≡ count s) → (ss : List Spot)
-    → counted_in_all (λ (s : Spot). steps_if (s.function == f) (count s)) ss ≡ sum_by field (of_function f (subtrees_from place ss))
+    → sum_over_nodes (λ (s : Spot). steps_if (s.function == f) (count s)) ss ≡ sum_by field (with_root_function f (subtrees_from place ss))
 told_of_each f place count field same [] = refl
 told_of_each f place count field same (s ∷ ss) =
     one_more f place count field s ss (same place s ss) (told_of_each f (place + 1) count field same ss) (s.function == f) refl
@@ -236,12 +236,12 @@ if_at_most false n = omega arith
 
 -- of the spots of a function
 pub own_fits : (f : ℕ) (count : Spot → ℕ) (spots : List Spot)
-    → counted_in_all (λ (s : Spot). steps_if (s.function == f) (count s)) spots ≤ counted_in_all count spots
+    → sum_over_nodes (λ (s : Spot). steps_if (s.function == f) (count s)) spots ≤ sum_over_nodes count spots
 own_fits f count [] = omega arith
 own_fits f count (s ∷ ss) =
     let here = if_at_most (s.function == f) (count s) in let rest = own_fits f count ss in omega (arith, here, rest)
 
-pub inclusive_fits : (f : ℕ) (front : List ℕ) (spots : List Spot) → inclusive_after f front spots ≤ all_steps spots
+pub inclusive_fits : (f : ℕ) (front : List ℕ) (spots : List Spot) → inclusive_steps_after f front spots ≤ all_steps spots
 inclusive_fits f front [] = omega arith
 inclusive_fits f front (s ∷ ss) =
     let here = if_at_most (has_function f (path_after front s)) s.steps in

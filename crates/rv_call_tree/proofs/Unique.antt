@@ -6,7 +6,7 @@ use Rattle.std.proofs.lemmas.Slice.Eq.{bytes_eq-Decides}
 use Rattle.std.proofs.Math.Seq.{get_or-append_seam}
 use Rattle.std.specs.Str.{bytes_eq}
 use Rattle.rv_call_tree.specs.declared.spot.Spot.{Spot}
-use Rattle.rv_call_tree.specs.Trees.{path_after, arrivals_of, steps_of, counted_after, HasArrivals, IsTree, FollowsInPreorder, FollowInPreorder}
+use Rattle.rv_call_tree.specs.Trees.{path_after, calls_of_node, steps_of, sum_over_path, HasCalls, IsTree, FollowsInPreorder, FollowInPreorder}
 use Rattle.rv_call_tree.proofs.Parts.{length_behind}
 
 -- ---- the order of lists, as words in a dictionary
@@ -83,7 +83,7 @@ not_above : (p q : List ℕ) → Less p q → bytes_eq q p ≡ false
 not_above p q h = apart_bytes q p (λ e. not_less p (subst (λ (r : List ℕ). Less p r) e h))
 
 none_later : (count : Spot → ℕ) (p front : List ℕ) (ss : List Spot) → FollowInPreorder front ss → (p ≡ front) ⊎ Less p front
-    → counted_after count p front ss ≡ 0
+    → sum_over_path count p front ss ≡ 0
 none_later count p front [] h low = refl
 none_later count p front (s ∷ ss) h low =
     let up = rises front s h.0 in
@@ -97,7 +97,7 @@ none_later count p front (s ∷ ss) h low =
 
 -- the first list has what its spot has
 first_has : (count : Spot → ℕ) (front : List ℕ) (s : Spot) (ss : List Spot) → FollowInPreorder front (s ∷ ss)
-    → counted_after count (path_after front s) front (s ∷ ss) ≡ count s
+    → sum_over_path count (path_after front s) front (s ∷ ss) ≡ count s
 first_has count front s ss h =
     let here = ap (λ (b : Bool). cond b (count s) 0) (same_bytes (path_after front s)) in
     let rest = none_later count (path_after front s) (path_after front s) ss h.1 (inl refl) in
@@ -105,7 +105,7 @@ first_has count front s ss h =
 
 -- a list below the first one has nothing
 below_first : (count : Spot → ℕ) (p front : List ℕ) (s : Spot) (ss : List Spot) → FollowInPreorder front (s ∷ ss)
-    → Less p (path_after front s) → counted_after count p front (s ∷ ss) ≡ 0
+    → Less p (path_after front s) → sum_over_path count p front (s ∷ ss) ≡ 0
 below_first count p front s ss h low =
     let here = ap (λ (b : Bool). cond b (count s) 0) (not_above p (path_after front s) low) in
     let rest = none_later count p (path_after front s) ss h.1 (inr low) in
@@ -134,7 +134,7 @@ same_function front s t h k e =
     ∙ last_is front t k
 
 abbrev SameCounts : (Spot → ℕ) → List ℕ → List Spot → List Spot → Type 0
-SameCounts count front a b = (p : List ℕ) → counted_after count p front a ≡ counted_after count p front b
+SameCounts count front a b = (p : List ℕ) → sum_over_path count p front a ≡ sum_over_path count p front b
 
 module _ (front : List ℕ) (s t : Spot) (ss ts : List Spot) (a : FollowInPreorder front (s ∷ ss)) (b : FollowInPreorder front (t ∷ ts))
     (e : path_after front s ≡ path_after front t) where
@@ -143,7 +143,7 @@ module _ (front : List ℕ) (s t : Spot) (ss ts : List Spot) (a : FollowInPreord
       let of_s = first_has count front s ss a in
       let of_t = first_has count front t ts b in
       let there = same (path_after front s) in
-      let moved = ap (λ (p : List ℕ). counted_after count p front (t ∷ ts)) e in
+      let moved = ap (λ (p : List ℕ). sum_over_path count p front (t ∷ ts)) e in
       omega (arith, of_s, of_t, there, moved)
 
   same_rest : (count : Spot → ℕ) → SameCounts count front (s ∷ ss) (t ∷ ts) → SameCounts count (path_after front s) ss ts
@@ -151,7 +151,7 @@ module _ (front : List ℕ) (s t : Spot) (ss ts : List Spot) (a : FollowInPreord
       let whole = same p in
       let first = ap (λ (n : ℕ). cond (bytes_eq (path_after front s) p) n 0) (same_first_count count same) in
       let other = ap (λ (q : List ℕ). cond (bytes_eq q p) (count t) 0) e in
-      let moved = ap (λ (q : List ℕ). counted_after count p q ts) e in
+      let moved = ap (λ (q : List ℕ). sum_over_path count p q ts) e in
       omega (arith, whole, first, other, moved)
 
 same_spot : (s t : Spot) → s.depth ≡ t.depth → s.function ≡ t.function → s.arrivals ≡ t.arrivals → s.steps ≡ t.steps
@@ -159,43 +159,43 @@ same_spot : (s t : Spot) → s.depth ≡ t.depth → s.function ≡ t.function �
 same_spot s t depth function arrivals steps =
     λ i. record { depth = depth i; function = function i; arrivals = arrivals i; steps = steps i }
 
-one_tree : (front : List ℕ) (a b : List Spot) → FollowInPreorder front a → FollowInPreorder front b → HasArrivals a → HasArrivals b
-    → SameCounts arrivals_of front a b → SameCounts steps_of front a b → a ≡ b
+one_tree : (front : List ℕ) (a b : List Spot) → FollowInPreorder front a → FollowInPreorder front b → HasCalls a → HasCalls b
+    → SameCounts calls_of_node front a b → SameCounts steps_of front a b → a ≡ b
 one_tree front [] [] h k some more arrivals steps = refl
 one_tree front (s ∷ ss) [] h k some more arrivals steps =
     let there = arrivals (path_after front s) in
-    let of_s = first_has arrivals_of front s ss h in
+    let of_s = first_has calls_of_node front s ss h in
     let least = some.0 in
     absurd (omega (arith, there, of_s, least))
 one_tree front [] (t ∷ ts) h k some more arrivals steps =
     let there = arrivals (path_after front t) in
-    let of_t = first_has arrivals_of front t ts k in
+    let of_t = first_has calls_of_node front t ts k in
     let least = more.0 in
     absurd (omega (arith, there, of_t, least))
 one_tree front (s ∷ ss) (t ∷ ts) h k some more arrivals steps = elim (order (path_after front s) (path_after front t)) [
   | inl same ↦
       let first = same_spot s t (same_depth front s t h.0 k.0 same) (same_function front s t h.0 k.0 same)
-      (same_first_count front s t ss ts h k same arrivals_of arrivals)
+      (same_first_count front s t ss ts h k same calls_of_node arrivals)
       (same_first_count front s t ss ts h k same steps_of steps) in
       let rest = one_tree (path_after front s) ss ts h.1 (subst (λ (p : List ℕ). FollowInPreorder p ts) (sym same) k.1)
-      some.1 more.1 (same_rest front s t ss ts h k same arrivals_of arrivals) (same_rest front s t ss ts h k same steps_of steps) in
+      some.1 more.1 (same_rest front s t ss ts h k same calls_of_node arrivals) (same_rest front s t ss ts h k same steps_of steps) in
       λ i. first i ∷ rest i
   | inr apart ↦ elim apart [
     | inl low ↦
         let there = arrivals (path_after front s) in
-        let of_s = first_has arrivals_of front s ss h in
-        let of_t = below_first arrivals_of (path_after front s) front t ts k low in
+        let of_s = first_has calls_of_node front s ss h in
+        let of_t = below_first calls_of_node (path_after front s) front t ts k low in
         let least = some.0 in
         absurd (omega (arith, there, of_s, of_t, least))
     | inr high ↦
         let there = arrivals (path_after front t) in
-        let of_t = first_has arrivals_of front t ts k in
-        let of_s = below_first arrivals_of (path_after front t) front s ss h high in
+        let of_t = first_has calls_of_node front t ts k in
+        let of_s = below_first calls_of_node (path_after front t) front s ss h high in
         let least = more.0 in
         absurd (omega (arith, there, of_s, of_t, least))
   ]
 ]
 
-pub one_tree_of_counts : (a b : List Spot) → IsTree a → IsTree b → HasArrivals a → HasArrivals b
-    → SameCounts arrivals_of [] a b → SameCounts steps_of [] a b → a ≡ b
+pub one_tree_of_counts : (a b : List Spot) → IsTree a → IsTree b → HasCalls a → HasCalls b
+    → SameCounts calls_of_node [] a b → SameCounts steps_of [] a b → a ≡ b
 one_tree_of_counts a b h k some more arrivals steps = one_tree [] a b h k some more arrivals steps

@@ -3,7 +3,7 @@ use Rattle.std.specs.Prelude.{◌≡◌, ◌==◌, ◌+◌, ℕ, Bool, if◌then
 use Rattle.std.specs.List.{list_any}
 use Rattle.rv_call_tree.specs.declared.profile.FunctionSteps.{FunctionSteps}
 use Rattle.rv_call_tree.specs.declared.spot.Spot.{Spot}
-use Rattle.rv_call_tree.specs.Trees.{counted_in_all, once_if, own_in, path_after, steps_if}
+use Rattle.rv_call_tree.specs.Trees.{sum_over_nodes, one_if, own_steps_of, path_after, steps_if}
 
 -- whether a path has the function
 abbrev pub has_function : ℕ → List ℕ → Bool
@@ -11,19 +11,19 @@ has_function function path = list_any (λ f. f == function) path
 
 -- the number of calls of a function: the sum of the calls of the nodes whose paths end in it
 abbrev pub arrivals_in : ℕ → List Spot → ℕ
-arrivals_in function spots = counted_in_all (λ s. steps_if (s.function == function) s.arrivals) spots
+arrivals_in function spots = sum_over_nodes (λ s. steps_if (s.function == function) s.arrivals) spots
 
 -- the inclusive steps of a function: the sum of the steps of the nodes whose paths have it, each node counted once; `front` is the path of
 -- the node before these nodes
-abbrev pub inclusive_after : ℕ → List ℕ → List Spot → ℕ
-inclusive_after function front [] = 0
-inclusive_after function front (s ∷ ss) = steps_if (has_function function (path_after front s)) s.steps
-    + inclusive_after function (path_after front s) ss
+abbrev pub inclusive_steps_after : ℕ → List ℕ → List Spot → ℕ
+inclusive_steps_after function front [] = 0
+inclusive_steps_after function front (s ∷ ss) = steps_if (has_function function (path_after front s)) s.steps
+    + inclusive_steps_after function (path_after front s) ss
 
 -- `found` has the own steps, the inclusive steps and the calls of the function in the call tree
-pub record IsStepsOf (function : ℕ) (spots : List Spot) (found : FunctionSteps) : Type 0 where
-  pub own : found.own ≡ own_in function spots
-  pub inclusive : found.inclusive ≡ inclusive_after function [] spots
+pub record AreStepsOf (function : ℕ) (spots : List Spot) (found : FunctionSteps) : Type 0 where
+  pub own : found.own ≡ own_steps_of function spots
+  pub inclusive : found.inclusive ≡ inclusive_steps_after function [] spots
   pub arrivals : found.arrivals ≡ arrivals_in function spots
 
 -- ---- the functions of nodes
@@ -31,21 +31,21 @@ pub record IsStepsOf (function : ℕ) (spots : List Spot) (found : FunctionSteps
 -- how often a function occurs in a list
 abbrev pub times : ℕ → List ℕ → ℕ
 times function [] = 0
-times function (f ∷ fs) = once_if (f == function) + times function fs
+times function (f ∷ fs) = one_if (f == function) + times function fs
 
 -- whether the path of at least one node ends in the function
-abbrev pub is_last_of_some : ℕ → List Spot → Bool
-is_last_of_some function spots = list_any (λ s. s.function == function) spots
+abbrev pub ends_some_path : ℕ → List Spot → Bool
+ends_some_path function spots = list_any (λ s. s.function == function) spots
 
 -- the list has exactly the functions in which the nodes' paths end, each once
 pub record AreFunctionsOf (spots : List Spot) (functions : List ℕ) : Type 0 where
-  pub once : (function : ℕ) → times function functions ≡ once_if (is_last_of_some function spots)
+  pub once : (function : ℕ) → times function functions ≡ one_if (ends_some_path function spots)
 
 -- the list with the function appended, or unchanged if it already has the function
 abbrev pub with_function : ℕ → List ℕ → List ℕ
 with_function function functions = if has_function function functions then functions else functions ++ function ∷ []
 
 -- the sum of the own steps of these functions
-abbrev pub own_of_all : List ℕ → List Spot → ℕ
-own_of_all [] spots = 0
-own_of_all (f ∷ fs) spots = own_in f spots + own_of_all fs spots
+abbrev pub own_steps_of_all : List ℕ → List Spot → ℕ
+own_steps_of_all [] spots = 0
+own_steps_of_all (f ∷ fs) spots = own_steps_of f spots + own_steps_of_all fs spots

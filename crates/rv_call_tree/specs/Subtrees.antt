@@ -29,13 +29,13 @@ subtrees_from place (s ∷ ss) = subtree place s ss ∷ subtrees_from (place + 1
 -- ---- by function
 
 -- the subtrees whose root node ends in the function, in order
-abbrev pub of_function : ℕ → List Subtree → List Subtree
-of_function function subtrees = filter (λ s. s.function == function) subtrees
+abbrev pub with_root_function : ℕ → List Subtree → List Subtree
+with_root_function function subtrees = filter (λ s. s.function == function) subtrees
 
 -- the subtrees of a call tree whose root node ends in the function, in node order
 abbrev pub subtrees_of_function : ℕ → List Spot → List Subtree
-subtrees_of_function function spots = of_function function (subtrees_from 0 spots)
+subtrees_of_function function spots = with_root_function function (subtrees_from 0 spots)
 
 -- for each function, the list has the subtrees of the call tree whose root node ends in it, in node order
 abbrev pub AreSubtreesByFunction : List Spot → List Subtree → Type 0
-AreSubtreesByFunction spots subtrees = (function : ℕ) → of_function function subtrees ≡ subtrees_of_function function spots
+AreSubtreesByFunction spots subtrees = (function : ℕ) → with_root_function function subtrees ≡ subtrees_of_function function spots

@@ -17,57 +17,57 @@ last_path front [] = front
 last_path front (s ∷ ss) = last_path (path_after front s) ss
 
 -- the path of the last of the first `count` nodes, or an empty path if `count` is 0
-abbrev pub path_of_first : ℕ → List Spot → List ℕ
-path_of_first count spots = last_path [] (take count spots)
+abbrev pub path_after_first : ℕ → List Spot → List ℕ
+path_after_first count spots = last_path [] (take count spots)
 
 -- ---- the counts
 
 -- 1 if the condition is true, else 0
-abbrev pub once_if : Bool → ℕ
-once_if test = if test then 1 else 0
+abbrev pub one_if : Bool → ℕ
+one_if test = if test then 1 else 0
 
 -- the sum of `count` over the nodes with the path `path`; `front` is the path of the node before these nodes
-abbrev pub counted_after : (Spot → ℕ) → List ℕ → List ℕ → List Spot → ℕ
-counted_after count path front [] = 0
-counted_after count path front (s ∷ ss) =
-    (if bytes_eq (path_after front s) path then count s else 0) + counted_after count path (path_after front s) ss
+abbrev pub sum_over_path : (Spot → ℕ) → List ℕ → List ℕ → List Spot → ℕ
+sum_over_path count path front [] = 0
+sum_over_path count path front (s ∷ ss) =
+    (if bytes_eq (path_after front s) path then count s else 0) + sum_over_path count path (path_after front s) ss
 
 -- the number of calls that led to the node
-abbrev pub arrivals_of : Spot → ℕ
-arrivals_of s = s.arrivals
+abbrev pub calls_of_node : Spot → ℕ
+calls_of_node s = s.arrivals
 
 -- the number of instructions executed in the node
 abbrev pub steps_of : Spot → ℕ
 steps_of s = s.steps
 
 -- how often a run entered this path
-abbrev pub arrivals_at : List ℕ → List Spot → ℕ
-arrivals_at path spots = counted_after arrivals_of path [] spots
+abbrev pub calls_at : List ℕ → List Spot → ℕ
+calls_at path spots = sum_over_path calls_of_node path [] spots
 
 -- how many instructions a run executed in this path
 abbrev pub steps_at : List ℕ → List Spot → ℕ
-steps_at path spots = counted_after steps_of path [] spots
+steps_at path spots = sum_over_path steps_of path [] spots
 
 -- the sum of `count` over all nodes
-abbrev pub counted_in_all : (Spot → ℕ) → List Spot → ℕ
-counted_in_all count [] = 0
-counted_in_all count (s ∷ ss) = count s + counted_in_all count ss
+abbrev pub sum_over_nodes : (Spot → ℕ) → List Spot → ℕ
+sum_over_nodes count [] = 0
+sum_over_nodes count (s ∷ ss) = count s + sum_over_nodes count ss
 
 -- the sum of the calls of all nodes
-abbrev pub all_arrivals : List Spot → ℕ
-all_arrivals spots = counted_in_all arrivals_of spots
+abbrev pub all_calls : List Spot → ℕ
+all_calls spots = sum_over_nodes calls_of_node spots
 
 -- the sum of the instructions executed in all nodes
 abbrev pub all_steps : List Spot → ℕ
-all_steps spots = counted_in_all steps_of spots
+all_steps spots = sum_over_nodes steps_of spots
 
 -- the steps if the condition is true, else 0
 abbrev pub steps_if : Bool → ℕ → ℕ
 steps_if test steps = if test then steps else 0
 
 -- the own steps of a function: the sum of the steps of the nodes whose paths end in it
-abbrev pub own_in : ℕ → List Spot → ℕ
-own_in function spots = counted_in_all (λ s. steps_if (s.function == function) s.steps) spots
+abbrev pub own_steps_of : ℕ → List Spot → ℕ
+own_steps_of function spots = sum_over_nodes (λ s. steps_if (s.function == function) s.steps) spots
 
 -- whether the path ends in the function
 abbrev pub ends_with : ℕ → List ℕ → Bool
@@ -106,6 +106,6 @@ FollowInPreorder-prop front [] = Unit-prop
 FollowInPreorder-prop front (s ∷ ss) = ×_prop (FollowsInPreorder-prop front s) (FollowInPreorder-prop (path_after front s) ss)
 
 -- a run entered each of the nodes
-abbrev pub HasArrivals : List Spot → Type 0
-HasArrivals [] = Unit {0}
-HasArrivals (s ∷ ss) = (0 < s.arrivals) × HasArrivals ss
+abbrev pub HasCalls : List Spot → Type 0
+HasCalls [] = Unit {0}
+HasCalls (s ∷ ss) = (0 < s.arrivals) × HasCalls ss

@@ -2,9 +2,9 @@
 
 ghost use Rattle.std.specs.Prelude.{◌≡◌, ◌^◌, ◌<◌, [], IfOk};
 ghost use Rattle.std.specs.List.Sorted.{IsNonDecreasingBy};
-ghost use Rattle.rv_call_tree.specs.Profiles.{IsStepsOf};
+ghost use Rattle.rv_call_tree.specs.Profiles.{AreStepsOf};
 ghost use Rattle.rv_call_tree.specs.Subtrees.{subtrees_of_function, AreSubtreesByFunction};
-ghost use Rattle.rv_call_tree.specs.Trees.{all_arrivals, all_steps, IsTree, FollowInPreorder-prop};
+ghost use Rattle.rv_call_tree.specs.Trees.{all_calls, all_steps, IsTree, FollowInPreorder-prop};
 
 use crate::profile::FunctionSteps;
 use crate::spot::Spot;
@@ -13,34 +13,34 @@ use std::alloc::{AllocError, Global};
 
 /// The nodes of a call tree with an index by function, so that the counts of a function are found without a pass over all nodes.
 #[derive(Drop)]
-pub struct SpotIndex<'s> {
+pub struct CallTreeIndex<'s> {
     pub spots: &'s [Spot],
     // The subtrees of each function, in node order.
     subtrees: Vec<Subtree>,
     ghost tree: { IsTree spots.now } by { FollowInPreorder-prop [] spots.now },
     ghost few_steps: { all_steps spots.now < 2 ^ 64 },
-    ghost few_arrivals: { all_arrivals spots.now < 2 ^ 64 },
+    ghost few_arrivals: { all_calls spots.now < 2 ^ 64 },
     ghost rising: { IsNonDecreasingBy (λ s. s.function) subtrees.items },
     ghost each: { AreSubtreesByFunction spots.now subtrees.items },
 }
 
-impl<'s> SpotIndex<'s> {
+impl<'s> CallTreeIndex<'s> {
     /// Returns an index of a call tree's nodes by function. Takes the time of a sort of the nodes, and 48 bytes of memory for each.
-    pub fn new(alloc: Global, spots: &'s [Spot]) -> Result<SpotIndex<'s>, AllocError>
+    pub fn new(alloc: Global, spots: &'s [Spot]) -> Result<CallTreeIndex<'s>, AllocError>
         requires tree { IsTree spots.now }
         requires steps { all_steps spots.now < 2 ^ 64 }
-        requires arrivals { all_arrivals spots.now < 2 ^ 64 }
+        requires arrivals { all_calls spots.now < 2 ^ 64 }
         ensures { IfOk result (λ index. index.spots.now ≡ spots.now) }
     {
         let mut subtrees = subtrees_of(alloc, spots)?;
         subtrees.sort_by_key(|subtree| subtree.function)?;
-        Ok(SpotIndex { spots, subtrees })
+        Ok(CallTreeIndex { spots, subtrees })
     }
 
     /// Returns the own steps, the inclusive steps and the calls of a function. Takes time logarithmic in the number of all nodes and linear
     /// in the number of nodes that end in the function.
     pub fn steps_of(&self, function: u32) -> FunctionSteps
-        ensures { IsStepsOf function self.now.spots.now result }
+        ensures { AreStepsOf function self.now.spots.now result }
     {
         let mut found = FunctionSteps {
             own: 0,

@@ -2,46 +2,46 @@
 
 ghost use Rattle.std.specs.Prelude.{◌≡◌, ◌+◌, ◌<◌, ◌++◌, ◌∷◌, [], IfOk, IfErr, OnOk, length};
 ghost use Rattle.std.specs.List.{AllByRecursion};
-ghost use Rattle.rv_call_tree.specs.Sums.{both_of, goes_first, next_of, of_first, of_second, FitsSpot, Overflows, IsTooGreatHere, IsTooGreatOfBoth, IsSumOfSpots};
+ghost use Rattle.rv_call_tree.specs.Sums.{sum_of_nodes, comes_first, next_of, node_of_first, node_of_second, FitsFields, Overflows, IsOverflowOfFirstNodes, IsOverflowOfNodes, IsSumOfCallTrees};
 ghost use Rattle.rv_call_tree.specs.Trees.{IsTree};
-ghost use Rattle.rv_call_tree.specs.declared.sum.SpotSumError.TheVariants.{OutOfMemory};
+ghost use Rattle.rv_call_tree.specs.declared.sum.CallTreeSumError.TheVariants.{OutOfMemory};
 
 use crate::spot::{Spot, Spots};
 use std::alloc::{AllocError, Global};
 
 /// Why two call trees could not be added.
 #[derive(Clone, Copy, Debug, PartialEq, Eq)]
-pub enum SpotSumError {
+pub enum CallTreeSumError {
     /// An allocation failed.
     OutOfMemory,
     /// A count of a node of this function would be 2^64 or more.
     Count(u32),
 }
 
-impl From<AllocError> for SpotSumError {
+impl From<AllocError> for CallTreeSumError {
     ghost from_gives = { λ _ error. error ≡ OutOfMemory };
 
     // Returns the error for a failed allocation: out of memory.
-    fn from(_: AllocError) -> SpotSumError {
-        SpotSumError::OutOfMemory
+    fn from(_: AllocError) -> CallTreeSumError {
+        CallTreeSumError::OutOfMemory
     }
 }
 
 /// Returns the sum of two call trees, in which the counts of each path are added, or an error if a count would not fit in 64 bits.
 /// Allocates only the sum.
-pub fn sum_of_spots(alloc: Global, a: &[Spot], b: &[Spot]) -> Result<Spots, SpotSumError>
+pub fn sum_of_call_trees(alloc: Global, a: &[Spot], b: &[Spot]) -> Result<Spots, CallTreeSumError>
     requires a { IsTree a.now }
     requires b { IsTree b.now }
-    ensures value { IfOk result (λ sum. IsSumOfSpots a.now b.now sum) }
-    ensures fits { IfOk result (λ sum. AllByRecursion FitsSpot sum) }
+    ensures value { IfOk result (λ sum. IsSumOfCallTrees a.now b.now sum) }
+    ensures fits { IfOk result (λ sum. AllByRecursion FitsFields sum) }
     ensures refused { IfErr result (λ error. Overflows error a.now b.now) }
 {
     let mut sums = Vec::new(alloc);
     let mut from_a = 0;
     let mut from_b = 0;
     while from_a < a.len() || from_b < b.len() {
-        let next = next_spot(&a[from_a..], &b[from_b..])?;
-        push_spot(&mut sums, next.spot)?;
+        let next = next_node(&a[from_a..], &b[from_b..])?;
+        push_node(&mut sums, next.spot)?;
         from_a += next.of_a;
         from_b += next.of_b;
     }
@@ -50,14 +50,14 @@ pub fn sum_of_spots(alloc: Global, a: &[Spot], b: &[Spot]) -> Result<Spots, Spot
 
 /// The first node of a sum, and how many nodes of each tree it adds up.
 #[derive(Clone, Copy)]
-pub(crate) struct NextSpot {
+pub(crate) struct NextNode {
     pub(crate) spot: Spot,
     pub(crate) of_a: usize,
     pub(crate) of_b: usize,
 }
 
 // Appends a node.
-fn push_spot(spots: &mut Vec<Spot>, spot: Spot) -> Result<(), AllocError>
+fn push_node(spots: &mut Vec<Spot>, spot: Spot) -> Result<(), AllocError>
     ensures { OnOk result (spots.new.items ≡ spots.old.items ++ spot ∷ []) }
 {
     spots.push(spot)?;
@@ -66,41 +66,41 @@ fn push_spot(spots: &mut Vec<Spot>, spot: Spot) -> Result<(), AllocError>
 
 // Returns the first node of the sum of two lists of nodes: the deeper of their first nodes, or, if they are equally deep, the one with the
 // lower function address. If these are equal, too, it is the sum of both.
-fn next_spot(a: &[Spot], b: &[Spot]) -> Result<NextSpot, SpotSumError>
+fn next_node(a: &[Spot], b: &[Spot]) -> Result<NextNode, CallTreeSumError>
     requires { 0 < length a.now + length b.now }
     ensures value { IfOk result (λ next. next ≡ next_of a.now b.now) }
-    ensures fits { IfOk result (λ next. FitsSpot next.spot) }
-    ensures refused { IfErr result (λ error. IsTooGreatHere error a.now b.now) }
+    ensures fits { IfOk result (λ next. FitsFields next.spot) }
+    ensures refused { IfErr result (λ error. IsOverflowOfFirstNodes error a.now b.now) }
 {
     if b.is_empty() {
-        return Ok(of_first(a[0]));
+        return Ok(node_of_first(a[0]));
     }
     if a.is_empty() {
-        return Ok(of_second(b[0]));
+        return Ok(node_of_second(b[0]));
     }
     let (first, second) = (a[0], b[0]);
-    if goes_first(first, second) {
-        return Ok(of_first(first));
+    if comes_first(first, second) {
+        return Ok(node_of_first(first));
     }
-    if goes_first(second, first) {
-        return Ok(of_second(second));
+    if comes_first(second, first) {
+        return Ok(node_of_second(second));
     }
-    both_of(first, second)
+    sum_of_nodes(first, second)
 }
 
 // Whether `spot` comes before `other` in a sum: it is deeper, or equally deep and its function address is lower.
-fn goes_first(spot: Spot, other: Spot) -> bool
-    ensures { result ≡ goes_first spot other }
+fn comes_first(spot: Spot, other: Spot) -> bool
+    ensures { result ≡ comes_first spot other }
 {
     other.depth < spot.depth || (spot.depth == other.depth && spot.function < other.function)
 }
 
 // Returns a node as the first node of a sum, which only the first list has.
-fn of_first(spot: Spot) -> NextSpot
-    ensures value { result ≡ of_first spot }
-    ensures fits { FitsSpot result.spot }
+fn node_of_first(spot: Spot) -> NextNode
+    ensures value { result ≡ node_of_first spot }
+    ensures fits { FitsFields result.spot }
 {
-    NextSpot {
+    NextNode {
         spot,
         of_a: 1,
         of_b: 0,
@@ -108,11 +108,11 @@ fn of_first(spot: Spot) -> NextSpot
 }
 
 // Returns a node as the first node of a sum, which only the second list has.
-fn of_second(spot: Spot) -> NextSpot
-    ensures value { result ≡ of_second spot }
-    ensures fits { FitsSpot result.spot }
+fn node_of_second(spot: Spot) -> NextNode
+    ensures value { result ≡ node_of_second spot }
+    ensures fits { FitsFields result.spot }
 {
-    NextSpot {
+    NextNode {
         spot,
         of_a: 0,
         of_b: 1,
@@ -120,16 +120,16 @@ fn of_second(spot: Spot) -> NextSpot
 }
 
 // Returns the sum of two nodes with equal depths and functions as the first node of a sum, or an error if a count would not fit in 64 bits.
-fn both_of(spot: Spot, other: Spot) -> Result<NextSpot, SpotSumError>
-    ensures value { IfOk result (λ next. next ≡ both_of spot other) }
-    ensures fits { IfOk result (λ next. FitsSpot next.spot) }
-    ensures refused { IfErr result (λ error. IsTooGreatOfBoth error spot other) }
+fn sum_of_nodes(spot: Spot, other: Spot) -> Result<NextNode, CallTreeSumError>
+    ensures value { IfOk result (λ next. next ≡ sum_of_nodes spot other) }
+    ensures fits { IfOk result (λ next. FitsFields next.spot) }
+    ensures refused { IfErr result (λ error. IsOverflowOfNodes error spot other) }
 {
     match (
         spot.arrivals.checked_add(other.arrivals),
         spot.steps.checked_add(other.steps),
     ) {
-        (Some(arrivals), Some(steps)) => Ok(NextSpot {
+        (Some(arrivals), Some(steps)) => Ok(NextNode {
             spot: Spot {
                 depth: spot.depth,
                 function: spot.function,
@@ -139,6 +139,6 @@ fn both_of(spot: Spot, other: Spot) -> Result<NextSpot, SpotSumError>
             of_a: 1,
             of_b: 1,
         }),
-        _ => Err(SpotSumError::Count(spot.function)),
+        _ => Err(CallTreeSumError::Count(spot.function)),
     }
 }

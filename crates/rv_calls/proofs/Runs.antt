@@ -2,7 +2,7 @@
 use Rattle.std.proofs.Common.{◌≡◌, ◌∙◌, ◌==◌, ◌+◌, ◌-◌, ◌<◌, ℕ, zero, suc, not, false, List, [], ◌∷◌, Result, Ok, Err, refl, sym, ap, subst, arith, inl, inr}
 use Rattle.std.specs.Prelude.{◌⊎◌, MatchBool, is_ok}
 use Rattle.rv_trace.specs.declared_ending.Ending.{Ending}
-use Rattle.rv_trace.specs.Run.{Ran, run_rest, step_of, run_of}
+use Rattle.rv_trace.specs.Run.{Ran, run_after_step, step_of, run_of}
 use Rattle.rv_trace.specs.State.{State}
 use Rattle.rv_trace.specs.Trace.{state_after}
 use Rattle.rv_calls.specs.declared.frames.Frame.{Frame}
@@ -17,7 +17,7 @@ abbrev Told : ℕ → State → Result State Ending → State → Type 0
 Told n s r t = MatchBool (not (n == 0)) (r ≡ Ok t) ((is_ok r ≡ false) × (t ≡ s))
 
 told_by : (s : State) (r : Result State Ending)
-    → Told (run_rest r s (λ t. run_of 0 t)).steps s r (run_rest r s (λ t. run_of 0 t)).state
+    → Told (run_after_step r s (λ t. run_of 0 t)).steps s r (run_after_step r s (λ t. run_of 0 t)).state
 unfolding run_of
 told_by s (Ok u) = refl
 told_by s (Err x) = (refl, refl)
@@ -53,9 +53,9 @@ none s = refl
 
 after_first : (n : ℕ) (s t : State) → step_of s ≡ Ok t → state_after (suc n) s ≡ state_after n t
 unfolding run_of
-after_first n s t e = ap (λ (r : Result State Ending). (run_rest r s (λ u. run_of n u)).state) e
+after_first n s t e = ap (λ (r : Result State Ending). (run_after_step r s (λ u. run_of n u)).state) e
 
-stays : (r : Result State Ending) (s : State) (rest : State → Ran) → is_ok r ≡ false → (run_rest r s rest).state ≡ s
+stays : (r : Result State Ending) (s : State) (rest : State → Ran) → is_ok r ≡ false → (run_after_step r s rest).state ≡ s
 stays (Ok t) s rest h = cc
 stays (Err e) s rest h = refl
 

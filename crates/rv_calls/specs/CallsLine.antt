@@ -24,8 +24,8 @@ abbrev pub call_text : Image → List ℕ → Frame → List ℕ
 call_text image file frame = codes " <- " ++ place_text image file frame.call
 
 -- the maximum number of calls that are shown; with the pc these are 32 addresses
-abbrev pub most_shown : ℕ
-most_shown = 31
+abbrev pub max_shown : ℕ
+max_shown = 31
 
 -- the number of further calls; empty if there are none
 unfoldable pub more_text : ℕ → List ℕ
@@ -33,16 +33,16 @@ more_text count = if count == 0 then [] else codes " <- " ++ decimal count ++ co
 
 -- the number of calls that are not shown; empty if all are shown
 abbrev pub rest_text : List Frame → List ℕ
-rest_text frames = more_text (length frames - most_shown)
+rest_text frames = more_text (length frames - max_shown)
 
 -- the final pc, the address of each call, innermost first, up to the maximum number, and the number of further calls
-unfoldable pub places_text : Image → List ℕ → ℕ → List Frame → List ℕ
-places_text image file pc frames = place_text image file pc
-    ++ flat_map (call_text image file) (take most_shown (reverse frames)) ++ rest_text frames
+unfoldable pub call_addresses_text : Image → List ℕ → ℕ → List Frame → List ℕ
+call_addresses_text image file pc frames = place_text image file pc
+    ++ flat_map (call_text image file) (take max_shown (reverse frames)) ++ rest_text frames
 
 -- the line that shows the pc at the end of the run and the calls which had not returned
 unfoldable pub calls_line : Image → List ℕ → ℕ → List Frame → List ℕ
-calls_line image file pc frames = line (codes "     calls: " ++ places_text image file pc frames)
+calls_line image file pc frames = line (codes "     calls: " ++ call_addresses_text image file pc frames)
 
 -- the line that shows the calls which had not returned; empty if all had returned
 abbrev pub calls_text : Image → List ℕ → Calls → List ℕ

@@ -46,8 +46,8 @@ pushes_frame _ = false
 -- ---- frames, the innermost last
 
 -- the maximum number of frames of a call stack
-abbrev pub most_frames : ℕ
-most_frames = 4096
+abbrev pub max_frames : ℕ
+max_frames = 4096
 
 -- how many frames remain when all at the top that pass a test are removed
 abbrev pub depth_below : (Frame → Bool) → List Frame → ℕ
@@ -70,18 +70,18 @@ depth_after_return to sp frames = if depth_up_to_return to frames == 0
     else depth_up_to_return to frames - 1
 
 -- how many frames remain after an instruction with this effect, target and sp has popped, or all of them if it does not pop
-abbrev pub depth_left : StackAction → ℕ → ℕ → List Frame → ℕ
-depth_left action.Pop to sp frames = depth_after_return to sp frames
-depth_left action.PopThenPush to sp frames = depth_after_return to sp frames
-depth_left _ to sp frames = length frames
+abbrev pub remaining_depth : StackAction → ℕ → ℕ → List Frame → ℕ
+remaining_depth action.Pop to sp frames = depth_after_return to sp frames
+remaining_depth action.PopThenPush to sp frames = depth_after_return to sp frames
+remaining_depth _ to sp frames = length frames
 
 -- the frames that remain after the pop of a transfer, or all of them if it does not pop
 abbrev pub popped : List Frame → Transfer → List Frame
-popped frames t = take (depth_left t.action t.to t.sp frames) frames
+popped frames t = take (remaining_depth t.action t.to t.sp frames) frames
 
 -- whether a transfer pushes a frame onto the frames left by its pop; a call at the maximum depth counts as a jump
 abbrev pub is_pushed : List Frame → Transfer → Bool
-is_pushed left t = pushes_frame t.action && nat_lt (length left) most_frames
+is_pushed left t = pushes_frame t.action && nat_lt (length left) max_frames
 
 -- the frame that a call pushes
 abbrev pub frame_of : Transfer → Frame

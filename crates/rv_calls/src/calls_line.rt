@@ -3,8 +3,8 @@
 ghost use Rattle.std.specs.Prelude.{◌≡◌, ◌==◌, ◌++◌, ◌-◌, ◌≤◌, OnOk, length, reverse, take, option_map};
 ghost use Rattle.std.specs.List.{flat_map};
 ghost use Rattle.rv_trace.specs.SymbolSearch.{symbol_at};
-ghost use Rattle.rv_calls.specs.CallsLine.{call_text, calls_line, calls_text, more_text, most_shown, place_text};
-ghost use Rattle.rv_calls.specs.CallsLine.{places_text, rest_text, symbol_or_address};
+ghost use Rattle.rv_calls.specs.CallsLine.{call_text, calls_line, calls_text, more_text, max_shown, place_text};
+ghost use Rattle.rv_calls.specs.CallsLine.{call_addresses_text, rest_text, symbol_or_address};
 
 use crate::frames::{Frame, Frames};
 use crate::run::Calls;
@@ -14,7 +14,7 @@ use rv_trace::{
 use std::alloc::{AllocError, Global};
 
 /// The maximum number of calls shown; with the final pc there are 32 addresses.
-const MOST_SHOWN: usize = 31;
+const MAX_SHOWN: usize = 31;
 
 /// Appends the line that shows the calls which had not returned when a run ended, or nothing if all had returned: the final pc and the
 /// address of each call, innermost first, at most 32 addresses, and then the number of further calls. Addresses are shown by the symbols of
@@ -47,13 +47,13 @@ fn push_calls_line(
         ++ calls_line elf.now.image.now elf.now.bytes.now pc frames.now) }
 {
     push_text(bytes, "     calls: ")?;
-    push_places(alloc, bytes, elf, pc, frames.as_slice())?;
+    push_call_addresses(alloc, bytes, elf, pc, frames.as_slice())?;
     push_text(bytes, "\n")
 }
 
 // Appends the final pc, the addresses of the innermost calls, and the number of further calls.
-#[tactic(auto, unfolding(crate::specs::CallsLine::places_text))]
-fn push_places(
+#[tactic(auto, unfolding(crate::specs::CallsLine::call_addresses_text))]
+fn push_call_addresses(
     alloc: Global,
     bytes: &mut Vec<u8>,
     elf: &ElfFile<'_>,
@@ -61,9 +61,9 @@ fn push_places(
     frames: &[Frame],
 ) -> Result<(), AllocError>
     ensures { OnOk result (bytes.new.items ≡ bytes.old.items
-        ++ places_text elf.now.image.now elf.now.bytes.now pc frames.now) }
+        ++ call_addresses_text elf.now.image.now elf.now.bytes.now pc frames.now) }
 {
-    push_place(alloc, bytes, elf, pc)?;
+    push_address_text(alloc, bytes, elf, pc)?;
     push_calls(alloc, bytes, elf, frames)?;
     push_rest(bytes, frames)
 }
@@ -76,9 +76,9 @@ fn push_calls(
     frames: &[Frame],
 ) -> Result<(), AllocError>
     ensures { OnOk result (bytes.new.items ≡ bytes.old.items
-        ++ flat_map (call_text elf.now.image.now elf.now.bytes.now) (take most_shown (reverse frames.now))) }
+        ++ flat_map (call_text elf.now.image.now elf.now.bytes.now) (take max_shown (reverse frames.now))) }
 {
-    for n in 0..frames.len().min(MOST_SHOWN) {
+    for n in 0..frames.len().min(MAX_SHOWN) {
         push_call(alloc, bytes, elf, frames[frames.len() - 1 - n])?;
     }
     Ok(())
@@ -95,11 +95,11 @@ fn push_call(
         ++ call_text elf.now.image.now elf.now.bytes.now frame) }
 {
     push_text(bytes, " <- ")?;
-    push_place(alloc, bytes, elf, frame.call)
+    push_address_text(alloc, bytes, elf, frame.call)
 }
 
 // Appends a code address as symbol and offset, or as a number if it has no symbol.
-fn push_place(
+fn push_address_text(
     alloc: Global,
     bytes: &mut Vec<u8>,
     elf: &ElfFile<'_>,
@@ -139,12 +139,12 @@ fn push_symbol_or_address(
 fn push_rest(bytes: &mut Vec<u8>, frames: &[Frame]) -> Result<(), AllocError>
     ensures { OnOk result (bytes.new.items ≡ bytes.old.items ++ rest_text frames.now) }
 {
-    push_more(bytes, frames.len().saturating_sub(MOST_SHOWN))
+    push_more_calls(bytes, frames.len().saturating_sub(MAX_SHOWN))
 }
 
 // Appends the number of further calls, or nothing if there are none.
 #[tactic(auto, unfolding(crate::specs::CallsLine::more_text))]
-fn push_more(bytes: &mut Vec<u8>, count: usize) -> Result<(), AllocError>
+fn push_more_calls(bytes: &mut Vec<u8>, count: usize) -> Result<(), AllocError>
     ensures { OnOk result (bytes.new.items ≡ bytes.old.items ++ more_text count) }
 {
     if count == 0 {

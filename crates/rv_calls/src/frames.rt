@@ -1,7 +1,7 @@
 //! Frames, and the effect of a transfer of control on them.
 
 ghost use Rattle.std.specs.Prelude.{◌≡◌, ◌==◌, ◌≤◌, not, nat_le, OnOk, length};
-ghost use Rattle.rv_calls.specs.Stack.{after_transfer, depth_above, depth_after_return, depth_left, depth_up_to_return, frame_of, most_frames};
+ghost use Rattle.rv_calls.specs.Stack.{after_transfer, depth_above, depth_after_return, remaining_depth, depth_up_to_return, frame_of, max_frames};
 
 use crate::action::StackAction;
 use crate::transfer::Transfer;
@@ -23,16 +23,16 @@ pub struct Frame {
 pub type Frames = Sequence<Frame>;
 
 /// The maximum number of frames kept. A call beyond it counts as a jump.
-pub const MOST_FRAMES: usize = 4096;
+pub const MAX_FRAMES: usize = 4096;
 
 /// Applies a transfer of control to the frames: first its pop, if it has one, and then its push.
 #[tactic(auto, unfolding(crate::specs::Stack::after_transfer))]
-pub fn pass_control(frames: &mut Vec<Frame>, transfer: Transfer) -> Result<(), AllocError>
+pub fn apply_transfer(frames: &mut Vec<Frame>, transfer: Transfer) -> Result<(), AllocError>
     ensures { OnOk result (frames.new.items ≡ after_transfer frames.old.items transfer) }
 {
-    let left = frames_left(frames.as_slice(), transfer);
+    let left = remaining_frames(frames.as_slice(), transfer);
     frames.truncate(left);
-    if transfer.action.pushes_frame() && frames.len() < MOST_FRAMES {
+    if transfer.action.pushes_frame() && frames.len() < MAX_FRAMES {
         frames.push(frame_of(transfer))?;
     }
     Ok(())
@@ -50,8 +50,8 @@ fn frame_of(transfer: Transfer) -> Frame
 }
 
 /// Returns how many frames remain after the pop of a transfer, or all of them if it does not pop.
-pub fn frames_left(frames: &[Frame], transfer: Transfer) -> usize
-    ensures { result ≡ depth_left transfer.action transfer.to transfer.sp frames.now }
+pub fn remaining_frames(frames: &[Frame], transfer: Transfer) -> usize
+    ensures { result ≡ remaining_depth transfer.action transfer.to transfer.sp frames.now }
 {
     match transfer.action {
         StackAction::Pop | StackAction::PopThenPush => {

@@ -3,9 +3,9 @@
 ghost use Rattle.std.specs.Prelude.{◌≤◌, ℕ, length};
 ghost use Rattle.rv_trace.specs.State.{State};
 ghost use Rattle.rv_calls.specs.Calls.{frames_of_run};
-ghost use Rattle.rv_calls.specs.Stack.{most_frames};
+ghost use Rattle.rv_calls.specs.Stack.{max_frames};
 
-/// Proves that a run never has more than [`MOST_FRAMES`](crate::MOST_FRAMES) frames.
+/// Proves that a run never has more than [`MAX_FRAMES`](crate::MAX_FRAMES) frames.
 pub fn frames_are_few()
-    ensures { (n : ℕ) (s : State) → length (frames_of_run n s) ≤ most_frames }
+    ensures { (n : ℕ) (s : State) → length (frames_of_run n s) ≤ max_frames }
 {}

@@ -6,7 +6,7 @@ ghost use Rattle.rv_trace.specs.Machine.{state_of};
 ghost use Rattle.rv_trace.specs.Trace.{job_at, state_after};
 ghost use Rattle.rv_calls.specs.Calls.{calls_in, calls_of_run, frames_of_run};
 
-use crate::frames::{Frame, Frames, pass_control};
+use crate::frames::{Frame, Frames, apply_transfer};
 use crate::transfer::next_transfer;
 use rv_trace::{JobImage, Machine, machine_at};
 use std::alloc::{AllocError, Global};
@@ -21,7 +21,7 @@ pub struct Calls {
 }
 
 /// Returns the pc and the call stack at the end of a machine's run within a budget of steps. The stack is empty when the run begins. Takes
-/// longer than the run alone, and memory for at most [`MOST_FRAMES`](crate::MOST_FRAMES) frames.
+/// longer than the run alone, and memory for at most [`MAX_FRAMES`](crate::MAX_FRAMES) frames.
 pub fn calls_of_run(alloc: Global, machine: Machine, budget: u32) -> Result<Calls, AllocError>
     ensures { IfOk result (λ calls. calls ≡ calls_of_run budget (state_of machine)) }
 {
@@ -47,7 +47,7 @@ fn frames_of_run(
         let Some(transfer) = next_transfer(machine) else {
             break;
         };
-        pass_control(&mut frames, transfer)?;
+        apply_transfer(&mut frames, transfer)?;
     }
     Ok(frames)
 }

@@ -39,7 +39,7 @@ pub fn next_transfer(machine: &mut Machine) -> Option<Transfer>
     let from = machine.pc();
     let sp = machine.reg(SP);
     let code = code_at(machine.bus(), from);
-    if !step_once(machine) {
+    if !execute_step(machine) {
         return None;
     }
     Some(Transfer {
@@ -66,7 +66,7 @@ pub fn transfer_by(instr: Instr, length: u32, from: u32, stack: u32, to: u32) ->
 }
 
 // Executes a machine's next instruction, and returns whether it completed.
-fn step_once(machine: &mut Machine) -> bool
+fn execute_step(machine: &mut Machine) -> bool
     ensures { MatchBool result (step_of (state_of machine.old) ≡ Ok (state_of machine.new))
         ((is_ok (step_of (state_of machine.old)) ≡ false)
         × (state_of machine.new ≡ state_of machine.old)) }

@@ -5,17 +5,17 @@ use Rattle.std.specs.Prelude.{option_map, unwrap_or}
 use Rattle.std.proofs.lemmas.List.{length-map}
 use Rattle.regex.specs.Patterns.{Re}
 use Rattle.rv_command.specs.Files.{FileContents}
-use Rattle.rv_choice.specs.Choice.{chosen_marks}
-use Rattle.rv_choice.specs.Choice.{remaining_marks}
-use Rattle.rv_choice.specs.Chosen.{AreChosenBeside, AreLeft, AreRequested, IsChoice}
+use Rattle.rv_choice.specs.Choice.{selection_by_criteria}
+use Rattle.rv_choice.specs.Choice.{remaining_selection}
+use Rattle.rv_choice.specs.Chosen.{AreChosenWithReport, IsRemainingSelection, AreRequested, IsChoice}
 use Rattle.rv_command.specs.declared_run.RunArgs.{RunArgs}
 use Rattle.rv_expect.specs.declared.passing.Rule.{Rule}
 use Rattle.rv_expect.specs.declared_job.Job.{Job}
 
 beside_count : (known : Option FileContents) (failed : Option (Bor (List ℕ))) (pattern : Option Re) (words : RunArgs)
     (rule : Rule) (jobs : List Job) (marks : List Bool) (notes : List ℕ)
-    → AreChosenBeside known failed pattern words rule jobs (Some marks) notes → length marks ≡ length jobs
-unfolding chosen_marks
+    → AreChosenWithReport known failed pattern words rule jobs (Some marks) notes → length marks ≡ length jobs
+unfolding selection_by_criteria
 beside_count known None pattern words rule jobs marks notes are =
     ap (λ o. length (unwrap_or o [])) are.0 ∙ length-map jobs _
 beside_count known (Some path) pattern words rule jobs marks notes are =
@@ -35,15 +35,15 @@ wanted_counts known words rule jobs None notes are = tt
 wanted_counts known words rule jobs (Some marks) notes are = wanted_count known words rule jobs marks.items notes are
 
 left_count : (pattern : Re) (jobs : List Job) (marks : List Bool) → length marks ≡ length jobs
-    → length (remaining_marks pattern jobs marks) ≡ length jobs
-unfolding remaining_marks
+    → length (remaining_selection pattern jobs marks) ≡ length jobs
+unfolding remaining_selection
 left_count pattern [] marks same = refl
 left_count pattern (job ∷ jobs) (mark ∷ marks) same =
     omega (arith, left_count pattern jobs marks (omega (arith, same)))
 left_count pattern (job ∷ jobs) [] same = absurd (omega (arith, same))
 
 left_some : (excluded : Option Re) (jobs : List Job) (wanted : Option (List Bool)) (marks : List Bool)
-    → ((m : List Bool) → wanted ≡ Some m → length m ≡ length jobs) → AreLeft excluded jobs wanted (Some marks)
+    → ((m : List Bool) → wanted ≡ Some m → length m ≡ length jobs) → IsRemainingSelection excluded jobs wanted (Some marks)
     → length marks ≡ length jobs
 left_some None jobs wanted marks count left = count marks (sym left)
 left_some (Some pattern) jobs (Some wanted) marks count left =

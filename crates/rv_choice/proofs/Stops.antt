@@ -4,10 +4,10 @@ use Rattle.std.specs.Prelude.{option_map}
 use Rattle.std.specs.Borrow.{Bor}
 use Rattle.std.specs.declared.alloc.AllocError.{AllocError}
 use Rattle.rv_command.specs.Files.{FileContents}
-use Rattle.rv_command.specs.RvtestWords.{borrowed_text}
+use Rattle.rv_command.specs.RvtestArgs.{borrowed_text}
 use Rattle.rv_command.specs.declared_run.RunArgs.{RunArgs}
 use Rattle.rv_command.proofs.Public.{told_stop}
-use Rattle.rv_command.specs.Stops.{IsRequestedUnreadStop, stop_of_lines}
+use Rattle.rv_command.specs.Stops.{IsRequestedUnreadStop, stop_with_message}
 use Rattle.rv_command.specs.declared.stop.Lines.TheVariants as lines
 use Rattle.rv_command.specs.declared.stop.Stop.{Stop}
 use Rattle.rv_command.specs.declared.stop.Stop.TheVariants as why
@@ -15,8 +15,8 @@ use Rattle.rv_expect.specs.declared.passing.Rule.{Rule}
 use Rattle.rv_expect.specs.declared_job.Job.{Job}
 use Rattle.regex.specs.Strings.{regex_source}
 use Rattle.regex.specs.declared.string.regex.Regex.{Regex}
-use Rattle.rv_choice.specs.Choice.{IsReadByDefault}
-use Rattle.rv_choice.specs.ChoiceStops.{IsChoiceStop, IsEmptiedStop, IsPatternStop, IsRefusedPattern, exclusion, memory, pattern, report}
+use Rattle.rv_choice.specs.Choice.{HasDefaultOptions}
+use Rattle.rv_choice.specs.ChoiceStops.{IsChoiceStop, IsEmptiedStop, IsPatternStop, IsInvalidPatternStop, exclusion, memory, pattern, report}
 use Rattle.rv_choice.specs.ChoiceStops.{unknown}
 use Rattle.rv_choice.specs.Chosen.{AreRequested}
 use Rattle.rv_choice.specs.declared.chooser.Choice.{Choice}
@@ -45,17 +45,17 @@ stop_of_pattern known words rule jobs stop said =
 -- of the pattern by which jobs are left out: memory was wanting, or it is none
 pub stop_of_no_exclusion : (known : Option FileContents) (words : RunArgs) (rule : Rule) (jobs : List Job) (stop : Stop)
     → IsSomeAnd (borrowed_text words.exclude)
-    (λ text. (stop ≡ why.OutOfMemory) ⊎ IsRefusedPattern (codes "--exclude <REGEX>") text stop)
+    (λ text. (stop ≡ why.OutOfMemory) ⊎ IsInvalidPatternStop (codes "--exclude <REGEX>") text stop)
     → IsChoiceStop known words rule jobs stop
 stop_of_no_exclusion known words rule jobs stop said =
     let Says : List ℕ → Type 0 =
-    λ text. (stop ≡ why.OutOfMemory) ⊎ IsRefusedPattern (codes "--exclude <REGEX>") text stop in
+    λ text. (stop ≡ why.OutOfMemory) ⊎ IsInvalidPatternStop (codes "--exclude <REGEX>") text stop in
     let some = some_value (borrowed_text words.exclude) Says said in
     ⊎_elim memory (λ refused. exclusion some.0 some.1.0 (inl refused)) some.1.1
 
 emptied_by : (known : Option FileContents) (words : RunArgs) (rule : Rule) (jobs : List Job) (notes : List ℕ) (stop : Stop)
     (marks : Vec Bool Global) (regex : Regex) → AreRequested known words rule jobs (Some marks.items) notes
-    → Some (regex_source regex) ≡ borrowed_text words.exclude → IsReadByDefault regex
+    → Some (regex_source regex) ≡ borrowed_text words.exclude → HasDefaultOptions regex
     → IsEmptiedStop words.list.now jobs marks.items regex stop → IsChoiceStop known words rule jobs stop
 emptied_by known words rule jobs notes stop marks regex are source read is =
     exclusion (regex_source regex) (sym source) (inr (
@@ -75,7 +75,7 @@ emptied_by known words rule jobs notes stop marks regex are source read is =
 pub stop_of_emptied : (known : Option FileContents) (words : RunArgs) (rule : Rule) (jobs : List Job) (notes : List ℕ)
     (stop : Stop) (marks : Option (Vec Bool Global)) (excluded : Option Regex) (by : Option (Bor Regex))
     → AreRequested known words rule jobs (option_map (λ marks. marks.items) marks) notes
-    → option_map regex_source excluded ≡ borrowed_text words.exclude → IfSome excluded IsReadByDefault
+    → option_map regex_source excluded ≡ borrowed_text words.exclude → IfSome excluded HasDefaultOptions
     → option_map (λ regex. regex.now) by ≡ excluded
     → (stop ≡ why.OutOfMemory) ⊎ IsSomeAnd by (λ regex. IsSomeAnd marks
     (λ marks. IsEmptiedStop words.list.now jobs marks.items regex.now stop))
@@ -105,7 +105,7 @@ said_of_text P args text is holds =
 
 -- a refusal of those lines
 pub unknown_stop : (list : List ℕ) (jobs : List Job) (name : List ℕ) (told : Result (Vec ℕ Global) AllocError) (stop : Stop)
-    → stop ≡ stop_of_lines lines.Refusal told → IfOk told (λ message. IsUnknownNameMessage list jobs name message.items)
+    → stop ≡ stop_with_message lines.Refusal told → IfOk told (λ message. IsUnknownNameMessage list jobs name message.items)
     → IsUnknownNameStop list jobs name stop
 unknown_stop list jobs name (Ok message) stop is said =
     inr (message.items, said, told_stop lines.Refusal (Ok message) message.items stop is refl)

@@ -42,8 +42,8 @@ is_chosen_name only pattern failed name =
     is_chosen (choice_by_names only name) (choice_by_pattern pattern name) (choice_by_names failed name)
 
 -- for each job, in list order, whether it is chosen: by the names `only`, by the pattern, or by the names `failed` from a report
-unfoldable pub chosen_marks : Option ChosenNames → Option Re → Option ChosenNames → List Job → List Bool
-chosen_marks only pattern failed jobs = map (λ job. is_chosen_name only pattern failed job.name) jobs
+unfoldable pub selection_by_criteria : Option ChosenNames → Option Re → Option ChosenNames → List Job → List Bool
+selection_by_criteria only pattern failed jobs = map (λ job. is_chosen_name only pattern failed job.name) jobs
 
 -- the names that these references point to
 abbrev pub borrowed_names : List (Bor (List ℕ)) → ChosenNames
@@ -58,8 +58,8 @@ abbrev pub pattern_of : Option (Bor Regex) → Option Re
 pattern_of pattern = option_map (λ regex. regex_pattern regex.now) pattern
 
 -- the regular expression was compiled from its text with the default options
-abbrev pub IsReadByDefault : Regex → Type 0
-IsReadByDefault regex = (regex_config regex ≡ default_config) × IsReadFromSource regex
+abbrev pub HasDefaultOptions : Regex → Type 0
+HasDefaultOptions regex = (regex_config regex ≡ default_config) × IsReadFromSource regex
 
 -- the names of the rows that failed by this rule, in order
 abbrev pub failed_job_names : Rule → List Row → List (List ℕ)
@@ -71,8 +71,8 @@ abbrev pub has_row_named : List Row → List ℕ → Bool
 has_row_named rows name = list_any (λ (row : Row). bytes_eq row.name name) rows
 
 -- the number of jobs whose names no row has
-abbrev pub jobs_without_row : List Job → List Row → ℕ
-jobs_without_row jobs rows = length (filter (λ (job : Job). not (has_row_named rows job.name)) jobs)
+abbrev pub count_jobs_without_row : List Job → List Row → ℕ
+count_jobs_without_row jobs rows = length (filter (λ (job : Job). not (has_row_named rows job.name)) jobs)
 
 -- the names of `--only`, or `None` if the option is not given
 abbrev pub requested_names : List (Bor (List ℕ)) → Option ChosenNames
@@ -88,19 +88,19 @@ abbrev pub stays_selected : Bool → Bool → Bool
 stays_selected mark is_found = mark && not is_found
 
 -- the selection without the jobs whose names the pattern of `--exclude` matches
-unfoldable pub remaining_marks : Re → List Job → List Bool → List Bool
-remaining_marks pattern [] marks = []
-remaining_marks pattern (job ∷ jobs) [] = []
-remaining_marks pattern (job ∷ jobs) (mark ∷ marks) =
-    stays_selected mark (is_some (find_str pattern job.name 0)) ∷ remaining_marks pattern jobs marks
+unfoldable pub remaining_selection : Re → List Job → List Bool → List Bool
+remaining_selection pattern [] marks = []
+remaining_selection pattern (job ∷ jobs) [] = []
+remaining_selection pattern (job ∷ jobs) (mark ∷ marks) =
+    stays_selected mark (is_some (find_str pattern job.name 0)) ∷ remaining_selection pattern jobs marks
 
 -- whether at least one job is selected
 abbrev pub is_any_selected : List Bool → Bool
 is_any_selected marks = list_any (λ mark. mark) marks
 
 -- whether some job is selected in `marks`, but none in `left`
-abbrev pub are_emptied : List Bool → List Bool → Bool
-are_emptied marks left = is_any_selected marks && not (is_any_selected left)
+abbrev pub is_emptied : List Bool → List Bool → Bool
+is_emptied marks left = is_any_selected marks && not (is_any_selected left)
 
 -- whether at least one job has this name
 abbrev pub has_job_named : List Job → List ℕ → Bool

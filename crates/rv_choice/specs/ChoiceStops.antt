@@ -7,7 +7,7 @@ use Rattle.regex.specs.declared.error.Error as patterns
 use Rattle.regex.specs.declared.error.Error.TheVariants as refused
 use Rattle.regex.specs.declared.string.regex.Regex.{Regex}
 use Rattle.rv_command.specs.Files.{FileContents}
-use Rattle.rv_command.specs.RvtestWords.{borrowed_text}
+use Rattle.rv_command.specs.RvtestArgs.{borrowed_text}
 use Rattle.rv_command.specs.declared_run.RunArgs.{RunArgs}
 use Rattle.rv_choice.specs.BadValues.{IsBadPatternStop}
 use Rattle.rv_command.specs.Stops.{IsRequestedUnreadStop, IsStop}
@@ -16,7 +16,7 @@ use Rattle.rv_command.specs.declared.stop.Stop.TheVariants as why
 use Rattle.rv_expect.specs.declared.passing.Rule.{Rule}
 use Rattle.rv_expect.specs.declared_job.Job.{Job}
 use Rattle.rv_command.specs.Printable.{printable_text, printable_value}
-use Rattle.rv_choice.specs.Choice.{IsReadByDefault, are_emptied, is_found_in_names, remaining_marks}
+use Rattle.rv_choice.specs.Choice.{HasDefaultOptions, is_emptied, is_found_in_names, remaining_selection}
 use Rattle.rv_choice.specs.Chosen.{AreRequested}
 use Rattle.rv_choice.specs.UnknownName.{IsUnknownNameStop, unknown_name}
 
@@ -25,12 +25,12 @@ abbrev pub IsNotAPattern : List ℕ → Type 0
 IsNotAPattern text = (error : patterns.Error) × (error ≢ refused.OutOfMemory) × IsTextRefusal default_config text error
 
 -- the text of the option is not a regular expression, and the stop reports this
-abbrev pub IsRefusedPattern : List ℕ → List ℕ → Stop → Type 0
-IsRefusedPattern option text stop = IsNotAPattern text × IsBadPatternStop option text stop
+abbrev pub IsInvalidPatternStop : List ℕ → List ℕ → Stop → Type 0
+IsInvalidPatternStop option text stop = IsNotAPattern text × IsBadPatternStop option text stop
 
 -- the text is a regular expression that matches the name of no job
-abbrev pub IsUnmatched : List ℕ → List Job → Type 0
-IsUnmatched text jobs = (pattern : Regex) × (regex_source pattern ≡ text) × IsReadByDefault pattern
+abbrev pub IsUnmatchedPattern : List ℕ → List Job → Type 0
+IsUnmatchedPattern text jobs = (pattern : Regex) × (regex_source pattern ≡ text) × HasDefaultOptions pattern
     × (is_found_in_names (regex_pattern pattern) jobs ≡ false)
 
 -- the message that the pattern of `--match` matches the name of no job of the list
@@ -41,11 +41,11 @@ unmatched_pattern list text = codes "rvtest: " ++ printable_text list ++ codes "
 -- why a command stopped: memory ran out, or the text of `--match` is not a regular expression, or it matches the name of no job
 abbrev pub IsPatternStop : List ℕ → List ℕ → List Job → Stop → Type 0
 IsPatternStop list text jobs stop = (stop ≡ why.OutOfMemory)
-    ⊎ (IsRefusedPattern (codes "--match <REGEX>") text stop
-    ⊎ (IsUnmatched text jobs × IsStop 2 (unmatched_pattern list text) stop))
+    ⊎ (IsInvalidPatternStop (codes "--match <REGEX>") text stop
+    ⊎ (IsUnmatchedPattern text jobs × IsStop 2 (unmatched_pattern list text) stop))
 
 -- the pattern with this text excludes all requested jobs
-pub record LeavesNone (known : Option FileContents) (words : RunArgs) (rule : Rule) (jobs : List Job) (text : List ℕ)
+pub record ExcludesAll (known : Option FileContents) (words : RunArgs) (rule : Rule) (jobs : List Job) (text : List ℕ)
     : Type 0 where
   -- the selection before any jobs are excluded
   pub requested : List Bool
@@ -53,8 +53,8 @@ pub record LeavesNone (known : Option FileContents) (words : RunArgs) (rule : Ru
   pub are : AreRequested known words rule jobs (Some requested) notes
   pub pattern : Regex
   pub source : regex_source pattern ≡ text
-  pub read : IsReadByDefault pattern
-  pub emptied : are_emptied requested (remaining_marks (regex_pattern pattern) jobs requested) ≡ true
+  pub read : HasDefaultOptions pattern
+  pub emptied : is_emptied requested (remaining_selection (regex_pattern pattern) jobs requested) ≡ true
 
 -- the message that the pattern of `--exclude` leaves no jobs of the list
 abbrev pub emptied_choice : List ℕ → List ℕ → List ℕ
@@ -63,13 +63,13 @@ emptied_choice list text = codes "rvtest: " ++ printable_text list ++ codes ": n
 
 -- the pattern excludes all selected jobs, and the stop reports this
 abbrev pub IsEmptiedStop : List ℕ → List Job → List Bool → Regex → Stop → Type 0
-IsEmptiedStop list jobs marks pattern stop = (are_emptied marks (remaining_marks (regex_pattern pattern) jobs marks) ≡ true)
+IsEmptiedStop list jobs marks pattern stop = (is_emptied marks (remaining_selection (regex_pattern pattern) jobs marks) ≡ true)
     × IsStop 2 (emptied_choice list (regex_source pattern)) stop
 
 -- why a command stopped: the text of `--exclude` is not a regular expression, or it excludes all requested jobs
 abbrev pub IsExclusionStop : Option FileContents → RunArgs → Rule → List Job → List ℕ → Stop → Type 0
-IsExclusionStop known words rule jobs text stop = IsRefusedPattern (codes "--exclude <REGEX>") text stop
-    ⊎ (LeavesNone known words rule jobs text × IsStop 2 (emptied_choice words.list.now text) stop)
+IsExclusionStop known words rule jobs text stop = IsInvalidPatternStop (codes "--exclude <REGEX>") text stop
+    ⊎ (ExcludesAll known words rule jobs text × IsStop 2 (emptied_choice words.list.now text) stop)
 
 -- why choosing the jobs of a list stopped: memory ran out, a name or pattern chooses or leaves no job, or a report could not be read
 pub data IsChoiceStop (known : Option FileContents) (words : RunArgs) (rule : Rule) (jobs : List Job) (stop : Stop)

@@ -6,7 +6,7 @@ use Rattle.std.specs.List.{after_first, before_first}
 use Rattle.std.specs.Str.Parse.{IsNumeral, digits_value}
 use Rattle.hex.specs.Hex.{encode_lower}
 use Rattle.sha2.specs.Sha256.{sha256}
-use Rattle.rv_command.specs.Limits.{most_jobs}
+use Rattle.rv_command.specs.Limits.{max_jobs}
 use Rattle.rv_command.specs.Names.{is_name}
 use Rattle.rv_choice.specs.BadValues.{bad_value_text}
 use Rattle.rv_command.specs.Stops.{IsUsageStop}
@@ -30,13 +30,13 @@ number_before_slash text = digits_value 10 (before_slash text)
 abbrev pub number_after_slash : List ℕ → ℕ
 number_after_slash text = digits_value 10 (after_slash text)
 
--- the text is K/N, where K and N consist of digits, K is from 1 to N, and N is at most `most_jobs`
+-- the text is K/N, where K and N consist of digits, K is from 1 to N, and N is at most `max_jobs`
 pub record IsShardText (text : List ℕ) : Type 0 where
   pub number : IsNumeral 10 (before_slash text)
   pub shards : IsNumeral 10 (after_slash text)
   pub first : 0 < number_before_slash text
   pub within : number_before_slash text ≤ number_after_slash text
-  pub few : number_after_slash text ≤ most_jobs
+  pub few : number_after_slash text ≤ max_jobs
 
 -- there is a shard exactly if there is a text, and then the shard has the numbers K and N of the text K/N
 abbrev pub IsShardOf : Option (Bor (List ℕ)) → Option Shard → Type 0
@@ -60,10 +60,10 @@ bad_stamp_text stamp =
     bad_value_text (codes "--stamp <TEXT>") stamp (codes "expected 1 to 64 letters, digits, '.', '_' or '-'")
 
 -- the stop reports that the text of `--shard` is not K/N, or that the text of `--stamp` is not a name
-abbrev pub IsPartStop : List ℕ → Option (Bor (List ℕ)) → Stop → Type 0
-IsPartStop text stamp stop = ((IsShardText text → ⊥) × IsUsageStop (bad_shard_text text) stop)
+abbrev pub IsInvalidShardStop : List ℕ → Option (Bor (List ℕ)) → Stop → Type 0
+IsInvalidShardStop text stamp stop = ((IsShardText text → ⊥) × IsUsageStop (bad_shard_text text) stop)
     ⊎ IsSomeAnd stamp (λ stamp. (is_name stamp.now ≡ false) × IsUsageStop (bad_stamp_text stamp.now) stop)
 
 -- why a command stopped: memory ran out, or a shard is requested, and the text of `--shard` or `--stamp` is invalid
 abbrev pub IsShardStop : Option (Bor (List ℕ)) → Option (Bor (List ℕ)) → Stop → Type 0
-IsShardStop shard stamp stop = (stop ≡ why.OutOfMemory) ⊎ IsSomeAnd shard (λ text. IsPartStop text.now stamp stop)
+IsShardStop shard stamp stop = (stop ≡ why.OutOfMemory) ⊎ IsSomeAnd shard (λ text. IsInvalidShardStop text.now stamp stop)

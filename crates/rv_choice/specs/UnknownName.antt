@@ -7,7 +7,7 @@ use Rattle.std.specs.List.{find}
 use Rattle.rv_command.specs.Stops.{IsStop}
 use Rattle.rv_command.specs.declared.stop.Stop.{Stop}
 use Rattle.rv_command.specs.declared.stop.Stop.TheVariants as why
-use Rattle.rv_command.specs.NearestJob.{IsNearJob, IsNearestJob, job_name}
+use Rattle.rv_command.specs.NearestJob.{IsNearJob, IsJobNameSuggestion, job_name}
 use Rattle.rv_expect.specs.declared_job.Job.{Job}
 use Rattle.rv_command.specs.Printable.{printable_text, printable_value}
 use Rattle.rv_choice.specs.Choice.{has_job_named}
@@ -40,14 +40,14 @@ abbrev pub shown_names : List Job → List ℕ
 shown_names jobs = names_from 0 (length jobs) (take 20 jobs) ++ codes "\"" ++ names_left (length jobs)
 
 -- the job at index `place` is the one whose name is nearest, and its name is near enough to be suggested
-abbrev pub IsMeant : List Job → List ℕ → ℕ → Type 0
-IsMeant jobs name place = IsNearestJob jobs name place × IsNearJob jobs name place
+abbrev pub IsSuggestedJob : List Job → List ℕ → ℕ → Type 0
+IsSuggestedJob jobs name place = IsJobNameSuggestion jobs name place × IsNearJob jobs name place
 
 -- the hint is the name of the job that was probably meant or, if there is none, the names of the jobs
 abbrev pub IsNameHint : List Job → List ℕ → List ℕ → Type 0
 IsNameHint jobs name hint =
-    ((place : ℕ) × IsMeant jobs name place × (hint ≡ codes "\"; a similar name exists: \"" ++ job_name jobs place ++ codes "\""))
-    ⊎ (((place : ℕ) → IsMeant jobs name place → ⊥) × (hint ≡ shown_names jobs))
+    ((place : ℕ) × IsSuggestedJob jobs name place × (hint ≡ codes "\"; a similar name exists: \"" ++ job_name jobs place ++ codes "\""))
+    ⊎ (((place : ℕ) → IsSuggestedJob jobs name place → ⊥) × (hint ≡ shown_names jobs))
 
 -- the message says that no job of the list has this name, with a hint
 abbrev pub IsUnknownNameMessage : List ℕ → List Job → List ℕ → List ℕ → Type 0

@@ -36,7 +36,7 @@ pub(crate) fn bad_value_stop(
     match what {
         Ok(what) => {
             let kind = ErrorKind::ValueValidation;
-            Stop::of_words_error(usage_error(alloc, command.command(alloc), kind, what.as_str()))
+            Stop::of_args_error(usage_error(alloc, command.command(alloc), kind, what.as_str()))
         }
         Err(error) => Stop::from(error),
     }

@@ -4,24 +4,24 @@ ghost use Rattle.std.specs.Prelude.{◌≡◌, ◌⊎◌, ◌++◌, IfErr, IfOk,
 ghost use Rattle.std.specs.Prelude.{false, is_some, length, option_map};
 ghost use Rattle.regex.specs.Strings.{regex_pattern, regex_source};
 ghost use Rattle.rv_choice.specs.BadValues.{IsBadPatternText, IsBadPatternStop};
-ghost use Rattle.rv_choice.specs.Choice.{IsReadByDefault, are_emptied, borrowed_names, chosen_marks, failed_job_names, is_any_selected};
-ghost use Rattle.rv_choice.specs.Choice.{is_found_in_names, jobs_without_row, remaining_marks, optional_names, pattern_of, requested_names};
-ghost use Rattle.rv_choice.specs.ChoiceStops.{IsChoiceStop, IsEmptiedStop, IsPatternStop, IsRefusedPattern, emptied_choice};
+ghost use Rattle.rv_choice.specs.Choice.{HasDefaultOptions, is_emptied, borrowed_names, selection_by_criteria, failed_job_names, is_any_selected};
+ghost use Rattle.rv_choice.specs.Choice.{is_found_in_names, count_jobs_without_row, remaining_selection, optional_names, pattern_of, requested_names};
+ghost use Rattle.rv_choice.specs.ChoiceStops.{IsChoiceStop, IsEmptiedStop, IsPatternStop, IsInvalidPatternStop, emptied_choice};
 ghost use Rattle.rv_choice.specs.ChoiceStops.{unmatched_pattern};
-ghost use Rattle.rv_choice.specs.Chosen.{AreChosenBy, AreChosenFrom, AreLeft, AreRequested, IsChoice};
+ghost use Rattle.rv_choice.specs.Chosen.{AreChosenBy, AreChosenFrom, IsRemainingSelection, AreRequested, IsChoice};
 ghost use Rattle.rv_choice.specs.FailedJobNotes.{failed_job_notes};
 ghost use Rattle.rv_choice.specs.UnknownName.{IsUnknownNameStop, unknown_name};
-ghost use Rattle.rv_command.specs.RvtestWords.{borrowed_text};
-ghost use Rattle.rv_command.specs.Messages.{cut_off_note};
+ghost use Rattle.rv_command.specs.RvtestArgs.{borrowed_text};
+ghost use Rattle.rv_command.specs.Messages.{truncation_note};
 ghost use Rattle.rv_command.specs.Stops.{IsRequestedUnreadStop, IsStop};
 
 use crate::bad_value::{bad_value_stop, bad_value_text};
-use crate::failed_jobs::{failed_job_names, failed_job_notes, jobs_without_row};
-use crate::marks::{Criteria, chosen_marks, first_unknown_name, remaining_marks};
+use crate::failed_jobs::{failed_job_names, failed_job_notes, count_jobs_without_row};
+use crate::marks::{Criteria, selection_by_criteria, first_unknown_name, remaining_selection};
 use crate::unknown_name::unknown_name_stop;
 use regex::Regex;
 use rv_command::{
-    ChoosingCommand, Inputs, RequestedReport, RunArgs, Span, Stop, cut_off_note,
+    ChoosingCommand, Inputs, RequestedReport, RunArgs, Span, Stop, truncation_note,
     read_requested_report, text_of_spans,
 };
 use rv_expect::{Job, Row, Rule};
@@ -73,7 +73,7 @@ impl<'x, D: Inputs> Chooser<'x, D> {
     {
         let excluded = self.requested_exclusion()?;
         let Choice { marks, notes } = self.requested_selection(jobs)?;
-        let marks = self.leave_out(excluded.as_ref(), marks, jobs)?;
+        let marks = self.without_excluded(excluded.as_ref(), marks, jobs)?;
         Ok(Choice { marks, notes })
     }
 
@@ -105,7 +105,7 @@ impl<'x, D: Inputs> Chooser<'x, D> {
     fn requested_pattern(&self, jobs: &[Job]) -> Result<Option<Regex>, Stop>
         ensures source { IfOk result (λ pattern.
             option_map regex_source pattern ≡ borrowed_text self.now.args.now.pattern) }
-        ensures read { IfOk result (λ pattern. IfSome pattern IsReadByDefault) }
+        ensures read { IfOk result (λ pattern. IfSome pattern HasDefaultOptions) }
         ensures found { IfOk result (λ pattern. IfSome pattern
             (λ regex. is_found_in_names (regex_pattern regex) jobs.now ≡ true)) }
         ensures refused { IfErr result (λ stop. IsSomeAnd (borrowed_text self.now.args.now.pattern)
@@ -126,9 +126,9 @@ impl<'x, D: Inputs> Chooser<'x, D> {
     fn requested_exclusion(&self) -> Result<Option<Regex>, Stop>
         ensures source { IfOk result (λ excluded.
             option_map regex_source excluded ≡ borrowed_text self.now.args.now.exclude) }
-        ensures read { IfOk result (λ excluded. IfSome excluded IsReadByDefault) }
+        ensures read { IfOk result (λ excluded. IfSome excluded HasDefaultOptions) }
         ensures refused { IfErr result (λ stop. IsSomeAnd (borrowed_text self.now.args.now.exclude)
-            (λ text. (stop ≡ Stop.OutOfMemory) ⊎ IsRefusedPattern (codes "--exclude <REGEX>") text stop)) }
+            (λ text. (stop ≡ Stop.OutOfMemory) ⊎ IsInvalidPatternStop (codes "--exclude <REGEX>") text stop)) }
     {
         match self.args.exclude {
             Some(text) => Ok(Some(self.compile_pattern("--exclude <REGEX>", text)?)),
@@ -138,14 +138,14 @@ impl<'x, D: Inputs> Chooser<'x, D> {
 
     // Returns the selection without the jobs whose names the pattern matches; unchanged if there is no pattern or no selection. It is an
     // error if this leaves no jobs.
-    fn leave_out(
+    fn without_excluded(
         &self,
         excluded: Option<&Regex>,
         marks: Option<Vec<bool>>,
         jobs: &[Job],
     ) -> Result<Option<Vec<bool>>, Stop>
         requires counted { IfSome marks (λ marks. length marks.items ≡ length jobs.now) }
-        ensures left { IfOk result (λ left. AreLeft (pattern_of excluded.entry) jobs.now
+        ensures left { IfOk result (λ left. IsRemainingSelection (pattern_of excluded.entry) jobs.now
             (option_map (λ marks. marks.items) marks) (option_map (λ marks. marks.items) left)) }
         ensures stop { IfErr result (λ stop. (stop ≡ Stop.OutOfMemory)
             ⊎ IsSomeAnd excluded.entry (λ regex. IsSomeAnd marks
@@ -157,24 +157,24 @@ impl<'x, D: Inputs> Chooser<'x, D> {
         let Some(marks) = marks else {
             return Ok(None);
         };
-        let left = self.remaining_marks(marks.as_slice(), excluded, jobs)?;
+        let left = self.remaining_selection(marks.as_slice(), excluded, jobs)?;
         Ok(Some(left))
     }
 
     // Returns the selection without the jobs whose names the pattern matches. It is an error if this leaves no jobs.
-    fn remaining_marks(
+    fn remaining_selection(
         &self,
         marks: &[bool],
         excluded: &Regex,
         jobs: &[Job],
     ) -> Result<Vec<bool>, Stop>
         requires counted { length marks.now ≡ length jobs.now }
-        ensures left { IfOk result (λ left. left.items ≡ remaining_marks (regex_pattern excluded.now) jobs.now marks.now) }
-        ensures some { IfOk result (λ left. are_emptied marks.now left.items ≡ false) }
+        ensures left { IfOk result (λ left. left.items ≡ remaining_selection (regex_pattern excluded.now) jobs.now marks.now) }
+        ensures some { IfOk result (λ left. is_emptied marks.now left.items ≡ false) }
         ensures stop { IfErr result (λ stop. (stop ≡ Stop.OutOfMemory)
             ⊎ IsEmptiedStop self.now.args.now.list.now jobs.now marks.now excluded.now stop) }
     {
-        let left = remaining_marks(self.alloc, jobs, marks, excluded)?;
+        let left = remaining_selection(self.alloc, jobs, marks, excluded)?;
         if is_any_selected(marks) && !is_any_selected(left.as_slice()) {
             return Err(emptied_choice_stop(self.alloc, self.args.list, excluded.as_str()));
         }
@@ -192,7 +192,7 @@ impl<'x, D: Inputs> Chooser<'x, D> {
             (λ path. IsRequestedUnreadStop (D.contents self.now.inputs.now) self.now.args.now.partial path stop)) }
     {
         let Some(path) = self.args.failed else {
-            let marks = self.combined_marks(pattern, None, jobs)?;
+            let marks = self.combined_selection(pattern, None, jobs)?;
             return Ok(Choice {
                 marks: Some(marks),
                 notes: Vec::new(self.alloc),
@@ -203,7 +203,7 @@ impl<'x, D: Inputs> Chooser<'x, D> {
             partial: self.args.partial,
         };
         let found = read_requested_report(self.inputs, self.alloc, requested)?;
-        let note = cut_off_note(self.alloc, path, &found)?;
+        let note = truncation_note(self.alloc, path, &found)?;
         let rows = found.report.rows.as_slice();
         let choice = self.choose_from_failed_rows(path, rows, pattern, jobs)?;
         Ok(choice.with_leading_note(note)?)
@@ -218,12 +218,12 @@ impl<'x, D: Inputs> Chooser<'x, D> {
         jobs: &[Job],
     ) -> Result<Choice, Stop>
         ensures chosen { IfOk result (λ choice. AreChosenFrom path.now (failed_job_names self.now.rule rows.now)
-            (jobs_without_row jobs.now rows.now) (pattern_of pattern.entry) self.now.args.now jobs.now
+            (count_jobs_without_row jobs.now rows.now) (pattern_of pattern.entry) self.now.args.now jobs.now
             (option_map (λ marks. marks.items) choice.marks) choice.notes.items) }
         ensures memory { IfErr result (λ stop. stop ≡ Stop.OutOfMemory) }
     {
         let failed = failed_job_names(self.alloc, self.rule, rows)?;
-        let missing = jobs_without_row(jobs, rows);
+        let missing = count_jobs_without_row(jobs, rows);
         self.choose_from_failed_names(path, failed.as_slice(), missing, pattern, jobs)
     }
 
@@ -246,16 +246,16 @@ impl<'x, D: Inputs> Chooser<'x, D> {
         if failed.is_empty() && self.args.only.is_empty() && pattern.is_none() {
             return Ok(Choice { marks: None, notes });
         }
-        let marks = Some(self.combined_marks(pattern, Some(failed), jobs)?);
+        let marks = Some(self.combined_selection(pattern, Some(failed), jobs)?);
         Ok(Choice { marks, notes })
     }
 
     // Compiles the text of an option as a regular expression. If it is not one, returns an error with the usage of the command.
     fn compile_pattern(&self, option: &str, text: &str) -> Result<Regex, Stop>
         ensures source { IfOk result (λ pattern. regex_source pattern ≡ text.now) }
-        ensures read { IfOk result IsReadByDefault }
+        ensures read { IfOk result HasDefaultOptions }
         ensures refused { IfErr result (λ stop. (stop ≡ Stop.OutOfMemory)
-            ⊎ IsRefusedPattern option.now text.now stop) }
+            ⊎ IsInvalidPatternStop option.now text.now stop) }
     {
         let alloc = self.alloc;
         match Regex::new(alloc, text) {
@@ -266,14 +266,14 @@ impl<'x, D: Inputs> Chooser<'x, D> {
     }
 
     // Returns for each job, in list order, whether the pattern, `--only` or the names `failed` choose it.
-    fn combined_marks(
+    fn combined_selection(
         &self,
         pattern: Option<&Regex>,
         failed: Option<&[&str]>,
         jobs: &[Job],
     ) -> Result<Vec<bool>, AllocError>
         ensures { IfOk result (λ marks. marks.items
-            ≡ chosen_marks (requested_names self.now.args.now.only.items) (pattern_of pattern.entry)
+            ≡ selection_by_criteria (requested_names self.now.args.now.only.items) (pattern_of pattern.entry)
             (optional_names failed.entry) jobs.now) }
     {
         let wanted = Criteria {
@@ -281,7 +281,7 @@ impl<'x, D: Inputs> Chooser<'x, D> {
             pattern,
             failed,
         };
-        chosen_marks(self.alloc, jobs, wanted)
+        selection_by_criteria(self.alloc, jobs, wanted)
     }
 }
 
@@ -334,7 +334,7 @@ fn is_found_in_job_names(alloc: Global, pattern: &Regex, jobs: &[Job]) -> Result
         pattern: Some(pattern),
         failed: None,
     };
-    let marks = chosen_marks(alloc, jobs, wanted)?;
+    let marks = selection_by_criteria(alloc, jobs, wanted)?;
     Ok(is_any_selected(marks.as_slice()))
 }
 
@@ -349,7 +349,7 @@ fn is_any_selected(marks: &[bool]) -> bool
 fn unmatched_pattern_stop(alloc: Global, list: &str, pattern: &str) -> Stop
     ensures { IsStop 2 (unmatched_pattern list.now pattern.now) result }
 {
-    Stop::of_refusal(unmatched_pattern_message(alloc, list, pattern))
+    Stop::rejection(unmatched_pattern_message(alloc, list, pattern))
 }
 
 // Returns the message that the pattern of `--match` matches the name of no job in the list.
@@ -376,7 +376,7 @@ fn unmatched_pattern_message<'a>(
 fn emptied_choice_stop(alloc: Global, list: &str, pattern: &str) -> Stop
     ensures { IsStop 2 (emptied_choice list.now pattern.now) result }
 {
-    Stop::of_refusal(emptied_choice_message(alloc, list, pattern))
+    Stop::rejection(emptied_choice_message(alloc, list, pattern))
 }
 
 // Returns the message that the pattern of `--exclude` leaves no jobs of the list.

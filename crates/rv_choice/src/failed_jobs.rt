@@ -1,8 +1,8 @@
 //! The jobs that failed in a report.
 
 ghost use Rattle.std.specs.Prelude.{◌≡◌, ◌++◌, IfOk, OnOk, map};
-ghost use Rattle.rv_choice.specs.Choice.{borrowed_names, failed_job_names, has_row_named, jobs_without_row};
-ghost use Rattle.rv_choice.specs.FailedJobNotes.{failed_job_notes, missing_rows_note, missing_rows_text, none_failed_note, note_of_failed_job, removed_job_note};
+ghost use Rattle.rv_choice.specs.Choice.{borrowed_names, failed_job_names, has_row_named, count_jobs_without_row};
+ghost use Rattle.rv_choice.specs.FailedJobNotes.{failed_job_notes, missing_rows_note, missing_rows_text, none_failed_note, failed_job_note, removed_job_note};
 ghost use Rattle.rv_choice.specs.FailedJobNotes.{removed_job_notes};
 
 use crate::marks::has_job_named;
@@ -28,8 +28,8 @@ pub(crate) fn failed_job_names(
 }
 
 /// Returns the number of jobs whose names no row has.
-pub(crate) fn jobs_without_row(jobs: &[Job], rows: &[Row]) -> usize
-    ensures { result ≡ jobs_without_row jobs.now rows.now }
+pub(crate) fn count_jobs_without_row(jobs: &[Job], rows: &[Row]) -> usize
+    ensures { result ≡ count_jobs_without_row jobs.now rows.now }
 {
     jobs.iter()
         .filter(|job| !has_row_named(rows, job.name.as_str()))
@@ -108,20 +108,20 @@ fn removed_job_notes(
 {
     let mut notes = Vec::new(alloc);
     for name in names {
-        push_note_of_failed_job(&mut notes, path, jobs, name)?;
+        push_failed_job_note(&mut notes, path, jobs, name)?;
     }
     Ok(notes)
 }
 
 // Appends a note if the failed job with this name is no longer in the list.
-fn push_note_of_failed_job(
+fn push_failed_job_note(
     notes: &mut Vec<u8>,
     path: &str,
     jobs: &[Job],
     name: &str,
 ) -> Result<(), AllocError>
     ensures { OnOk result
-        (notes.new.items ≡ notes.old.items ++ note_of_failed_job path.now jobs.now name.now) }
+        (notes.new.items ≡ notes.old.items ++ failed_job_note path.now jobs.now name.now) }
 {
     if has_job_named(jobs, name) {
         return Ok(());

@@ -3,7 +3,7 @@
 ghost use Rattle.std.specs.Prelude.{◌≡◌, IfOk, length, option_map};
 ghost use Rattle.regex.specs.Strings.{matcher_pattern, regex_pattern};
 ghost use Rattle.rv_choice.specs.Choice.{choice_by_names, choice_by_pattern, has_job_named, is_among_names, is_chosen, is_chosen_name};
-ghost use Rattle.rv_choice.specs.Choice.{chosen_marks, borrowed_names, stays_selected, remaining_marks, pattern_of, optional_names};
+ghost use Rattle.rv_choice.specs.Choice.{selection_by_criteria, borrowed_names, stays_selected, remaining_selection, pattern_of, optional_names};
 ghost use Rattle.rv_choice.specs.UnknownName.{unknown_name};
 
 use regex::{Matcher, Regex};
@@ -22,12 +22,12 @@ pub(crate) struct Criteria<'a> {
 }
 
 /// Returns for each job, in list order, whether these criteria choose it.
-pub(crate) fn chosen_marks(
+pub(crate) fn selection_by_criteria(
     alloc: Global,
     jobs: &[Job],
     wanted: Criteria<'_>,
 ) -> Result<Vec<bool>, AllocError>
-    ensures { IfOk result (λ marks. marks.items ≡ chosen_marks (optional_names wanted.entry.only)
+    ensures { IfOk result (λ marks. marks.items ≡ selection_by_criteria (optional_names wanted.entry.only)
         (pattern_of wanted.entry.pattern) (optional_names wanted.entry.failed) jobs.now) }
 {
     let mut matcher = matcher_of(alloc, wanted.pattern)?;
@@ -39,14 +39,14 @@ pub(crate) fn chosen_marks(
 }
 
 /// Returns the selection without the jobs whose names the pattern `excluded` matches.
-pub(crate) fn remaining_marks(
+pub(crate) fn remaining_selection(
     alloc: Global,
     jobs: &[Job],
     marks: &[bool],
     excluded: &Regex,
 ) -> Result<Vec<bool>, AllocError>
     requires { length marks.now ≡ length jobs.now }
-    ensures { IfOk result (λ left. left.items ≡ remaining_marks (regex_pattern excluded.now) jobs.now marks.now) }
+    ensures { IfOk result (λ left. left.items ≡ remaining_selection (regex_pattern excluded.now) jobs.now marks.now) }
 {
     let mut matcher = excluded.matcher(alloc)?;
     let mut left = Vec::new(alloc);

@@ -6,13 +6,13 @@ ghost use Rattle.std.specs.List.{list_all};
 ghost use Rattle.std.specs.Str.Parse.{IsNumeral, digits_value};
 ghost use Rattle.hex.specs.Hex.{encode_lower};
 ghost use Rattle.sha2.specs.Sha256.{sha256};
-ghost use Rattle.rv_command.specs.Limits.{most_jobs};
+ghost use Rattle.rv_command.specs.Limits.{max_jobs};
 ghost use Rattle.rv_choice.specs.Shard.{IsShardOf, IsShardStop, IsShardText, bad_shard_text, bad_stamp_text, number_before_slash, number_after_slash, stamp_for};
 ghost use Rattle.rv_command.specs.Stops.{IsUsageStop};
 ghost use Rattle.rv_command.specs.Names.{is_name};
 
 use crate::bad_value::{bad_value_stop, bad_value_text};
-use rv_command::limits::MOST_JOBS;
+use rv_command::limits::MAX_JOBS;
 use rv_command::{ChoosingCommand, RunArgs, Stop, Text, is_name};
 use rv_expect::Shard;
 use sha2::{Digest, Sha256};
@@ -27,12 +27,12 @@ pub fn requested_shard(
     text: &[u8],
     jobs: usize,
 ) -> Result<Option<Shard>, Stop>
-    requires { jobs ≤ most_jobs }
+    requires { jobs ≤ max_jobs }
     ensures requested { IfOk result (IsShardOf args.now.shard) }
     ensures stamped { IfOk result (λ shard. IfSome shard (λ s.
         s.stamp ≡ stamp_for args.now.stamp text.now)) }
     ensures within { IfOk result (λ shard. IfSome shard (λ s.
-        (s.jobs ≡ jobs) × (0 < s.number) × (s.number ≤ s.shards) × (s.shards ≤ most_jobs))) }
+        (s.jobs ≡ jobs) × (0 < s.number) × (s.number ≤ s.shards) × (s.shards ≤ max_jobs))) }
     ensures named { IfOk result (λ shard. IfSome shard (λ _.
         IfSome args.now.stamp (λ stamp. is_name stamp.now ≡ true))) }
     ensures refused { IfErr result (IsShardStop args.now.shard args.now.stamp) }
@@ -60,13 +60,13 @@ pub fn requested_shard(
 fn shard_numbers(words: &str) -> Option<(u32, u32)>
     ensures numbers { IfSome result (λ n. (n.0 ≡ number_before_slash words.now)
         × (n.1 ≡ number_after_slash words.now)) }
-    ensures within { IfSome result (λ n. (0 < n.0) × (n.0 ≤ n.1) × (n.1 ≤ most_jobs)) }
+    ensures within { IfSome result (λ n. (0 < n.0) × (n.0 ≤ n.1) × (n.1 ≤ max_jobs)) }
     ensures refused { IfNone result (IsShardText words.now → ⊥) }
 {
     let (number, shards) = words.split_once('/')?;
     let number = parse_digits(number)?;
     let shards = parse_digits(shards)?;
-    if 1 <= number && number <= shards && shards as usize <= MOST_JOBS {
+    if 1 <= number && number <= shards && shards as usize <= MAX_JOBS {
         Some((number, shards))
     } else {
         None
@@ -78,7 +78,7 @@ fn parse_digits(words: &str) -> Option<u32>
     ensures { MatchOption result (IsNumeral 10 words.now → 2 ^ 32 ≤ digits_value 10 words.now)
         (λ number. IsNumeral 10 words.now × (number ≡ digits_value 10 words.now)) }
 {
-    if has_digits_alone(words.as_bytes()) {
+    if has_only_digits(words.as_bytes()) {
         words.parse::<u32>().ok()
     } else {
         None
@@ -86,7 +86,7 @@ fn parse_digits(words: &str) -> Option<u32>
 }
 
 // Whether a text has only ASCII digits.
-fn has_digits_alone(text: &[u8]) -> bool
+fn has_only_digits(text: &[u8]) -> bool
     ensures { result ≡ list_all is_ascii_digit text.now }
 {
     text.iter().all(|byte| byte.is_ascii_digit())

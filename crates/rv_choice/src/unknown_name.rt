@@ -12,7 +12,7 @@ use std::alloc::{AllocError, Global};
 pub fn unknown_name_stop(alloc: Global, list: &str, jobs: &[Job], name: &str) -> Stop
     ensures { IsUnknownNameStop list.now jobs.now name.now result }
 {
-    Stop::of_refusal(unknown_name_message(alloc, list, jobs, name))
+    Stop::rejection(unknown_name_message(alloc, list, jobs, name))
 }
 
 // Returns the message that no job of the list has this name, with the nearest name or, if none is near, the names of the jobs.
@@ -81,16 +81,16 @@ fn push_near_name<'a>(message: &mut Vec<u8>, near: &'a str) -> Result<(), AllocE
 }
 
 // The maximum number of names that are shown.
-const MOST_SHOWN: usize = 20;
+const MAX_SHOWN: usize = 20;
 
 // Appends the names of the first 20 jobs, and how many more jobs there are.
 fn push_names(message: &mut Vec<u8>, jobs: &[Job]) -> Result<(), AllocError>
     ensures { OnOk result (message.new.items ≡ message.old.items ++ shown_names jobs.now) }
 {
-    let told = jobs.len().min(MOST_SHOWN);
+    let told = jobs.len().min(MAX_SHOWN);
     push_first_names(message, &jobs[..told], jobs.len())?;
     push_text(message, "\"")?;
-    push_names_left(message, jobs.len())
+    push_more_names(message, jobs.len())
 }
 
 // Appends the names of these jobs, which are the first of `count` names in a message.
@@ -132,13 +132,13 @@ fn text_before_name(place: usize, count: usize) -> &'static str
 }
 
 // Appends how many of `count` names are not shown, or nothing if all are shown.
-fn push_names_left(message: &mut Vec<u8>, count: usize) -> Result<(), AllocError>
+fn push_more_names(message: &mut Vec<u8>, count: usize) -> Result<(), AllocError>
     ensures { OnOk result (message.new.items ≡ message.old.items ++ names_left count) }
 {
-    if count <= MOST_SHOWN {
+    if count <= MAX_SHOWN {
         return Ok(());
     }
-    let left = (count - MOST_SHOWN) as u64;
+    let left = (count - MAX_SHOWN) as u64;
     push_spans(
         message,
         &[Span::Text(" and "), Span::Number(left), Span::Text(" more")],

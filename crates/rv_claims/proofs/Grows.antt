@@ -10,8 +10,8 @@ use mathlib.Core.List.{map-append}
 use mathlib.Core.Logic.{dite}
 use native.Mathlib.Decide.{dec_lt}
 use Rattle.rv_claims.specs.declared.view.Entry.{Entry}
-use Rattle.rv_claims.specs.Draws.{numbers, entry, first_place_of}
-use Rattle.rv_claims.specs.Passes.{SharedDraw, PassView, has_ended, with_draw, AllBelow, piece_of}
+use Rattle.rv_claims.specs.Draws.{numbers, entry, first_pass_index}
+use Rattle.rv_claims.specs.Passes.{CounterView, PassView, has_ended, with_draw, AllBelow, piece_of}
 use Rattle.rv_claims.proofs.Passes.{ends_now}
 use Rattle.rv_claims.specs.NewPieces.{HasDrawnMore, new_pieces}
 
@@ -71,14 +71,14 @@ pub took_none : (p q : PassView) (r : Option ℕ) (pieces : ℕ) → Takes p q r
 took_none p q r pieces t is same = ⊎_elim
     (λ (over : has_ended p ≡ true). let d = t.0 over in (ap has_ended d.1 ∙ over, inl d.1))
     (λ (goes : has_ended p ≡ false). let d = t.1 goes in let high = piece_none pieces d.0 (sym is ∙ d.3) in (
-      ap has_ended d.1 ∙ sym (ends_now p.draw.pieces p.draws (entry (first_place_of p.places) d.0) (omega arith)),
+      ap has_ended d.1 ∙ sym (ends_now p.draw.pieces p.draws (entry (first_pass_index p.places) d.0) (omega arith)),
       inr (d.0, d.1, high),
     ))
     (bool_cases (has_ended p))
 
 -- one draw more
 pub grew_more : (s p : PassView) (n : ℕ) → HasDrawnMore s p → HasDrawnMore s (with_draw p n)
-grew_more s p n g = let e = entry (first_place_of p.places) n in
+grew_more s p n g = let e = entry (first_pass_index p.places) n in
     (g.0, g.1, (g.2.0 ++ e ∷ [], ap (λ (l : List Entry). l ++ e ∷ []) g.2.1 ∙ append_assoc s.draws g.2.0 (e ∷ [])))
 
 since : (s p : PassView) (g : HasDrawnMore s p) → drop (length s.draws) p.draws ≡ g.2.0
@@ -88,7 +88,7 @@ new_more : (s p : PassView) (n : ℕ) → HasDrawnMore s p → new_pieces s (wit
     ++ filter (λ k. nat_lt k s.draw.pieces) (n ∷ [])
 unfolding grew_more
 new_more s p n g =
-    let e = entry (first_place_of p.places) n in
+    let e = entry (first_pass_index p.places) n in
     let test : ℕ → Bool = λ k. nat_lt k s.draw.pieces in
     let list : List Entry → List ℕ = λ l. filter (λ k. nat_lt k s.draw.pieces) (numbers l) in
     ap list (since s (with_draw p n) (grew_more s p n g))
@@ -124,7 +124,7 @@ pub made_all : {A : Type 0} (f : ℕ → A) (s p q : PassView) (r : Option ℕ) 
     → Takes p q r pieces → r ≡ None → s.draw.pieces ≡ pieces → had ≡ map f (new_pieces s p)
     → HasDrawnMore s q × (has_ended q ≡ true) × (had ≡ map f (new_pieces s q))
 made_all f s p q r pieces had g t nothing same was =
-    let at : p.draw.pieces ≡ pieces = ap (λ (d : SharedDraw). d.pieces) g.0 ∙ same in
+    let at : p.draw.pieces ≡ pieces = ap (λ (d : CounterView). d.pieces) g.0 ∙ same in
     let o = took_none p q r pieces t nothing at in
     ⊎_elim
     (λ (e : q ≡ p). (subst (HasDrawnMore s) (sym e) g, o.0, was ∙ ap (λ (z : PassView). map f (new_pieces s z)) (sym e)))
@@ -140,5 +140,5 @@ made_all f s p q r pieces had g t nothing same was =
 pub falls : (p q : PassView) (k pieces : ℕ) → q ≡ with_draw p k → AllBelow k p.draws → k < pieces
     → pieces - above q.draws < pieces - above p.draws
 falls p q k pieces is low h =
-    let e = entry (first_place_of p.places) k in
+    let e = entry (first_pass_index p.places) k in
     omega (arith, ap (λ (z : PassView). above z.draws) is, above-snoc p.draws e, above_le p.draws k low)

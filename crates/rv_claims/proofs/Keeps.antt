@@ -12,9 +12,9 @@ use Rattle.atomic_table.specs.Table.{State, step, keeps, stepped, opening, Allow
 use Rattle.atomic_table.proofs.Lists.{at_set, set_again}
 use Rattle.rv_claims.specs.declared.view.Entry.{Entry}
 use Rattle.rv_claims.specs.declared.view.View.{View}
-use Rattle.rv_claims.specs.Draws.{total, times, IsIn, Within, IsHistory, past_count, entry, entry_count, numbers, HaveSameDraws}
+use Rattle.rv_claims.specs.Draws.{total, times, IsIn, Within, IsHistory, past_last_count, entry, entry_count, numbers, HaveSameDraws}
 use Rattle.rv_claims.specs.Draws.{view, first_view, new_seat_view, note_of, joined_view, empty_view, Fits, Runs}
-use Rattle.rv_claims.specs.Draws.{Sitting, first_place_of, IsDraw, IsSeatRequest, IsLook}
+use Rattle.rv_claims.specs.Draws.{Sitting, first_pass_index, IsDraw, IsSeatRequest, IsLook}
 use Rattle.rv_claims.proofs.Sums.{snoc_at, at_lt, in_append, in_left, in_right, in_one, in_none, total-append}
 use Rattle.rv_claims.proofs.Sums.{total-set, term_le, terms_le, some_term, only_term, total_le, total-map, places_few}
 use Rattle.rv_claims.proofs.Sums.{past_no, past_le, history_past, history-snoc, counted_in, weighs_same, views_weigh}
@@ -55,7 +55,7 @@ bounded pieces s r = omega (
   arith,
   history_past pieces r.history r.numbered,
   views_weigh (one_past pieces) s.views r.history r.held,
-  total_le (λ (v : View). past_count pieces v.draws) (λ (v : View). length v.places) s.views
+  total_le (λ (v : View). past_last_count pieces v.draws) (λ (v : View). length v.places) s.views
       (λ k v at. (r.each k v at).few),
   places_few s.views (λ j v at. (r.each j v at).places) (once_each pieces s r),
 )
@@ -109,13 +109,13 @@ opens pieces ws wide zeroth first others = record {
 }
 
 -- a draw
-pub draws : (pieces slots id : ℕ) (m : Sitting) → pieces ≤ 4096 → past_count pieces m.0.draws ≡ 0
+pub draws : (pieces slots id : ℕ) (m : Sitting) → pieces ≤ 4096 → past_last_count pieces m.0.draws ≡ 0
     → 0 < length m.0.places
     → Allows (Runs pieces) slots id m 0 (λ n. (n + 1) % 2 ^ 64) (IsDraw (step slots 0 1 0 none) m)
 draws pieces slots id m most going sits s r _ at small =
     let v = m.0 in
     let n : ℕ = get_or s.words 0 0 in
-    let e = entry (first_place_of v.places) n in
+    let e = entry (first_pass_index v.places) n in
     let w = view v.pieces v.places (v.draws ++ e ∷ []) v.noted in
     let fits = r.each id v at in
     let long : length r.history ≡ n = sym r.drawn in
@@ -170,7 +170,7 @@ draws pieces slots id m most going sits s r _ at small =
       },
     )
   where
-    first_in : (ps : List ℕ) → 0 < length ps → IsIn (first_place_of ps) ps
+    first_in : (ps : List ℕ) → 0 < length ps → IsIn (first_pass_index ps) ps
     first_in [] h = absurd (omega arith)
     first_in (p ∷ ps) h = (0, refl)
 
@@ -311,7 +311,7 @@ splits pieces id v w no_place no_draw notes s r at =
       each = each_snoc pieces r.history s.views w r.each (record {
         places = λ p i. absurd (in_none p (subst (λ (l : List ℕ). IsIn p l) no_place i));
         own = λ e i. absurd (in_none e (subst (λ (l : List Entry). IsIn e l) no_draw i));
-        few = omega (arith, ap (past_count pieces) no_draw);
+        few = omega (arith, ap (past_last_count pieces) no_draw);
         noted = notes s r at;
       });
     })
@@ -421,7 +421,7 @@ at_history h is x low =
     entry_at (e ∷ es) (suc i) h = entry_at es i (omega arith)
 
 -- draws that are a whole history, with one past the end, have each piece once
-pub each_once : (pieces : ℕ) (ds h : List Entry) → IsHistory h → HaveSameDraws ds h → 0 < past_count pieces ds
+pub each_once : (pieces : ℕ) (ds h : List Entry) → IsHistory h → HaveSameDraws ds h → 0 < past_last_count pieces ds
     → (x : ℕ)
     → x < pieces
     → times x (numbers ds) ≡ 1

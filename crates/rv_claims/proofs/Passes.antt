@@ -17,9 +17,9 @@ use Rattle.std.specs.Prelude.{Option}
 use Rattle.atomic_table.specs.Seated.{TableId}
 use Rattle.atomic_table.specs.Table.{Step, opening, Final, Seen}
 use Rattle.rv_claims.specs.declared.view.Entry.{Entry}
-use Rattle.rv_claims.specs.Draws.{times, joined_view, IsIn, IsHistory, Within, past_count, entry, numbers, first_place_of}
+use Rattle.rv_claims.specs.Draws.{times, joined_view, IsIn, IsHistory, Within, past_last_count, entry, numbers, first_pass_index}
 use Rattle.rv_claims.specs.Draws.{view, Sitting, IsDraw, IsSeatRequest, first_view, Runs}
-use Rattle.rv_claims.specs.Passes.{pass_of, with_draw, piece_of, IsPass, pass_view, opening_row, AreAll}
+use Rattle.rv_claims.specs.Passes.{pass_of, with_draw, piece_of, IsValidPass, pass_view, opening_row, IsWholeHistory}
 use Rattle.rv_claims.proofs.Keeps.{opens, whole, each_once}
 use Rattle.rv_claims.proofs.Sums.{in_append, in_one, in_left, in_right, in_none, total-append, term_le, one_at}
 use Rattle.rv_claims.proofs.Sums.{one_at-same, one_past, past_yes, past_no}
@@ -27,19 +27,19 @@ use Rattle.rv_claims.proofs.Sums.{one_at-same, one_past, past_yes, past_no}
 pub none_past : (n : ℕ) → nat_lt 0 n ≡ false → n ≡ 0
 none_past n e = dite (dec_lt 0 n) (λ y. absurd (true≢false (sym (lt-ltb 0 n y) ∙ e))) (λ no. omega arith)
 
-pub first_in : (ps : List ℕ) → 0 < length ps → IsIn (first_place_of ps) ps
+pub first_in : (ps : List ℕ) → 0 < length ps → IsIn (first_pass_index ps) ps
 first_in [] h = absurd (omega arith)
 first_in (p ∷ ps) h = (0, refl)
 
 -- the places of a pass that drew are as they were
-pub drew_pass : {st : Step (Unit {0})} (m m' : Sitting) (n bits : ℕ) (ended now : Bool) → IsPass m bits ended
-    → IsDraw st m n m' → now ≡ nat_lt 0 (past_count m.0.pieces (m.0.draws ++ entry (first_place_of m.0.places) n ∷ []))
-    → IsPass m' bits now
+pub drew_pass : {st : Step (Unit {0})} (m m' : Sitting) (n bits : ℕ) (ended now : Bool) → IsValidPass m bits ended
+    → IsDraw st m n m' → now ≡ nat_lt 0 (past_last_count m.0.pieces (m.0.draws ++ entry (first_pass_index m.0.places) n ∷ []))
+    → IsValidPass m' bits now
 drew_pass m m' n bits ended now p d stop =
-    let e = entry (first_place_of m.0.places) n in
+    let e = entry (first_pass_index m.0.places) n in
     let w = view m.0.pieces m.0.places (m.0.draws ++ e ∷ []) m.0.noted in
     let is : m' ≡ (w, m.1) = λ i. (d.drawn i, d.slots i) in
-    subst (λ (x : Sitting). IsPass x bits now) (sym is) (record {
+    subst (λ (x : Sitting). IsValidPass x bits now) (sym is) (record {
       no_slot = p.no_slot;
       sits = p.sits;
       low = p.low;
@@ -51,21 +51,21 @@ drew_pass m m' n bits ended now p d stop =
       stopped = stop;
     })
 
-pub goes_on : (pieces : ℕ) (ds : List Entry) (e : Entry) → nat_lt 0 (past_count pieces ds) ≡ false → e.number < pieces
-    → false ≡ nat_lt 0 (past_count pieces (ds ++ e ∷ []))
+pub goes_on : (pieces : ℕ) (ds : List Entry) (e : Entry) → nat_lt 0 (past_last_count pieces ds) ≡ false → e.number < pieces
+    → false ≡ nat_lt 0 (past_last_count pieces (ds ++ e ∷ []))
 goes_on pieces ds e not_yet low =
-    let z : past_count pieces (ds ++ e ∷ []) ≡ 0 =
+    let z : past_last_count pieces (ds ++ e ∷ []) ≡ 0 =
     omega (
       arith,
       total-append (one_past pieces) ds (e ∷ []),
       past_no pieces e low,
-      none_past (past_count pieces ds) not_yet,
-    ) in sym (le-ltb 0 (past_count pieces (ds ++ e ∷ [])) (omega arith))
+      none_past (past_last_count pieces ds) not_yet,
+    ) in sym (le-ltb 0 (past_last_count pieces (ds ++ e ∷ [])) (omega arith))
 
 pub ends_now : (pieces : ℕ) (ds : List Entry) (e : Entry) → pieces ≤ e.number
-    → true ≡ nat_lt 0 (past_count pieces (ds ++ e ∷ []))
+    → true ≡ nat_lt 0 (past_last_count pieces (ds ++ e ∷ []))
 ends_now pieces ds e high =
-    sym (lt-ltb 0 (past_count pieces (ds ++ e ∷ []))
+    sym (lt-ltb 0 (past_last_count pieces (ds ++ e ∷ []))
     (omega (arith, total-append (one_past pieces) ds (e ∷ []), past_yes pieces e high)))
 
 pub seen_drew : {st : Step (Unit {0})} (t t' : TableId) (m m' : Sitting) (n : ℕ) → t' ≡ t → IsDraw st m n m'
@@ -95,8 +95,8 @@ opening_free zero h l = absurd (omega arith)
 opening_free (suc zero) h l = absurd (omega arith)
 opening_free (suc (suc p)) h l = row_at 63 p
 
-pub opened_pass : (pieces : ℕ) (m : Sitting) → m ≡ (first_view pieces, []) → IsPass m 1 false
-opened_pass pieces m e = subst (λ (x : Sitting). IsPass x 1 false) (sym e) (record {
+pub opened_pass : (pieces : ℕ) (m : Sitting) → m ≡ (first_view pieces, []) → IsValidPass m 1 false
+opened_pass pieces m e = subst (λ (x : Sitting). IsValidPass x 1 false) (sym e) (record {
   no_slot = refl;
   sits = omega arith;
   low = λ p i. let z = in_one 0 p i in omega arith;
@@ -116,12 +116,12 @@ some_past zero m = ap (nat_lt 0) (zero-add m)
 some_past (suc n) m = lt-ltb 0 (suc n + m) (omega arith)
     ∙ sym (ap (λ (b : Bool). b || nat_lt 0 m) (lt-ltb 0 (suc n) (omega arith)))
 
-pub joined_pass : (m n m' : Sitting) (bits more : ℕ) (e f now : Bool) → IsPass m bits e → IsPass n more f
-    → m.0.pieces ≡ n.0.pieces → m' ≡ (joined_view m.0 n.0, m.1) → now ≡ (e || f) → IsPass m' (bit_or bits more) now
+pub joined_pass : (m n m' : Sitting) (bits more : ℕ) (e f now : Bool) → IsValidPass m bits e → IsValidPass n more f
+    → m.0.pieces ≡ n.0.pieces → m' ≡ (joined_view m.0 n.0, m.1) → now ≡ (e || f) → IsValidPass m' (bit_or bits more) now
 joined_pass m n m' bits more e f now p q same is stop =
     let ps = m.0.places in
     let qs = n.0.places in
-    subst (λ (x : Sitting). IsPass x (bit_or bits more) now) (sym is) (record {
+    subst (λ (x : Sitting). IsValidPass x (bit_or bits more) now) (sym is) (record {
       no_slot = p.no_slot;
       sits = omega (arith, length-append ps qs, p.sits);
       low = λ x i. ⊎_elim (λ (t : IsIn x ps). p.low x t) (λ (t : IsIn x qs). q.low x t) (in_append ps qs x i);
@@ -132,19 +132,19 @@ joined_pass m n m' bits more e f now p q same is stop =
       own = λ x i. ⊎_elim (λ (t : IsIn x m.0.draws). in_left ps qs x.place (p.own x t))
           (λ (t : IsIn x n.0.draws). in_right ps qs x.place (q.own x t)) (in_append m.0.draws n.0.draws x i);
       stopped = stop ∙ (ap (λ (b : Bool × Bool). b.0 || b.1) (λ i. (p.stopped i, ends i))
-          ∙ (sym (some_past (past_count m.0.pieces m.0.draws) (past_count m.0.pieces n.0.draws))
+          ∙ (sym (some_past (past_last_count m.0.pieces m.0.draws) (past_last_count m.0.pieces n.0.draws))
           ∙ ap (nat_lt 0) (sym (total-append (one_past m.0.pieces) m.0.draws n.0.draws))));
     })
   where
     bit_low : (k x : ℕ) → bit_at k x ≤ 1
     bit_low k x = omega arith
 
-    ends : f ≡ nat_lt 0 (past_count m.0.pieces n.0.draws)
-    ends = q.stopped ∙ ap (λ (k : ℕ). nat_lt 0 (past_count k n.0.draws)) (sym same)
+    ends : f ≡ nat_lt 0 (past_last_count m.0.pieces n.0.draws)
+    ends = q.stopped ∙ ap (λ (k : ℕ). nat_lt 0 (past_last_count k n.0.draws)) (sym same)
 
 -- what was noted is no part of the pass
-pub noted_pass : (m m' : Sitting) (bits : ℕ) (ended : Bool) → IsPass m bits ended → m'.1 ≡ m.1
-    → m'.0.pieces ≡ m.0.pieces → m'.0.places ≡ m.0.places → m'.0.draws ≡ m.0.draws → IsPass m' bits ended
+pub noted_pass : (m m' : Sitting) (bits : ℕ) (ended : Bool) → IsValidPass m bits ended → m'.1 ≡ m.1
+    → m'.0.pieces ≡ m.0.pieces → m'.0.places ≡ m.0.places → m'.0.draws ≡ m.0.draws → IsValidPass m' bits ended
 noted_pass m m' bits ended p slots pieces places draws = record {
   no_slot = slots ∙ p.no_slot;
   sits = subst (λ (l : List ℕ). 0 < length l) (sym places) p.sits;
@@ -153,7 +153,7 @@ noted_pass m m' bits ended p slots pieces places draws = record {
   clear = subst (λ (l : List ℕ). (x : ℕ) → bit_at bits x ≡ 1 → IsIn x l) (sym places) p.clear;
   own = subst (λ (t : List ℕ × List Entry). (e : Entry) → IsIn e t.1 → IsIn e.place t.0)
       (λ i. (sym places i, sym draws i)) p.own;
-  stopped = p.stopped ∙ (λ i. nat_lt 0 (past_count (sym pieces i) (sym draws i)));
+  stopped = p.stopped ∙ (λ i. nat_lt 0 (past_last_count (sym pieces i) (sym draws i)));
 }
 
 small_power : (place : ℕ) → place < 64 → 1 * 2 ^ place % 18446744073709551616 ≡ 2 ^ place
@@ -168,10 +168,10 @@ sat_there {st} m m' pieces place n word blank free sat = let k : st.word - 1 ≡
     ∙ (λ i. (view (blank i).0.pieces (k i ∷ (blank i).0.places) (blank i).0.draws (blank i).0.noted, (blank i).1))
 
 pub seated_pass : (m : Sitting) (pieces place bits : ℕ) → place < 64 → bits ≡ 1 * 2 ^ place % 18446744073709551616
-    → m ≡ (view pieces (place ∷ []) [] [], []) → IsPass m bits false
+    → m ≡ (view pieces (place ∷ []) [] [], []) → IsValidPass m bits false
 seated_pass m pieces place bits low was e =
     let is : bits ≡ 2 ^ place = was ∙ small_power place low in
-    subst (λ (t : Sitting × ℕ). IsPass t.0 t.1 false) (λ i. (sym e i, sym is i)) (record {
+    subst (λ (t : Sitting × ℕ). IsValidPass t.0 t.1 false) (λ i. (sym e i, sym is i)) (record {
       no_slot = refl;
       sits = omega arith;
       low = λ p i. let z = in_one place p i in omega arith;
@@ -200,7 +200,7 @@ in_twice xs ys p i j = omega (
   one_at-same p,
 )
 
-pub overlap : (m n : Sitting) (a b : ℕ) (e f : Bool) → a < 2 ^ 64 → b < 2 ^ 64 → IsPass m a e → IsPass n b f
+pub overlap : (m n : Sitting) (a b : ℕ) (e f : Bool) → a < 2 ^ 64 → b < 2 ^ 64 → IsValidPass m a e → IsValidPass n b f
     → bit_and a b ≢ 0 → ((p : ℕ) → times p (m.0.places ++ n.0.places) ≤ 1) → ⊥
 overlap m n a b e f la lb p q ne once =
     let t = meets a b la lb ne in
@@ -212,7 +212,7 @@ number_in n (d ∷ ds) (zero, e) = (d, (0, refl), some-injective d.number n e)
 number_in n (d ∷ ds) (suc k, e) = let t = number_in n ds (k, e) in (t.0, (suc t.1.0, t.1.1), t.2)
 
 -- passes with no place in common have no number in common
-pub apart : (m n : Sitting) (a b : ℕ) (e f : Bool) → IsPass m a e → IsPass n b f → bit_and a b ≡ 0
+pub apart : (m n : Sitting) (a b : ℕ) (e f : Bool) → IsValidPass m a e → IsValidPass n b f → bit_and a b ≡ 0
     → (history : List Entry) → IsHistory history → Within m.0.draws history → Within n.0.draws history → (k : ℕ)
     → IsIn k (numbers m.0.draws) → IsIn k (numbers n.0.draws) → ⊥
 apart m n a b e f p q no_common history is hm hn k i j =
@@ -243,8 +243,8 @@ read_one (x ∷ xs) (suc i) e = read_one xs i e
 
 -- a pass with every place that was given has all draws
 pub ends_whole : (pieces : ℕ) (ws : List ℕ) (xs : List (Unit {0})) (id : ℕ) (m : Sitting) (bits : ℕ) (ended : Bool)
-    → IsPass m bits ended → Final (Seen (Runs pieces) id m.0) ws xs
-    → ((p : ℕ) → p < 64 → get_elem? ws (p + 1) ≡ some 1 → bit_at bits p ≡ 1) → AreAll m.0.draws
+    → IsValidPass m bits ended → Final (Seen (Runs pieces) id m.0) ws xs
+    → ((p : ℕ) → p < 64 → get_elem? ws (p + 1) ≡ some 1 → bit_at bits p ≡ 1) → IsWholeHistory m.0.draws
 ends_whole pieces ws xs id m bits ended pass final all =
     let s = final.0 in
     let r = final.1.0 in
@@ -256,8 +256,8 @@ ends_whole pieces ws xs id m bits ended pass final all =
           (all p low (subst (λ (l : List ℕ). get_elem? l (p + 1) ≡ some 1) words (read_one s.words (p + 1) one)))),
     )
 
-pub ends_pieces : (pieces : ℕ) (ds : List Entry) → AreAll ds → nat_lt 0 (past_count pieces ds) ≡ true → (x : ℕ)
+pub ends_pieces : (pieces : ℕ) (ds : List Entry) → IsWholeHistory ds → nat_lt 0 (past_last_count pieces ds) ≡ true → (x : ℕ)
     → x < pieces
     → times x (numbers ds) ≡ 1
 ends_pieces pieces ds all over x low =
-    each_once pieces ds all.0 all.1 all.2 (ltb-true 0 (past_count pieces ds) over) x low
+    each_once pieces ds all.0 all.1 all.2 (ltb-true 0 (past_last_count pieces ds) over) x low

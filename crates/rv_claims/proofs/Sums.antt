@@ -9,7 +9,7 @@ use lib.ListN.{get_elem?}
 use Rattle.atomic_table.proofs.Lists.{at_longer}
 use Rattle.rv_claims.specs.declared.view.Entry.{Entry}
 use Rattle.rv_claims.specs.declared.view.View.{View}
-use Rattle.rv_claims.specs.Draws.{total, times, IsIn, IsHistory, is_past_last_piece, past_count, is_entry, entry_count, HaveSameDraws}
+use Rattle.rv_claims.specs.Draws.{total, times, IsIn, IsHistory, is_past_last_piece, past_last_count, is_same_draw, entry_count, HaveSameDraws}
 
 -- what an item counts for in each of the counts
 abbrev pub one_at : ℕ → ℕ → ℕ
@@ -19,7 +19,7 @@ abbrev pub one_past : ℕ → Entry → ℕ
 one_past pieces e = cond (is_past_last_piece pieces e) 1 0
 
 abbrev pub one_for : Entry → Entry → ℕ
-one_for e x = cond (is_entry e x) 1 0
+one_for e x = cond (is_same_draw e x) 1 0
 
 module _ {A : Type 0} where
   -- an item of a longer list is the last or stands before
@@ -187,7 +187,7 @@ past_le pieces e = dite (dec_lt e.number pieces) (λ y. omega (arith, past_no pi
     (λ n. omega (arith, past_yes pieces e (omega arith)))
 
 history_from : (pieces k : ℕ) (h : List Entry) → ((j : ℕ) (e : Entry) → get_elem? h j ≡ some e → e.number ≡ k + j)
-    → length h + k ≤ past_count pieces h + max pieces k
+    → length h + k ≤ past_last_count pieces h + max pieces k
 history_from pieces k [] is = omega arith
 history_from pieces k (e ∷ es) is =
     let here : e.number ≡ k = is 0 e refl ∙ omega arith in
@@ -196,7 +196,7 @@ history_from pieces k (e ∷ es) is =
     (λ n. omega (arith, past_yes pieces e (omega arith)))
 
 -- a history has at most as many draws past the end as it is longer than the pieces
-pub history_past : (pieces : ℕ) (h : List Entry) → IsHistory h → length h ≤ past_count pieces h + pieces
+pub history_past : (pieces : ℕ) (h : List Entry) → IsHistory h → length h ≤ past_last_count pieces h + pieces
 history_past pieces h is = let r = history_from pieces 0 h (λ j e at. is j e at ∙ omega arith) in omega arith
 
 pub history-snoc : (h : List Entry) (e : Entry) → IsHistory h → e.number ≡ length h → IsHistory (h ++ e ∷ [])

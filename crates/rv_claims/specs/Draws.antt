@@ -38,12 +38,12 @@ abbrev pub entry : ℕ → ℕ → Entry
 entry place number = record { place = place; number = number }
 
 -- whether two draws have equal pass indices and equal numbers
-abbrev pub is_entry : Entry → Entry → Bool
-is_entry e x = (x.place == e.place) && (x.number == e.number)
+abbrev pub is_same_draw : Entry → Entry → Bool
+is_same_draw e x = (x.place == e.place) && (x.number == e.number)
 
 -- how often the draw `e` occurs in the list
 abbrev pub entry_count : Entry → List Entry → ℕ
-entry_count e draws = count (is_entry e) draws
+entry_count e draws = count (is_same_draw e) draws
 
 -- each draw occurs equally often in both lists
 abbrev pub HaveSameDraws : List Entry → List Entry → Type 0
@@ -62,8 +62,8 @@ abbrev pub is_past_last_piece : ℕ → Entry → Bool
 is_past_last_piece pieces e = nat_le pieces e.number
 
 -- the number of draws whose number is past the last of `pieces` chunks
-abbrev pub past_count : ℕ → List Entry → ℕ
-past_count pieces draws = count (is_past_last_piece pieces) draws
+abbrev pub past_last_count : ℕ → List Entry → ℕ
+past_last_count pieces draws = count (is_past_last_piece pieces) draws
 
 -- ---- held numbers
 
@@ -99,7 +99,7 @@ empty_view = view 0 [] [] []
 pub record Fits (pieces : ℕ) (history : List Entry) (v : View) : Type 0 where
   pub places : (p : ℕ) → IsIn p v.places → p < 64
   pub own : (e : Entry) → IsIn e v.draws → IsIn e.place v.places
-  pub few : past_count pieces v.draws ≤ length v.places
+  pub few : past_last_count pieces v.draws ≤ length v.places
   pub noted : Within v.noted history
 
 -- the invariant of a counter's words and of the views of all seats: the seats together hold the draws of one history, which word 0 counts,
@@ -133,28 +133,28 @@ abbrev pub slots_of : Sitting → List (ℕ × Unit {0})
 slots_of me = me.1
 
 -- the first of a seat's pass indices, which it uses for its draws; 0 if it has none, but then it does not draw
-abbrev pub first_place_of : List ℕ → ℕ
-first_place_of [] = 0
-first_place_of (p ∷ ps) = p
+abbrev pub first_pass_index : List ℕ → ℕ
+first_pass_index [] = 0
+first_pass_index (p ∷ ps) = p
 
 -- the view `v` after the number `n` was drawn under its first pass index
-abbrev pub view_drawn : View → ℕ → View
-view_drawn v n = view v.pieces v.places (v.draws ++ entry (first_place_of v.places) n ∷ []) v.noted
+abbrev pub view_with_draw : View → ℕ → View
+view_with_draw v n = view v.pieces v.places (v.draws ++ entry (first_pass_index v.places) n ∷ []) v.noted
 
 -- the view `v` after its seat got the pass index `place`, which is added in front
-abbrev pub view_seated : View → ℕ → View
-view_seated v place = view v.pieces (place ∷ v.places) v.draws v.noted
+abbrev pub view_with_index : View → ℕ → View
+view_with_index v place = view v.pieces (place ∷ v.places) v.draws v.noted
 
 -- the step draws a number: afterwards the seat also has the draw of the number `n`, which is greater than all numbers that it had drawn
 pub record IsDraw (st : Step (Unit {0})) (me : Sitting) (n : ℕ) (after : Sitting) : Type 0 where
-  pub drawn : view_of after ≡ view_drawn (view_of me) n
+  pub drawn : view_of after ≡ view_with_draw (view_of me) n
   pub slots : slots_of after ≡ slots_of me
   pub above : (e : Entry) → IsIn e (view_of me).draws → e.number < n
 
 -- the step requests the pass index `st.word` - 1: if its word was 0, the seat gets the index; otherwise another seat has it already
 pub record IsSeatRequest (st : Step (Unit {0})) (me : Sitting) (n : ℕ) (after : Sitting) : Type 0 where
   pub slots : slots_of after ≡ slots_of me
-  pub free : n ≡ 0 → view_of after ≡ view_seated (view_of me) (st.word - 1)
+  pub free : n ≡ 0 → view_of after ≡ view_with_index (view_of me) (st.word - 1)
   pub taken : n ≢ 0 → view_of after ≡ view_of me
 
 -- the step reads word 0 and changes nothing: the draws of the seat and the draws that it has noted are in one history, and no pass index

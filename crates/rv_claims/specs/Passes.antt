@@ -4,31 +4,31 @@ use Rattle.std.specs.Prelude.{replicate, Option, Some, None}
 use Rattle.std.specs.Int.{bit_at}
 use Rattle.atomic_table.specs.Seated.{TableId}
 use Rattle.rv_claims.specs.declared.view.Entry.{Entry}
-use Rattle.rv_claims.specs.Draws.{IsIn, past_count, entry, first_place_of, Sitting, view_of, slots_of}
+use Rattle.rv_claims.specs.Draws.{IsIn, past_last_count, entry, first_pass_index, Sitting, view_of, slots_of}
 use Rattle.rv_claims.specs.Draws.{IsHistory, Within, HaveSameDraws}
 
 -- a shared counter: its identity, and the number of its chunks
-pub record SharedDraw : Type 0 where
+pub record CounterView : Type 0 where
   pub table : TableId
   pub pieces : ℕ
 
 -- a pass: the counter that it belongs to, its pass indices, and its draws in order
 pub record PassView : Type 0 where
-  pub draw : SharedDraw
+  pub draw : CounterView
   pub places : List ℕ
   pub draws : List Entry
 
 -- the pass of this counter with these pass indices and draws
-abbrev pub pass_of : SharedDraw → List ℕ → List Entry → PassView
+abbrev pub pass_of : CounterView → List ℕ → List Entry → PassView
 pass_of d places draws = record { draw = d; places = places; draws = draws }
 
 -- whether a pass has ended: it has drawn a number past the last chunk
 abbrev pub has_ended : PassView → Bool
-has_ended p = nat_lt 0 (past_count p.draw.pieces p.draws)
+has_ended p = nat_lt 0 (past_last_count p.draw.pieces p.draws)
 
 -- the pass after the draw of the number `n`, under its first pass index
 abbrev pub with_draw : PassView → ℕ → PassView
-with_draw p n = pass_of p.draw p.places (p.draws ++ entry (first_place_of p.places) n ∷ [])
+with_draw p n = pass_of p.draw p.places (p.draws ++ entry (first_pass_index p.places) n ∷ [])
 
 -- each drawn number is below `n`
 abbrev pub AllBelow : ℕ → List Entry → Type 0
@@ -44,23 +44,23 @@ InOneHistory xs ys = (history : List Entry) × IsHistory history
     × Within xs history × Within ys history
 
 -- no number is an element of both lists
-abbrev pub NoneInBoth : List ℕ → List ℕ → Type 0
-NoneInBoth xs ys = (n : ℕ) → IsIn n xs → IsIn n ys → ⊥
+abbrev pub AreDisjoint : List ℕ → List ℕ → Type 0
+AreDisjoint xs ys = (n : ℕ) → IsIn n xs → IsIn n ys → ⊥
 
 -- the list has exactly the draws of some history, in any order
-abbrev pub AreAll : List Entry → Type 0
-AreAll draws = (history : List Entry) × IsHistory history × HaveSameDraws draws history
+abbrev pub IsWholeHistory : List Entry → Type 0
+IsWholeHistory draws = (history : List Entry) × IsHistory history × HaveSameDraws draws history
 
 -- the invariant of the fields of a pass: a bit is set for each of its pass indices, of which there is at least one, and `ended` is
 -- whether it drew a number past the last chunk
-pub record IsPass (me : Sitting) (bits : ℕ) (ended : Bool) : Type 0 where
+pub record IsValidPass (me : Sitting) (bits : ℕ) (ended : Bool) : Type 0 where
   pub no_slot : slots_of me ≡ []
   pub sits : 0 < length (view_of me).places
   pub low : (p : ℕ) → IsIn p (view_of me).places → p < 64
   pub set : (p : ℕ) → IsIn p (view_of me).places → bit_at bits p ≡ 1
   pub clear : (p : ℕ) → bit_at bits p ≡ 1 → IsIn p (view_of me).places
   pub own : (e : Entry) → IsIn e (view_of me).draws → IsIn e.place (view_of me).places
-  pub stopped : ended ≡ nat_lt 0 (past_count (view_of me).pieces (view_of me).draws)
+  pub stopped : ended ≡ nat_lt 0 (past_last_count (view_of me).pieces (view_of me).draws)
 
 -- the pass that a seat of the table `table` represents, as contracts see it
 abbrev pub pass_view : TableId → Sitting → PassView
@@ -72,6 +72,6 @@ abbrev pub opening_row : List ℕ
 opening_row = 0 ∷ 1 ∷ replicate 63 0
 
 -- `p` is a pass of this counter without draws, whose only pass index is not among the bits `taken`
-abbrev pub IsNew : SharedDraw → ℕ → PassView → Type 0
-IsNew d taken p = (place : ℕ) × (place < 64) × (bit_at taken place ≡ 0)
+abbrev pub IsNewPass : CounterView → ℕ → PassView → Type 0
+IsNewPass d taken p = (place : ℕ) × (place < 64) × (bit_at taken place ≡ 0)
     × (p ≡ pass_of d (place ∷ []) [])

@@ -4,5 +4,5 @@ use Rattle.rv_claims.specs.declared.pass.SplitError.{SplitError}
 use Rattle.rv_claims.specs.declared.pass.SplitError.TheVariants.{Full}
 
 -- the pass that a failed split returns unchanged
-abbrev pub in_full : SplitError → PassView
-in_full (Full p) = p
+abbrev pub pass_of_error : SplitError → PassView
+pass_of_error (Full p) = p

@@ -5,9 +5,9 @@ ghost use Rattle.std.specs.Int.{bit_at};
 ghost use mathlib.Core.Option.{some};
 ghost use lib.ListN.{get_elem?};
 ghost use Rattle.rv_claims.specs.Draws.{numbers, times, IsIn, view};
-ghost use Rattle.rv_claims.specs.Passes.{pass_of, has_ended, with_draw, AllBelow, piece_of, InOneHistory, NoneInBoth};
-ghost use Rattle.rv_claims.specs.Passes.{AreAll, opening_row, IsNew};
-ghost use Rattle.rv_claims.specs.Split.{in_full};
+ghost use Rattle.rv_claims.specs.Passes.{pass_of, has_ended, with_draw, AllBelow, piece_of, InOneHistory, AreDisjoint};
+ghost use Rattle.rv_claims.specs.Passes.{IsWholeHistory, opening_row, IsNewPass};
+ghost use Rattle.rv_claims.specs.Split.{pass_of_error};
 
 use crate::pass::{Pass, SplitError};
 use crate::rule::{Both, Draw, Fresh, Look, Note, Running, Sit};
@@ -29,9 +29,9 @@ pub struct Claims {
 
 impl Model for Claims {
     ghost use Rattle.std.specs.Prelude.{◌≡◌, ◌≤◌};
-    ghost use Rattle.rv_claims.specs.Passes.{SharedDraw};
+    ghost use Rattle.rv_claims.specs.Passes.{CounterView};
 
-    ghost Value = { SharedDraw };
+    ghost Value = { CounterView };
 
     ghost view = { λ c. record { table = c.table.shared.table_id; pieces = c.pieces } };
 
@@ -49,7 +49,7 @@ impl Claims {
         requires { pieces ≤ 4096 }
         ensures { IfOk result (λ t. (t.0.pieces ≡ pieces) × (t.1 ≡ pass_of t.0 (0 ∷ []) [])) }
     {
-        let words = opening_words();
+        let words = initial_words();
         let (table, seat) = Table::of_words(alloc, &words, &pieces)?;
         let pass = Pass {
             seat,
@@ -86,7 +86,7 @@ impl Claims {
         ensures ok { IfOk result (λ t. (t.0 ≡ pass)
             × ((p : ℕ) × (p < 64) × ¬ (IsIn p pass.places)
             × (t.1 ≡ pass_of self.now (p ∷ []) []))) }
-        ensures full { IfErr result (λ e. in_full e ≡ pass) }
+        ensures full { IfErr result (λ e. pass_of_error e ≡ pass) }
     {
         let seat = self.table.shared.split_seat::<Fresh>(&mut pass.seat);
         match self.take_seat(seat, pass.bits) {
@@ -117,7 +117,7 @@ impl Claims {
         ensures first { result.0 ≡ first }
         ensures second { result.1 ≡ second }
         ensures history { InOneHistory first.draws second.draws }
-        ensures apart { NoneInBoth (numbers first.draws) (numbers second.draws) }
+        ensures apart { AreDisjoint (numbers first.draws) (numbers second.draws) }
     {
         // Unreachable, since a joined pass would have an index twice: the look rules that out.
         if first.bits & second.bits != 0 {
@@ -135,7 +135,7 @@ impl Claims {
     /// it has ended as well, it holds each chunk exactly once.
     pub fn finish(self, pass: Pass) -> bool
         requires { pass.draw ≡ self }
-        ensures all { result ≡ true → AreAll pass.draws }
+        ensures all { result ≡ true → IsWholeHistory pass.draws }
         ensures pieces { result ≡ true → has_ended pass ≡ true
             → (x : ℕ) → x < self.pieces → times x (numbers pass.draws) ≡ 1 }
         ensures full { ((p : ℕ) → p < 64 → IsIn p pass.places) → result ≡ true }
@@ -147,7 +147,7 @@ impl Claims {
             ended: _,
         } = pass;
         let closed = table.close_with(seat);
-        let all = has_all_seats(&closed, bits);
+        let all = has_all_assigned_indices(&closed, bits);
         closed.free();
         all
     }
@@ -157,7 +157,7 @@ impl Claims {
     fn take_seat(&self, mut seat: Seat<(), View>, taken: u64) -> Option<Pass>
         requires table { seat.table_id ≡ self.now.table }
         requires blank { seat.me ≡ (view self.now.pieces [] [] [], []) }
-        ensures { IfSome result (λ p. IsNew self.now taken p) }
+        ensures { IfSome result (λ p. IsNewPass self.now taken p) }
     {
         for place in 0..PLACES {
             if taken >> place & 1 == 0
@@ -175,7 +175,7 @@ impl Claims {
 }
 
 /// Returns the words of a new counter: no draws, and index 0 assigned.
-fn opening_words() -> [u64; 65]
+fn initial_words() -> [u64; 65]
     ensures { result ≡ opening_row }
 {
     let mut words = [0u64; 65];
@@ -184,7 +184,7 @@ fn opening_words() -> [u64; 65]
 }
 
 /// Whether every assigned index, whose word is 1, is among the bits `bits`.
-fn has_all_seats(closed: &Closed<(), Global>, bits: u64) -> bool
+fn has_all_assigned_indices(closed: &Closed<(), Global>, bits: u64) -> bool
     requires { (slots_len closed.now.words ≡ 65) × IsFull closed.now.words }
     ensures held { result ≡ true → (p : ℕ) → p < 64
         → get_elem? (slots_items closed.now.words) (p + 1) ≡ some 1 → bit_at bits p ≡ 1 }

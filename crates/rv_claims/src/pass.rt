@@ -19,13 +19,13 @@ pub struct Pass {
 }
 
 impl Model for Pass {
-    ghost use Rattle.rv_claims.specs.Passes.{PassView, pass_view, IsPass};
+    ghost use Rattle.rv_claims.specs.Passes.{PassView, pass_view, IsValidPass};
 
     ghost Value = { PassView };
 
     ghost view = { λ p. pass_view p.seat.table_id p.seat.me };
 
-    ghost invariant = { λ p. IsPass p.seat.me p.bits p.ended };
+    ghost invariant = { λ p. IsValidPass p.seat.me p.bits p.ended };
 }
 
 /// Why a pass could not be split.

@@ -27,12 +27,12 @@ HasUsageOf text built =
     IfOk built (λ command. IsSomeAnd (out-Command command).bin_name (λ usage. string_bytes usage ≡ text))
 
 -- the help of the command ends with this text, unless memory ran out
-abbrev pub HasHelpEnd : List ℕ → Result Command AllocError → Type 0
-HasHelpEnd text built = IfOk built (λ command. IsSomeAnd (out-Command command).after_help (λ after. after.now ≡ text))
+abbrev pub HasAfterHelp : List ℕ → Result Command AllocError → Type 0
+HasAfterHelp text built = IfOk built (λ command. IsSomeAnd (out-Command command).after_help (λ after. after.now ≡ text))
 
 -- the rule of the required positional argument `name`, such as `<LIST>`
-abbrev pub word_rule : Text → Rule
-word_rule name = record (new_rule name) { required = true; value_names = 1 }
+abbrev pub positional_rule : Text → Rule
+positional_rule name = record (new_rule name) { required = true; value_names = 1 }
 
 -- the rule of the option `--name` with one value
 abbrev pub option_rule : Text → Rule

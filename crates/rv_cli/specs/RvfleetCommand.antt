@@ -5,7 +5,7 @@ use Rattle.std.specs.Str.{bytes_eq}
 use Rattle.clap.specs.Words.{App, IsAmong, Kinds, Row, Rule, Text, fault_of, first_of, new_app}
 use Rattle.clap.specs.Words.{new_rule, subcommand_of, takes, with_rule, with_subcommand}
 use Rattle.clap.specs.declared.error.kind.ErrorKind.TheVariants as kind
-use Rattle.rv_base.specs.Limits.{most_budget, most_group, most_workers}
+use Rattle.rv_base.specs.Limits.{max_budget, max_group, max_workers}
 use Rattle.rv_cli.specs.Values.{number_value}
 use Rattle.clap.specs.declared.builder.value_parser.ValueParser.TheVariants as value_parser
 
@@ -17,7 +17,7 @@ budget_rule = record (new_rule (codes "budget")) {
   long = Some (codes "budget");
   required = true;
   value_names = 1;
-  parser = Some (value_parser.Signed (pos 1) (pos most_budget));
+  parser = Some (value_parser.Signed (pos 1) (pos max_budget));
 }
 
 -- the rule of the required positional argument `<IMAGE>`
@@ -40,7 +40,7 @@ abbrev pub workers_rule : Rule
 workers_rule = record (new_rule (codes "workers")) {
   long = Some (codes "workers");
   value_names = 1;
-  parser = Some (value_parser.Signed (pos 1) (pos most_workers));
+  parser = Some (value_parser.Signed (pos 1) (pos max_workers));
   defaults = codes "1" ∷ [];
 }
 
@@ -49,7 +49,7 @@ abbrev pub group_rule : Rule
 group_rule = record (new_rule (codes "group")) {
   long = Some (codes "group");
   value_names = 1;
-  parser = Some (value_parser.Signed (pos 1) (pos most_group));
+  parser = Some (value_parser.Signed (pos 1) (pos max_group));
   defaults = codes "1" ∷ [];
 }
 
@@ -88,9 +88,9 @@ pub data Request : Type 0 where
   one : Text → ℕ → Option Text → Request
   run : Text → ℕ → ℕ → Request
 
--- the value of `--budget` among the matches of `clap`; `None` if it is not given, or not from 1 to `most_budget`
+-- the value of `--budget` among the matches of `clap`; `None` if it is not given, or not from 1 to `max_budget`
 abbrev pub requested_budget : List Row → Option ℕ
-requested_budget rows = number_value (codes "budget") 1 most_budget rows
+requested_budget rows = number_value (codes "budget") 1 max_budget rows
 
 -- the request of the subcommand `raw` with these matches of `clap`; `None` without a valid budget
 abbrev pub raw_request : List Row → Option Request
@@ -105,8 +105,8 @@ one_request rows = option_and_then
 -- the request of the subcommand `run` with these matches of `clap`; `None` without a path or with an invalid number
 abbrev pub run_request : List Row → Option Request
 run_request rows = option_and_then (λ path. option_and_then
-    (λ workers. option_map (run path workers) (number_value (codes "group") 1 most_group rows))
-    (number_value (codes "workers") 1 most_workers rows)) (first_of (codes "jobs") rows)
+    (λ workers. option_map (run path workers) (number_value (codes "group") 1 max_group rows))
+    (number_value (codes "workers") 1 max_workers rows)) (first_of (codes "jobs") rows)
 
 -- the request of the subcommand `name` with these matches of `clap`; `None` if a required value is missing
 abbrev pub subcommand_request : Text → List Row → Option Request
@@ -125,17 +125,17 @@ unfoldable pub are_arguments_accepted : List Text → Bool
 are_arguments_accepted words = takes fleet_app words
 
 -- the request, or `None` if the list of errors in the arguments is not empty
-abbrev pub request_unless_faults : Kinds → Option Request → Option Request
-request_unless_faults [] request = request
-request_unless_faults (fault ∷ more) request = None
+abbrev pub request_unless_errors : Kinds → Option Request → Option Request
+request_unless_errors [] request = request
+request_unless_errors (fault ∷ more) request = None
 
 -- the request that the arguments make; `None` if `clap` finds an error in them
-unfoldable pub faultless_request : List Text → Option Request
-faultless_request words = request_unless_faults (fault_of fleet_app words) (request_of words)
+unfoldable pub request_without_errors : List Text → Option Request
+request_without_errors words = request_unless_errors (fault_of fleet_app words) (request_of words)
 
 -- the program handles the arguments: `clap` accepts them, or finds no error in them and they make a request
-abbrev pub IsToAnswer : List Text → Type 0
-IsToAnswer words = (are_arguments_accepted words ≡ true) ⊎ (is_some (faultless_request words) ≡ true)
+abbrev pub IsToBeHandled : List Text → Type 0
+IsToBeHandled words = (are_arguments_accepted words ≡ true) ⊎ (is_some (request_without_errors words) ≡ true)
 
 -- the arguments request help
 abbrev pub RequestsHelp : List Text → Type 0

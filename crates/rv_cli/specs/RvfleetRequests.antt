@@ -1,6 +1,6 @@
 -- The request that a value of the program's Rust type represents.
 use Rattle.std.specs.Prelude.{◌≤◌, option_map}
-use Rattle.rv_base.specs.Limits.{most_budget, most_group, most_workers}
+use Rattle.rv_base.specs.Limits.{max_budget, max_group, max_workers}
 use Rattle.rv_cli.specs.declared.rvfleet.Request.{Request as Value}
 use Rattle.rv_cli.specs.declared.rvfleet.Request.TheVariants.{One, Raw, Run}
 use Rattle.rv_cli.specs.RvfleetCommand.{Request, one, raw, run}
@@ -14,6 +14,6 @@ request (Run jobs workers group) = run jobs.now workers group
 
 -- each number in the request is within the range that the command line allows
 abbrev pub IsRequestInRange : Value → Type 0
-IsRequestInRange (Raw budget) = (1 ≤ budget) × (budget ≤ most_budget)
-IsRequestInRange (One image budget input_hex) = (1 ≤ budget) × (budget ≤ most_budget)
-IsRequestInRange (Run jobs workers group) = (1 ≤ workers) × (workers ≤ most_workers) × (1 ≤ group) × (group ≤ most_group)
+IsRequestInRange (Raw budget) = (1 ≤ budget) × (budget ≤ max_budget)
+IsRequestInRange (One image budget input_hex) = (1 ≤ budget) × (budget ≤ max_budget)
+IsRequestInRange (Run jobs workers group) = (1 ≤ workers) × (workers ≤ max_workers) × (1 ≤ group) × (group ≤ max_group)

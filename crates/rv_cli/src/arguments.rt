@@ -2,15 +2,15 @@
 
 ghost use Rattle.std.specs.Prelude.{◌≡◌, false};
 ghost use Rattle.clap.specs.Words.{rule_of};
-ghost use Rattle.rv_cli.specs.CommandBuilder.{IsShownAs, option_rule, word_rule};
+ghost use Rattle.rv_cli.specs.CommandBuilder.{IsShownAs, option_rule, positional_rule};
 ghost use Rattle.rv_cli.specs.RvfleetCommand.{group_rule};
 
 use clap::{Arg, value_parser};
 use std::alloc::Global;
 
 /// Returns the required positional argument `name`; the help shows it with this value name and description.
-pub fn word_argument<'a>(alloc: Global, name: &'a str, value: &'a str, help: &'a str) -> Arg<'a>
-    ensures rule { (rule_of result ≡ word_rule name.entry.now) × (result.global ≡ false) }
+pub fn positional_argument<'a>(alloc: Global, name: &'a str, value: &'a str, help: &'a str) -> Arg<'a>
+    ensures rule { (rule_of result ≡ positional_rule name.entry.now) × (result.global ≡ false) }
     // The help shows it with this value name and this text.
     ensures shown { IsShownAs value.entry help.entry result }
 {

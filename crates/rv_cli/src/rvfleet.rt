@@ -11,12 +11,12 @@ ghost use Rattle.rv_cli.specs.RvfleetCommand.{raw_request, one_request, run_requ
 ghost use Rattle.rv_cli.specs.RvfleetCommand.{request_of, are_arguments_accepted};
 ghost use Rattle.rv_cli.specs.RvfleetRequests.{IsRequestInRange, request};
 
-use crate::arguments::{group_argument, option_argument, word_argument};
+use crate::arguments::{group_argument, option_argument, positional_argument};
 use crate::command_builder::{Built, with_argument, with_subcommand};
 use crate::values::{number_value, text_value};
 use clap::error::ErrorKind;
 use clap::{Arg, ArgMatches, Command, Error, value_parser};
-use rv_base::limits::{MOST_BUDGET, MOST_GROUP, MOST_WORKERS};
+use rv_base::limits::{MAX_BUDGET, MAX_GROUP, MAX_WORKERS};
 use std::alloc::{AllocError, Global};
 use std::convert::AsStr;
 
@@ -106,7 +106,7 @@ fn one_image_command<'a>(alloc: Global) -> Built<'a>
     ));
     let command = with_argument(
         command,
-        word_argument(alloc, "image", "IMAGE", "Path of the image"),
+        positional_argument(alloc, "image", "IMAGE", "Path of the image"),
     );
     let command = with_argument(command, budget_argument(alloc));
     let input = "The console's input, as hexadecimal digits";
@@ -122,7 +122,7 @@ fn run_command<'a>(alloc: Global) -> Built<'a>
     ));
     let command = with_argument(
         command,
-        word_argument(alloc, "jobs", "JOBS", "Path of the job list"),
+        positional_argument(alloc, "jobs", "JOBS", "Path of the job list"),
     );
     let command = with_argument(command, workers_argument(alloc));
     with_argument(command, group_argument(alloc))
@@ -194,8 +194,8 @@ fn run_request<'a>(values: &ArgMatches<'a>) -> Option<Request<'a>>
     ensures within { IfSome result IsRequestInRange }
 {
     let jobs = text_value(values, "jobs")?;
-    let workers = number_value(values, "workers", 1, MOST_WORKERS)?;
-    let group = number_value(values, "group", 1, MOST_GROUP)?;
+    let workers = number_value(values, "workers", 1, MAX_WORKERS)?;
+    let group = number_value(values, "group", 1, MAX_GROUP)?;
     Some(Request::Run {
         jobs,
         workers,
@@ -206,7 +206,7 @@ fn run_request<'a>(values: &ArgMatches<'a>) -> Option<Request<'a>>
 // Returns the value of `--budget`; `None` if it is not given, or not from 1 to 1,000,000,000.
 fn requested_budget(values: &ArgMatches<'_>) -> Option<u32>
     ensures value { result ≡ requested_budget (rows_of (found_of values.now)) }
-    ensures within { IfSome result (λ number. (1 ≤ number) × (number ≤ MOST_BUDGET)) }
+    ensures within { IfSome result (λ number. (1 ≤ number) × (number ≤ MAX_BUDGET)) }
 {
-    number_value(values, "budget", 1, MOST_BUDGET)
+    number_value(values, "budget", 1, MAX_BUDGET)
 }

@@ -1,13 +1,13 @@
 -- A report that can be has no more rows than a list may have jobs.
 use Rattle.std.proofs.Common.{◌≡◌, ℕ, ◌+◌, ◌≤◌, List, [], ◌∷◌, arith, length, true}
 use Rattle.std.proofs.lemmas.Bool.{and_parts, leb-true, ltb-true}
-use Rattle.rv_files.specs.Limits.{most_jobs}
+use Rattle.rv_files.specs.Limits.{max_jobs}
 use Rattle.rv_rows.specs.declared_saved.SavedReport.{SavedReport}
-use Rattle.rv_rows.specs.Saved.{IsSaved, are_rising}
+use Rattle.rv_rows.specs.Saved.{IsValidReport, are_increasing}
 
-rising_few : (before last : ℕ) (ns : List ℕ) → are_rising before last ns ≡ true → before ≤ last →
+rising_few : (before last : ℕ) (ns : List ℕ) → are_increasing before last ns ≡ true → before ≤ last →
     length ns + before ≤ last
-unfolding are_rising
+unfolding are_increasing
 rising_few before last [] rising within = omega (arith, within)
 rising_few before last (n ∷ ns) rising within =
     let parts = and_parts _ _ rising in
@@ -16,7 +16,7 @@ rising_few before last (n ∷ ns) rising within =
     let above = ltb-true before n parts.0 in
     omega (arith, few, above)
 
-pub few_rows : (report : SavedReport) → IsSaved report → length report.rows ≤ most_jobs
+pub few_rows : (report : SavedReport) → IsValidReport report → length report.rows ≤ max_jobs
 few_rows report is =
-    let few = rising_few 0 most_jobs report.numbers is.listed.rising (omega arith) in
+    let few = rising_few 0 max_jobs report.numbers is.listed.rising (omega arith) in
     omega (arith, few, is.listed.counted)

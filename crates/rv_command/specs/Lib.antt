@@ -1,5 +1,5 @@
 pub mod Messages
-pub mod RefusedLines
+pub mod InvalidLines
 pub mod Stops
 pub mod Texts
 pub use Rattle.rv_files.specs.Files
@@ -8,5 +8,5 @@ pub use Rattle.rv_files.specs.Names
 pub use Rattle.rv_list_errors.specs.NearestJob
 pub use Rattle.rv_list_errors.specs.PlacedFaults
 pub use Rattle.rv_list_errors.specs.Printable
-pub use Rattle.rvtest_cli.specs.RvtestWords
+pub use Rattle.rvtest_cli.specs.RvtestArgs
 pub use Rattle.rvtest_cli.specs.declared.run as declared_run

@@ -3,7 +3,7 @@ use Rattle.std.specs.Prelude.{◌≡◌, ◌==◌, ◌⊎◌, ◌++◌, if◌the
 use Rattle.std.specs.Fmt.{decimal}
 use Rattle.std.specs.Io.KnownBytes.{Appends}
 use Rattle.rv_files.specs.Counts.{one_more}
-use Rattle.rv_files.specs.Sinks.{AppendsBeginning}
+use Rattle.rv_files.specs.Sinks.{AppendsPrefix}
 use Rattle.rv_rows.specs.declared_partial.PartialReport.{PartialReport}
 use Rattle.rv_list_errors.specs.Printable.{printable_text}
 use Rattle.rv_command.specs.declared.stop.Stop.{Stop}
@@ -13,7 +13,7 @@ use Rattle.rv_command.specs.declared.stop.Stop.TheVariants as stop
 abbrev pub IsMessageWritten : Option (List ℕ) → Option (List ℕ) → ℕ → ℕ → List ℕ → Type 0
 IsMessageWritten before after failures_before failures_after text =
     (Appends before after text × (failures_after ≡ failures_before))
-    ⊎ (AppendsBeginning before after text × (failures_after ≡ one_more failures_before))
+    ⊎ (AppendsPrefix before after text × (failures_after ≡ one_more failures_before))
 
 -- the message that says `what` is wrong with the file at the path
 abbrev pub path_message : List ℕ → List ℕ → List ℕ
@@ -29,8 +29,8 @@ abbrev pub complete_rows_text : ℕ → List ℕ
 complete_rows_text rows = if rows == 1 then codes " complete row\n" else codes " complete rows\n"
 
 -- the note about a truncated report: how many complete rows it has; empty for a complete report
-abbrev pub cut_off_note : List ℕ → PartialReport → List ℕ
-cut_off_note path read = if read.is_cut_off
+abbrev pub truncation_note : List ℕ → PartialReport → List ℕ
+truncation_note path read = if read.is_cut_off
     then path_number_message path (codes ": note: the report is truncated; using its ") (length read.report.rows)
     (complete_rows_text (length read.report.rows))
     else []

@@ -5,9 +5,9 @@ use Rattle.std.specs.declared.alloc.Global.{Global}
 use Rattle.std.specs.declared.io.ErrorKind.{ErrorKind}
 use Rattle.rv_files.specs.Files.{FileContents}
 use Rattle.rv_files.specs.Limits.{most_bytes}
-use Rattle.rvtest_cli.specs.WordsErrors.{IsUsageText}
-use Rattle.rvtest_cli.specs.declared.words_error.WordsError.{WordsError}
-use Rattle.rvtest_cli.specs.declared.words_error.WordsError.TheVariants as error
+use Rattle.rvtest_cli.specs.ArgsErrors.{IsUsageText}
+use Rattle.rvtest_cli.specs.declared.args_error.ArgsError.{ArgsError}
+use Rattle.rvtest_cli.specs.declared.args_error.ArgsError.TheVariants as error
 use Rattle.rv_files.specs.IoErrors.{io_error_text}
 use Rattle.rv_files.specs.declared.file_error.FileError.{FileError}
 use Rattle.rv_files.specs.declared.file_error.FileError.TheVariants as file
@@ -15,26 +15,26 @@ use Rattle.rv_list_errors.specs.FaultHeads.{fault_head}
 use Rattle.rv_list_errors.specs.Lines.{AppendsFaultLines}
 use Rattle.rv_rows.specs.JobList.{job_list_of}
 use Rattle.rv_rows.specs.declared_lists_error.JobError.{JobError}
-use Rattle.rv_rows.specs.Differences.{count_of_line_feeds}
-use Rattle.rv_rows.specs.LeastLine.{BeginsReport, IsLeastRefusedLine, first_lines}
+use Rattle.rv_rows.specs.Differences.{line_feed_count}
+use Rattle.rv_rows.specs.LeastLine.{IsReportPrefix, IsFirstInvalidLine, first_lines}
 use Rattle.rv_rows.specs.declared_saved.SavedReport.{SavedReport}
 use Rattle.rv_command.specs.declared.stop.Lines.{Lines}
 use Rattle.rv_command.specs.declared.stop.Lines.TheVariants as lines
 use Rattle.rv_command.specs.declared.stop.Stop.{Stop}
 use Rattle.rv_command.specs.declared.stop.Stop.TheVariants as why
 use Rattle.rv_command.specs.Messages.{path_message, stop_message}
-use Rattle.rv_command.specs.RefusedLines.{refused_line_message}
-use Rattle.rv_command.specs.declared.refused_line.ResultKind.TheVariants as expected
+use Rattle.rv_command.specs.InvalidLines.{invalid_line_message}
+use Rattle.rv_command.specs.declared.invalid_line.ResultKind.TheVariants as expected
 use Rattle.rv_command.specs.Texts.{IsReportText, IsTextAt}
 
 -- the exit status for these lines: 2 if the request is rejected, 3 if the system failed
-abbrev pub lines_status : Lines → ℕ
-lines_status lines.Refusal = 2
-lines_status lines.Failure = 3
+abbrev pub message_status : Lines → ℕ
+message_status lines.Refusal = 2
+message_status lines.Failure = 3
 
 -- the exit status for a stop: 2 if the request is rejected, 3 if the system failed
 abbrev pub stop_status : Stop → ℕ
-stop_status (why.Told lines text) = lines_status lines
+stop_status (why.Told lines text) = message_status lines
 stop_status why.OutOfMemory = 3
 stop_status why.NoWorker = 3
 stop_status why.WriteFailed = 3
@@ -49,9 +49,9 @@ end_status true why.WriteFailed = broken_pipe_status
 end_status _ why = stop_status why
 
 -- the stop with these lines of this kind, or out of memory if the lines could not be made
-abbrev pub stop_of_lines : Lines → Result (Vec ℕ Global) AllocError → Stop
-stop_of_lines kind (Ok text) = why.Told kind text
-stop_of_lines kind (Err error) = why.OutOfMemory
+abbrev pub stop_with_message : Lines → Result (Vec ℕ Global) AllocError → Stop
+stop_with_message kind (Ok text) = why.Told kind text
+stop_with_message kind (Err error) = why.OutOfMemory
 
 -- the stop is out of memory, or it has this exit status and this message
 abbrev pub IsStop : ℕ → List ℕ → Stop → Type 0
@@ -59,17 +59,17 @@ IsStop status text stop =
     (stop ≡ why.OutOfMemory) ⊎ ((stop_status stop ≡ status) × (stop_message stop ≡ text))
 
 -- the stop is out of memory, or it rejects the request with any message
-abbrev pub IsRefusal : Stop → Type 0
-IsRefusal stop = (stop ≡ why.OutOfMemory) ⊎ (stop_status stop ≡ 2)
+abbrev pub IsRejection : Stop → Type 0
+IsRejection stop = (stop ≡ why.OutOfMemory) ⊎ (stop_status stop ≡ 2)
 
 -- the stop rejects the request with this message
-abbrev pub IsRefusedAs : List ℕ → Stop → Type 0
-IsRefusedAs text stop = (stop_status stop ≡ 2) × (stop_message stop ≡ text)
+abbrev pub IsRejectedWith : List ℕ → Stop → Type 0
+IsRejectedWith text stop = (stop_status stop ≡ 2) × (stop_message stop ≡ text)
 
 -- the stop rejects the arguments with the text of their error, or both are out of memory
-abbrev pub IsWordsRefusal : WordsError → Stop → Type 0
-IsWordsRefusal error.OutOfMemory stop = stop ≡ why.OutOfMemory
-IsWordsRefusal (error.Told fault text) stop = IsRefusedAs (string_bytes text) stop
+abbrev pub IsArgsRejection : ArgsError → Stop → Type 0
+IsArgsRejection error.OutOfMemory stop = stop ≡ why.OutOfMemory
+IsArgsRejection (error.Told fault text) stop = IsRejectedWith (string_bytes text) stop
 
 -- the stop is out of memory, or it rejects the arguments with the message `what` and the usage of a command
 abbrev pub IsUsageStop : List ℕ → Stop → Type 0
@@ -78,12 +78,12 @@ IsUsageStop what stop = (stop ≡ why.OutOfMemory) ⊎ ((stop_status stop ≡ 2)
 -- ---- files
 
 -- if the contents of files are known, there is no file at the path
-abbrev pub IsNothingAt : Option FileContents → List ℕ → Type 0
-IsNothingAt known path = IfSome known (λ files. files path ≡ None)
+abbrev pub IsMissingAt : Option FileContents → List ℕ → Type 0
+IsMissingAt known path = IfSome known (λ files. files path ≡ None)
 
 -- if the contents of files are known, the file at the path has more than `most` bytes
-abbrev pub IsLongAt : Option FileContents → List ℕ → ℕ → Type 0
-IsLongAt known path most = IfSome known (λ files. IsSomeAnd (files path) (λ bytes. most < length bytes))
+abbrev pub IsTooLongAt : Option FileContents → List ℕ → ℕ → Type 0
+IsTooLongAt known path most = IfSome known (λ files. IsSomeAnd (files path) (λ bytes. most < length bytes))
 
 -- memory ran out, or the stop reports the system's reason why the file at the path could not be read or written
 abbrev pub IsSystemStop : List ℕ → ErrorKind → Stop → Type 0
@@ -92,22 +92,22 @@ IsSystemStop path reason stop = IsStop 3 (path_message path (io_error_text reaso
 -- why a command stopped: memory ran out, or the file at the path could not be read; in that case the known contents have no file there
 abbrev pub IsUnreadStop : Option FileContents → List ℕ → Stop → Type 0
 IsUnreadStop known path stop = (stop ≡ why.OutOfMemory)
-    ⊎ (IsNothingAt known path × ((reason : ErrorKind) × IsSystemStop path reason stop))
+    ⊎ (IsMissingAt known path × ((reason : ErrorKind) × IsSystemStop path reason stop))
 
 -- the maximum number of bytes in a report or a table of counts
-abbrev pub most_result_bytes : ℕ
-most_result_bytes = 1073741824
+abbrev pub max_result_bytes : ℕ
+max_result_bytes = 1073741824
 
 -- why a command stopped: memory ran out, or the file at the path could not be read or is longer than a report or a table of counts may be
 abbrev pub IsResultUnreadStop : Option FileContents → List ℕ → Stop → Type 0
 IsResultUnreadStop known path stop = IsUnreadStop known path stop
-    ⊎ (IsLongAt known path most_result_bytes
+    ⊎ (IsTooLongAt known path max_result_bytes
     × IsStop 3 (path_message path (codes "the file is larger than 1073741824 bytes")) stop)
 
 -- the stop for an error in opening or writing the file at the path
 abbrev pub IsFileErrorStop : List ℕ → FileError → Stop → Type 0
 IsFileErrorStop path file.OutOfMemory stop = stop ≡ why.OutOfMemory
-IsFileErrorStop path file.SamePlace stop =
+IsFileErrorStop path file.SameFile stop =
     IsStop 2 (path_message path (codes "another output of this command is the same file")) stop
 IsFileErrorStop path (file.Failed reason) stop = IsSystemStop path reason stop
 
@@ -116,7 +116,7 @@ IsFileErrorStop path (file.Failed reason) stop = IsSystemStop path reason stop
 -- why a command stopped: memory ran out, or the file at the path could not be read or is longer than a list may be
 abbrev pub IsListUnreadStop : Option FileContents → List ℕ → Stop → Type 0
 IsListUnreadStop known path stop = IsUnreadStop known path stop
-    ⊎ (IsLongAt known path most_bytes
+    ⊎ (IsTooLongAt known path most_bytes
     × IsStop 3 (path_message path (codes "the file is larger than 16777216 bytes")) stop)
 
 -- memory ran out, or the text at the path is an invalid list, and the stop reports its first error
@@ -128,31 +128,31 @@ IsListFaultStop path text stop = (stop ≡ why.OutOfMemory)
 -- ---- reports
 
 -- memory ran out, or the stop reports that the report at the path is truncated
-abbrev pub IsCutOffStop : List ℕ → Stop → Type 0
-IsCutOffStop path stop = IsStop 2 (path_message path (codes "the report is truncated")) stop
+abbrev pub IsTruncatedStop : List ℕ → Stop → Type 0
+IsTruncatedStop path stop = IsStop 2 (path_message path (codes "the report is truncated")) stop
 
 -- memory ran out, or the stop reports that the line with this number is invalid in a report, or that the file is a job list
 abbrev pub IsLineStop : List ℕ → List ℕ → ℕ → Stop → Type 0
-IsLineStop path bytes line stop = IsStop 2 (refused_line_message expected.Report path bytes line) stop
+IsLineStop path bytes line stop = IsStop 2 (invalid_line_message expected.Report path bytes line) stop
 
 -- the stop reports the first error of a text that is not a report: its first invalid line; or that it is truncated, if its complete lines
 -- begin some report
 abbrev pub IsReportFaultReported : List ℕ → List ℕ → Stop → Type 0
 IsReportFaultReported path bytes stop =
-    ((line : ℕ) × IsLeastRefusedLine line bytes × IsLineStop path bytes line stop)
-    ⊎ (BeginsReport (first_lines (count_of_line_feeds bytes) bytes) × IsCutOffStop path stop)
+    ((line : ℕ) × IsFirstInvalidLine line bytes × IsLineStop path bytes line stop)
+    ⊎ (IsReportPrefix (first_lines (line_feed_count bytes) bytes) × IsTruncatedStop path stop)
 
 -- memory ran out, or the stop reports the first error of the bytes, which were read as a report from the path
 pub record IsReportFaultStop (path bytes : List ℕ) (stop : Stop) : Type 0 where
   pub told : (stop ≡ why.OutOfMemory) ⊎ IsReportFaultReported path bytes stop
   -- a prefix of a report is reported as truncated
-  pub cut : BeginsReport bytes → IsCutOffStop path stop
+  pub cut : IsReportPrefix bytes → IsTruncatedStop path stop
   -- a complete report has no error
   pub whole : (report : SavedReport) → IsReportText bytes report → stop ≡ why.OutOfMemory
 
 -- why a command stopped: the report at the path could not be read, or it has an error
-abbrev pub IsReportReadError : Option FileContents → List ℕ → Stop → Type 0
-IsReportReadError known path stop = IsResultUnreadStop known path stop
+abbrev pub IsReportReadStop : Option FileContents → List ℕ → Stop → Type 0
+IsReportReadStop known path stop = IsResultUnreadStop known path stop
     ⊎ ((bytes : List ℕ) × IsTextAt known path bytes × IsReportFaultStop path bytes stop)
 
 -- ---- reports that may be truncated
@@ -160,8 +160,8 @@ IsReportReadError known path stop = IsResultUnreadStop known path stop
 -- memory ran out, or the stop reports the first invalid line of the bytes; a prefix of a report has no invalid line
 pub record IsPartialFaultStop (path bytes : List ℕ) (stop : Stop) : Type 0 where
   pub told : (stop ≡ why.OutOfMemory)
-      ⊎ ((line : ℕ) × IsLeastRefusedLine line bytes × IsLineStop path bytes line stop)
-  pub beginning : BeginsReport bytes → stop ≡ why.OutOfMemory
+      ⊎ ((line : ℕ) × IsFirstInvalidLine line bytes × IsLineStop path bytes line stop)
+  pub beginning : IsReportPrefix bytes → stop ≡ why.OutOfMemory
 
 -- why a command stopped: the bytes are not a report, nor a truncated report if the Bool allows that
 abbrev pub IsRequestedFaultStop : Bool → List ℕ → List ℕ → Stop → Type 0

@@ -3,7 +3,7 @@ use Rattle.std.specs.Prelude.{◌≡◌, ℕ, Bool, true, List, IfSome, Option, 
 use Rattle.std.specs.Borrow.{Bor}
 use Rattle.rv_files.specs.Files.{FileContents}
 use Rattle.rv_rows.specs.Partial.{IsReadAs}
-use Rattle.rv_rows.specs.Saved.{IsSaved, saved_text}
+use Rattle.rv_rows.specs.Saved.{IsValidReport, saved_text}
 use Rattle.rv_rows.specs.declared_partial.PartialReport.{PartialReport}
 use Rattle.rv_rows.specs.declared_saved.SavedReport.{SavedReport}
 
@@ -17,7 +17,7 @@ optional_text text = option_map (λ text. text.now) text
 
 -- the bytes are the text of this report
 pub record IsReportText (bytes : List ℕ) (report : SavedReport) : Type 0 where
-  pub saved : IsSaved report
+  pub saved : IsValidReport report
   pub text : saved_text report ≡ bytes
 
 -- if the contents of files are known, the file at the path has the text of this report

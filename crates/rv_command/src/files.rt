@@ -1,7 +1,7 @@
 //! Reading whole files.
 
 ghost use Rattle.std.specs.Prelude.{◌≡◌, ◌≤◌, ◌<◌, ◌+◌, ◌^◌, IfErr, IfNone, IfOk, IfSome, length};
-ghost use Rattle.rv_command.specs.Stops.{IsFileErrorStop, IsLongAt, IsResultUnreadStop, IsSystemStop, IsUnreadStop, most_result_bytes};
+ghost use Rattle.rv_command.specs.Stops.{IsFileErrorStop, IsTooLongAt, IsResultUnreadStop, IsSystemStop, IsUnreadStop, max_result_bytes};
 ghost use Rattle.rv_command.specs.Texts.{IsTextAt};
 
 use crate::messages::path_message;
@@ -21,7 +21,7 @@ pub(crate) fn read_file_up_to<D: Inputs>(
     ensures whole { IfOk result
         (λ found. IfSome found (λ bytes. IsTextAt (D.contents inputs.now) path.now bytes.items)) }
     ensures within { IfOk result (λ found. IfSome found (λ bytes. length bytes.items ≤ most)) }
-    ensures long { IfOk result (λ found. IfNone found (IsLongAt (D.contents inputs.now) path.now most)) }
+    ensures long { IfOk result (λ found. IfNone found (IsTooLongAt (D.contents inputs.now) path.now most)) }
     ensures unread { IfErr result (IsUnreadStop (D.contents inputs.now) path.now) }
 {
     match read_whole_up_to(inputs, alloc, path, most) {
@@ -32,32 +32,32 @@ pub(crate) fn read_file_up_to<D: Inputs>(
 }
 
 /// The maximum number of bytes in a report or a table of counts.
-const MOST_RESULT_BYTES: usize = 0x4000_0000;
+const MAX_RESULT_BYTES: usize = 0x4000_0000;
 
 /// Reads the file of a report or a table of counts. Returns an error if it is too long.
 pub fn read_result_file<D: Inputs>(inputs: &D, alloc: Global, path: &str) -> Result<Vec<u8>, Stop>
     ensures read { IfOk result (λ bytes. IsTextAt (D.contents inputs.now) path.now bytes.items) }
-    ensures within { IfOk result (λ bytes. length bytes.items ≤ most_result_bytes) }
+    ensures within { IfOk result (λ bytes. length bytes.items ≤ max_result_bytes) }
     ensures unread { IfErr result (IsResultUnreadStop (D.contents inputs.now) path.now) }
 {
-    match read_file_up_to(inputs, alloc, path, MOST_RESULT_BYTES)? {
+    match read_file_up_to(inputs, alloc, path, MAX_RESULT_BYTES)? {
         Some(bytes) => Ok(bytes),
         None => {
             let what = "the file is larger than 1073741824 bytes";
-            Err(Stop::of_failure(path_message(alloc, path, what)))
+            Err(Stop::system_failure(path_message(alloc, path, what)))
         }
     }
 }
 
 // More bytes than memory can hold.
-const MOST_OF_MEMORY: usize = usize::MAX - 1;
+const UNLIMITED: usize = usize::MAX - 1;
 
 /// Reads a file that this command has written, whatever its size.
 pub fn read_file<D: Inputs>(inputs: &D, alloc: Global, path: &str) -> Result<Vec<u8>, Stop>
     ensures read { IfOk result (λ bytes. IsTextAt (D.contents inputs.now) path.now bytes.items) }
     ensures unread { IfErr result (IsUnreadStop (D.contents inputs.now) path.now) }
 {
-    match read_file_up_to(inputs, alloc, path, MOST_OF_MEMORY)? {
+    match read_file_up_to(inputs, alloc, path, UNLIMITED)? {
         Some(bytes) => Ok(bytes),
         // Out of memory: the file has more bytes than there are addresses.
         None => Err(Stop::OutOfMemory),
@@ -70,9 +70,9 @@ pub fn file_error_stop(alloc: Global, path: &str, error: FileError) -> Stop
 {
     match error {
         FileError::OutOfMemory => Stop::OutOfMemory,
-        FileError::SamePlace => {
+        FileError::SameFile => {
             let what = "another output of this command is the same file";
-            Stop::of_refusal(path_message(alloc, path, what))
+            Stop::rejection(path_message(alloc, path, what))
         }
         FileError::Failed(reason) => io_error_stop(alloc, path, reason),
     }
@@ -82,5 +82,5 @@ pub fn file_error_stop(alloc: Global, path: &str, error: FileError) -> Stop
 fn io_error_stop(alloc: Global, path: &str, reason: ErrorKind) -> Stop
     ensures { IsSystemStop path.now reason result }
 {
-    Stop::of_failure(path_message(alloc, path, io_error_text(reason)))
+    Stop::system_failure(path_message(alloc, path, io_error_text(reason)))
 }

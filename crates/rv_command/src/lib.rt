@@ -1,12 +1,12 @@
 //! What the commands of `rvtest` share: their statuses, why they stop early, and the lists and reports that they read.
 //!
-//! A [`Stop`] says why a command stopped before its work was done; [`put_stop_message`] reports it and returns the status, 2 or 3.
+//! A [`Stop`] says why a command stopped before its work was done; [`write_stop_message`] reports it and returns the status, 2 or 3.
 #![tactic(auto)]
 
 mod files;
 mod list;
 mod messages;
-mod refused_line;
+mod invalid_line;
 mod requested_report;
 mod saved_report;
 mod status;
@@ -15,11 +15,11 @@ mod stop;
 pub use files::{file_error_stop, read_file, read_result_file};
 pub use list::{all_faults_text, list_faults_text, parse_list, read_list_text};
 pub use messages::{
-    path_message, path_number_message, put_end_message, put_message, put_results, put_stop_message,
+    path_message, path_number_message, put_end_message, write_message, write_results, write_stop_message,
 };
-pub use refused_line::{ResultKind, refused_line_message};
+pub use invalid_line::{ResultKind, invalid_line_message};
 pub use requested_report::{
-    RequestedReport, cut_off_note, parse_requested_report, read_requested_report,
+    RequestedReport, truncation_note, parse_requested_report, read_requested_report,
 };
 pub use saved_report::{parse_report, read_report_file};
 pub use status::{BROKEN_PIPE, DONE, FAILED, REFUSED, SOME_FAIL};

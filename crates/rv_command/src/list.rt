@@ -6,7 +6,7 @@ ghost use Rattle.rv_command.specs.Stops.{IsListFaultStop, IsListUnreadStop};
 ghost use Rattle.rv_command.specs.Texts.{IsTextAt};
 ghost use Rattle.rv_list_errors.specs.FaultHeads.{fault_head};
 ghost use Rattle.rv_list_errors.specs.Lines.{AppendsFaultLines, AppendsLines};
-ghost use Rattle.rv_list_errors.specs.PlacedFaults.{IsToldFault, AppendsEachFault};
+ghost use Rattle.rv_list_errors.specs.PlacedFaults.{IsFaultMessage, AppendsLinesOfEach};
 ghost use Rattle.rv_rows.specs.JobList.{job_list_of};
 
 use crate::files::read_file_up_to;
@@ -28,7 +28,7 @@ pub fn read_list_text<D: Inputs>(inputs: &D, alloc: Global, path: &str) -> Resul
         Some(text) => Ok(text),
         None => {
             let what = "the file is larger than 16777216 bytes";
-            Err(Stop::of_failure(path_message(alloc, path, what)))
+            Err(Stop::system_failure(path_message(alloc, path, what)))
         }
     }
 }
@@ -51,7 +51,7 @@ fn list_fault_stop(alloc: Global, path: &str, text: &[u8], fault: JobError) -> S
 {
     match fault.what {
         What::OutOfMemory => Stop::OutOfMemory,
-        _ => Stop::of_refusal(list_faults_text(alloc, path, text, &[fault])),
+        _ => Stop::rejection(list_faults_text(alloc, path, text, &[fault])),
     }
 }
 
@@ -79,7 +79,7 @@ pub fn all_faults_text(
     faults: &[JobError],
 ) -> Result<Vec<u8>, AllocError>
     ensures { IfOk result
-        (λ lines. AppendsEachFault (IsToldFault path.now text.now) faults.now [] lines.items) }
+        (λ lines. AppendsLinesOfEach (IsFaultMessage path.now text.now) faults.now [] lines.items) }
 {
     let mut told = Vec::new(alloc);
     push_all_faults(alloc, &mut told, path, text, faults)?;

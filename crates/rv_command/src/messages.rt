@@ -3,8 +3,8 @@
 ghost use Rattle.std.specs.Prelude.{◌≡◌, ◌≤◌, ◌++◌, OnErr, OnOk, IfErr, IfOk, false};
 ghost use Rattle.std.specs.Io.KnownBytes.{Appends, Keeps};
 ghost use Rattle.rv_files.specs.Counts.{one_more};
-ghost use Rattle.rv_files.specs.Sinks.{AppendsBeginning};
-ghost use Rattle.rv_command.specs.Stops.{end_status, lines_status, stop_status};
+ghost use Rattle.rv_files.specs.Sinks.{AppendsPrefix};
+ghost use Rattle.rv_command.specs.Stops.{end_status, message_status, stop_status};
 ghost use Rattle.rv_command.specs.Messages.{IsMessageWritten, end_message, path_message, path_number_message, stop_message};
 
 use crate::status::{BROKEN_PIPE, FAILED, REFUSED};
@@ -53,7 +53,7 @@ pub fn path_number_message<'a>(
 }
 
 /// Writes a message to standard error. A failed write has no other effect.
-pub fn put_message<E: Sink>(errors: &mut E, text: &[u8])
+pub fn write_message<E: Sink>(errors: &mut E, text: &[u8])
     ensures { IsMessageWritten (E.taken errors.old) (E.taken errors.new)
         (E.failed errors.old) (E.failed errors.new) text.now }
 {
@@ -61,10 +61,10 @@ pub fn put_message<E: Sink>(errors: &mut E, text: &[u8])
 }
 
 /// Writes results to standard output. If a write fails, returns `WriteFailed`, and only a prefix of the results is written.
-pub fn put_results<O: Sink>(out: &mut O, text: &[u8]) -> Result<(), Stop>
+pub fn write_results<O: Sink>(out: &mut O, text: &[u8]) -> Result<(), Stop>
     ensures put { OnOk result (Appends (O.taken out.old) (O.taken out.new) text.now) }
     ensures counted { OnOk result (O.failed out.new ≡ O.failed out.old) }
-    ensures part { OnErr result (AppendsBeginning (O.taken out.old) (O.taken out.new) text.now) }
+    ensures part { OnErr result (AppendsPrefix (O.taken out.old) (O.taken out.new) text.now) }
     ensures failed { IfErr result (λ stop.
         (stop ≡ Stop.WriteFailed) × (O.failed out.new ≡ one_more (O.failed out.old))) }
 {
@@ -84,12 +84,12 @@ pub fn put_end_message<E: Sink>(errors: &mut E, stop: Stop, is_out_closed: bool)
 {
     match stop {
         Stop::WriteFailed if is_out_closed => BROKEN_PIPE,
-        stop => put_stop_message(errors, stop),
+        stop => write_stop_message(errors, stop),
     }
 }
 
 /// Reports why a command stopped early, and returns the exit status: 2 or 3.
-pub fn put_stop_message<E: Sink>(errors: &mut E, stop: Stop) -> u8
+pub fn write_stop_message<E: Sink>(errors: &mut E, stop: Stop) -> u8
     ensures status { result ≡ stop_status stop }
     ensures told { IsMessageWritten (E.taken errors.old) (E.taken errors.new)
         (E.failed errors.old) (E.failed errors.new) (stop_message stop) }
@@ -97,18 +97,18 @@ pub fn put_stop_message<E: Sink>(errors: &mut E, stop: Stop) -> u8
 {
     match stop {
         Stop::Told(lines, text) => {
-            put_message(errors, text.as_slice());
-            lines_status(lines)
+            write_message(errors, text.as_slice());
+            message_status(lines)
         }
-        Stop::OutOfMemory => put_failure_message(errors, "rvtest: out of memory\n"),
-        Stop::NoWorker => put_failure_message(errors, "rvtest: no thread could be started\n"),
-        Stop::WriteFailed => put_failure_message(errors, "rvtest: standard output: write failed\n"),
+        Stop::OutOfMemory => write_failure_message(errors, "rvtest: out of memory\n"),
+        Stop::NoWorker => write_failure_message(errors, "rvtest: no thread could be started\n"),
+        Stop::WriteFailed => write_failure_message(errors, "rvtest: standard output: write failed\n"),
     }
 }
 
 // Returns the exit status for these lines: 2 if the request is rejected, 3 if the system failed.
-fn lines_status(lines: Lines) -> u8
-    ensures { result ≡ lines_status lines }
+fn message_status(lines: Lines) -> u8
+    ensures { result ≡ message_status lines }
 {
     match lines {
         Lines::Refusal => REFUSED,
@@ -117,11 +117,11 @@ fn lines_status(lines: Lines) -> u8
 }
 
 /// Writes a message about a system failure to standard error, and returns the exit status 3.
-pub fn put_failure_message<E: Sink>(errors: &mut E, text: &str) -> u8
+pub fn write_failure_message<E: Sink>(errors: &mut E, text: &str) -> u8
     ensures status { result ≡ FAILED }
     ensures told { IsMessageWritten (E.taken errors.old) (E.taken errors.new)
         (E.failed errors.old) (E.failed errors.new) text.now }
 {
-    put_message(errors, text.as_bytes());
+    write_message(errors, text.as_bytes());
     FAILED
 }

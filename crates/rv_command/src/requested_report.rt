@@ -1,8 +1,8 @@
 //! Reports named in the arguments, which may be truncated if the arguments allow it.
 
 ghost use Rattle.std.specs.Prelude.{◌≡◌, ◌≤◌, IfErr, IfOk, length};
-ghost use Rattle.rv_files.specs.Limits.{most_jobs};
-ghost use Rattle.rv_command.specs.Messages.{complete_rows_text, cut_off_note};
+ghost use Rattle.rv_files.specs.Limits.{max_jobs};
+ghost use Rattle.rv_command.specs.Messages.{complete_rows_text, truncation_note};
 ghost use Rattle.rv_command.specs.Stops.{IsPartialFaultStop, IsRequestedFaultStop, IsRequestedUnreadStop};
 ghost use Rattle.rv_command.specs.Texts.{IsReportRead, IsReportReadAt};
 ghost use Rattle.rv_rows.specs.Partial.{IsReadAs};
@@ -29,7 +29,7 @@ pub fn read_requested_report<D: Inputs>(
     requested: RequestedReport<'_>,
 ) -> Result<PartialReport, Stop>
     ensures read { IfOk result (IsReportReadAt (D.contents inputs.now) requested.entry.partial requested.entry.path.now) }
-    ensures few { IfOk result (λ read. length read.report.rows ≤ most_jobs) }
+    ensures few { IfOk result (λ read. length read.report.rows ≤ max_jobs) }
     ensures unread { IfErr result
         (IsRequestedUnreadStop (D.contents inputs.now) requested.entry.partial requested.entry.path.now) }
 {
@@ -44,7 +44,7 @@ pub fn parse_requested_report(
     text: &[u8],
 ) -> Result<PartialReport, Stop>
     ensures read { IfOk result (IsReportRead requested.entry.partial text.now) }
-    ensures few { IfOk result (λ read. length read.report.rows ≤ most_jobs) }
+    ensures few { IfOk result (λ read. length read.report.rows ≤ max_jobs) }
     ensures fault { IfErr result (IsRequestedFaultStop requested.entry.partial requested.entry.path.now text.now) }
 {
     if requested.partial {
@@ -60,7 +60,7 @@ pub fn parse_requested_report(
 // Parses the text of a report that may be truncated: then its complete rows are returned.
 fn parse_partial_report(alloc: Global, path: &str, text: &[u8]) -> Result<PartialReport, Stop>
     ensures read { IfOk result (λ read. IsReadAs text.now read.is_cut_off read.report) }
-    ensures few { IfOk result (λ read. length read.report.rows ≤ most_jobs) }
+    ensures few { IfOk result (λ read. length read.report.rows ≤ max_jobs) }
     ensures fault { IfErr result (IsPartialFaultStop path.now text.now) }
 {
     match read_partial_report(alloc, text) {
@@ -72,8 +72,8 @@ fn parse_partial_report(alloc: Global, path: &str, text: &[u8]) -> Result<Partia
 }
 
 /// Returns the note about a truncated report: how many complete rows it has. It is empty for a complete report.
-pub fn cut_off_note(alloc: Global, path: &str, read: &PartialReport) -> Result<Vec<u8>, AllocError>
-    ensures { IfOk result (λ note. note.items ≡ cut_off_note path.now read.now) }
+pub fn truncation_note(alloc: Global, path: &str, read: &PartialReport) -> Result<Vec<u8>, AllocError>
+    ensures { IfOk result (λ note. note.items ≡ truncation_note path.now read.now) }
 {
     if !read.is_cut_off {
         return Ok(Vec::new(alloc));

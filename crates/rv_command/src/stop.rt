@@ -1,9 +1,9 @@
 //! Why a command stops before its work is done.
 
 ghost use Rattle.std.specs.Prelude.{◌≡◌};
-ghost use Rattle.rv_command.specs.Stops.{IsWordsRefusal, stop_of_lines};
+ghost use Rattle.rv_command.specs.Stops.{IsArgsRejection, stop_with_message};
 
-use rvtest_cli::WordsError;
+use rvtest_cli::ArgsError;
 use std::alloc::AllocError;
 
 /// Why a command stops early.
@@ -30,32 +30,32 @@ pub enum Lines {
 
 impl Stop {
     /// Returns the stop that rejects the arguments with the text of their error.
-    pub fn of_words_error(error: WordsError) -> Stop
-        ensures { IsWordsRefusal error result }
+    pub fn of_args_error(error: ArgsError) -> Stop
+        ensures { IsArgsRejection error result }
     {
         match error {
-            WordsError::OutOfMemory => Stop::OutOfMemory,
-            WordsError::Told(_, text) => Stop::Told(Lines::Refusal, text.into_bytes()),
+            ArgsError::OutOfMemory => Stop::OutOfMemory,
+            ArgsError::Told(_, text) => Stop::Told(Lines::Refusal, text.into_bytes()),
         }
     }
 
     /// Returns the stop that rejects the request with the lines in `told`, or out of memory if `told` is an error.
-    pub fn of_refusal(told: Result<Vec<u8>, AllocError>) -> Stop
-        ensures { result ≡ stop_of_lines Lines.Refusal told }
+    pub fn rejection(told: Result<Vec<u8>, AllocError>) -> Stop
+        ensures { result ≡ stop_with_message Lines.Refusal told }
     {
-        Stop::of_lines(Lines::Refusal, told)
+        Stop::with_message(Lines::Refusal, told)
     }
 
     /// Returns the stop that reports a system failure with the lines in `told`, or out of memory if `told` is an error.
-    pub fn of_failure(told: Result<Vec<u8>, AllocError>) -> Stop
-        ensures { result ≡ stop_of_lines Lines.Failure told }
+    pub fn system_failure(told: Result<Vec<u8>, AllocError>) -> Stop
+        ensures { result ≡ stop_with_message Lines.Failure told }
     {
-        Stop::of_lines(Lines::Failure, told)
+        Stop::with_message(Lines::Failure, told)
     }
 
     // Returns the stop with the lines in `told`, which are of this kind, or out of memory if `told` is an error.
-    fn of_lines(lines: Lines, told: Result<Vec<u8>, AllocError>) -> Stop
-        ensures { result ≡ stop_of_lines lines told }
+    fn with_message(lines: Lines, told: Result<Vec<u8>, AllocError>) -> Stop
+        ensures { result ≡ stop_with_message lines told }
     {
         match told {
             Ok(text) => Stop::Told(lines, text),

@@ -8,34 +8,34 @@ use Rattle.std.specs.List.{AllByRecursion}
 use Rattle.rv_count_tables.specs.declared.table.AddressCounts.{AddressCounts}
 use Rattle.rv_count_tables.specs.declared.sum.SumError.{SumError}
 use Rattle.rv_count_tables.specs.declared.sum.SumError.TheVariants.{OutOfMemory, Count, Spot, Runs, Names}
-use Rattle.rv_count_tables.specs.Table.{executed_at, taken_at, rise_from, IsCounted, AreCounts}
+use Rattle.rv_count_tables.specs.Table.{executed_at, taken_at, increase_from, IsCounted, AreValidCounts}
 use Rattle.rv_count_tables.specs.Sum.{IsSumOfCounts, CountsHaveNoSum}
-use Rattle.rv_count_tables.specs.SumSteps.{AddsUp, IsNextCount}
+use Rattle.rv_count_tables.specs.SumSteps.{CountsAddUp, IsNextCount}
 use Rattle.rv_count_tables.proofs.Told.{low, behind}
 
 -- a list that rises from its first address rises from each lower one
-pub raised : (lowest n : ℕ) (c : AddressCounts) (cs : List AddressCounts) → rise_from lowest (c ∷ cs) ≡ true
-    → n ≤ c.address → rise_from n (c ∷ cs) ≡ true
-unfolding rise_from
+pub raised : (lowest n : ℕ) (c : AddressCounts) (cs : List AddressCounts) → increase_from lowest (c ∷ cs) ≡ true
+    → n ≤ c.address → increase_from n (c ∷ cs) ≡ true
+unfolding increase_from
 raised lowest n c cs h under =
     let t : nat_le n c.address ≡ true = grind (arith, nat_tests) in
-    and_from (nat_le n c.address) (rise_from (c.address + 1) cs) t (behind lowest c cs h)
+    and_from (nat_le n c.address) (increase_from (c.address + 1) cs) t (behind lowest c cs h)
 
 rises : (lowest : ℕ) (c : AddressCounts) (cs : List AddressCounts) → lowest ≤ c.address
-    → rise_from (c.address + 1) cs ≡ true → rise_from lowest (c ∷ cs) ≡ true
-unfolding rise_from
+    → increase_from (c.address + 1) cs ≡ true → increase_from lowest (c ∷ cs) ≡ true
+unfolding increase_from
 rises lowest c cs under h =
     let t : nat_le lowest c.address ≡ true = grind (arith, nat_tests) in
-    and_from (nat_le lowest c.address) (rise_from (c.address + 1) cs) t h
+    and_from (nat_le lowest c.address) (increase_from (c.address + 1) cs) t h
 
-none_rises : (n : ℕ) → rise_from n [] ≡ true
-unfolding rise_from
+none_rises : (n : ℕ) → increase_from n [] ≡ true
+unfolding increase_from
 none_rises n = refl
 
 -- an address of the first list alone
 pub first_ahead : (c : AddressCounts) (cs b others : List AddressCounts) → IsCounted c
-    → ((lowest : ℕ) → rise_from lowest b ≡ true → rise_from (c.address + 1) b ≡ true)
-    → AddsUp cs b others → AddsUp (c ∷ cs) b (c ∷ others)
+    → ((lowest : ℕ) → increase_from lowest b ≡ true → increase_from (c.address + 1) b ≡ true)
+    → CountsAddUp cs b others → CountsAddUp (c ∷ cs) b (c ∷ others)
 first_ahead c cs b others counted above h = record {
   each = (counted, h.each);
   rising = λ lowest p q. rises lowest c others (low lowest c cs p)
@@ -46,8 +46,8 @@ first_ahead c cs b others counted above h = record {
 
 -- an address of the second list alone
 pub second_ahead : (c : AddressCounts) (a cs others : List AddressCounts) → IsCounted c
-    → ((lowest : ℕ) → rise_from lowest a ≡ true → rise_from (c.address + 1) a ≡ true)
-    → AddsUp a cs others → AddsUp a (c ∷ cs) (c ∷ others)
+    → ((lowest : ℕ) → increase_from lowest a ≡ true → increase_from (c.address + 1) a ≡ true)
+    → CountsAddUp a cs others → CountsAddUp a (c ∷ cs) (c ∷ others)
 second_ahead c a cs others counted above h = record {
   each = (counted, h.each);
   rising = λ lowest p q. rises lowest c others (low lowest c cs q)
@@ -68,7 +68,7 @@ parts s false x y z p q r e f g = (ap (λ (u : Bool). cond u z 0 + r) e) ∙ (le
 pub both_ahead : (c d sum : AddressCounts) (cs ds others : List AddressCounts) → IsCounted c → IsCounted d
     → c.address ≡ d.address → sum.address ≡ c.address → sum.begun ≡ c.begun + d.begun
     → sum.taken ≡ c.taken + d.taken → sum.begun < 2 ^ 64
-    → AddsUp cs ds others → AddsUp (c ∷ cs) (d ∷ ds) (sum ∷ others)
+    → CountsAddUp cs ds others → CountsAddUp (c ∷ cs) (d ∷ ds) (sum ∷ others)
 both_ahead c d sum cs ds others counted also one at begun taken fits h = record {
   each = (
     (record {
@@ -82,8 +82,8 @@ both_ahead c d sum cs ds others counted also one at begun taken fits h = record 
   );
   rising = λ lowest p q.
       rises lowest sum others (let k = low lowest c cs p in omega arith)
-      (h.rising (sum.address + 1) (ap (λ (n : ℕ). rise_from (n + 1) cs) at ∙ behind lowest c cs p)
-      (ap (λ (n : ℕ). rise_from (n + 1) ds) (at ∙ one) ∙ behind lowest d ds q));
+      (h.rising (sum.address + 1) (ap (λ (n : ℕ). increase_from (n + 1) cs) at ∙ behind lowest c cs p)
+      (ap (λ (n : ℕ). increase_from (n + 1) ds) (at ∙ one) ∙ behind lowest d ds q));
   begun = λ n. ap (λ (k : ℕ). cond (k == n) sum.begun 0 + executed_at n others) at
       ∙ parts (c.address == n) (d.address == n) c.begun d.begun sum.begun _ _ _
       (ap (λ (k : ℕ). k == n) one) begun (h.begun n);
@@ -116,24 +116,24 @@ of_second_alone [] (y ∷ ys) d each some none = record {
   ahead = λ others h. second_ahead y [] ys others each.0 (λ n p. none_rises (y.address + 1)) h;
 }
 
-pub of_first : (a b : List AddressCounts) (d : AddressCounts) → AllByRecursion IsCounted a → 0 < length a
+pub node_of_first : (a b : List AddressCounts) (d : AddressCounts) → AllByRecursion IsCounted a → 0 < length a
     → 0 < length b → (get_or a 0 d).address < (get_or b 0 d).address
     → IsNextCount a b (record { sum = get_or a 0 d; of_a = 1; of_b = 0 })
-of_first [] b d each some other less = absurd (omega arith)
-of_first (x ∷ xs) [] d each some other less = absurd (omega arith)
-of_first (x ∷ xs) (y ∷ ys) d each some other less = record {
+node_of_first [] b d each some other less = absurd (omega arith)
+node_of_first (x ∷ xs) [] d each some other less = absurd (omega arith)
+node_of_first (x ∷ xs) (y ∷ ys) d each some other less = record {
   of_a = omega arith;
   of_b = omega arith;
   some = omega arith;
   ahead = λ others h. first_ahead x xs (y ∷ ys) others each.0 (λ n p. raised n (x.address + 1) y ys p (omega arith)) h;
 }
 
-pub of_second : (a b : List AddressCounts) (d : AddressCounts) → AllByRecursion IsCounted b → 0 < length a
+pub node_of_second : (a b : List AddressCounts) (d : AddressCounts) → AllByRecursion IsCounted b → 0 < length a
     → 0 < length b → (get_or b 0 d).address < (get_or a 0 d).address
     → IsNextCount a b (record { sum = get_or b 0 d; of_a = 0; of_b = 1 })
-of_second [] b d each some other less = absurd (omega arith)
-of_second (x ∷ xs) [] d each some other less = absurd (omega arith)
-of_second (x ∷ xs) (y ∷ ys) d each some other less = record {
+node_of_second [] b d each some other less = absurd (omega arith)
+node_of_second (x ∷ xs) [] d each some other less = absurd (omega arith)
+node_of_second (x ∷ xs) (y ∷ ys) d each some other less = record {
   of_a = omega arith;
   of_b = omega arith;
   some = omega arith;
@@ -177,7 +177,7 @@ too_great_behind n m a b Runs h = h
 too_great_behind n m a b (Names function) h = h
 
 -- nothing and nothing is nothing
-pub none_adds_up : AddsUp [] [] []
+pub none_adds_up : CountsAddUp [] [] []
 none_adds_up = record {
   each = tt;
   rising = λ lowest p q. p;
@@ -186,16 +186,16 @@ none_adds_up = record {
 }
 
 -- at the end what stands there is the sum
-pub summed : (a b sums : List AddressCounts) (n m : ℕ) → AreCounts a → AreCounts b → length a ≤ n → length b ≤ m
-    → ((others : List AddressCounts) → AddsUp (drop n a) (drop m b) others → AddsUp a b (sums ++ others))
+pub summed : (a b sums : List AddressCounts) (n m : ℕ) → AreValidCounts a → AreValidCounts b → length a ≤ n → length b ≤ m
+    → ((others : List AddressCounts) → CountsAddUp (drop n a) (drop m b) others → CountsAddUp a b (sums ++ others))
     → IsSumOfCounts a b sums
 summed a b sums n m x y p q ahead =
     let e = drop_all n a p in
     let f = drop_all m b q in
-    let none : AddsUp (drop n a) (drop m b) [] =
-    subst (λ (s : List AddressCounts). AddsUp s (drop m b) []) (sym e)
-    (subst (λ (s : List AddressCounts). AddsUp [] s []) (sym f) none_adds_up) in
-    let all : AddsUp a b sums = subst (λ (s : List AddressCounts). AddsUp a b s) (append-nil sums) (ahead [] none) in record {
+    let none : CountsAddUp (drop n a) (drop m b) [] =
+    subst (λ (s : List AddressCounts). CountsAddUp s (drop m b) []) (sym e)
+    (subst (λ (s : List AddressCounts). CountsAddUp [] s []) (sym f) none_adds_up) in
+    let all : CountsAddUp a b sums = subst (λ (s : List AddressCounts). CountsAddUp a b s) (append-nil sums) (ahead [] none) in record {
       counts = record { each = all.each; rising = all.rising 0 x.rising y.rising };
       begun = all.begun;
       taken = all.taken;

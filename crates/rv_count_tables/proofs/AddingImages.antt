@@ -12,41 +12,41 @@ use Rattle.rv_count_tables.specs.declared.sum.SumError.{SumError}
 use Rattle.rv_count_tables.specs.declared.sum.SumError.TheVariants.{OutOfMemory, Count, Spot, Names, Runs}
 use Rattle.rv_count_tables.specs.declared.sum_of_images.NextImage.{NextImage}
 use Rattle.rv_count_tables.specs.Lines.{lacks}
-use Rattle.rv_count_tables.specs.Table.{executed_at, taken_at, name_at, executed_in, taken_in, path_in, name_in, arrivals_in, steps_in, least_path, least_path_of}
-use Rattle.rv_count_tables.specs.Table.{is_before, is_greater_than_last, digests_rise, AreNamesOf, AreSpots, IsImage, IsSpot, IsTable}
-use Rattle.rv_count_tables.specs.Sum.{sum_error_of, Agree, HasName, HasNameIn, IsSum, IsSumOfCounts, IsSumOfNames, CountsHaveNoSum, NamesHaveNoSum}
+use Rattle.rv_count_tables.specs.Table.{executed_at, taken_at, name_at, executed_in, taken_in, next_path, truncated_name, arrivals_in, steps_in, min_text, min_text_of}
+use Rattle.rv_count_tables.specs.Table.{is_before, is_greater_than_last, digests_increase_from, AreNamesOf, AreValidNodes, IsValidImage, IsValidNode, IsTable}
+use Rattle.rv_count_tables.specs.Sum.{sum_error_of, Agree, HasName, HasNameIn, IsSumOfTables, IsSumOfCounts, IsSumOfNames, CountsHaveNoSum, NamesHaveNoSum}
 use Rattle.rv_count_tables.specs.SumSteps.{ImagesAddUp, IsNextImage, ImagesHaveNoSum, ImageHasNoSum}
-use Rattle.rv_call_tree.specs.declared.sum.SpotSumError.{SpotSumError}
-use Rattle.rv_call_tree.specs.declared.sum.SpotSumError.TheVariants as spots
+use Rattle.rv_call_tree.specs.declared.sum.CallTreeSumError.{CallTreeSumError}
+use Rattle.rv_call_tree.specs.declared.sum.CallTreeSumError.TheVariants as spots
 use Rattle.rv_call_tree.specs.declared.spot.Spot.{Spot as ASpot}
-use Rattle.rv_call_tree.specs.Sums.{FitsSpot, IsSumOfSpots, Overflows}
-use Rattle.rv_call_tree.specs.Trees.{arrivals_at, steps_at, HasArrivals}
+use Rattle.rv_call_tree.specs.Sums.{FitsFields, IsSumOfCallTrees, Overflows}
+use Rattle.rv_call_tree.specs.Trees.{calls_at, steps_at, HasCalls}
 use Rattle.rv_count_tables.proofs.Adding.{parts}
 use Rattle.rv_count_tables.proofs.Paths.{any_first, before_both, by_two, none_before_itself, none_behind, same_place, second_first}
 
 -- ---- digests in their order
 
-pub image_low : (last : Option (List ℕ)) (i : ImageCounts) (is : List ImageCounts) → digests_rise last (i ∷ is) ≡ true
+pub image_low : (last : Option (List ℕ)) (i : ImageCounts) (is : List ImageCounts) → digests_increase_from last (i ∷ is) ≡ true
     → is_greater_than_last last i.digest ≡ true
-unfolding digests_rise
-image_low last i is h = (and_parts (is_greater_than_last last i.digest) (digests_rise (Some i.digest) is) h).0
+unfolding digests_increase_from
+image_low last i is h = (and_parts (is_greater_than_last last i.digest) (digests_increase_from (Some i.digest) is) h).0
 
-pub images_behind : (last : Option (List ℕ)) (i : ImageCounts) (is : List ImageCounts) → digests_rise last (i ∷ is) ≡ true
-    → digests_rise (Some i.digest) is ≡ true
-unfolding digests_rise
-images_behind last i is h = (and_parts (is_greater_than_last last i.digest) (digests_rise (Some i.digest) is) h).1
+pub images_behind : (last : Option (List ℕ)) (i : ImageCounts) (is : List ImageCounts) → digests_increase_from last (i ∷ is) ≡ true
+    → digests_increase_from (Some i.digest) is ≡ true
+unfolding digests_increase_from
+images_behind last i is h = (and_parts (is_greater_than_last last i.digest) (digests_increase_from (Some i.digest) is) h).1
 
 pub images_rise : (last : Option (List ℕ)) (i : ImageCounts) (is : List ImageCounts) → is_greater_than_last last i.digest ≡ true
-    → digests_rise (Some i.digest) is ≡ true → digests_rise last (i ∷ is) ≡ true
-unfolding digests_rise
-images_rise last i is h k = and_from (is_greater_than_last last i.digest) (digests_rise (Some i.digest) is) h k
+    → digests_increase_from (Some i.digest) is ≡ true → digests_increase_from last (i ∷ is) ≡ true
+unfolding digests_increase_from
+images_rise last i is h k = and_from (is_greater_than_last last i.digest) (digests_increase_from (Some i.digest) is) h k
 
-pub no_images_rise : (last : Option (List ℕ)) → digests_rise last [] ≡ true
-unfolding digests_rise
+pub no_images_rise : (last : Option (List ℕ)) → digests_increase_from last [] ≡ true
+unfolding digests_increase_from
 no_images_rise last = refl
 
 pub images_raised : (last : Option (List ℕ)) (digest : List ℕ) (i : ImageCounts) (is : List ImageCounts)
-    → digests_rise last (i ∷ is) ≡ true → is_before digest i.digest ≡ true → digests_rise (Some digest) (i ∷ is) ≡ true
+    → digests_increase_from last (i ∷ is) ≡ true → is_before digest i.digest ≡ true → digests_increase_from (Some digest) (i ∷ is) ≡ true
 images_raised last digest i is h before = images_rise (Some digest) i is before (images_behind last i is h)
 
 -- ---- a digest that is not among those of a list
@@ -58,23 +58,23 @@ differ a b h = elim (cases_Bool (bytes_eq a b)) [
 ]
 
 -- each digest of a list that rises behind one is another than those up to it
-pub head_differs : (last digest : List ℕ) (i : ImageCounts) (is : List ImageCounts) → digests_rise (Some last) (i ∷ is) ≡ true
+pub head_differs : (last digest : List ℕ) (i : ImageCounts) (is : List ImageCounts) → digests_increase_from (Some last) (i ∷ is) ≡ true
     → is_before last digest ≡ false → bytes_eq i.digest digest ≡ false
 head_differs last digest i is h up = differ i.digest digest
     (λ e. both_ways _ up (ap (is_before last) (sym e) ∙ image_low (Some last) i is h))
 
-pub still_up : (last digest : List ℕ) (i : ImageCounts) (is : List ImageCounts) → digests_rise (Some last) (i ∷ is) ≡ true
+pub still_up : (last digest : List ℕ) (i : ImageCounts) (is : List ImageCounts) → digests_increase_from (Some last) (i ∷ is) ≡ true
     → is_before last digest ≡ false → is_before i.digest digest ≡ false
 still_up last digest i is h up = elim (cases_Bool (is_before i.digest digest)) [
   | inl t ↦ absurd (both_ways _ up (before_both last i.digest digest (image_low (Some last) i is h) t))
   | inr f ↦ f
 ]
 
-pub none_named : (is : List ImageCounts) (last digest : List ℕ) (f : ℕ) → digests_rise (Some last) is ≡ true
-    → is_before last digest ≡ false → name_in digest f is ≡ None
+pub none_named : (is : List ImageCounts) (last digest : List ℕ) (f : ℕ) → digests_increase_from (Some last) is ≡ true
+    → is_before last digest ≡ false → truncated_name digest f is ≡ None
 none_named [] last digest f h up = refl
 none_named (i ∷ is) last digest f h up =
-    ap (λ (t : Bool). least_path_of (cond t (name_at f i.functions) None) (name_in digest f is)) (head_differs last digest i is h up)
+    ap (λ (t : Bool). min_text_of (cond t (name_at f i.functions) None) (truncated_name digest f is)) (head_differs last digest i is h up)
     ∙ none_named is i.digest digest f (images_behind (Some last) i is h) (still_up last digest i is h up)
 
 -- ---- names in which both lists agree
@@ -84,54 +84,54 @@ agree_with_none None = tt
 agree_with_none (Some name) = tt
 
 passed_image : (x : ImageCounts) (xs : List ImageCounts) (d : List ℕ) (f : ℕ) → bytes_eq x.digest d ≡ false
-    → name_in d f (x ∷ xs) ≡ name_in d f xs
-passed_image x xs d f t = ap (λ (b : Bool). least_path_of (cond b (name_at f x.functions) None) (name_in d f xs)) t
+    → truncated_name d f (x ∷ xs) ≡ truncated_name d f xs
+passed_image x xs d f t = ap (λ (b : Bool). min_text_of (cond b (name_at f x.functions) None) (truncated_name d f xs)) t
 
 -- none of those behind an image has its digest
-none_further : (x : ImageCounts) (xs : List ImageCounts) (d : List ℕ) (f : ℕ) → digests_rise (Some x.digest) xs ≡ true
-    → bytes_eq x.digest d ≡ true → name_in d f xs ≡ None
+none_further : (x : ImageCounts) (xs : List ImageCounts) (d : List ℕ) (f : ℕ) → digests_increase_from (Some x.digest) xs ≡ true
+    → bytes_eq x.digest d ≡ true → truncated_name d f xs ≡ None
 none_further x xs d f h t =
     let e = (bytes_decides x.digest d).0 t in
     none_named xs x.digest d f h (ap (is_before x.digest) (sym e) ∙ none_before_itself x.digest)
 
-its_names : (x : ImageCounts) (xs : List ImageCounts) (d : List ℕ) (f : ℕ) → digests_rise (Some x.digest) xs ≡ true
-    → bytes_eq x.digest d ≡ true → name_in d f (x ∷ xs) ≡ name_at f x.functions
+its_names : (x : ImageCounts) (xs : List ImageCounts) (d : List ℕ) (f : ℕ) → digests_increase_from (Some x.digest) xs ≡ true
+    → bytes_eq x.digest d ≡ true → truncated_name d f (x ∷ xs) ≡ name_at f x.functions
 its_names x xs d f h t =
-    ap (λ (b : Bool). least_path_of (cond b (name_at f x.functions) None) (name_in d f xs)) t
-    ∙ ap (least_path_of (name_at f x.functions)) (none_further x xs d f h t) ∙ none_behind (name_at f x.functions)
+    ap (λ (b : Bool). min_text_of (cond b (name_at f x.functions) None) (truncated_name d f xs)) t
+    ∙ ap (min_text_of (name_at f x.functions)) (none_further x xs d f h t) ∙ none_behind (name_at f x.functions)
 
-first_agrees : (x : ImageCounts) (xs b : List ImageCounts) (d : List ℕ) (f : ℕ) → digests_rise (Some x.digest) b ≡ true
-    → Agree (name_in d f xs) (name_in d f b) → Agree (name_in d f (x ∷ xs)) (name_in d f b)
+first_agrees : (x : ImageCounts) (xs b : List ImageCounts) (d : List ℕ) (f : ℕ) → digests_increase_from (Some x.digest) b ≡ true
+    → Agree (truncated_name d f xs) (truncated_name d f b) → Agree (truncated_name d f (x ∷ xs)) (truncated_name d f b)
 first_agrees x xs b d f h k = elim (cases_Bool (bytes_eq x.digest d)) [
-  | inl t ↦ subst (Agree (name_in d f (x ∷ xs))) (sym (none_further x b d f h t)) (agree_with_none (name_in d f (x ∷ xs)))
-  | inr t ↦ subst (λ (o : Option (List ℕ)). Agree o (name_in d f b)) (sym (passed_image x xs d f t)) k
+  | inl t ↦ subst (Agree (truncated_name d f (x ∷ xs))) (sym (none_further x b d f h t)) (agree_with_none (truncated_name d f (x ∷ xs)))
+  | inr t ↦ subst (λ (o : Option (List ℕ)). Agree o (truncated_name d f b)) (sym (passed_image x xs d f t)) k
 ]
 
-second_agrees : (y : ImageCounts) (a ys : List ImageCounts) (d : List ℕ) (f : ℕ) → digests_rise (Some y.digest) a ≡ true
-    → Agree (name_in d f a) (name_in d f ys) → Agree (name_in d f a) (name_in d f (y ∷ ys))
+second_agrees : (y : ImageCounts) (a ys : List ImageCounts) (d : List ℕ) (f : ℕ) → digests_increase_from (Some y.digest) a ≡ true
+    → Agree (truncated_name d f a) (truncated_name d f ys) → Agree (truncated_name d f a) (truncated_name d f (y ∷ ys))
 second_agrees y a ys d f h k = elim (cases_Bool (bytes_eq y.digest d)) [
-  | inl t ↦ subst (λ (o : Option (List ℕ)). Agree o (name_in d f (y ∷ ys))) (sym (none_further y a d f h t)) tt
-  | inr t ↦ subst (Agree (name_in d f a)) (sym (passed_image y ys d f t)) k
+  | inl t ↦ subst (λ (o : Option (List ℕ)). Agree o (truncated_name d f (y ∷ ys))) (sym (none_further y a d f h t)) tt
+  | inr t ↦ subst (Agree (truncated_name d f a)) (sym (passed_image y ys d f t)) k
 ]
 
 both_agree : (x y : ImageCounts) (xs ys : List ImageCounts) (d : List ℕ) (f : ℕ) → x.digest ≡ y.digest
-    → Agree (name_at f x.functions) (name_at f y.functions) → digests_rise (Some x.digest) xs ≡ true
-    → digests_rise (Some y.digest) ys ≡ true → Agree (name_in d f xs) (name_in d f ys)
-    → Agree (name_in d f (x ∷ xs)) (name_in d f (y ∷ ys))
+    → Agree (name_at f x.functions) (name_at f y.functions) → digests_increase_from (Some x.digest) xs ≡ true
+    → digests_increase_from (Some y.digest) ys ≡ true → Agree (truncated_name d f xs) (truncated_name d f ys)
+    → Agree (truncated_name d f (x ∷ xs)) (truncated_name d f (y ∷ ys))
 both_agree x y xs ys d f one names h k others = elim (cases_Bool (bytes_eq x.digest d)) [
   | inl t ↦
-      subst (λ (o : Option (List ℕ)). Agree o (name_in d f (y ∷ ys))) (sym (its_names x xs d f h t))
+      subst (λ (o : Option (List ℕ)). Agree o (truncated_name d f (y ∷ ys))) (sym (its_names x xs d f h t))
       (subst (Agree (name_at f x.functions)) (sym (its_names y ys d f k (ap (λ (s : List ℕ). bytes_eq s d) (sym one) ∙ t))) names)
   | inr t ↦
-      subst (λ (o : Option (List ℕ)). Agree o (name_in d f (y ∷ ys))) (sym (passed_image x xs d f t))
-      (subst (Agree (name_in d f xs)) (sym (passed_image y ys d f (ap (λ (s : List ℕ). bytes_eq s d) (sym one) ∙ t))) others)
+      subst (λ (o : Option (List ℕ)). Agree o (truncated_name d f (y ∷ ys))) (sym (passed_image x xs d f t))
+      (subst (Agree (truncated_name d f xs)) (sym (passed_image y ys d f (ap (λ (s : List ℕ). bytes_eq s d) (sym one) ∙ t))) others)
 ]
 
 -- ---- an image ahead of the others
 
 -- an image of the first list alone
-first_image_ahead : (x : ImageCounts) (xs b others : List ImageCounts) → IsImage x
-    → ((last : Option (List ℕ)) → digests_rise last b ≡ true → digests_rise (Some x.digest) b ≡ true)
+first_image_ahead : (x : ImageCounts) (xs b others : List ImageCounts) → IsValidImage x
+    → ((last : Option (List ℕ)) → digests_increase_from last b ≡ true → digests_increase_from (Some x.digest) b ≡ true)
     → ImagesAddUp xs b others → ImagesAddUp (x ∷ xs) b (x ∷ others)
 first_image_ahead x xs b others image above h = record {
   each = (image, h.each);
@@ -141,17 +141,17 @@ first_image_ahead x xs b others image above h = record {
       (h.agree (Some x.digest) (images_behind last x xs p) (above last q) d f);
   begun = λ d n. let e = h.begun d n in omega (arith, e);
   taken = λ d n. let e = h.taken d n in omega (arith, e);
-  paths = λ d. ap (least_path_of (cond (bytes_eq x.digest d) (Some x.path) None)) (h.paths d)
-      ∙ sym (any_first (cond (bytes_eq x.digest d) (Some x.path) None) (path_in d xs) (path_in d b));
-  names = λ d f. ap (least_path_of (cond (bytes_eq x.digest d) (name_at f x.functions) None)) (h.names d f)
-      ∙ sym (any_first (cond (bytes_eq x.digest d) (name_at f x.functions) None) (name_in d f xs) (name_in d f b));
+  paths = λ d. ap (min_text_of (cond (bytes_eq x.digest d) (Some x.path) None)) (h.paths d)
+      ∙ sym (any_first (cond (bytes_eq x.digest d) (Some x.path) None) (next_path d xs) (next_path d b));
+  names = λ d f. ap (min_text_of (cond (bytes_eq x.digest d) (name_at f x.functions) None)) (h.names d f)
+      ∙ sym (any_first (cond (bytes_eq x.digest d) (name_at f x.functions) None) (truncated_name d f xs) (truncated_name d f b));
   arrivals = λ d p. let e = h.arrivals d p in omega (arith, e);
   steps = λ d p. let e = h.steps d p in omega (arith, e);
 }
 
 -- an image of the second list alone
-second_image_ahead : (y : ImageCounts) (a ys others : List ImageCounts) → IsImage y
-    → ((last : Option (List ℕ)) → digests_rise last a ≡ true → digests_rise (Some y.digest) a ≡ true)
+second_image_ahead : (y : ImageCounts) (a ys others : List ImageCounts) → IsValidImage y
+    → ((last : Option (List ℕ)) → digests_increase_from last a ≡ true → digests_increase_from (Some y.digest) a ≡ true)
     → ImagesAddUp a ys others → ImagesAddUp a (y ∷ ys) (y ∷ others)
 second_image_ahead y a ys others image above h = record {
   each = (image, h.each);
@@ -161,46 +161,46 @@ second_image_ahead y a ys others image above h = record {
       (h.agree (Some y.digest) (above last p) (images_behind last y ys q) d f);
   begun = λ d n. let e = h.begun d n in omega (arith, e);
   taken = λ d n. let e = h.taken d n in omega (arith, e);
-  paths = λ d. ap (least_path_of (cond (bytes_eq y.digest d) (Some y.path) None)) (h.paths d)
-      ∙ second_first (path_in d a) (cond (bytes_eq y.digest d) (Some y.path) None) (path_in d ys);
-  names = λ d f. ap (least_path_of (cond (bytes_eq y.digest d) (name_at f y.functions) None)) (h.names d f)
-      ∙ second_first (name_in d f a) (cond (bytes_eq y.digest d) (name_at f y.functions) None) (name_in d f ys);
+  paths = λ d. ap (min_text_of (cond (bytes_eq y.digest d) (Some y.path) None)) (h.paths d)
+      ∙ second_first (next_path d a) (cond (bytes_eq y.digest d) (Some y.path) None) (next_path d ys);
+  names = λ d f. ap (min_text_of (cond (bytes_eq y.digest d) (name_at f y.functions) None)) (h.names d f)
+      ∙ second_first (truncated_name d f a) (cond (bytes_eq y.digest d) (name_at f y.functions) None) (truncated_name d f ys);
   arrivals = λ d p. let e = h.arrivals d p in omega (arith, e);
   steps = λ d p. let e = h.steps d p in omega (arith, e);
 }
 
 -- the path of a digest that both lists have
-pub path_parts : (s t : Bool) (p q : List ℕ) (r u v : Option (List ℕ)) → s ≡ t → r ≡ least_path_of u v
-    → least_path_of (cond s (Some (least_path p q)) None) r
-    ≡ least_path_of (least_path_of (cond s (Some p) None) u) (least_path_of (cond t (Some q) None) v)
+pub path_parts : (s t : Bool) (p q : List ℕ) (r u v : Option (List ℕ)) → s ≡ t → r ≡ min_text_of u v
+    → min_text_of (cond s (Some (min_text p q)) None) r
+    ≡ min_text_of (min_text_of (cond s (Some p) None) u) (min_text_of (cond t (Some q) None) v)
 path_parts s true p q r u v e f =
-    ap (λ (k : Bool). least_path_of (cond k (Some (least_path p q)) None) r) e
-    ∙ ap (least_path_of (Some (least_path p q))) f ∙ by_two (Some p) (Some q) u v
-    ∙ sym (ap (λ (k : Bool). least_path_of (least_path_of (cond k (Some p) None) u) (least_path_of (Some q) v)) e)
+    ap (λ (k : Bool). min_text_of (cond k (Some (min_text p q)) None) r) e
+    ∙ ap (min_text_of (Some (min_text p q))) f ∙ by_two (Some p) (Some q) u v
+    ∙ sym (ap (λ (k : Bool). min_text_of (min_text_of (cond k (Some p) None) u) (min_text_of (Some q) v)) e)
 path_parts s false p q r u v e f =
-    ap (λ (k : Bool). least_path_of (cond k (Some (least_path p q)) None) r) e ∙ f
-    ∙ sym (ap (λ (k : Bool). least_path_of (least_path_of (cond k (Some p) None) u) v) e)
+    ap (λ (k : Bool). min_text_of (cond k (Some (min_text p q)) None) r) e ∙ f
+    ∙ sym (ap (λ (k : Bool). min_text_of (min_text_of (cond k (Some p) None) u) v) e)
 
 -- the name of a function that both have
-name_parts : (s t : Bool) (o p q r u v : Option (List ℕ)) → s ≡ t → o ≡ least_path_of p q → r ≡ least_path_of u v
-    → least_path_of (cond s o None) r
-    ≡ least_path_of (least_path_of (cond s p None) u) (least_path_of (cond t q None) v)
+name_parts : (s t : Bool) (o p q r u v : Option (List ℕ)) → s ≡ t → o ≡ min_text_of p q → r ≡ min_text_of u v
+    → min_text_of (cond s o None) r
+    ≡ min_text_of (min_text_of (cond s p None) u) (min_text_of (cond t q None) v)
 name_parts s true o p q r u v e f g =
-    ap (λ (k : Bool). least_path_of (cond k o None) r) e
-    ∙ (λ i. least_path_of (f i) (g i)) ∙ by_two p q u v
-    ∙ sym (ap (λ (k : Bool). least_path_of (least_path_of (cond k p None) u) (least_path_of q v)) e)
+    ap (λ (k : Bool). min_text_of (cond k o None) r) e
+    ∙ (λ i. min_text_of (f i) (g i)) ∙ by_two p q u v
+    ∙ sym (ap (λ (k : Bool). min_text_of (min_text_of (cond k p None) u) (min_text_of q v)) e)
 name_parts s false o p q r u v e f g =
-    ap (λ (k : Bool). least_path_of (cond k o None) r) e ∙ g
-    ∙ sym (ap (λ (k : Bool). least_path_of (least_path_of (cond k p None) u) v) e)
+    ap (λ (k : Bool). min_text_of (cond k o None) r) e ∙ g
+    ∙ sym (ap (λ (k : Bool). min_text_of (min_text_of (cond k p None) u) v) e)
 
-pub least_is : (P : List ℕ → Type 0) (p q : List ℕ) → P p → P q → P (least_path p q)
+pub least_is : (P : List ℕ → Type 0) (p q : List ℕ) → P p → P q → P (min_text p q)
 least_is P p q h k = cond_both (is_before q p) q p P (λ _. k) (λ _. h)
 
 -- an image of both lists
-both_images_ahead : (x y sum : ImageCounts) (xs ys others : List ImageCounts) → IsImage x → IsImage y
-    → x.digest ≡ y.digest → sum.digest ≡ x.digest → sum.path ≡ least_path x.path y.path
+both_images_ahead : (x y sum : ImageCounts) (xs ys others : List ImageCounts) → IsValidImage x → IsValidImage y
+    → x.digest ≡ y.digest → sum.digest ≡ x.digest → sum.path ≡ min_text x.path y.path
     → IsSumOfCounts x.addresses y.addresses sum.addresses → IsSumOfNames x.functions y.functions sum.functions
-    → AreNamesOf sum.spots sum.functions → AreSpots sum.spots → IsSumOfSpots x.spots y.spots sum.spots
+    → AreNamesOf sum.spots sum.functions → AreValidNodes sum.spots → IsSumOfCallTrees x.spots y.spots sum.spots
     → ImagesAddUp xs ys others → ImagesAddUp (x ∷ xs) (y ∷ ys) (sum ∷ others)
 both_images_ahead x y sum xs ys others image also one at path counts names of tree spots h = record {
   each = (
@@ -217,27 +217,27 @@ both_images_ahead x y sum xs ys others image also one at path counts names of tr
     h.each,
   );
   rising = λ last p q. images_rise last sum others (ap (is_greater_than_last last) at ∙ image_low last x xs p)
-      (h.rising (Some sum.digest) (ap (λ (s : List ℕ). digests_rise (Some s) xs) at ∙ images_behind last x xs p)
-      (ap (λ (s : List ℕ). digests_rise (Some s) ys) (at ∙ one) ∙ images_behind last y ys q));
+      (h.rising (Some sum.digest) (ap (λ (s : List ℕ). digests_increase_from (Some s) xs) at ∙ images_behind last x xs p)
+      (ap (λ (s : List ℕ). digests_increase_from (Some s) ys) (at ∙ one) ∙ images_behind last y ys q));
   agree = λ last p q d f. both_agree x y xs ys d f one (names.agree f) (images_behind last x xs p) (images_behind last y ys q)
       (h.agree (Some x.digest) (images_behind last x xs p)
-      (ap (λ (s : List ℕ). digests_rise (Some s) ys) one ∙ images_behind last y ys q) d f);
+      (ap (λ (s : List ℕ). digests_increase_from (Some s) ys) one ∙ images_behind last y ys q) d f);
   begun = λ d n. ap (λ (s : List ℕ). cond (bytes_eq s d) (executed_at n sum.addresses) 0 + executed_in d n others) at
       ∙ parts (bytes_eq x.digest d) (bytes_eq y.digest d) (executed_at n x.addresses) (executed_at n y.addresses)
       (executed_at n sum.addresses) _ _ _ (ap (λ (s : List ℕ). bytes_eq s d) one) (counts.begun n) (h.begun d n);
   taken = λ d n. ap (λ (s : List ℕ). cond (bytes_eq s d) (taken_at n sum.addresses) 0 + taken_in d n others) at
       ∙ parts (bytes_eq x.digest d) (bytes_eq y.digest d) (taken_at n x.addresses) (taken_at n y.addresses)
       (taken_at n sum.addresses) _ _ _ (ap (λ (s : List ℕ). bytes_eq s d) one) (counts.taken n) (h.taken d n);
-  paths = λ d. (λ i. least_path_of (cond (bytes_eq (at i) d) (Some (path i)) None) (path_in d others))
-      ∙ path_parts (bytes_eq x.digest d) (bytes_eq y.digest d) x.path y.path _ (path_in d xs) (path_in d ys)
+  paths = λ d. (λ i. min_text_of (cond (bytes_eq (at i) d) (Some (path i)) None) (next_path d others))
+      ∙ path_parts (bytes_eq x.digest d) (bytes_eq y.digest d) x.path y.path _ (next_path d xs) (next_path d ys)
       (ap (λ (s : List ℕ). bytes_eq s d) one) (h.paths d);
-  names = λ d f. ap (λ (s : List ℕ). least_path_of (cond (bytes_eq s d) (name_at f sum.functions) None) (name_in d f others)) at
+  names = λ d f. ap (λ (s : List ℕ). min_text_of (cond (bytes_eq s d) (name_at f sum.functions) None) (truncated_name d f others)) at
       ∙ name_parts (bytes_eq x.digest d) (bytes_eq y.digest d) (name_at f sum.functions) (name_at f x.functions)
-      (name_at f y.functions) _ (name_in d f xs) (name_in d f ys)
+      (name_at f y.functions) _ (truncated_name d f xs) (truncated_name d f ys)
       (ap (λ (s : List ℕ). bytes_eq s d) one) (names.each f) (h.names d f);
-  arrivals = λ d p. ap (λ (s : List ℕ). cond (bytes_eq s d) (arrivals_at p sum.spots) 0 + arrivals_in d p others) at
-      ∙ parts (bytes_eq x.digest d) (bytes_eq y.digest d) (arrivals_at p x.spots) (arrivals_at p y.spots)
-      (arrivals_at p sum.spots) _ _ _ (ap (λ (s : List ℕ). bytes_eq s d) one) (spots.arrivals p) (h.arrivals d p);
+  arrivals = λ d p. ap (λ (s : List ℕ). cond (bytes_eq s d) (calls_at p sum.spots) 0 + arrivals_in d p others) at
+      ∙ parts (bytes_eq x.digest d) (bytes_eq y.digest d) (calls_at p x.spots) (calls_at p y.spots)
+      (calls_at p sum.spots) _ _ _ (ap (λ (s : List ℕ). bytes_eq s d) one) (spots.arrivals p) (h.arrivals d p);
   steps = λ d p. ap (λ (s : List ℕ). cond (bytes_eq s d) (steps_at p sum.spots) 0 + steps_in d p others) at
       ∙ parts (bytes_eq x.digest d) (bytes_eq y.digest d) (steps_at p x.spots) (steps_at p y.spots)
       (steps_at p sum.spots) _ _ _ (ap (λ (s : List ℕ). bytes_eq s d) one) (spots.steps p) (h.steps d p);
@@ -245,7 +245,7 @@ both_images_ahead x y sum xs ys others image also one at path counts names of tr
 
 -- ---- the first of a sum in each case of `next_image`
 
-pub image_of_first_alone : (a b : List ImageCounts) (x : ImageCounts) → AllByRecursion IsImage a → 0 < length a
+pub image_of_first_alone : (a b : List ImageCounts) (x : ImageCounts) → AllByRecursion IsValidImage a → 0 < length a
     → length b ≡ 0 → x ≡ get_or a 0 x → (next : NextImage) → next ≡ record { image = x; of_a = 1; of_b = 0 }
     → IsNextImage a b next
 image_of_first_alone [] b x each some none is next e = absurd (omega arith)
@@ -259,7 +259,7 @@ image_of_first_alone (x ∷ xs) [] z each some none is next e =
       ahead = λ others h. first_image_ahead x xs [] others each.0 (λ n p. no_images_rise (Some x.digest)) h;
     })
 
-pub image_of_second_alone : (a b : List ImageCounts) (y : ImageCounts) → AllByRecursion IsImage b → 0 < length b
+pub image_of_second_alone : (a b : List ImageCounts) (y : ImageCounts) → AllByRecursion IsValidImage b → 0 < length b
     → length a ≡ 0 → y ≡ get_or b 0 y → (next : NextImage) → next ≡ record { image = y; of_a = 0; of_b = 1 }
     → IsNextImage a b next
 image_of_second_alone a [] y each some none is next e = absurd (omega arith)
@@ -273,7 +273,7 @@ image_of_second_alone [] (y ∷ ys) z each some none is next e =
       ahead = λ others h. second_image_ahead y [] ys others each.0 (λ n p. no_images_rise (Some y.digest)) h;
     })
 
-pub image_of_first : (a b : List ImageCounts) (x y : ImageCounts) → AllByRecursion IsImage a → 0 < length a
+pub image_of_first : (a b : List ImageCounts) (x y : ImageCounts) → AllByRecursion IsValidImage a → 0 < length a
     → 0 < length b → x ≡ get_or a 0 x → y ≡ get_or b 0 y → is_before x.digest y.digest ≡ true
     → (next : NextImage) → next ≡ record { image = x; of_a = 1; of_b = 0 } → IsNextImage a b next
 image_of_first [] b x y each some other is at less next e = absurd (omega arith)
@@ -288,7 +288,7 @@ image_of_first (x ∷ xs) (y ∷ ys) z w each some other is at less next e =
       ahead = λ others h. first_image_ahead x xs (y ∷ ys) others each.0 (λ n p. images_raised n x.digest y ys p before) h;
     })
 
-pub image_of_second : (a b : List ImageCounts) (x y : ImageCounts) → AllByRecursion IsImage b → 0 < length a
+pub image_of_second : (a b : List ImageCounts) (x y : ImageCounts) → AllByRecursion IsValidImage b → 0 < length a
     → 0 < length b → x ≡ get_or a 0 x → y ≡ get_or b 0 y → is_before y.digest x.digest ≡ true
     → (next : NextImage) → next ≡ record { image = y; of_a = 0; of_b = 1 } → IsNextImage a b next
 image_of_second [] b x y each some other is at less next e = absurd (omega arith)
@@ -303,11 +303,11 @@ image_of_second (x ∷ xs) (y ∷ ys) z w each some other is at less next e =
       ahead = λ others h. second_image_ahead y (x ∷ xs) ys others each.0 (λ n p. images_raised n y.digest x xs p before) h;
     })
 
-pub image_of_both : (a b : List ImageCounts) (x y sum : ImageCounts) → AllByRecursion IsImage a → AllByRecursion IsImage b
+pub image_of_both : (a b : List ImageCounts) (x y sum : ImageCounts) → AllByRecursion IsValidImage a → AllByRecursion IsValidImage b
     → 0 < length a → 0 < length b → x ≡ get_or a 0 x → y ≡ get_or b 0 y → is_before x.digest y.digest ≡ false
-    → is_before y.digest x.digest ≡ false → sum.digest ≡ x.digest → sum.path ≡ least_path x.path y.path
+    → is_before y.digest x.digest ≡ false → sum.digest ≡ x.digest → sum.path ≡ min_text x.path y.path
     → IsSumOfCounts x.addresses y.addresses sum.addresses → IsSumOfNames x.functions y.functions sum.functions
-    → AreNamesOf sum.spots sum.functions → AreSpots sum.spots → IsSumOfSpots x.spots y.spots sum.spots
+    → AreNamesOf sum.spots sum.functions → AreValidNodes sum.spots → IsSumOfCallTrees x.spots y.spots sum.spots
     → IsNextImage a b (record { image = sum; of_a = 1; of_b = 1 })
 image_of_both [] b x y sum each also some other is at first second digest path counts names of tree spots = absurd (omega arith)
 image_of_both (x ∷ xs) [] z w sum each also some other is at first second digest path counts names of tree spots = absurd (omega arith)
@@ -319,13 +319,13 @@ image_of_both (x ∷ xs) (y ∷ ys) z w sum each also some other is at first sec
       (ap (λ (i : ImageCounts). i.digest) (sym is) ∙ same_place z.digest w.digest first second
       ∙ ap (λ (i : ImageCounts). i.digest) at)
       (digest ∙ ap (λ (i : ImageCounts). i.digest) is)
-      (path ∙ (λ i. least_path (is i).path (at i).path))
+      (path ∙ (λ i. min_text (is i).path (at i).path))
       (subst (λ (i : ImageCounts). IsSumOfCounts x.addresses i.addresses sum.addresses) at
       (subst (λ (i : ImageCounts). IsSumOfCounts i.addresses w.addresses sum.addresses) is counts))
       (subst (λ (i : ImageCounts). IsSumOfNames x.functions i.functions sum.functions) at
       (subst (λ (i : ImageCounts). IsSumOfNames i.functions w.functions sum.functions) is names)) of tree
-      (subst (λ (i : ImageCounts). IsSumOfSpots x.spots i.spots sum.spots) at
-      (subst (λ (i : ImageCounts). IsSumOfSpots i.spots w.spots sum.spots) is spots)) h;
+      (subst (λ (i : ImageCounts). IsSumOfCallTrees x.spots i.spots sum.spots) at
+      (subst (λ (i : ImageCounts). IsSumOfCallTrees i.spots w.spots sum.spots) is spots)) h;
 }
 
 -- ---- what is refused
@@ -375,7 +375,7 @@ no_sum_of_first (x ∷ xs) (y ∷ ys) z w (Spot f) some other is at first second
       h.0,
       h.1,
       elim h.2 [
-        | inl k ↦ inl (great_here (λ i. arrivals_at h.0 i.spots) x y z w (arrivals_in x.digest h.0 xs) (arrivals_in x.digest h.0 ys) is at one k)
+        | inl k ↦ inl (great_here (λ i. calls_at h.0 i.spots) x y z w (arrivals_in x.digest h.0 xs) (arrivals_in x.digest h.0 ys) is at one k)
         | inr k ↦ inr (great_here (λ i. steps_at h.0 i.spots) x y z w (steps_in x.digest h.0 xs) (steps_in x.digest h.0 ys) is at one k)
       ],
     )
@@ -401,18 +401,18 @@ no_sum_of_named error a b ns ms p q h = no_sum_of_names error a b
     (subst (λ (xs : List FunctionName). NamesHaveNoSum error a.functions xs) q
     (subst (λ (xs : List FunctionName). NamesHaveNoSum error xs ms) p h))
 
-pub no_sum_of_spots : (why : SpotSumError) (a b : ImageCounts) → Overflows why a.spots b.spots
+pub no_sum_of_spots : (why : CallTreeSumError) (a b : ImageCounts) → Overflows why a.spots b.spots
     → ImageHasNoSum (sum_error_of why) a b
 no_sum_of_spots spots.OutOfMemory a b h = tt
 no_sum_of_spots (spots.Count f) a b h = h
 
 -- ---- spots of a sum
 
-pub all_come_to : (ss : List ASpot) → AllByRecursion IsSpot ss → HasArrivals ss
+pub all_come_to : (ss : List ASpot) → AllByRecursion IsValidNode ss → HasCalls ss
 all_come_to [] h = tt
 all_come_to (s ∷ ss) h = (h.0.some, all_come_to ss h.1)
 
-come_and_fit : (ss : List ASpot) → HasArrivals ss → AllByRecursion FitsSpot ss → AllByRecursion IsSpot ss
+come_and_fit : (ss : List ASpot) → HasCalls ss → AllByRecursion FitsFields ss → AllByRecursion IsValidNode ss
 come_and_fit [] h k = tt
 come_and_fit (s ∷ ss) h k = (
   record {
@@ -425,16 +425,16 @@ come_and_fit (s ∷ ss) h k = (
   come_and_fit ss h.1 k.1,
 )
 
-pub are_spots : (a b xs ys sum : List ASpot) → AreSpots a → AreSpots b → xs ≡ a → ys ≡ b → IsSumOfSpots xs ys sum
-    → AllByRecursion FitsSpot sum → AreSpots sum
+pub are_spots : (a b xs ys sum : List ASpot) → AreValidNodes a → AreValidNodes b → xs ≡ a → ys ≡ b → IsSumOfCallTrees xs ys sum
+    → AllByRecursion FitsFields sum → AreValidNodes sum
 are_spots a b xs ys sum h k is at sums fits =
-    let some = sums.some (subst (λ (ss : List ASpot). HasArrivals ss) (sym is) (all_come_to a h.each))
-    (subst (λ (ss : List ASpot). HasArrivals ss) (sym at) (all_come_to b k.each)) in
+    let some = sums.some (subst (λ (ss : List ASpot). HasCalls ss) (sym is) (all_come_to a h.each))
+    (subst (λ (ss : List ASpot). HasCalls ss) (sym at) (all_come_to b k.each)) in
     record { each = come_and_fit sum some fits; tree = sums.tree }
 
 -- ---- the loop: what both lists have ahead
 
-pub all_images_behind : (n : ℕ) (is : List ImageCounts) → AllByRecursion IsImage is → AllByRecursion IsImage (drop n is)
+pub all_images_behind : (n : ℕ) (is : List ImageCounts) → AllByRecursion IsValidImage is → AllByRecursion IsValidImage (drop n is)
 all_images_behind zero is h = h
 all_images_behind (suc n) [] h = h
 all_images_behind (suc n) (i ∷ is) h = all_images_behind n is h.1
@@ -517,7 +517,7 @@ images_summed a b sums n m p q ahead =
 
 -- tables add up as their images do
 pub tables_add_up : (a b sum : CountTable) → IsTable a → IsTable b → ImagesAddUp a.images b.images sum.images
-    → length sum.images < 2 ^ 64 → sum.runs < 2 ^ 64 → sum.runs ≡ a.runs + b.runs → IsSum a b sum
+    → length sum.images < 2 ^ 64 → sum.runs < 2 ^ 64 → sum.runs ≡ a.runs + b.runs → IsSumOfTables a b sum
 tables_add_up a b sum first second up few fits runs = record {
   table = record { images = up.each; rising = up.rising None first.rising second.rising; few = few; runs = fits };
   begun = up.begun;

@@ -7,7 +7,7 @@ use Rattle.std.specs.Prelude.{nat_le}
 use Rattle.std.specs.List.{AllByRecursion}
 use Rattle.rv_count_tables.specs.declared.table.FunctionName.{FunctionName}
 use Rattle.rv_count_tables.specs.declared.sum_of_names.NextName.{NextName}
-use Rattle.rv_count_tables.specs.Table.{name_at, names_rise, least_path_of, AreNames, IsName}
+use Rattle.rv_count_tables.specs.Table.{name_at, functions_increase_from, min_text_of, AreValidNames, IsValidName}
 use Rattle.rv_count_tables.specs.Sum.{Agree, HasName, IsSumOfNames, NamesHaveNoSum}
 use Rattle.rv_count_tables.specs.declared.sum.SumError.{SumError}
 use Rattle.rv_count_tables.specs.declared.sum.SumError.TheVariants.{OutOfMemory, Count, Spot, Names, Runs}
@@ -18,50 +18,50 @@ use Rattle.rv_count_tables.proofs.Told.{elsewhere, here}
 
 -- ---- functions in their order
 
-pub low : (lowest : ℕ) (n : FunctionName) (ns : List FunctionName) → names_rise lowest (n ∷ ns) ≡ true → lowest ≤ n.function
-unfolding names_rise
-low lowest n ns h = let p = (and_parts (nat_le lowest n.function) (names_rise (n.function + 1) ns) h).0 in grind (arith, nat_tests)
+pub low : (lowest : ℕ) (n : FunctionName) (ns : List FunctionName) → functions_increase_from lowest (n ∷ ns) ≡ true → lowest ≤ n.function
+unfolding functions_increase_from
+low lowest n ns h = let p = (and_parts (nat_le lowest n.function) (functions_increase_from (n.function + 1) ns) h).0 in grind (arith, nat_tests)
 
-pub behind : (lowest : ℕ) (n : FunctionName) (ns : List FunctionName) → names_rise lowest (n ∷ ns) ≡ true
-    → names_rise (n.function + 1) ns ≡ true
-unfolding names_rise
-behind lowest n ns h = (and_parts (nat_le lowest n.function) (names_rise (n.function + 1) ns) h).1
+pub behind : (lowest : ℕ) (n : FunctionName) (ns : List FunctionName) → functions_increase_from lowest (n ∷ ns) ≡ true
+    → functions_increase_from (n.function + 1) ns ≡ true
+unfolding functions_increase_from
+behind lowest n ns h = (and_parts (nat_le lowest n.function) (functions_increase_from (n.function + 1) ns) h).1
 
 pub rises : (lowest : ℕ) (n : FunctionName) (ns : List FunctionName) → lowest ≤ n.function
-    → names_rise (n.function + 1) ns ≡ true → names_rise lowest (n ∷ ns) ≡ true
-unfolding names_rise
+    → functions_increase_from (n.function + 1) ns ≡ true → functions_increase_from lowest (n ∷ ns) ≡ true
+unfolding functions_increase_from
 rises lowest n ns under h =
     let t : nat_le lowest n.function ≡ true = grind (arith, nat_tests) in
-    and_from (nat_le lowest n.function) (names_rise (n.function + 1) ns) t h
+    and_from (nat_le lowest n.function) (functions_increase_from (n.function + 1) ns) t h
 
-raised : (lowest m : ℕ) (n : FunctionName) (ns : List FunctionName) → names_rise lowest (n ∷ ns) ≡ true
-    → m ≤ n.function → names_rise m (n ∷ ns) ≡ true
+raised : (lowest m : ℕ) (n : FunctionName) (ns : List FunctionName) → functions_increase_from lowest (n ∷ ns) ≡ true
+    → m ≤ n.function → functions_increase_from m (n ∷ ns) ≡ true
 raised lowest m n ns h under = rises m n ns under (behind lowest n ns h)
 
-none_rises : (n : ℕ) → names_rise n [] ≡ true
-unfolding names_rise
+none_rises : (n : ℕ) → functions_increase_from n [] ≡ true
+unfolding functions_increase_from
 none_rises n = refl
 
-pub none_below : (ns : List FunctionName) (lowest f : ℕ) → names_rise lowest ns ≡ true → f < lowest → name_at f ns ≡ None
+pub none_below : (ns : List FunctionName) (lowest f : ℕ) → functions_increase_from lowest ns ≡ true → f < lowest → name_at f ns ≡ None
 none_below [] lowest f h under = refl
 none_below (n ∷ ns) lowest f h under =
     let l = low lowest n ns h in
-    ap (λ (t : Bool). least_path_of (cond t (Some n.name) None) (name_at f ns)) (elsewhere f n.function (omega arith))
+    ap (λ (t : Bool). min_text_of (cond t (Some n.name) None) (name_at f ns)) (elsewhere f n.function (omega arith))
     ∙ none_below ns (n.function + 1) f (behind lowest n ns h) (omega arith)
 
 -- ---- names in which both lists agree
 
 passed_name : (x : FunctionName) (xs : List FunctionName) (f : ℕ) → (x.function == f) ≡ false → name_at f (x ∷ xs) ≡ name_at f xs
-passed_name x xs f t = ap (λ (b : Bool). least_path_of (cond b (Some x.name) None) (name_at f xs)) t
+passed_name x xs f t = ap (λ (b : Bool). min_text_of (cond b (Some x.name) None) (name_at f xs)) t
 
-its_name : (x : FunctionName) (xs : List FunctionName) (f : ℕ) → names_rise (x.function + 1) xs ≡ true
+its_name : (x : FunctionName) (xs : List FunctionName) (f : ℕ) → functions_increase_from (x.function + 1) xs ≡ true
     → (x.function == f) ≡ true → name_at f (x ∷ xs) ≡ Some x.name
 its_name x xs f h t =
     let e = eqb-true x.function f t in
-    ap (λ (b : Bool). least_path_of (cond b (Some x.name) None) (name_at f xs)) t
-    ∙ ap (least_path_of (Some x.name)) (none_below xs (x.function + 1) f h (omega (arith, e)))
+    ap (λ (b : Bool). min_text_of (cond b (Some x.name) None) (name_at f xs)) t
+    ∙ ap (min_text_of (Some x.name)) (none_below xs (x.function + 1) f h (omega (arith, e)))
 
-first_agrees : (x : FunctionName) (xs b : List FunctionName) (f : ℕ) → names_rise (x.function + 1) b ≡ true
+first_agrees : (x : FunctionName) (xs b : List FunctionName) (f : ℕ) → functions_increase_from (x.function + 1) b ≡ true
     → Agree (name_at f xs) (name_at f b) → Agree (name_at f (x ∷ xs)) (name_at f b)
 first_agrees x xs b f h k = elim (cases_Bool (x.function == f)) [
   | inl t ↦
@@ -70,7 +70,7 @@ first_agrees x xs b f h k = elim (cases_Bool (x.function == f)) [
   | inr t ↦ subst (λ (o : Option (List ℕ)). Agree o (name_at f b)) (sym (passed_name x xs f t)) k
 ]
 
-second_agrees : (y : FunctionName) (a ys : List FunctionName) (f : ℕ) → names_rise (y.function + 1) a ≡ true
+second_agrees : (y : FunctionName) (a ys : List FunctionName) (f : ℕ) → functions_increase_from (y.function + 1) a ≡ true
     → Agree (name_at f a) (name_at f ys) → Agree (name_at f a) (name_at f (y ∷ ys))
 second_agrees y a ys f h k = elim (cases_Bool (y.function == f)) [
   | inl t ↦
@@ -80,7 +80,7 @@ second_agrees y a ys f h k = elim (cases_Bool (y.function == f)) [
 ]
 
 both_agree : (x y : FunctionName) (xs ys : List FunctionName) (f : ℕ) → x.function ≡ y.function → x.name ≡ y.name
-    → names_rise (x.function + 1) xs ≡ true → names_rise (y.function + 1) ys ≡ true → Agree (name_at f xs) (name_at f ys)
+    → functions_increase_from (x.function + 1) xs ≡ true → functions_increase_from (y.function + 1) ys ≡ true → Agree (name_at f xs) (name_at f ys)
     → Agree (name_at f (x ∷ xs)) (name_at f (y ∷ ys))
 both_agree x y xs ys f one name h k others = elim (cases_Bool (x.function == f)) [
   | inl t ↦
@@ -94,8 +94,8 @@ both_agree x y xs ys f one name h k others = elim (cases_Bool (x.function == f))
 -- ---- a name ahead of the others
 
 -- a name of the first list alone
-first_ahead : (x : FunctionName) (xs b others : List FunctionName) → IsName x
-    → ((lowest : ℕ) → names_rise lowest b ≡ true → names_rise (x.function + 1) b ≡ true)
+first_ahead : (x : FunctionName) (xs b others : List FunctionName) → IsValidName x
+    → ((lowest : ℕ) → functions_increase_from lowest b ≡ true → functions_increase_from (x.function + 1) b ≡ true)
     → NamesAddUp xs b others → NamesAddUp (x ∷ xs) b (x ∷ others)
 first_ahead x xs b others named above h = record {
   each = (named, h.each);
@@ -103,13 +103,13 @@ first_ahead x xs b others named above h = record {
       (h.rising (x.function + 1) (behind lowest x xs p) (above lowest q));
   agree = λ lowest p q f. first_agrees x xs b f (above lowest q)
       (h.agree (x.function + 1) (behind lowest x xs p) (above lowest q) f);
-  names = λ f. ap (least_path_of (cond (x.function == f) (Some x.name) None)) (h.names f)
+  names = λ f. ap (min_text_of (cond (x.function == f) (Some x.name) None)) (h.names f)
       ∙ sym (any_first (cond (x.function == f) (Some x.name) None) (name_at f xs) (name_at f b));
 }
 
 -- a name of the second list alone
-second_ahead : (y : FunctionName) (a ys others : List FunctionName) → IsName y
-    → ((lowest : ℕ) → names_rise lowest a ≡ true → names_rise (y.function + 1) a ≡ true)
+second_ahead : (y : FunctionName) (a ys others : List FunctionName) → IsValidName y
+    → ((lowest : ℕ) → functions_increase_from lowest a ≡ true → functions_increase_from (y.function + 1) a ≡ true)
     → NamesAddUp a ys others → NamesAddUp a (y ∷ ys) (y ∷ others)
 second_ahead y a ys others named above h = record {
   each = (named, h.each);
@@ -117,22 +117,22 @@ second_ahead y a ys others named above h = record {
       (h.rising (y.function + 1) (above lowest p) (behind lowest y ys q));
   agree = λ lowest p q f. second_agrees y a ys f (above lowest p)
       (h.agree (y.function + 1) (above lowest p) (behind lowest y ys q) f);
-  names = λ f. ap (least_path_of (cond (y.function == f) (Some y.name) None)) (h.names f)
+  names = λ f. ap (min_text_of (cond (y.function == f) (Some y.name) None)) (h.names f)
       ∙ second_first (name_at f a) (cond (y.function == f) (Some y.name) None) (name_at f ys);
 }
 
 -- a name of both lists
-both_ahead : (x y : FunctionName) (xs ys others : List FunctionName) → IsName x → x.function ≡ y.function → x.name ≡ y.name
+both_ahead : (x y : FunctionName) (xs ys others : List FunctionName) → IsValidName x → x.function ≡ y.function → x.name ≡ y.name
     → NamesAddUp xs ys others → NamesAddUp (x ∷ xs) (y ∷ ys) (x ∷ others)
 both_ahead x y xs ys others named one name h = record {
   each = (named, h.each);
   rising = λ lowest p q.
       rises lowest x others (low lowest x xs p)
       (h.rising (x.function + 1) (behind lowest x xs p)
-      (ap (λ (n : ℕ). names_rise (n + 1) ys) one ∙ behind lowest y ys q));
+      (ap (λ (n : ℕ). functions_increase_from (n + 1) ys) one ∙ behind lowest y ys q));
   agree = λ lowest p q f. both_agree x y xs ys f one name (behind lowest x xs p) (behind lowest y ys q)
-      (h.agree (x.function + 1) (behind lowest x xs p) (ap (λ (n : ℕ). names_rise (n + 1) ys) one ∙ behind lowest y ys q) f);
-  names = λ f. ap (λ (s : List ℕ). least_path_of (cond (x.function == f) (Some s) None) (name_at f others))
+      (h.agree (x.function + 1) (behind lowest x xs p) (ap (λ (n : ℕ). functions_increase_from (n + 1) ys) one ∙ behind lowest y ys q) f);
+  names = λ f. ap (λ (s : List ℕ). min_text_of (cond (x.function == f) (Some s) None) (name_at f others))
       (least_is (λ s. x.name ≡ s) x.name y.name refl name)
       ∙ path_parts (x.function == f) (y.function == f) x.name y.name _ (name_at f xs) (name_at f ys)
       (ap (λ (n : ℕ). n == f) one) (h.names f);
@@ -140,7 +140,7 @@ both_ahead x y xs ys others named one name h = record {
 
 -- ---- the first of a sum in each case of `next_name`
 
-pub name_of_first_alone : (a b : List FunctionName) (x : FunctionName) → AllByRecursion IsName a → 0 < length a
+pub name_of_first_alone : (a b : List FunctionName) (x : FunctionName) → AllByRecursion IsValidName a → 0 < length a
     → length b ≡ 0 → x ≡ get_or a 0 x → (next : NextName) → next ≡ record { name = x; of_a = 1; of_b = 0 }
     → IsNextName a b next
 name_of_first_alone [] b x each some none is next e = absurd (omega arith)
@@ -154,7 +154,7 @@ name_of_first_alone (x ∷ xs) [] z each some none is next e =
       ahead = λ others h. first_ahead x xs [] others each.0 (λ n p. none_rises (x.function + 1)) h;
     })
 
-pub name_of_second_alone : (a b : List FunctionName) (y : FunctionName) → AllByRecursion IsName b → 0 < length b
+pub name_of_second_alone : (a b : List FunctionName) (y : FunctionName) → AllByRecursion IsValidName b → 0 < length b
     → length a ≡ 0 → y ≡ get_or b 0 y → (next : NextName) → next ≡ record { name = y; of_a = 0; of_b = 1 }
     → IsNextName a b next
 name_of_second_alone a [] y each some none is next e = absurd (omega arith)
@@ -168,7 +168,7 @@ name_of_second_alone [] (y ∷ ys) z each some none is next e =
       ahead = λ others h. second_ahead y [] ys others each.0 (λ n p. none_rises (y.function + 1)) h;
     })
 
-pub name_of_first : (a b : List FunctionName) (x y : FunctionName) → AllByRecursion IsName a → 0 < length a
+pub name_of_first : (a b : List FunctionName) (x y : FunctionName) → AllByRecursion IsValidName a → 0 < length a
     → 0 < length b → x ≡ get_or a 0 x → y ≡ get_or b 0 y → x.function < y.function
     → (next : NextName) → next ≡ record { name = x; of_a = 1; of_b = 0 } → IsNextName a b next
 name_of_first [] b x y each some other is at less next e = absurd (omega arith)
@@ -185,7 +185,7 @@ name_of_first (x ∷ xs) (y ∷ ys) z w each some other is at less next e =
           (λ n p. raised n (x.function + 1) y ys p (omega (arith, f, g, less))) h;
     })
 
-pub name_of_second : (a b : List FunctionName) (x y : FunctionName) → AllByRecursion IsName b → 0 < length a
+pub name_of_second : (a b : List FunctionName) (x y : FunctionName) → AllByRecursion IsValidName b → 0 < length a
     → 0 < length b → x ≡ get_or a 0 x → y ≡ get_or b 0 y → y.function < x.function
     → (next : NextName) → next ≡ record { name = y; of_a = 0; of_b = 1 } → IsNextName a b next
 name_of_second [] b x y each some other is at less next e = absurd (omega arith)
@@ -202,7 +202,7 @@ name_of_second (x ∷ xs) (y ∷ ys) z w each some other is at less next e =
           (λ n p. raised n (y.function + 1) x xs p (omega (arith, f, g, less))) h;
     })
 
-pub name_of_both : (a b : List FunctionName) (x y : FunctionName) → AllByRecursion IsName a
+pub name_of_both : (a b : List FunctionName) (x y : FunctionName) → AllByRecursion IsValidName a
     → 0 < length a → 0 < length b → x ≡ get_or a 0 x → y ≡ get_or b 0 y → x.function ≡ y.function → x.name ≡ y.name
     → (next : NextName) → next ≡ record { name = x; of_a = 1; of_b = 1 } → IsNextName a b next
 name_of_both [] b x y each some other is at function name next e = absurd (omega arith)
@@ -246,7 +246,7 @@ no_sum_of_rest n m a b (Names f) h = (h.0, h.1, name_in_rest n f h.0 a h.2, name
 
 -- ---- the loop: what both lists have ahead
 
-pub all_behind : (n : ℕ) (ns : List FunctionName) → AllByRecursion IsName ns → AllByRecursion IsName (drop n ns)
+pub all_behind : (n : ℕ) (ns : List FunctionName) → AllByRecursion IsValidName ns → AllByRecursion IsValidName (drop n ns)
 all_behind zero ns h = h
 all_behind (suc n) [] h = h
 all_behind (suc n) (m ∷ ms) h = all_behind n ms h.1
@@ -255,7 +255,7 @@ none_add_up : NamesAddUp [] [] []
 none_add_up = record { each = tt; rising = λ lowest p q. p; agree = λ lowest p q function. tt; names = λ function. refl }
 
 -- at the end what stands there is the sum
-pub names_summed : (a b sums : List FunctionName) (n m : ℕ) → AreNames a → AreNames b → length a ≤ n → length b ≤ m
+pub names_summed : (a b sums : List FunctionName) (n m : ℕ) → AreValidNames a → AreValidNames b → length a ≤ n → length b ≤ m
     → ((others : List FunctionName) → NamesAddUp (drop n a) (drop m b) others → NamesAddUp a b (sums ++ others))
     → IsSumOfNames a b sums
 names_summed a b sums n m x y p q ahead =
@@ -272,22 +272,22 @@ names_summed a b sums n m x y p q ahead =
 
 -- ---- one list has these names
 
-first_named : (lowest : ℕ) (n : FunctionName) (ns : List FunctionName) → names_rise lowest (n ∷ ns) ≡ true
+first_named : (lowest : ℕ) (n : FunctionName) (ns : List FunctionName) → functions_increase_from lowest (n ∷ ns) ≡ true
     → name_at n.function (n ∷ ns) ≡ Some n.name
 first_named lowest n ns h =
-    ap (λ (t : Bool). least_path_of (cond t (Some n.name) None) (name_at n.function ns)) (here n.function)
-    ∙ ap (least_path_of (Some n.name)) (none_below ns (n.function + 1) n.function (behind lowest n ns h) (omega arith))
+    ap (λ (t : Bool). min_text_of (cond t (Some n.name) None) (name_at n.function ns)) (here n.function)
+    ∙ ap (min_text_of (Some n.name)) (none_below ns (n.function + 1) n.function (behind lowest n ns h) (omega arith))
 
 -- the first function of one list is not below that of a list with the same names
-not_lower : (n m : FunctionName) (ns ms : List FunctionName) (l k : ℕ) → names_rise l (n ∷ ns) ≡ true
-    → names_rise k (m ∷ ms) ≡ true → name_at n.function (n ∷ ns) ≡ name_at n.function (m ∷ ms) → n.function < m.function → ⊥
+not_lower : (n m : FunctionName) (ns ms : List FunctionName) (l k : ℕ) → functions_increase_from l (n ∷ ns) ≡ true
+    → functions_increase_from k (m ∷ ms) ≡ true → name_at n.function (n ∷ ns) ≡ name_at n.function (m ∷ ms) → n.function < m.function → ⊥
 not_lower n m ns ms l k h j e less =
     let none = none_below (m ∷ ms) m.function n.function (raised k m.function m ms j (omega arith)) less in
     let some = first_named l n ns h in
     let c : Some n.name ≡ None = sym some ∙ e ∙ none in absurd (cc)
 
-one_function : (n m : FunctionName) (ns ms : List FunctionName) (l k : ℕ) → names_rise l (n ∷ ns) ≡ true
-    → names_rise k (m ∷ ms) ≡ true → ((f : ℕ) → name_at f (n ∷ ns) ≡ name_at f (m ∷ ms)) → n.function ≡ m.function
+one_function : (n m : FunctionName) (ns ms : List FunctionName) (l k : ℕ) → functions_increase_from l (n ∷ ns) ≡ true
+    → functions_increase_from k (m ∷ ms) ≡ true → ((f : ℕ) → name_at f (n ∷ ns) ≡ name_at f (m ∷ ms)) → n.function ≡ m.function
 one_function n m ns ms l k h j e =
     let not_less = not_lower n m ns ms l k h j (e n.function) in
     let not_more = not_lower m n ms ns k l j h (sym (e m.function)) in
@@ -296,8 +296,8 @@ one_function n m ns ms l k h j e =
 some_is : (p q : List ℕ) → Some p ≡ Some q → p ≡ q
 some_is p q e = cc
 
-other_names : (n m : FunctionName) (ns ms : List FunctionName) (l k f : ℕ) → n ≡ m → names_rise l (n ∷ ns) ≡ true
-    → names_rise k (m ∷ ms) ≡ true → name_at f (n ∷ ns) ≡ name_at f (m ∷ ms) → name_at f ns ≡ name_at f ms
+other_names : (n m : FunctionName) (ns ms : List FunctionName) (l k f : ℕ) → n ≡ m → functions_increase_from l (n ∷ ns) ≡ true
+    → functions_increase_from k (m ∷ ms) ≡ true → name_at f (n ∷ ns) ≡ name_at f (m ∷ ms) → name_at f ns ≡ name_at f ms
 other_names n m ns ms l k f same h j e = elim (cases_Bool (n.function == f)) [
   | inl t ↦
       let d : n.function ≡ f = eqb-true n.function f t in
@@ -306,11 +306,11 @@ other_names n m ns ms l k f same h j e = elim (cases_Bool (n.function == f)) [
       ∙ sym (none_below ms (m.function + 1) f (behind k m ms j) (omega (arith, d, g)))
   | inr t ↦
       let g : (m.function == f) ≡ false = ap (λ (x : FunctionName). x.function == f) (sym same) ∙ t in
-      sym (ap (λ (s : Bool). least_path_of (cond s (Some n.name) None) (name_at f ns)) t) ∙ e
-      ∙ ap (λ (s : Bool). least_path_of (cond s (Some m.name) None) (name_at f ms)) g
+      sym (ap (λ (s : Bool). min_text_of (cond s (Some n.name) None) (name_at f ns)) t) ∙ e
+      ∙ ap (λ (s : Bool). min_text_of (cond s (Some m.name) None) (name_at f ms)) g
 ]
 
-one_list : (ns ms : List FunctionName) (l k : ℕ) → names_rise l ns ≡ true → names_rise k ms ≡ true
+one_list : (ns ms : List FunctionName) (l k : ℕ) → functions_increase_from l ns ≡ true → functions_increase_from k ms ≡ true
     → ((f : ℕ) → name_at f ns ≡ name_at f ms) → ns ≡ ms
 one_list [] [] l k h j e = refl
 one_list [] (m ∷ ms) l k h j e =
@@ -326,6 +326,6 @@ one_list (n ∷ ns) (m ∷ ms) l k h j e =
     (λ g. other_names n m ns ms l k g one h j (e g)) in
     λ i. one i ∷ others i
 
-pub one_list_of_names : (ns ms : List FunctionName) → AreNames ns → AreNames ms
+pub one_list_of_names : (ns ms : List FunctionName) → AreValidNames ns → AreValidNames ms
     → ((f : ℕ) → name_at f ns ≡ name_at f ms) → ns ≡ ms
 one_list_of_names ns ms h k e = one_list ns ms 0 0 h.rising k.rising e

@@ -2,7 +2,7 @@
 use Rattle.std.proofs.Common.{◌≡◌, ◌∙◌, ◌==◌, ◌+◌, ◌-◌, ◌<◌, ◌≤◌, ◌^◌, ℕ, Bool, true, false, cond, List, length, drop, get_or, ap, arith}
 use Rattle.std.proofs.lemmas.List.{at_drop_more, at_drop_all}
 use Rattle.rv_count_tables.specs.Lines.{place_of_byte, hex_digit_value}
-use Rattle.rv_count_tables.proofs.Words.{with_digit, decimal_number_on, hex_number}
+use Rattle.rv_count_tables.proofs.Words.{with_digit, decimal_number_from, hex_number}
 
 place_step : (byte : ℕ) (xs : List ℕ) (i : ℕ) → i < length xs
     → place_of_byte byte (drop i xs) ≡ cond (get_or xs i 0 == byte) 0 (place_of_byte byte (drop (i + 1) xs) + 1)
@@ -25,14 +25,14 @@ place_later byte xs i h other =
     place_step byte xs i h ∙ ap (λ (t : Bool). cond t 0 (place_of_byte byte (drop (i + 1) xs) + 1)) e
 
 pub number_step : (value : ℕ) (xs : List ℕ) (i : ℕ) → i < length xs
-    → decimal_number_on value (drop i xs)
-    ≡ decimal_number_on (with_digit (2 ^ 64 - 1) 10 value (get_or xs i 0 - 48)) (drop (i + 1) xs)
-unfolding decimal_number_on
-number_step value xs i h = at_drop_more (decimal_number_on value) xs i 0 h
+    → decimal_number_from value (drop i xs)
+    ≡ decimal_number_from (with_digit (2 ^ 64 - 1) 10 value (get_or xs i 0 - 48)) (drop (i + 1) xs)
+unfolding decimal_number_from
+number_step value xs i h = at_drop_more (decimal_number_from value) xs i 0 h
 
-pub number_end : (value : ℕ) (xs : List ℕ) (i : ℕ) → length xs ≤ i → decimal_number_on value (drop i xs) ≡ value
-unfolding decimal_number_on
-number_end value xs i h = at_drop_all (decimal_number_on value) xs i h
+pub number_end : (value : ℕ) (xs : List ℕ) (i : ℕ) → length xs ≤ i → decimal_number_from value (drop i xs) ≡ value
+unfolding decimal_number_from
+number_end value xs i h = at_drop_all (decimal_number_from value) xs i h
 
 pub word_step : (value : ℕ) (xs : List ℕ) (i : ℕ) → i < length xs
     → hex_number value (drop i xs)

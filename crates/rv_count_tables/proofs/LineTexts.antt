@@ -9,14 +9,14 @@ use Rattle.hex.specs.Hex.{IsBytes, encode_lower, encode_with, lower_digits}
 use Rattle.rv_text.specs.Words.{word_digits}
 use Rattle.rv_count_tables.specs.declared.table.AddressCounts.{AddressCounts}
 use Rattle.rv_count_tables.specs.declared.table.ImageCounts.{ImageCounts}
-use Rattle.rv_count_tables.specs.declared.table.NamedSpot.{NamedSpot}
+use Rattle.rv_count_tables.specs.declared.table.NamedCallNode.{NamedCallNode}
 use Rattle.rv_count_tables.specs.Lines.{lacks, text_before_byte, text_after_byte, hex_bytes}
-use Rattle.rv_count_tables.specs.ReadSteps.{Entry, OfAddress, OfSpot, IsEntry, entry_line}
-use Rattle.rv_count_tables.specs.Table.{IsCounted, IsImage, IsNamedSpot, IsSpot}
-use Rattle.rv_count_tables.specs.Text.{line, address_line, image_line, last_line, spot_line, words_of_spot}
+use Rattle.rv_count_tables.specs.ReadSteps.{Entry, Address, Node, IsValidEntry, entry_line}
+use Rattle.rv_count_tables.specs.Table.{IsCounted, IsValidImage, IsValidNamedNode, IsValidNode}
+use Rattle.rv_count_tables.specs.Text.{line, address_line, image_line, last_line, node_line, fields_of_node}
 use Rattle.rv_call_tree.specs.declared.spot.Spot.{Spot}
 use Rattle.rv_count_tables.proofs.Pieces.{lacks-append, before_at, after_at}
-use Rattle.rv_count_tables.proofs.Words.{lacks-decimal, lacks-digits, lacks-encode, decimal_number_on, number_of-decimal, hex_number, word_of-digits, bytes_of-encode, eight_digits, digit_is_other, is_no_digit}
+use Rattle.rv_count_tables.proofs.Words.{lacks-decimal, lacks-digits, lacks-encode, decimal_number_from, number_of-decimal, hex_number, word_of-digits, bytes_of-encode, eight_digits, digit_is_other, is_no_digit}
 use Rattle.rv_count_tables.proofs.Told.{same_entry}
 
 regroup : (x y z : List ℕ) → line (((x ++ y) ++ codes " ") ++ z) ≡ x ++ (y ++ 32 ∷ (z ++ 10 ∷ []))
@@ -78,8 +78,8 @@ taken_digits c h =
 counts_in : List ℕ → AddressCounts
 counts_in text = record {
   address = hex_number 0 (take 8 text);
-  begun = decimal_number_on 0 (text_before_byte 32 (drop 9 text));
-  taken = decimal_number_on 0 (text_before_byte 10 (text_after_byte 32 (drop 9 text)));
+  begun = decimal_number_from 0 (text_before_byte 32 (drop 9 text));
+  taken = decimal_number_from 0 (text_before_byte 10 (text_after_byte 32 (drop 9 text)));
 }
 
 counts_in_line : (c : AddressCounts) → IsCounted c → counts_in (address_line c) ≡ c
@@ -88,8 +88,8 @@ counts_in_line c h =
     let taken = h.taken in
     let fits = h.fits in
     same_entry (counts_in (address_line c)) c (ap (hex_number 0) (address_digits c) ∙ word_of-digits c.address h.address)
-    (ap (decimal_number_on 0) (begun_digits c h) ∙ number_of-decimal c.begun h.fits)
-    (ap (decimal_number_on 0) (taken_digits c h) ∙ number_of-decimal c.taken (omega (arith, taken, fits)))
+    (ap (decimal_number_from 0) (begun_digits c h) ∙ number_of-decimal c.begun h.fits)
+    (ap (decimal_number_from 0) (taken_digits c h) ∙ number_of-decimal c.taken (omega (arith, taken, fits)))
 
 pub same_address : (c d : AddressCounts) → IsCounted c → IsCounted d → address_line c ≡ address_line d → c ≡ d
 same_address c d h k e = sym (counts_in_line c h) ∙ ap counts_in e ∙ counts_in_line d k
@@ -108,7 +108,7 @@ are_bytes [] h k = omega arith
 are_bytes (b ∷ bs) h zero = h.0
 are_bytes (b ∷ bs) h (suc k) = are_bytes bs h.1 k
 
-pub lacks-image : (i : ImageCounts) → IsImage i → lacks 10 (image_words i) ≡ true
+pub lacks-image : (i : ImageCounts) → IsValidImage i → lacks 10 (image_words i) ≡ true
 lacks-image i h =
     lacks-append 10 (codes "image " ++ encode_lower i.digest ++ codes " ") i.path
     (lacks-append 10 (codes "image " ++ encode_lower i.digest) (codes " ")
@@ -122,25 +122,25 @@ digest_and_path i = encode_lower i.digest ++ 32 ∷ (i.path ++ 10 ∷ [])
 pub image_parts : (i : ImageCounts) → drop 6 (image_line i) ≡ digest_and_path i
 image_parts i = ap (drop 6) (image_is_line i ∙ regroup (codes "image ") (encode_lower i.digest) i.path)
 
-pub digest_digits : (i : ImageCounts) → IsImage i → text_before_byte 32 (drop 6 (image_line i)) ≡ encode_lower i.digest
+pub digest_digits : (i : ImageCounts) → IsValidImage i → text_before_byte 32 (drop 6 (image_line i)) ≡ encode_lower i.digest
 digest_digits i h = ap (text_before_byte 32) (image_parts i)
     ∙ before_at 32 (encode_lower i.digest) (i.path ++ 10 ∷ []) (lacks-encode 32 i.digest refl (are_bytes i.digest h.bytes))
 
-pub path_text : (i : ImageCounts) → IsImage i → text_before_byte 10 (text_after_byte 32 (drop 6 (image_line i))) ≡ i.path
+pub path_text : (i : ImageCounts) → IsValidImage i → text_before_byte 10 (text_after_byte 32 (drop 6 (image_line i))) ≡ i.path
 path_text i h =
     ap (λ (s : List ℕ). text_before_byte 10 (text_after_byte 32 s)) (image_parts i)
     ∙ ap (text_before_byte 10) (after_at 32 (encode_lower i.digest) (i.path ++ 10 ∷ [])
     (lacks-encode 32 i.digest refl (are_bytes i.digest h.bytes)))
     ∙ before_at 10 i.path [] h.path
 
-pub digest_in_line : (i : ImageCounts) → IsImage i → hex_bytes (text_before_byte 32 (drop 6 (image_line i))) ≡ i.digest
+pub digest_in_line : (i : ImageCounts) → IsValidImage i → hex_bytes (text_before_byte 32 (drop 6 (image_line i))) ≡ i.digest
 digest_in_line i h = ap hex_bytes (digest_digits i h) ∙ bytes_of-encode i.digest (are_bytes i.digest h.bytes)
 
-pub same_digest : (i j : ImageCounts) → IsImage i → IsImage j → image_line i ≡ image_line j → i.digest ≡ j.digest
+pub same_digest : (i j : ImageCounts) → IsValidImage i → IsValidImage j → image_line i ≡ image_line j → i.digest ≡ j.digest
 same_digest i j h k e = sym (digest_in_line i h)
     ∙ ap (λ (s : List ℕ). hex_bytes (text_before_byte 32 (drop 6 s))) e ∙ digest_in_line j k
 
-pub same_path : (i j : ImageCounts) → IsImage i → IsImage j → image_line i ≡ image_line j → i.path ≡ j.path
+pub same_path : (i j : ImageCounts) → IsValidImage i → IsValidImage j → image_line i ≡ image_line j → i.path ≡ j.path
 same_path i j h k e = sym (path_text i h)
     ∙ ap (λ (s : List ℕ). text_before_byte 10 (text_after_byte 32 (drop 6 s))) e ∙ path_text j k
 
@@ -173,21 +173,21 @@ runs_digits images runs h k =
 
 pub same_runs : (n m r q : ℕ) → n < 2 ^ 64 → m < 2 ^ 64 → r < 2 ^ 64 → q < 2 ^ 64 → last_line n r ≡ last_line m q → r ≡ q
 same_runs n m r q hn hm hr hq e =
-    sym (number_of-decimal r hr) ∙ sym (ap (decimal_number_on 0) (runs_digits n r hn hr))
-    ∙ ap (λ (s : List ℕ). decimal_number_on 0 (text_before_byte 10 (text_after_byte 32 (drop 5 s)))) e
-    ∙ ap (decimal_number_on 0) (runs_digits m q hm hq) ∙ number_of-decimal q hq
+    sym (number_of-decimal r hr) ∙ sym (ap (decimal_number_from 0) (runs_digits n r hn hr))
+    ∙ ap (λ (s : List ℕ). decimal_number_from 0 (text_before_byte 10 (text_after_byte 32 (drop 5 s)))) e
+    ∙ ap (decimal_number_from 0) (runs_digits m q hm hq) ∙ number_of-decimal q hq
 
 -- ---- the line of a spot
 
-abbrev pub spot_words : NamedSpot → List ℕ
-spot_words n = words_of_spot n.spot ++ codes " " ++ n.name
+abbrev pub spot_words : NamedCallNode → List ℕ
+spot_words n = fields_of_node n.spot ++ codes " " ++ n.name
 
-pub spot_is_line : (n : NamedSpot) → spot_line n ≡ line (spot_words n)
-unfolding spot_line
+pub spot_is_line : (n : NamedCallNode) → node_line n ≡ line (spot_words n)
+unfolding node_line
 spot_is_line n = refl
 
-lacks-words : (s : Spot) → IsSpot s → lacks 10 (words_of_spot s) ≡ true
-unfolding words_of_spot
+lacks-words : (s : Spot) → IsValidNode s → lacks 10 (fields_of_node s) ≡ true
+unfolding fields_of_node
 lacks-words s h =
     let depth = codes "spot " ++ decimal s.depth in
     let function = depth ++ codes " " ++ word_digits s.function in
@@ -203,66 +203,66 @@ lacks-words s h =
     (lacks-decimal 10 s.arrivals (omega arith) h.arrivals)) refl)
     (lacks-decimal 10 s.steps (omega arith) h.steps)
 
-pub lacks-spot : (n : NamedSpot) → IsNamedSpot n → lacks 10 (spot_words n) ≡ true
-lacks-spot n h = lacks-append 10 (words_of_spot n.spot ++ codes " ") n.name
-    (lacks-append 10 (words_of_spot n.spot) (codes " ") (lacks-words n.spot h.spot) refl) h.name
+pub lacks-spot : (n : NamedCallNode) → IsValidNamedNode n → lacks 10 (spot_words n) ≡ true
+lacks-spot n h = lacks-append 10 (fields_of_node n.spot ++ codes " ") n.name
+    (lacks-append 10 (fields_of_node n.spot) (codes " ") (lacks-words n.spot h.spot) refl) h.name
 
 -- what stands behind the arrivals, behind the function, and behind the depth
-abbrev pub steps_and_name : NamedSpot → List ℕ
+abbrev pub steps_and_name : NamedCallNode → List ℕ
 steps_and_name n = decimal n.spot.steps ++ 32 ∷ (n.name ++ 10 ∷ [])
 
-abbrev pub numbers_of_spot : NamedSpot → List ℕ
+abbrev pub numbers_of_spot : NamedCallNode → List ℕ
 numbers_of_spot n = decimal n.spot.arrivals ++ 32 ∷ steps_and_name n
 
-abbrev pub function_of_spot : NamedSpot → List ℕ
+abbrev pub function_of_spot : NamedCallNode → List ℕ
 function_of_spot n = word_digits n.spot.function ++ 32 ∷ numbers_of_spot n
 
 regroup_more : (x y z u v w : List ℕ) → line (((((((((x ++ y) ++ codes " ") ++ z) ++ codes " ") ++ u) ++ codes " ") ++ v) ++ codes " ") ++ w)
     ≡ x ++ (y ++ 32 ∷ (z ++ 32 ∷ (u ++ 32 ∷ (v ++ 32 ∷ (w ++ 10 ∷ [])))))
 regroup_more x y z u v w = simp append_assoc
 
-spot_parts : (n : NamedSpot) → drop 5 (spot_line n) ≡ decimal n.spot.depth ++ 32 ∷ function_of_spot n
-unfolding words_of_spot
+spot_parts : (n : NamedCallNode) → drop 5 (node_line n) ≡ decimal n.spot.depth ++ 32 ∷ function_of_spot n
+unfolding fields_of_node
 spot_parts n = ap (drop 5) (spot_is_line n
     ∙ regroup_more (codes "spot ") (decimal n.spot.depth) (word_digits n.spot.function) (decimal n.spot.arrivals) (decimal n.spot.steps) n.name)
 
-pub depth_digits : (n : NamedSpot) → IsSpot n.spot → text_before_byte 32 (drop 5 (spot_line n)) ≡ decimal n.spot.depth
+pub depth_digits : (n : NamedCallNode) → IsValidNode n.spot → text_before_byte 32 (drop 5 (node_line n)) ≡ decimal n.spot.depth
 depth_digits n h = ap (text_before_byte 32) (spot_parts n)
     ∙ before_at 32 (decimal n.spot.depth) (function_of_spot n) (lacks-decimal 32 n.spot.depth (omega arith) h.depth)
 
-behind_depth : (n : NamedSpot) → IsSpot n.spot → text_after_byte 32 (drop 5 (spot_line n)) ≡ function_of_spot n
+behind_depth : (n : NamedCallNode) → IsValidNode n.spot → text_after_byte 32 (drop 5 (node_line n)) ≡ function_of_spot n
 behind_depth n h = ap (text_after_byte 32) (spot_parts n)
     ∙ after_at 32 (decimal n.spot.depth) (function_of_spot n) (lacks-decimal 32 n.spot.depth (omega arith) h.depth)
 
-pub spot_function_digits : (n : NamedSpot) → IsSpot n.spot
-    → take 8 (text_after_byte 32 (drop 5 (spot_line n))) ≡ word_digits n.spot.function
+pub spot_function_digits : (n : NamedCallNode) → IsValidNode n.spot
+    → take 8 (text_after_byte 32 (drop 5 (node_line n))) ≡ word_digits n.spot.function
 spot_function_digits n h = ap (take 8) (behind_depth n h)
     ∙ take_at (word_digits n.spot.function) (32 ∷ numbers_of_spot n) 8 (eight_digits n.spot.function)
 
-spot_numbers : (n : NamedSpot) → IsSpot n.spot → drop 9 (text_after_byte 32 (drop 5 (spot_line n))) ≡ numbers_of_spot n
+spot_numbers : (n : NamedCallNode) → IsValidNode n.spot → drop 9 (text_after_byte 32 (drop 5 (node_line n))) ≡ numbers_of_spot n
 spot_numbers n h =
     let m = length-append (word_digits n.spot.function) (codes " ") in
     let e = eight_digits n.spot.function in
     ap (drop 9) (behind_depth n h ∙ sym (append_assoc (word_digits n.spot.function) (codes " ") (numbers_of_spot n)))
     ∙ drop_at (word_digits n.spot.function ++ codes " ") (numbers_of_spot n) 9 (omega (arith, m, e))
 
-pub arrivals_digits : (n : NamedSpot) → IsSpot n.spot
-    → text_before_byte 32 (drop 9 (text_after_byte 32 (drop 5 (spot_line n)))) ≡ decimal n.spot.arrivals
+pub arrivals_digits : (n : NamedCallNode) → IsValidNode n.spot
+    → text_before_byte 32 (drop 9 (text_after_byte 32 (drop 5 (node_line n)))) ≡ decimal n.spot.arrivals
 arrivals_digits n h = ap (text_before_byte 32) (spot_numbers n h)
     ∙ before_at 32 (decimal n.spot.arrivals) (steps_and_name n) (lacks-decimal 32 n.spot.arrivals (omega arith) h.arrivals)
 
-behind_arrivals : (n : NamedSpot) → IsSpot n.spot
-    → text_after_byte 32 (drop 9 (text_after_byte 32 (drop 5 (spot_line n)))) ≡ steps_and_name n
+behind_arrivals : (n : NamedCallNode) → IsValidNode n.spot
+    → text_after_byte 32 (drop 9 (text_after_byte 32 (drop 5 (node_line n)))) ≡ steps_and_name n
 behind_arrivals n h = ap (text_after_byte 32) (spot_numbers n h)
     ∙ after_at 32 (decimal n.spot.arrivals) (steps_and_name n) (lacks-decimal 32 n.spot.arrivals (omega arith) h.arrivals)
 
-pub steps_digits : (n : NamedSpot) → IsSpot n.spot
-    → text_before_byte 32 (text_after_byte 32 (drop 9 (text_after_byte 32 (drop 5 (spot_line n))))) ≡ decimal n.spot.steps
+pub steps_digits : (n : NamedCallNode) → IsValidNode n.spot
+    → text_before_byte 32 (text_after_byte 32 (drop 9 (text_after_byte 32 (drop 5 (node_line n))))) ≡ decimal n.spot.steps
 steps_digits n h = ap (text_before_byte 32) (behind_arrivals n h)
     ∙ before_at 32 (decimal n.spot.steps) (n.name ++ 10 ∷ []) (lacks-decimal 32 n.spot.steps (omega arith) h.steps)
 
-pub name_text : (n : NamedSpot) → IsNamedSpot n
-    → text_before_byte 10 (text_after_byte 32 (text_after_byte 32 (drop 9 (text_after_byte 32 (drop 5 (spot_line n)))))) ≡ n.name
+pub name_text : (n : NamedCallNode) → IsValidNamedNode n
+    → text_before_byte 10 (text_after_byte 32 (text_after_byte 32 (drop 9 (text_after_byte 32 (drop 5 (node_line n)))))) ≡ n.name
 name_text n h =
     ap (λ (t : List ℕ). text_before_byte 10 (text_after_byte 32 t)) (behind_arrivals n h.spot)
     ∙ ap (text_before_byte 10) (after_at 32 (decimal n.spot.steps) (n.name ++ 10 ∷ [])
@@ -274,34 +274,34 @@ pub same_spot_of : (s t : Spot) → s.depth ≡ t.depth → s.function ≡ t.fun
 same_spot_of s t d f a n = λ i. record { depth = d i; function = f i; arrivals = a i; steps = n i }
 
 -- the spot that a line says
-spot_in : List ℕ → NamedSpot
+spot_in : List ℕ → NamedCallNode
 spot_in text =
     let words = drop 5 text in
     let function = text_after_byte 32 words in
     let numbers = drop 9 function in
     let behind = text_after_byte 32 numbers in record {
       spot = record {
-        depth = decimal_number_on 0 (text_before_byte 32 words);
+        depth = decimal_number_from 0 (text_before_byte 32 words);
         function = hex_number 0 (take 8 function);
-        arrivals = decimal_number_on 0 (text_before_byte 32 numbers);
-        steps = decimal_number_on 0 (text_before_byte 32 behind);
+        arrivals = decimal_number_from 0 (text_before_byte 32 numbers);
+        steps = decimal_number_from 0 (text_before_byte 32 behind);
       };
       name = text_before_byte 10 (text_after_byte 32 behind);
     }
 
-spot_in_line : (n : NamedSpot) → IsNamedSpot n → spot_in (spot_line n) ≡ n
+spot_in_line : (n : NamedCallNode) → IsValidNamedNode n → spot_in (node_line n) ≡ n
 unfolding spot_in
 spot_in_line n h =
     let k = h.spot in
-    let one = same_spot_of (spot_in (spot_line n)).spot n.spot
-    (ap (decimal_number_on 0) (depth_digits n k) ∙ number_of-decimal n.spot.depth k.depth)
+    let one = same_spot_of (spot_in (node_line n)).spot n.spot
+    (ap (decimal_number_from 0) (depth_digits n k) ∙ number_of-decimal n.spot.depth k.depth)
     (ap (hex_number 0) (spot_function_digits n k) ∙ word_of-digits n.spot.function k.function)
-    (ap (decimal_number_on 0) (arrivals_digits n k) ∙ number_of-decimal n.spot.arrivals k.arrivals)
-    (ap (decimal_number_on 0) (steps_digits n k) ∙ number_of-decimal n.spot.steps k.steps) in
+    (ap (decimal_number_from 0) (arrivals_digits n k) ∙ number_of-decimal n.spot.arrivals k.arrivals)
+    (ap (decimal_number_from 0) (steps_digits n k) ∙ number_of-decimal n.spot.steps k.steps) in
     let text = name_text n h in
     λ i. record { spot = one i; name = text i }
 
-pub same_spot : (m n : NamedSpot) → IsNamedSpot m → IsNamedSpot n → spot_line m ≡ spot_line n → m ≡ n
+pub same_spot : (m n : NamedCallNode) → IsValidNamedNode m → IsValidNamedNode n → node_line m ≡ node_line n → m ≡ n
 same_spot m n h k e = sym (spot_in_line m h) ∙ ap spot_in e ∙ spot_in_line n k
 
 -- ---- lines of two kinds differ in their first bytes
@@ -356,11 +356,11 @@ image_is_not_last i n r s t e =
     two_firsts (get_or (image_line i ++ s) 0 0) (first_of_image i s)
     (ap (λ (x : List ℕ). get_or x 0 0) e ∙ first_of_last n r t)
 
-first_of_spot : (p : NamedSpot) (s : List ℕ) → get_or (spot_line p ++ s) 0 0 ≡ 115
-unfolding spot_line words_of_spot
+first_of_spot : (p : NamedCallNode) (s : List ℕ) → get_or (node_line p ++ s) 0 0 ≡ 115
+unfolding node_line fields_of_node
 first_of_spot p s = refl
 
-address_is_no_spot : (c : AddressCounts) (p : NamedSpot) (s t : List ℕ) → address_line c ++ s ≡ spot_line p ++ t → ⊥
+address_is_no_spot : (c : AddressCounts) (p : NamedCallNode) (s t : List ℕ) → address_line c ++ s ≡ node_line p ++ t → ⊥
 address_is_no_spot c p s t e =
     other_byte 115 (c.address / 2 ^ 24 % 256 / 16) (get_or (address_line c ++ s) 0 0) refl (omega arith)
     (first_of_address c s) (ap (λ (x : List ℕ). get_or x 0 0) e ∙ first_of_spot p t)
@@ -371,30 +371,30 @@ differ_first xs ys x y h k other e = other (sym h ∙ ap (λ (s : List ℕ). get
 -- ---- what stands behind the line of an image
 
 abbrev pub entry_words : Entry → List ℕ
-entry_words (OfAddress c) = address_words c
-entry_words (OfSpot n) = spot_words n
+entry_words (Address c) = address_words c
+entry_words (Node n) = spot_words n
 
 pub entry_is_line : (e : Entry) → entry_line e ≡ line (entry_words e)
-entry_is_line (OfAddress c) = address_is_line c
-entry_is_line (OfSpot n) = spot_is_line n
+entry_is_line (Address c) = address_is_line c
+entry_is_line (Node n) = spot_is_line n
 
-pub lacks-entry : (e : Entry) → IsEntry e → lacks 10 (entry_words e) ≡ true
-lacks-entry (OfAddress c) h = lacks-address c h
-lacks-entry (OfSpot n) h = lacks-spot n h
+pub lacks-entry : (e : Entry) → IsValidEntry e → lacks 10 (entry_words e) ≡ true
+lacks-entry (Address c) h = lacks-address c h
+lacks-entry (Node n) h = lacks-spot n h
 
 -- entries of one line are one
-pub same_entry_line : (d e : Entry) → IsEntry d → IsEntry e → entry_line d ≡ entry_line e → d ≡ e
-same_entry_line (OfAddress c) (OfAddress d) h k e = ap OfAddress (same_address c d h k e)
-same_entry_line (OfAddress c) (OfSpot s) h k e = absurd (address_is_no_spot c s [] [] (ap (λ (s : List ℕ). s ++ []) e))
-same_entry_line (OfSpot s) (OfAddress c) h k e = absurd (address_is_no_spot c s [] [] (sym (ap (λ (s : List ℕ). s ++ []) e)))
-same_entry_line (OfSpot s) (OfSpot t) h k e = ap OfSpot (same_spot s t h k e)
+pub same_entry_line : (d e : Entry) → IsValidEntry d → IsValidEntry e → entry_line d ≡ entry_line e → d ≡ e
+same_entry_line (Address c) (Address d) h k e = ap Address (same_address c d h k e)
+same_entry_line (Address c) (Node s) h k e = absurd (address_is_no_spot c s [] [] (ap (λ (s : List ℕ). s ++ []) e))
+same_entry_line (Node s) (Address c) h k e = absurd (address_is_no_spot c s [] [] (sym (ap (λ (s : List ℕ). s ++ []) e)))
+same_entry_line (Node s) (Node t) h k e = ap Node (same_spot s t h k e)
 
 pub entry_is_no_image : (e : Entry) (i : ImageCounts) (s t : List ℕ) → entry_line e ++ s ≡ image_line i ++ t → ⊥
-entry_is_no_image (OfAddress c) i s t e = address_is_no_image c i s t e
-entry_is_no_image (OfSpot p) i s t e = differ_first (spot_line p ++ s) (image_line i ++ t) 115 105 (first_of_spot p s)
+entry_is_no_image (Address c) i s t e = address_is_no_image c i s t e
+entry_is_no_image (Node p) i s t e = differ_first (node_line p ++ s) (image_line i ++ t) 115 105 (first_of_spot p s)
     (first_of_image i t) (λ same. omega (arith, same)) e
 
 pub entry_is_not_last : (e : Entry) (n r : ℕ) (s t : List ℕ) → entry_line e ++ s ≡ last_line n r ++ t → ⊥
-entry_is_not_last (OfAddress c) n r s t e = address_is_not_last c n r s t e
-entry_is_not_last (OfSpot p) n r s t e = differ_first (spot_line p ++ s) (last_line n r ++ t) 115 100 (first_of_spot p s)
+entry_is_not_last (Address c) n r s t e = address_is_not_last c n r s t e
+entry_is_not_last (Node p) n r s t e = differ_first (node_line p ++ s) (last_line n r ++ t) 115 100 (first_of_spot p s)
     (first_of_last n r t) (λ same. omega (arith, same)) e

@@ -5,17 +5,17 @@ use Rattle.std.proofs.lemmas.Bool.{and_parts, leb-true, cases_lt}
 use Rattle.std.proofs.lemmas.Bool.Decides.{nat_tests}
 use Rattle.std.proofs.lemmas.List.{get_or_default}
 use Rattle.rv_count_tables.specs.declared.table.AddressCounts.{AddressCounts}
-use Rattle.rv_count_tables.specs.Table.{executed_at, rise_from, taken_at}
+use Rattle.rv_count_tables.specs.Table.{executed_at, increase_from, taken_at}
 
 -- the first of a list is not below the lowest, and the others are behind it
-first_and_rest : (lowest : ℕ) (c : AddressCounts) (cs : List AddressCounts) → rise_from lowest (c ∷ cs) ≡ true
-    → (lowest ≤ c.address) × (rise_from (c.address + 1) cs ≡ true)
-unfolding rise_from
+first_and_rest : (lowest : ℕ) (c : AddressCounts) (cs : List AddressCounts) → increase_from lowest (c ∷ cs) ≡ true
+    → (lowest ≤ c.address) × (increase_from (c.address + 1) cs ≡ true)
+unfolding increase_from
 first_and_rest lowest c cs h =
-    let p = and_parts (leb lowest c.address) (rise_from (c.address + 1) cs) h in
+    let p = and_parts (leb lowest c.address) (increase_from (c.address + 1) cs) h in
     (leb-true lowest c.address p.0, p.1)
 
-in_order : (cs : List AddressCounts) (lowest k m : ℕ) (d : AddressCounts) → rise_from lowest cs ≡ true → k ≤ m → m < length cs
+in_order : (cs : List AddressCounts) (lowest k m : ℕ) (d : AddressCounts) → increase_from lowest cs ≡ true → k ≤ m → m < length cs
     → (lowest ≤ (get_or cs k d).address) × ((get_or cs k d).address ≤ (get_or cs m d).address)
 in_order [] lowest k m d h under within = absurd (omega arith)
 in_order (c ∷ cs) lowest zero zero d h under within = ((first_and_rest lowest c cs h).0, omega arith)
@@ -29,14 +29,14 @@ in_order (c ∷ cs) lowest (suc k) (suc m) d h under within =
     let r = in_order cs (c.address + 1) k m d l.1 (omega arith) (omega arith) in
     (let a = l.0 in let b = r.0 in omega (arith, a, b), r.1)
 
-pub lower_half : (cs : List AddressCounts) (m address : ℕ) (e : AddressCounts) → rise_from 0 cs ≡ true → m < length cs
+pub lower_half : (cs : List AddressCounts) (m address : ℕ) (e : AddressCounts) → increase_from 0 cs ≡ true → m < length cs
     → (get_or cs m e).address < address → (k : ℕ) (d : AddressCounts) → k < m + 1 → (get_or cs k d).address < address
 lower_half cs m address e h within under k d less =
     let o = (in_order cs 0 k m d h (omega arith) within).1 in
     let s = ap (λ (c : AddressCounts). c.address) (get_or_default cs m d e within) in
     omega (arith, o, s, under)
 
-pub higher_half : (cs : List AddressCounts) (m address : ℕ) (e : AddressCounts) → rise_from 0 cs ≡ true
+pub higher_half : (cs : List AddressCounts) (m address : ℕ) (e : AddressCounts) → increase_from 0 cs ≡ true
     → address ≤ (get_or cs m e).address → (k : ℕ) (d : AddressCounts) → m ≤ k → k < length cs
     → address ≤ (get_or cs k d).address
 higher_half cs m address e h over k d less within =
@@ -74,7 +74,7 @@ same_first : (at begun rest address : ℕ) → at ≡ address → rest ≡ 0 →
 same_first at begun rest address e z = grind (arith, nat_tests)
 
 -- an address in front of the lowest has no counts
-below : (address lowest : ℕ) (cs : List AddressCounts) → rise_from lowest cs ≡ true → address < lowest
+below : (address lowest : ℕ) (cs : List AddressCounts) → increase_from lowest cs ≡ true → address < lowest
     → (executed_at address cs ≡ 0) × (taken_at address cs ≡ 0)
 below address lowest [] h l = (refl, refl)
 below address lowest (c ∷ cs) h l =
@@ -86,7 +86,7 @@ below address lowest (c ∷ cs) h l =
     )
 
 -- an address that does not stand at its place has none
-pub none_at : (address lowest : ℕ) (cs : List AddressCounts) (n : ℕ) → rise_from lowest cs ≡ true → IsPlaceOf address cs n
+pub none_at : (address lowest : ℕ) (cs : List AddressCounts) (n : ℕ) → increase_from lowest cs ≡ true → IsPlaceOf address cs n
     → ((d : AddressCounts) → n < length cs → address < (get_or cs n d).address)
     → (executed_at address cs ≡ 0) × (taken_at address cs ≡ 0)
 none_at address lowest [] n h p above = (refl, refl)
@@ -105,7 +105,7 @@ none_at address lowest (c ∷ cs) (suc n) h p above =
     )
 
 -- one that stands there has those of its entry
-pub those_at : (address lowest : ℕ) (cs : List AddressCounts) (n : ℕ) (d : AddressCounts) → rise_from lowest cs ≡ true
+pub those_at : (address lowest : ℕ) (cs : List AddressCounts) (n : ℕ) (d : AddressCounts) → increase_from lowest cs ≡ true
     → IsPlaceOf address cs n → n < length cs → (get_or cs n d).address ≡ address
     → (executed_at address cs ≡ (get_or cs n d).begun) × (taken_at address cs ≡ (get_or cs n d).taken)
 those_at address lowest [] n d h p l e = absurd (omega arith)
@@ -133,7 +133,7 @@ strictly m n l differ = elim (cases_lt m n) [
 abbrev pub stands_within : ℕ → ℕ → AddressCounts → Bool
 stands_within from behind c = leb from c.address && ltb c.address behind
 
-none_within : (from behind lowest : ℕ) (cs : List AddressCounts) → rise_from lowest cs ≡ true → behind ≤ lowest
+none_within : (from behind lowest : ℕ) (cs : List AddressCounts) → increase_from lowest cs ≡ true → behind ≤ lowest
     → list_any (stands_within from behind) cs ≡ false
 none_within from behind lowest [] h l = refl
 none_within from behind lowest (c ∷ cs) h l =
@@ -158,7 +158,7 @@ some_place n b = grind (arith, nat_tests)
 one_behind : (n m : ℕ) (b : Bool) → ltb (suc n) (suc m) && b ≡ ltb n m && b
 one_behind n m b = grind (arith, nat_tests)
 
-pub any_within : (from behind lowest : ℕ) (cs : List AddressCounts) (n : ℕ) (d : AddressCounts) → rise_from lowest cs ≡ true
+pub any_within : (from behind lowest : ℕ) (cs : List AddressCounts) (n : ℕ) (d : AddressCounts) → increase_from lowest cs ≡ true
     → IsPlaceOf from cs n → list_any (stands_within from behind) cs ≡ ltb n (length cs) && ltb (get_or cs n d).address behind
 any_within from behind lowest [] n d h p = sym (no_place n)
   where

@@ -6,7 +6,7 @@ use Rattle.std.specs.BTreeMap.{insert_entry, is_at}
 use Rattle.std.specs.Map.{lookup}
 use Rattle.std.specs.Ordering.{is_eq, match_ordering, nat_cmp}
 use Rattle.rv_count_tables.specs.declared.table.FunctionName.{FunctionName}
-use Rattle.rv_count_tables.specs.NamesByFunctionInside.{named_entry, names_of_entries}
+use Rattle.rv_count_tables.specs.NamesByFunctionInside.{function_name_of_entry, names_of_entries}
 use Rattle.rv_count_tables.specs.ReadSteps.{inserted, with_name}
 use Rattle.rv_count_tables.specs.Table.{has_name, name_of}
 use Rattle.rv_count_tables.proofs.NamesOfSpots.{ahead_of_higher, behind_lower, not_first}
@@ -41,7 +41,7 @@ module _ (f : ℕ) (name : List ℕ) where
       → names_of_entries (insert_entry nat_cmp es f name) ≡ inserted new_name (names_of_entries es)
   put_into_map [] none = refl
   put_into_map (e ∷ es) none =
-      let m = named_entry e in
+      let m = function_name_of_entry e in
       let p = not_first new_name m (names_of_entries es) none in elim (cases_Bool (nat_lt e.0 f)) [
         | inl t ↦
             ap names_of_entries (higher e.0 e.1 es t)

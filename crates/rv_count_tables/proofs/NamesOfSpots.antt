@@ -6,13 +6,13 @@ use Rattle.std.specs.Prelude.{◌||◌, nat_lt}
 use Rattle.std.specs.List.{AllByRecursion, find, flat_map, insert, prefix_len}
 use Rattle.std.specs.Str.{IsUtf8}
 use Rattle.rv_count_tables.specs.declared.table.FunctionName.{FunctionName}
-use Rattle.rv_count_tables.specs.declared.table.NamedSpot.{NamedSpot}
+use Rattle.rv_count_tables.specs.declared.table.NamedCallNode.{NamedCallNode}
 use Rattle.rv_count_tables.specs.Lines.{lacks}
-use Rattle.rv_count_tables.specs.Table.{has_name, name_at, name_of, names_rise, least_path_of, AreNames, AreNamesOf, IsName, IsNamedSpot, IsSpot}
-use Rattle.rv_count_tables.specs.Text.{line_of_spot, name_or_nothing, named, spot_line}
-use Rattle.rv_count_tables.specs.ReadSteps.{function_name, inserted, with_name, with_names, AgreesWith}
+use Rattle.rv_count_tables.specs.Table.{has_name, name_at, name_of, functions_increase_from, min_text_of, AreValidNames, AreNamesOf, IsValidName, IsValidNamedNode, IsValidNode}
+use Rattle.rv_count_tables.specs.Text.{line_of_node, name_or_empty, named, node_line}
+use Rattle.rv_count_tables.specs.ReadSteps.{function_name, inserted, with_name, with_names, AgreesWithName}
 use Rattle.rv_count_tables.proofs.AddingNames.{behind, low, none_below, one_list_of_names, rises}
-use Rattle.rv_call_tree.specs.Profiles.{is_last_of_some}
+use Rattle.rv_call_tree.specs.Profiles.{ends_some_path}
 use Rattle.rv_call_tree.specs.declared.spot.Spot.{Spot}
 
 -- ---- names that a list has
@@ -32,41 +32,41 @@ pub not_named : (o : Option (List ℕ)) → has_name o ≡ false → o ≡ None
 not_named None h = refl
 not_named (Some name) h = absurd (false≢true (sym h))
 
-pub named_as : (o : Option (List ℕ)) → has_name o ≡ true → o ≡ Some (name_or_nothing o)
+pub named_as : (o : Option (List ℕ)) → has_name o ≡ true → o ≡ Some (name_or_empty o)
 named_as None h = absurd (false≢true h)
 named_as (Some name) h = refl
 
 -- the first name is the name, where each function stands once
-pub first_is : (ns : List FunctionName) (lowest f : ℕ) → names_rise lowest ns ≡ true → name_of f ns ≡ name_at f ns
+pub first_is : (ns : List FunctionName) (lowest f : ℕ) → functions_increase_from lowest ns ≡ true → name_of f ns ≡ name_at f ns
 first_is [] lowest f h = refl
 first_is (n ∷ ns) lowest f h = elim (cases_Bool (n.function == f)) [
   | inl t ↦
       let e : n.function ≡ f = eqb-true n.function f t in
       ap (λ (b : Bool). cond b (Some n.name) (name_of f ns)) t
-      ∙ sym (ap (λ (b : Bool). least_path_of (cond b (Some n.name) None) (name_at f ns)) t
-      ∙ ap (least_path_of (Some n.name)) (none_below ns (n.function + 1) f (behind lowest n ns h) (omega (arith, e))))
+      ∙ sym (ap (λ (b : Bool). min_text_of (cond b (Some n.name) None) (name_at f ns)) t
+      ∙ ap (min_text_of (Some n.name)) (none_below ns (n.function + 1) f (behind lowest n ns h) (omega (arith, e))))
   | inr t ↦
       ap (λ (b : Bool). cond b (Some n.name) (name_of f ns)) t
       ∙ first_is ns (n.function + 1) f (behind lowest n ns h)
-      ∙ sym (ap (λ (b : Bool). least_path_of (cond b (Some n.name) None) (name_at f ns)) t)
+      ∙ sym (ap (λ (b : Bool). min_text_of (cond b (Some n.name) None) (name_at f ns)) t)
 ]
 
 abbrev FitsName : List ℕ → Type 0
 FitsName name = (lacks 10 name ≡ true) × IsUtf8 name
 
-picked_fits : (b : Bool) (name : List ℕ) (o : Option (List ℕ)) → FitsName name → (b ≡ false → FitsName (name_or_nothing o))
-    → FitsName (name_or_nothing (cond b (Some name) o))
+picked_fits : (b : Bool) (name : List ℕ) (o : Option (List ℕ)) → FitsName name → (b ≡ false → FitsName (name_or_empty o))
+    → FitsName (name_or_empty (cond b (Some name) o))
 picked_fits true name o h k = h
 picked_fits false name o h k = k refl
 
-named_is_name : (ns : List FunctionName) (f : ℕ) → AllByRecursion IsName ns → has_name (name_of f ns) ≡ true
-    → FitsName (name_or_nothing (name_of f ns))
+named_is_name : (ns : List FunctionName) (f : ℕ) → AllByRecursion IsValidName ns → has_name (name_of f ns) ≡ true
+    → FitsName (name_or_empty (name_of f ns))
 named_is_name [] f h some = absurd (false≢true some)
 named_is_name (n ∷ ns) f h some = picked_fits (n.function == f) n.name (name_of f ns) (h.0.name, h.0.text)
     (λ t. named_is_name ns f h.1 (sym (ap (λ (b : Bool). has_name (cond b (Some n.name) (name_of f ns))) t) ∙ some))
 
-pub named_fits : (ns : List FunctionName) (s : Spot) → AllByRecursion IsName ns → IsSpot s
-    → has_name (name_of s.function ns) ≡ true → IsNamedSpot (named ns s)
+pub named_fits : (ns : List FunctionName) (s : Spot) → AllByRecursion IsValidName ns → IsValidNode s
+    → has_name (name_of s.function ns) ≡ true → IsValidNamedNode (named ns s)
 named_fits ns s h k some =
     let p = named_is_name ns s.function h some in
     record { spot = k; name = p.0; text = p.1 }
@@ -76,15 +76,15 @@ named_fits ns s h k some =
 same : (k : ℕ) → (k == k) ≡ true
 same k = grind arith
 
-pub first_is_last : (s : Spot) (ss : List Spot) → is_last_of_some s.function (s ∷ ss) ≡ true
-first_is_last s ss = ap (λ (b : Bool). b || is_last_of_some s.function ss) (same s.function)
+pub first_is_last : (s : Spot) (ss : List Spot) → ends_some_path s.function (s ∷ ss) ≡ true
+first_is_last s ss = ap (λ (b : Bool). b || ends_some_path s.function ss) (same s.function)
 
 or_true : (b c : Bool) → c ≡ true → (b || c) ≡ true
 or_true true c h = refl
 or_true false c h = h
 
-pub further : (f : ℕ) (s : Spot) (ss : List Spot) → is_last_of_some f ss ≡ true → is_last_of_some f (s ∷ ss) ≡ true
-further f s ss h = or_true (s.function == f) (is_last_of_some f ss) h
+pub further : (f : ℕ) (s : Spot) (ss : List Spot) → ends_some_path f ss ≡ true → ends_some_path f (s ∷ ss) ≡ true
+further f s ss h = or_true (s.function == f) (ends_some_path f ss) h
 
 either_more : (a b c : Bool) → (a || (b || c)) ≡ ((a || b) || c)
 either_more true b c = refl
@@ -94,10 +94,10 @@ or_false : (b : Bool) → (b || false) ≡ b
 or_false true = refl
 or_false false = refl
 
-pub last_of_more : (f : ℕ) (ss : List Spot) (s : Spot) → is_last_of_some f (ss ++ s ∷ []) ≡ (is_last_of_some f ss || (s.function == f))
+pub last_of_more : (f : ℕ) (ss : List Spot) (s : Spot) → ends_some_path f (ss ++ s ∷ []) ≡ (ends_some_path f ss || (s.function == f))
 last_of_more f [] s = or_false (s.function == f)
 last_of_more f (t ∷ ts) s = ap (λ (b : Bool). (t.function == f) || b) (last_of_more f ts s)
-    ∙ either_more (t.function == f) (is_last_of_some f ts) (s.function == f)
+    ∙ either_more (t.function == f) (ends_some_path f ts) (s.function == f)
 
 -- ---- one name more
 
@@ -159,16 +159,16 @@ name_inserted n (m ∷ ms) f h = elim (cases_Bool (nat_lt m.function n.function)
   | inr t ↦ ap (name_of f) (ahead_of_higher n m ms t)
 ]
 
-each_inserted : (n : FunctionName) (ns : List FunctionName) → IsName n → AllByRecursion IsName ns
-    → AllByRecursion IsName (inserted n ns)
+each_inserted : (n : FunctionName) (ns : List FunctionName) → IsValidName n → AllByRecursion IsValidName ns
+    → AllByRecursion IsValidName (inserted n ns)
 each_inserted n [] h k = (h, tt)
 each_inserted n (m ∷ ms) h k = elim (cases_Bool (nat_lt m.function n.function)) [
-  | inl t ↦ subst (λ (ns : List FunctionName). AllByRecursion IsName ns) (sym (behind_lower n m ms t)) (k.0, each_inserted n ms h k.1)
-  | inr t ↦ subst (λ (ns : List FunctionName). AllByRecursion IsName ns) (sym (ahead_of_higher n m ms t)) (h, k)
+  | inl t ↦ subst (λ (ns : List FunctionName). AllByRecursion IsValidName ns) (sym (behind_lower n m ms t)) (k.0, each_inserted n ms h k.1)
+  | inr t ↦ subst (λ (ns : List FunctionName). AllByRecursion IsValidName ns) (sym (ahead_of_higher n m ms t)) (h, k)
 ]
 
-none_rises : (lowest : ℕ) → names_rise lowest [] ≡ true
-unfolding names_rise
+none_rises : (lowest : ℕ) → functions_increase_from lowest [] ≡ true
+unfolding functions_increase_from
 none_rises lowest = refl
 
 is_lower : (m n : ℕ) → nat_lt m n ≡ true → m < n
@@ -177,8 +177,8 @@ is_lower m n h = grind (arith, nat_tests)
 is_higher : (m n : ℕ) → nat_lt m n ≡ false → (m == n) ≡ false → n + 1 ≤ m
 is_higher m n h k = grind (arith, nat_tests)
 
-rise_inserted : (n : FunctionName) (ns : List FunctionName) (lowest : ℕ) → names_rise lowest ns ≡ true → lowest ≤ n.function
-    → has_name (name_of n.function ns) ≡ false → names_rise lowest (inserted n ns) ≡ true
+rise_inserted : (n : FunctionName) (ns : List FunctionName) (lowest : ℕ) → functions_increase_from lowest ns ≡ true → lowest ≤ n.function
+    → has_name (name_of n.function ns) ≡ false → functions_increase_from lowest (inserted n ns) ≡ true
 rise_inserted n [] lowest h under none = rises lowest n [] under (none_rises (n.function + 1))
 rise_inserted n (m ∷ ms) lowest h under none =
     let p = not_first n m ms none in
@@ -186,28 +186,28 @@ rise_inserted n (m ∷ ms) lowest h under none =
     let b = behind lowest m ms h in elim (cases_Bool (nat_lt m.function n.function)) [
       | inl t ↦
           let k = is_lower m.function n.function t in
-          ap (names_rise lowest) (behind_lower n m ms t)
+          ap (functions_increase_from lowest) (behind_lower n m ms t)
           ∙ rises lowest m (inserted n ms) l (rise_inserted n ms (m.function + 1) b (omega (arith, k)) p.1)
       | inr t ↦
-          ap (names_rise lowest) (ahead_of_higher n m ms t)
+          ap (functions_increase_from lowest) (ahead_of_higher n m ms t)
           ∙ rises lowest n (m ∷ ms) under (rises (n.function + 1) m ms (is_higher m.function n.function t p.0) b)
     ]
 
-pub are_more : (n : FunctionName) (ns : List FunctionName) → IsName n → AreNames ns → AreNames (with_name n ns)
+pub are_more : (n : FunctionName) (ns : List FunctionName) → IsValidName n → AreValidNames ns → AreValidNames (with_name n ns)
 are_more n ns h k = elim (cases_Bool (has_name (name_of n.function ns))) [
-  | inl t ↦ subst AreNames (sym (ap (λ (b : Bool). cond b ns (inserted n ns)) t)) k
-  | inr t ↦ subst AreNames (sym (ap (λ (b : Bool). cond b ns (inserted n ns)) t)) (record {
+  | inl t ↦ subst AreValidNames (sym (ap (λ (b : Bool). cond b ns (inserted n ns)) t)) k
+  | inr t ↦ subst AreValidNames (sym (ap (λ (b : Bool). cond b ns (inserted n ns)) t)) (record {
     each = each_inserted n ns h k.each;
     rising = rise_inserted n ns 0 k.rising (omega arith) t;
   })
 ]
 
-agreed : (name : List ℕ) (o : Option (List ℕ)) → AgreesWith name o → has_name o ≡ true → o ≡ Some name
+agreed : (name : List ℕ) (o : Option (List ℕ)) → AgreesWithName name o → has_name o ≡ true → o ≡ Some name
 agreed name None h some = absurd (false≢true some)
 agreed name (Some other) h some = ap Some (sym h)
 
 -- what a list then says of a function
-pub name_with : (n : FunctionName) (ns : List FunctionName) (f : ℕ) → AgreesWith n.name (name_of n.function ns)
+pub name_with : (n : FunctionName) (ns : List FunctionName) (f : ℕ) → AgreesWithName n.name (name_of n.function ns)
     → name_of f (with_name n ns) ≡ cond (n.function == f) (Some n.name) (name_of f ns)
 name_with n ns f h = elim (cases_Bool (has_name (name_of n.function ns))) [
   | inl t ↦
@@ -223,79 +223,79 @@ name_with n ns f h = elim (cases_Bool (has_name (name_of n.function ns))) [
 -- ---- names that agree with those of a list
 
 abbrev pub AgreeWithAll : List FunctionName → List FunctionName → Type 0
-AgreeWithAll ns ms = (f : ℕ) → AgreesWith (name_or_nothing (name_of f ns)) (name_of f ms)
+AgreeWithAll ns ms = (f : ℕ) → AgreesWithName (name_or_empty (name_of f ns)) (name_of f ms)
 
-agree_if : (b : Bool) (text name : List ℕ) (o : Option (List ℕ)) → (b ≡ true → text ≡ name) → AgreesWith text o
-    → AgreesWith text (cond b (Some name) o)
+agree_if : (b : Bool) (text name : List ℕ) (o : Option (List ℕ)) → (b ≡ true → text ≡ name) → AgreesWithName text o
+    → AgreesWithName text (cond b (Some name) o)
 agree_if true text name o h k = h refl
 agree_if false text name o h k = k
 
 pub agree_more : (ns ms : List FunctionName) (s : Spot) → AgreeWithAll ns ms
     → AgreeWithAll ns (with_name (function_name (named ns s)) ms)
 agree_more ns ms s h f =
-    subst (AgreesWith (name_or_nothing (name_of f ns))) (sym (name_with (function_name (named ns s)) ms f (h s.function)))
-    (agree_if (s.function == f) (name_or_nothing (name_of f ns)) (name_or_nothing (name_of s.function ns)) (name_of f ms)
-    (λ t. ap (λ (g : ℕ). name_or_nothing (name_of g ns)) (sym (eqb-true s.function f t))) (h f))
+    subst (AgreesWithName (name_or_empty (name_of f ns))) (sym (name_with (function_name (named ns s)) ms f (h s.function)))
+    (agree_if (s.function == f) (name_or_empty (name_of f ns)) (name_or_empty (name_of s.function ns)) (name_of f ms)
+    (λ t. ap (λ (g : ℕ). name_or_empty (name_of g ns)) (sym (eqb-true s.function f t))) (h f))
 
 -- ---- lists of names that say the same of spots
 
-abbrev head_name : List NamedSpot → List ℕ
+abbrev head_name : List NamedCallNode → List ℕ
 head_name [] = []
 head_name (n ∷ ns) = n.name
 
-abbrev tail_of : List NamedSpot → List NamedSpot
+abbrev tail_of : List NamedCallNode → List NamedCallNode
 tail_of [] = []
 tail_of (n ∷ ns) = ns
 
 same_said : (ns ms : List FunctionName) (ss : List Spot) (f : ℕ) → map (named ns) ss ≡ map (named ms) ss
-    → is_last_of_some f ss ≡ true → name_or_nothing (name_of f ns) ≡ name_or_nothing (name_of f ms)
+    → ends_some_path f ss ≡ true → name_or_empty (name_of f ns) ≡ name_or_empty (name_of f ms)
 same_said ns ms [] f e some = absurd (false≢true some)
 same_said ns ms (s ∷ ss) f e some = elim (cases_Bool (s.function == f)) [
   | inl t ↦
       let g = eqb-true s.function f t in
-      ap (λ (k : ℕ). name_or_nothing (name_of k ns)) (sym g) ∙ ap head_name e ∙ ap (λ (k : ℕ). name_or_nothing (name_of k ms)) g
-  | inr t ↦ same_said ns ms ss f (ap tail_of e) (sym (ap (λ (b : Bool). b || is_last_of_some f ss) t) ∙ some)
+      ap (λ (k : ℕ). name_or_empty (name_of k ns)) (sym g) ∙ ap head_name e ∙ ap (λ (k : ℕ). name_or_empty (name_of k ms)) g
+  | inr t ↦ same_said ns ms ss f (ap tail_of e) (sym (ap (λ (b : Bool). b || ends_some_path f ss) t) ∙ some)
 ]
 
 same_of_both : (ns ms : List FunctionName) (ss : List Spot) (f : ℕ) → AreNamesOf ss ns → AreNamesOf ss ms
     → map (named ns) ss ≡ map (named ms) ss → name_of f ns ≡ name_of f ms
-same_of_both ns ms ss f h k e = elim (cases_Bool (is_last_of_some f ss)) [
+same_of_both ns ms ss f h k e = elim (cases_Bool (ends_some_path f ss)) [
   | inl t ↦
       named_as (name_of f ns) (h f ∙ t) ∙ ap Some (same_said ns ms ss f e t) ∙ sym (named_as (name_of f ms) (k f ∙ t))
   | inr t ↦ not_named (name_of f ns) (h f ∙ t) ∙ sym (not_named (name_of f ms) (k f ∙ t))
 ]
 
-pub one_list_of_first_names : (ns ms : List FunctionName) (ss : List Spot) → AreNames ns → AreNames ms → AreNamesOf ss ns
+pub one_list_of_first_names : (ns ms : List FunctionName) (ss : List Spot) → AreValidNames ns → AreValidNames ms → AreNamesOf ss ns
     → AreNamesOf ss ms → map (named ns) ss ≡ map (named ms) ss → ns ≡ ms
 one_list_of_first_names ns ms ss h k p q e = one_list_of_names ns ms h k
     (λ f. sym (first_is ns 0 f h.rising) ∙ same_of_both ns ms ss f p q e ∙ first_is ms 0 f k.rising)
 
 -- ---- a spot more, by its name
 
-pub text_of_named : (ns : List FunctionName) (ss : List Spot) → flat_map (line_of_spot ns) ss ≡ flat_map spot_line (map (named ns) ss)
+pub text_of_named : (ns : List FunctionName) (ss : List Spot) → flat_map (line_of_node ns) ss ≡ flat_map node_line (map (named ns) ss)
 text_of_named ns [] = refl
-text_of_named ns (s ∷ ss) = ap (λ (t : List ℕ). line_of_spot ns s ++ t) (text_of_named ns ss)
+text_of_named ns (s ∷ ss) = ap (λ (t : List ℕ). line_of_node ns s ++ t) (text_of_named ns ss)
 
-same_named : (ns ms : List FunctionName) (ss : List Spot) → ((f : ℕ) → is_last_of_some f ss ≡ true → name_of f ns ≡ name_of f ms)
+same_named : (ns ms : List FunctionName) (ss : List Spot) → ((f : ℕ) → ends_some_path f ss ≡ true → name_of f ns ≡ name_of f ms)
     → map (named ns) ss ≡ map (named ms) ss
 same_named ns ms [] h = refl
 same_named ns ms (s ∷ ss) h =
     let e = h s.function (first_is_last s ss) in
     let others = same_named ns ms ss (λ f some. h f (further f s ss some)) in
-    λ i. record { spot = s; name = name_or_nothing (e i) } ∷ others i
+    λ i. record { spot = s; name = name_or_empty (e i) } ∷ others i
 
 more_named : (ns : List FunctionName) (ss : List Spot) (s : Spot) → map (named ns) (ss ++ s ∷ []) ≡ map (named ns) ss ++ named ns s ∷ []
 more_named ns [] s = refl
-more_named ns (t ∷ ts) s = ap (λ (x : List NamedSpot). named ns t ∷ x) (more_named ns ts s)
+more_named ns (t ∷ ts) s = ap (λ (x : List NamedCallNode). named ns t ∷ x) (more_named ns ts s)
 
-more_names : (ns : List FunctionName) (xs : List NamedSpot) (x : NamedSpot)
+more_names : (ns : List FunctionName) (xs : List NamedCallNode) (x : NamedCallNode)
     → with_names ns (xs ++ x ∷ []) ≡ with_name (function_name x) (with_names ns xs)
 more_names ns [] x = refl
 more_names ns (y ∷ ys) x = more_names (with_name (function_name y) ns) ys x
 
 -- the names of some spots, which are those that these bring
 pub record AreNamesSoFar (ss : List Spot) (ns : List FunctionName) : Type 0 where
-  pub names : AreNames ns
+  pub names : AreValidNames ns
   pub of_spots : AreNamesOf ss ns
   pub known : ns ≡ with_names [] (map (named ns) ss)
 
@@ -306,17 +306,17 @@ no_names_so_far = record {
   known = refl;
 }
 
-module _ (ss : List Spot) (names : List FunctionName) (x : NamedSpot) (fits : IsNamedSpot x)
-    (agrees : AgreesWith x.name (name_of x.spot.function names)) where
+module _ (ss : List Spot) (names : List FunctionName) (x : NamedCallNode) (fits : IsValidNamedNode x)
+    (agrees : AgreesWithName x.name (name_of x.spot.function names)) where
   says : (f : ℕ) → name_of f (with_name (function_name x) names) ≡ cond (x.spot.function == f) (Some x.name) (name_of f names)
   says f = name_with (function_name x) names f agrees
 
   pub it_has_its_name : named (with_name (function_name x) names) x.spot ≡ x
   it_has_its_name =
       let e = says x.spot.function ∙ ap (λ (b : Bool). cond b (Some x.name) (name_of x.spot.function names)) (same x.spot.function) in
-      λ i. record { spot = x.spot; name = name_or_nothing (e i) }
+      λ i. record { spot = x.spot; name = name_or_empty (e i) }
 
-  others_keep : AreNamesOf ss names → (f : ℕ) → is_last_of_some f ss ≡ true → name_of f (with_name (function_name x) names) ≡ name_of f names
+  others_keep : AreNamesOf ss names → (f : ℕ) → ends_some_path f ss ≡ true → name_of f (with_name (function_name x) names) ≡ name_of f names
   others_keep h f some = says f ∙ elim (cases_Bool (x.spot.function == f)) [
     | inl t ↦
         let e = eqb-true x.spot.function f t in
@@ -339,9 +339,9 @@ module _ (ss : List Spot) (names : List FunctionName) (x : NamedSpot) (fits : Is
     names = are_more (function_name x) names
         (record { function = fits.spot.function; name = fits.name; text = fits.text }) h.names;
     of_spots = λ f. ap has_name (says f)
-        ∙ has_either (x.spot.function == f) (is_last_of_some f ss) (name_of f names) (h.of_spots f)
+        ∙ has_either (x.spot.function == f) (ends_some_path f ss) (name_of f names) (h.of_spots f)
         ∙ sym (last_of_more f ss x.spot);
     known = ap (with_name (function_name x)) (h.known ∙ ap (with_names []) (sym (others_are_named h.of_spots)))
-        ∙ sym (ap (with_names []) (more_named (with_name (function_name x) names) ss x.spot ∙ ap (λ (n : NamedSpot). map (named (with_name (function_name x) names)) ss ++ n ∷ []) it_has_its_name)
+        ∙ sym (ap (with_names []) (more_named (with_name (function_name x) names) ss x.spot ∙ ap (λ (n : NamedCallNode). map (named (with_name (function_name x) names)) ss ++ n ∷ []) it_has_its_name)
         ∙ more_names [] (map (named (with_name (function_name x) names)) ss) x);
   }

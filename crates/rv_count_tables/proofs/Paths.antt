@@ -1,7 +1,7 @@
 -- The order of bytes is total, so of several paths the same one comes first, whichever two are compared first.
 use Rattle.std.proofs.Common.{◌≡◌, ◌∙◌, ◌<◌, ◌⊎◌, inl, inr, ℕ, zero, true, false, List, [], ◌∷◌, Option, Some, None, refl, sym, ap, arith}
 use Rattle.std.proofs.lemmas.Bool.{cases_Bool, cases_order, cond-true, cond-false, both_ways}
-use Rattle.rv_count_tables.specs.Table.{is_before, least_path, least_path_of}
+use Rattle.rv_count_tables.specs.Table.{is_before, min_text, min_text_of}
 use Rattle.rv_count_tables.proofs.ByteOrder.{less, more, same}
 
 -- ---- two texts, by their first bytes
@@ -78,13 +78,13 @@ same_place (x ∷ a) (y ∷ b) h k = elim (cases_not_before x y a b h) [
 
 -- ---- the first of several
 
-taken_other : (p q : List ℕ) → is_before q p ≡ true → least_path p q ≡ q
+taken_other : (p q : List ℕ) → is_before q p ≡ true → min_text p q ≡ q
 taken_other p q h = cond-true (is_before q p) q p h
 
-kept_first : (p q : List ℕ) → is_before q p ≡ false → least_path p q ≡ p
+kept_first : (p q : List ℕ) → is_before q p ≡ false → min_text p q ≡ p
 kept_first p q h = cond-false (is_before q p) q p h
 
-either_path : (p q : List ℕ) → least_path p q ≡ least_path q p
+either_path : (p q : List ℕ) → min_text p q ≡ min_text q p
 either_path p q = elim (cases_Bool (is_before q p)) [
   | inl h ↦ taken_other p q h ∙ sym (kept_first q p (not_before_back q p h))
   | inr h ↦ elim (cases_Bool (is_before p q)) [
@@ -103,43 +103,43 @@ not_before_less p q r h k = elim (cases_Bool (is_before r p)) [
   ]
 ]
 
-any_path_first : (p q r : List ℕ) → least_path (least_path p q) r ≡ least_path p (least_path q r)
+any_path_first : (p q r : List ℕ) → min_text (min_text p q) r ≡ min_text p (min_text q r)
 any_path_first p q r = elim (cases_Bool (is_before q p)) [
-  | inl h ↦ ap (λ (s : List ℕ). least_path s r) (taken_other p q h) ∙ elim (cases_Bool (is_before r q)) [
+  | inl h ↦ ap (λ (s : List ℕ). min_text s r) (taken_other p q h) ∙ elim (cases_Bool (is_before r q)) [
     | inl k ↦ taken_other q r k ∙ sym (taken_other p r (before_both r q p k h))
-        ∙ sym (ap (λ (s : List ℕ). least_path p s) (taken_other q r k))
+        ∙ sym (ap (λ (s : List ℕ). min_text p s) (taken_other q r k))
     | inr k ↦ kept_first q r k ∙ sym (taken_other p q h)
-        ∙ sym (ap (λ (s : List ℕ). least_path p s) (kept_first q r k))
+        ∙ sym (ap (λ (s : List ℕ). min_text p s) (kept_first q r k))
   ]
-  | inr h ↦ ap (λ (s : List ℕ). least_path s r) (kept_first p q h) ∙ elim (cases_Bool (is_before r q)) [
-    | inl k ↦ sym (ap (λ (s : List ℕ). least_path p s) (taken_other q r k))
+  | inr h ↦ ap (λ (s : List ℕ). min_text s r) (kept_first p q h) ∙ elim (cases_Bool (is_before r q)) [
+    | inl k ↦ sym (ap (λ (s : List ℕ). min_text p s) (taken_other q r k))
     | inr k ↦ kept_first p r (not_before_less p q r h k) ∙ sym (kept_first p q h)
-        ∙ sym (ap (λ (s : List ℕ). least_path p s) (kept_first q r k))
+        ∙ sym (ap (λ (s : List ℕ). min_text p s) (kept_first q r k))
   ]
 ]
 
-pub none_behind : (a : Option (List ℕ)) → least_path_of a None ≡ a
+pub none_behind : (a : Option (List ℕ)) → min_text_of a None ≡ a
 none_behind None = refl
 none_behind (Some p) = refl
 
-pub either : (a b : Option (List ℕ)) → least_path_of a b ≡ least_path_of b a
+pub either : (a b : Option (List ℕ)) → min_text_of a b ≡ min_text_of b a
 either None None = refl
 either None (Some q) = refl
 either (Some p) None = refl
 either (Some p) (Some q) = ap (λ (s : List ℕ). Some s) (either_path p q)
 
-pub any_first : (a b c : Option (List ℕ)) → least_path_of (least_path_of a b) c ≡ least_path_of a (least_path_of b c)
+pub any_first : (a b c : Option (List ℕ)) → min_text_of (min_text_of a b) c ≡ min_text_of a (min_text_of b c)
 any_first None b c = refl
 any_first (Some p) None c = refl
 any_first (Some p) (Some q) None = refl
 any_first (Some p) (Some q) (Some r) = ap (λ (s : List ℕ). Some s) (any_path_first p q r)
 
 -- the second goes ahead of both
-pub second_first : (a b c : Option (List ℕ)) → least_path_of b (least_path_of a c) ≡ least_path_of a (least_path_of b c)
-second_first a b c = sym (any_first b a c) ∙ ap (λ s. least_path_of s c) (either b a) ∙ any_first a b c
+pub second_first : (a b c : Option (List ℕ)) → min_text_of b (min_text_of a c) ≡ min_text_of a (min_text_of b c)
+second_first a b c = sym (any_first b a c) ∙ ap (λ s. min_text_of s c) (either b a) ∙ any_first a b c
 
 -- two of each, in either order
 pub by_two : (a b c d : Option (List ℕ))
-    → least_path_of (least_path_of a b) (least_path_of c d) ≡ least_path_of (least_path_of a c) (least_path_of b d)
-by_two a b c d = any_first a b (least_path_of c d) ∙ ap (λ s. least_path_of a s) (second_first c b d)
-    ∙ sym (any_first a c (least_path_of b d))
+    → min_text_of (min_text_of a b) (min_text_of c d) ≡ min_text_of (min_text_of a c) (min_text_of b d)
+by_two a b c d = any_first a b (min_text_of c d) ∙ ap (λ s. min_text_of a s) (second_first c b d)
+    ∙ sym (any_first a c (min_text_of b d))

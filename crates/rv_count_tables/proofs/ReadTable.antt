@@ -7,30 +7,30 @@ use Rattle.std.specs.Str.{bytes_eq}
 use Rattle.std.specs.List.{flat_map}
 use Rattle.rv_count_tables.specs.declared.table.ImageCounts.{ImageCounts}
 use Rattle.rv_count_tables.specs.declared.table.CountTable.{CountTable}
-use Rattle.rv_count_tables.specs.declared.read_lines.ImageLines.{ImageLines}
+use Rattle.rv_count_tables.specs.declared.read_lines.ParsedImages.{ParsedImages}
 use Rattle.rv_count_tables.specs.declared.read.ReadError.{ReadError}
 use Rattle.rv_count_tables.specs.declared.read.ReadError.TheVariants.{Line, CutOff}
-use Rattle.rv_count_tables.specs.Lines.{lacks, count_of_line_feeds, whole_line}
+use Rattle.rv_count_tables.specs.Lines.{lacks, line_feed_count, whole_line}
 use Rattle.rv_count_tables.specs.Table.{IsTable}
 use Rattle.rv_count_tables.specs.Text.{line, first_line, image_text, last_line, table_text}
-use Rattle.rv_count_tables.specs.ReadSteps.{before_first_image, place_in, last_digest, IsNotAnEntry, IsNotAnImage, AreImageLines}
-use Rattle.rv_count_tables.specs.Read.{IsLeast, IsLeastRefusedLine, read_error_at}
+use Rattle.rv_count_tables.specs.ReadSteps.{before_first_image, place_in, last_digest, IsNotAnEntry, IsNotAnImage, AreParsedImages}
+use Rattle.rv_count_tables.specs.Read.{IsFirstError, IsFirstInvalidLine, read_error_at}
 use Rattle.rv_count_tables.proofs.Pieces.{cases_line, line_at, no_line}
 use Rattle.rv_count_tables.proofs.Reading.{feeds-append}
 use Rattle.rv_count_tables.proofs.ReadingLines.{whole_split, whole_within}
-use Rattle.rv_count_tables.proofs.Refusing.{AreImages, text_so_far, text_of, refused_line, refused_first, refused_end, cut_first, cut_behind}
+use Rattle.rv_count_tables.proofs.Refusing.{AreImages, text_so_far, text_of, invalid_line, refused_first, refused_end, cut_first, cut_behind}
 use Rattle.rv_count_tables.proofs.Refusing.{no_table_refused, no_table_cut, no_table_cut_first}
 
 -- ---- the number of a line
 
 pub feeds_more : (xs : List ℕ) (i : ℕ) → i < length xs
-    → count_of_line_feeds (take (i + 1) xs) ≡ count_of_line_feeds (take i xs) + count_of_line_feeds (get_or xs i 0 ∷ [])
-feeds_more xs i h = ap count_of_line_feeds (take_more xs i 0 h) ∙ feeds-append (take i xs) (get_or xs i 0 ∷ [])
+    → line_feed_count (take (i + 1) xs) ≡ line_feed_count (take i xs) + line_feed_count (get_or xs i 0 ∷ [])
+feeds_more xs i h = ap line_feed_count (take_more xs i 0 h) ∙ feeds-append (take i xs) (get_or xs i 0 ∷ [])
 
-pub one_feed : (b : ℕ) → b ≡ 10 → count_of_line_feeds (b ∷ []) ≡ 1
+pub one_feed : (b : ℕ) → b ≡ 10 → line_feed_count (b ∷ []) ≡ 1
 one_feed b h = let t : (b == 10) ≡ true = grind arith in ap (λ (s : Bool). cond s (0 + 1) 0) t
 
-pub no_feed : (b : ℕ) → (b ≡ 10 → ⊥) → count_of_line_feeds (b ∷ []) ≡ 0
+pub no_feed : (b : ℕ) → (b ≡ 10 → ⊥) → line_feed_count (b ∷ []) ≡ 0
 no_feed b h = let t : (b == 10) ≡ false = grind arith in ap (λ (s : Bool). cond s (0 + 1) 0) t
 
 -- ---- the place behind the images
@@ -43,8 +43,8 @@ pub record IsBehind (bytes : List ℕ) (images : List ImageCounts) (place : ℕ)
   pub entry : IsNotAnEntry (place_in before_first_image images) (whole_line (drop place bytes))
   pub image : IsNotAnImage (last_digest None images) (whole_line (drop place bytes))
 
-pub behind_images : (bytes : List ℕ) (read : ImageLines) (place : ℕ) → whole_line bytes ≡ first_line
-    → AreImageLines (drop 11 bytes) read → length read.images < 2 ^ 64 → place ≡ 11 + read.length
+pub behind_images : (bytes : List ℕ) (read : ParsedImages) (place : ℕ) → whole_line bytes ≡ first_line
+    → AreParsedImages (drop 11 bytes) read → length read.images < 2 ^ 64 → place ≡ 11 + read.length
     → IsBehind bytes read.images place
 behind_images bytes read place first h few e =
     let rest : drop read.length (drop 11 bytes) ≡ drop place bytes =
@@ -95,41 +95,41 @@ other_first a b bytes t is differs w f e =
 
 told_cut : (place : ℕ) (bytes : List ℕ) → lacks 10 (drop place bytes) ≡ true → read_error_at place bytes ≡ CutOff
 told_cut place bytes h =
-    ap (λ (s : List ℕ). cond (length s == 0) CutOff (Line (count_of_line_feeds (take place bytes) + 1)))
+    ap (λ (s : List ℕ). cond (length s == 0) CutOff (Line (line_feed_count (take place bytes) + 1)))
     (no_line (drop place bytes) h)
 
 not_none : (n : ℕ) → 0 < n → (n == 0) ≡ false
 not_none n h = grind arith
 
 told_line : (place : ℕ) (bytes front rest : List ℕ) → lacks 10 front ≡ true → drop place bytes ≡ front ++ 10 ∷ rest
-    → read_error_at place bytes ≡ Line (count_of_line_feeds (take place bytes) + 1)
+    → read_error_at place bytes ≡ Line (line_feed_count (take place bytes) + 1)
 told_line place bytes front rest h e =
     let w : whole_line (drop place bytes) ≡ front ++ 10 ∷ [] = ap whole_line e ∙ line_at front rest h in
     let l = length-append front (10 ∷ []) in
-    ap (λ (s : List ℕ). cond (length s == 0) CutOff (Line (count_of_line_feeds (take place bytes) + 1))) w
-    ∙ ap (λ (t : Bool). cond t CutOff (Line (count_of_line_feeds (take place bytes) + 1)))
+    ap (λ (s : List ℕ). cond (length s == 0) CutOff (Line (line_feed_count (take place bytes) + 1))) w
+    ∙ ap (λ (t : Bool). cond t CutOff (Line (line_feed_count (take place bytes) + 1)))
     (not_none (length (front ++ 10 ∷ [])) (omega (arith, l)))
 
 told_refused : (bytes : List ℕ) (images : List ImageCounts) (place : ℕ) (front rest : List ℕ) → IsBehind bytes images place
     → ((r : ℕ) → r < 2 ^ 64 → whole_line (drop place bytes) ≡ last_line (length images) r → ⊥)
     → lacks 10 front ≡ true → drop place bytes ≡ front ++ 10 ∷ rest
-    → IsLeastRefusedLine (count_of_line_feeds (take place bytes) + 1) bytes
+    → IsFirstInvalidLine (line_feed_count (take place bytes) + 1) bytes
 told_refused bytes images place front rest h no_last plain e =
     let w : whole_line (drop place bytes) ≡ line front = ap whole_line e ∙ line_at front rest plain in
-    refused_line images front rest bytes (count_of_line_feeds (take place bytes) + 1) h.are plain
+    invalid_line images front rest bytes (line_feed_count (take place bytes) + 1) h.are plain
     (subst (λ (s : List ℕ). IsNotAnEntry (place_in before_first_image images) s) w h.entry)
     (subst (λ (s : List ℕ). IsNotAnImage (last_digest None images) s) w h.image)
     (λ r small same. no_last r small (w ∙ same))
     (h.all ∙ ap (λ (s : List ℕ). text_so_far images ++ s) e)
-    (ap (λ (s : List ℕ). count_of_line_feeds s + 1) h.front)
+    (ap (λ (s : List ℕ). line_feed_count s + 1) h.front)
 
 pub least_behind : (bytes : List ℕ) (images : List ImageCounts) (place : ℕ) → IsBehind bytes images place
     → ((r : ℕ) → r < 2 ^ 64 → whole_line (drop place bytes) ≡ last_line (length images) r → ⊥)
-    → IsLeast (read_error_at place bytes) bytes
+    → IsFirstError (read_error_at place bytes) bytes
 least_behind bytes images place h no_last = elim (cases_line (drop place bytes)) [
-  | inl cut ↦ subst (λ (e : ReadError). IsLeast e bytes) (sym (told_cut place bytes cut))
+  | inl cut ↦ subst (λ (e : ReadError). IsFirstError e bytes) (sym (told_cut place bytes cut))
       (cut_behind images (drop place bytes) bytes h.are cut h.all)
-  | inr l ↦ subst (λ (e : ReadError). IsLeast e bytes) (sym (told_line place bytes l.front l.rest l.plain l.all))
+  | inr l ↦ subst (λ (e : ReadError). IsFirstError e bytes) (sym (told_line place bytes l.front l.rest l.plain l.all))
       (told_refused bytes images place l.front l.rest h no_last l.plain l.all)
 ]
 
@@ -138,21 +138,21 @@ pub no_table_behind : (bytes : List ℕ) (images : List ImageCounts) (place : �
     → (t : CountTable) → IsTable t → table_text t ≡ bytes → ⊥
 no_table_behind bytes images place h no_last t is e = elim (cases_line (drop place bytes)) [
   | inl cut ↦ no_table_cut images (drop place bytes) bytes h.are cut h.all t is e
-  | inr l ↦ no_table_refused (count_of_line_feeds (take place bytes) + 1) bytes
+  | inr l ↦ no_table_refused (line_feed_count (take place bytes) + 1) bytes
       (told_refused bytes images place l.front l.rest h no_last l.plain l.all) t is e
 ]
 
 -- ---- the first line
 
 first_told : (bytes front rest : List ℕ) → (whole_line bytes ≡ first_line → ⊥) → lacks 10 front ≡ true
-    → bytes ≡ front ++ 10 ∷ rest → IsLeastRefusedLine 1 bytes
+    → bytes ≡ front ++ 10 ∷ rest → IsFirstInvalidLine 1 bytes
 first_told bytes front rest other plain e =
     refused_first front rest bytes plain (λ same. other (ap whole_line e ∙ line_at front rest plain ∙ same)) e
 
-pub least_first : (bytes : List ℕ) → (whole_line bytes ≡ first_line → ⊥) → IsLeast (read_error_at 0 bytes) bytes
+pub least_first : (bytes : List ℕ) → (whole_line bytes ≡ first_line → ⊥) → IsFirstError (read_error_at 0 bytes) bytes
 least_first bytes other = elim (cases_line bytes) [
-  | inl cut ↦ subst (λ (e : ReadError). IsLeast e bytes) (sym (told_cut 0 bytes cut)) (cut_first bytes cut)
-  | inr l ↦ subst (λ (e : ReadError). IsLeast e bytes) (sym (told_line 0 bytes l.front l.rest l.plain l.all))
+  | inl cut ↦ subst (λ (e : ReadError). IsFirstError e bytes) (sym (told_cut 0 bytes cut)) (cut_first bytes cut)
+  | inr l ↦ subst (λ (e : ReadError). IsFirstError e bytes) (sym (told_line 0 bytes l.front l.rest l.plain l.all))
       (first_told bytes l.front l.rest other l.plain l.all)
 ]
 
@@ -202,15 +202,15 @@ whole_text bytes images runs end h e =
 
 least_of_end : (bytes : List ℕ) (images : List ImageCounts) (runs end : ℕ) (rest : List ℕ) → AreImages images
     → runs < 2 ^ 64 → IsTold bytes images runs end → drop end bytes ≡ rest → 0 < length rest
-    → IsLeastRefusedLine (count_of_line_feeds (take end bytes) + 1) bytes
+    → IsFirstInvalidLine (line_feed_count (take end bytes) + 1) bytes
 least_of_end bytes images runs end [] are fits h is some = absurd (omega arith)
 least_of_end bytes images runs end (b ∷ bs) are fits h is some =
-    refused_end images runs b bs bytes (count_of_line_feeds (take end bytes) + 1) are fits
+    refused_end images runs b bs bytes (line_feed_count (take end bytes) + 1) are fits
     (h.all ∙ ap (λ (s : List ℕ). (text_so_far images ++ last_line (length images) runs) ++ s) is)
-    (ap (λ (s : List ℕ). count_of_line_feeds s + 1) h.front)
+    (ap (λ (s : List ℕ). line_feed_count s + 1) h.front)
 
 pub least_end : (bytes : List ℕ) (images : List ImageCounts) (runs end : ℕ) → AreImages images
     → runs < 2 ^ 64 → IsTold bytes images runs end → end < length bytes
-    → IsLeastRefusedLine (count_of_line_feeds (take end bytes) + 1) bytes
+    → IsFirstInvalidLine (line_feed_count (take end bytes) + 1) bytes
 least_end bytes images runs end are fits h under =
     least_of_end bytes images runs end (drop end bytes) are fits h refl (let l = length-drop end bytes in omega (arith, l))

@@ -4,10 +4,10 @@ use Rattle.std.proofs.lemmas.Bool.{and_parts, false≢true, cases_Bool}
 use Rattle.std.specs.List.{AllByRecursion, flat_map}
 use Rattle.rv_count_tables.specs.declared.table.ImageCounts.{ImageCounts}
 use Rattle.rv_count_tables.specs.declared.table.CountTable.{CountTable}
-use Rattle.rv_count_tables.specs.Lines.{lacks, count_of_line_feeds, first_lines}
-use Rattle.rv_count_tables.specs.Table.{IsImage, IsTable}
+use Rattle.rv_count_tables.specs.Lines.{lacks, line_feed_count, first_lines}
+use Rattle.rv_count_tables.specs.Table.{IsValidImage, IsTable}
 use Rattle.rv_count_tables.specs.Text.{image_line, image_text, last_line, table_text}
-use Rattle.rv_count_tables.specs.ReadSteps.{Entry, IsEntry, entry_line, entries_of}
+use Rattle.rv_count_tables.specs.ReadSteps.{Entry, IsValidEntry, entry_line, entries_of}
 use Rattle.rv_count_tables.proofs.Entries.{entries_fit, same_parts, AreSame}
 use Rattle.rv_count_tables.proofs.LineTexts.{entry_words, image_words, entry_is_line, image_is_line, lacks-entry, lacks-image, same_entry_line, same_digest, same_path, same_runs}
 use Rattle.rv_count_tables.proofs.LineTexts.{entry_is_no_image, entry_is_not_last, image_is_not_last}
@@ -28,30 +28,30 @@ no_lines [] = refl
 no_lines (b ∷ bs) = refl
 
 -- the lines up to a line feed are as many as there are line feeds
-pub lines_up_to : (xs rest : List ℕ) (n : ℕ) → n ≡ count_of_line_feeds xs
+pub lines_up_to : (xs rest : List ℕ) (n : ℕ) → n ≡ line_feed_count xs
     → first_lines (suc n) (xs ++ 10 ∷ rest) ≡ xs ++ 10 ∷ []
 lines_up_to [] rest n is =
     let e : suc n - 1 ≡ 0 = omega arith in
     first_step n 10 rest ∙ ap (λ (k : ℕ). 10 ∷ first_lines k rest) e ∙ ap (λ (s : List ℕ). 10 ∷ s) (no_lines rest)
 lines_up_to (b ∷ bs) rest n is = elim (cases_Bool (b == 10)) [
   | inl t ↦
-      let f : count_of_line_feeds (b ∷ bs) ≡ count_of_line_feeds bs + 1 =
-      ap (λ (s : Bool). cond s (count_of_line_feeds bs + 1) (count_of_line_feeds bs)) t in
-      let e : suc n - 1 ≡ suc (count_of_line_feeds bs) = omega arith in
+      let f : line_feed_count (b ∷ bs) ≡ line_feed_count bs + 1 =
+      ap (λ (s : Bool). cond s (line_feed_count bs + 1) (line_feed_count bs)) t in
+      let e : suc n - 1 ≡ suc (line_feed_count bs) = omega arith in
       first_step n b (bs ++ 10 ∷ rest)
       ∙ ap (λ (s : Bool). b ∷ first_lines (cond s (suc n - 1) (suc n)) (bs ++ 10 ∷ rest)) t
       ∙ ap (λ (k : ℕ). b ∷ first_lines k (bs ++ 10 ∷ rest)) e
-      ∙ ap (λ (s : List ℕ). b ∷ s) (lines_up_to bs rest (count_of_line_feeds bs) refl)
+      ∙ ap (λ (s : List ℕ). b ∷ s) (lines_up_to bs rest (line_feed_count bs) refl)
   | inr t ↦
-      let f : count_of_line_feeds (b ∷ bs) ≡ count_of_line_feeds bs =
-      ap (λ (s : Bool). cond s (count_of_line_feeds bs + 1) (count_of_line_feeds bs)) t in
+      let f : line_feed_count (b ∷ bs) ≡ line_feed_count bs =
+      ap (λ (s : Bool). cond s (line_feed_count bs + 1) (line_feed_count bs)) t in
       first_step n b (bs ++ 10 ∷ rest)
       ∙ ap (λ (s : Bool). b ∷ first_lines (cond s (suc n - 1) (suc n)) (bs ++ 10 ∷ rest)) t
       ∙ ap (λ (s : List ℕ). b ∷ s) (lines_up_to bs rest n (is ∙ f))
 ]
 
 -- one line further there is some byte, if there is one
-pub lines_past : (xs rest : List ℕ) (b : ℕ) (n : ℕ) → n ≡ count_of_line_feeds xs
+pub lines_past : (xs rest : List ℕ) (b : ℕ) (n : ℕ) → n ≡ line_feed_count xs
     → (more : List ℕ) × (first_lines (suc (suc n)) (xs ++ 10 ∷ (b ∷ rest)) ≡ xs ++ 10 ∷ (b ∷ more))
 lines_past [] rest b n is =
     let e : suc (suc n) - 1 ≡ 1 = omega arith in (
@@ -61,10 +61,10 @@ lines_past [] rest b n is =
     )
 lines_past (x ∷ xs) rest b n is = elim (cases_Bool (x == 10)) [
   | inl t ↦
-      let f : count_of_line_feeds (x ∷ xs) ≡ count_of_line_feeds xs + 1 =
-      ap (λ (s : Bool). cond s (count_of_line_feeds xs + 1) (count_of_line_feeds xs)) t in
-      let e : suc (suc n) - 1 ≡ suc (suc (count_of_line_feeds xs)) = omega arith in
-      let k = lines_past xs rest b (count_of_line_feeds xs) refl in (
+      let f : line_feed_count (x ∷ xs) ≡ line_feed_count xs + 1 =
+      ap (λ (s : Bool). cond s (line_feed_count xs + 1) (line_feed_count xs)) t in
+      let e : suc (suc n) - 1 ≡ suc (suc (line_feed_count xs)) = omega arith in
+      let k = lines_past xs rest b (line_feed_count xs) refl in (
         k.0,
         first_step (suc n) x (xs ++ 10 ∷ (b ∷ rest))
             ∙ ap (λ (s : Bool). x ∷ first_lines (cond s (suc (suc n) - 1) (suc (suc n))) (xs ++ 10 ∷ (b ∷ rest))) t
@@ -72,8 +72,8 @@ lines_past (x ∷ xs) rest b n is = elim (cases_Bool (x == 10)) [
             ∙ ap (λ (s : List ℕ). x ∷ s) k.1,
       )
   | inr t ↦
-      let f : count_of_line_feeds (x ∷ xs) ≡ count_of_line_feeds xs =
-      ap (λ (s : Bool). cond s (count_of_line_feeds xs + 1) (count_of_line_feeds xs)) t in
+      let f : line_feed_count (x ∷ xs) ≡ line_feed_count xs =
+      ap (λ (s : Bool). cond s (line_feed_count xs + 1) (line_feed_count xs)) t in
       let k = lines_past xs rest b n (is ∙ f) in (
         k.0,
         first_step (suc n) x (xs ++ 10 ∷ (b ∷ rest))
@@ -94,25 +94,25 @@ lines_begin (b ∷ bs) (suc n) =
     let k = lines_begin bs (cond (b == 10) (suc n - 1) (suc n)) in
     (k.0, ap (λ (s : List ℕ). b ∷ s) k.1 ∙ ap (λ (s : List ℕ). s ++ k.0) (sym (first_step n b bs)))
 
-pub feeds-append : (xs ys : List ℕ) → count_of_line_feeds (xs ++ ys) ≡ count_of_line_feeds xs + count_of_line_feeds ys
+pub feeds-append : (xs ys : List ℕ) → line_feed_count (xs ++ ys) ≡ line_feed_count xs + line_feed_count ys
 feeds-append [] ys = omega arith
 feeds-append (b ∷ bs) ys = let h = feeds-append bs ys in elim (cases_Bool (b == 10)) [
   | inl t ↦
-      let p = ap (λ (s : Bool). cond s (count_of_line_feeds (bs ++ ys) + 1) (count_of_line_feeds (bs ++ ys))) t in
-      let q = ap (λ (s : Bool). cond s (count_of_line_feeds bs + 1) (count_of_line_feeds bs)) t in
+      let p = ap (λ (s : Bool). cond s (line_feed_count (bs ++ ys) + 1) (line_feed_count (bs ++ ys))) t in
+      let q = ap (λ (s : Bool). cond s (line_feed_count bs + 1) (line_feed_count bs)) t in
       omega (arith, p, q, h)
   | inr t ↦
-      let p = ap (λ (s : Bool). cond s (count_of_line_feeds (bs ++ ys) + 1) (count_of_line_feeds (bs ++ ys))) t in
-      let q = ap (λ (s : Bool). cond s (count_of_line_feeds bs + 1) (count_of_line_feeds bs)) t in
+      let p = ap (λ (s : Bool). cond s (line_feed_count (bs ++ ys) + 1) (line_feed_count (bs ++ ys))) t in
+      let q = ap (λ (s : Bool). cond s (line_feed_count bs + 1) (line_feed_count bs)) t in
       omega (arith, p, q, h)
 ]
 
-pub no_feeds : (xs : List ℕ) → lacks 10 xs ≡ true → count_of_line_feeds xs ≡ 0
+pub no_feeds : (xs : List ℕ) → lacks 10 xs ≡ true → line_feed_count xs ≡ 0
 no_feeds [] h = refl
 no_feeds (b ∷ bs) h =
     let parts = and_parts (not (b == 10)) (lacks 10 bs) h in elim (cases_Bool (b == 10)) [
       | inl t ↦ absurd (false≢true (sym (ap not t) ∙ parts.0))
-      | inr t ↦ ap (λ (s : Bool). cond s (count_of_line_feeds bs + 1) (count_of_line_feeds bs)) t ∙ no_feeds bs parts.1
+      | inr t ↦ ap (λ (s : Bool). cond s (line_feed_count bs + 1) (line_feed_count bs)) t ∙ no_feeds bs parts.1
     ]
 
 -- ---- one table has a text
@@ -125,7 +125,7 @@ no_entry_first : (is : List ImageCounts) (n r : ℕ) → NoEntryFirst (flat_map 
 no_entry_first [] n r e s h = entry_is_not_last e n r s [] (sym h ∙ sym (append-nil (last_line n r)))
 no_entry_first (i ∷ is) n r e s h = entry_is_no_image e i s _ (sym h ∙ first_image i is (last_line n r))
 
-same_entries : (cs ds : List Entry) (s t : List ℕ) → AllByRecursion IsEntry cs → AllByRecursion IsEntry ds
+same_entries : (cs ds : List Entry) (s t : List ℕ) → AllByRecursion IsValidEntry cs → AllByRecursion IsValidEntry ds
     → NoEntryFirst s → NoEntryFirst t → flat_map entry_line cs ++ s ≡ flat_map entry_line ds ++ t
     → (cs ≡ ds) × (s ≡ t)
 same_entries [] [] s t p q h k e = (refl, e)
@@ -150,7 +150,7 @@ same_image i j d p a = λ k. record {
   spots = a.spots k;
 }
 
-same_images : (is js : List ImageCounts) (n m r q : ℕ) → AllByRecursion IsImage is → AllByRecursion IsImage js
+same_images : (is js : List ImageCounts) (n m r q : ℕ) → AllByRecursion IsValidImage is → AllByRecursion IsValidImage js
     → flat_map image_text is ++ last_line n r ≡ flat_map image_text js ++ last_line m q
     → (is ≡ js) × (last_line n r ≡ last_line m q)
 same_images [] [] n m r q h k e = (refl, e)

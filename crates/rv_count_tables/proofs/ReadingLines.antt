@@ -10,19 +10,19 @@ use Rattle.std.specs.Str.{bytes_eq, IsUtf8}
 use Rattle.hex.specs.Hex.{encode_lower}
 use Rattle.rv_count_tables.specs.declared.table.AddressCounts.{AddressCounts}
 use Rattle.rv_count_tables.specs.declared.table.ImageCounts.{ImageCounts}
-use Rattle.rv_count_tables.specs.declared.read_lines.AddressLines.{AddressLines}
-use Rattle.rv_count_tables.specs.declared.read_lines.ImageLines.{ImageLines}
-use Rattle.rv_count_tables.specs.declared.read_lines.OneImage.{OneImage}
-use Rattle.rv_count_tables.specs.declared.read_stacks.SpotLines.{SpotLines}
+use Rattle.rv_count_tables.specs.declared.read_lines.ParsedAddresses.{ParsedAddresses}
+use Rattle.rv_count_tables.specs.declared.read_lines.ParsedImages.{ParsedImages}
+use Rattle.rv_count_tables.specs.declared.read_lines.ParsedImage.{ParsedImage}
+use Rattle.rv_count_tables.specs.declared.read_stacks.ParsedNodes.{ParsedNodes}
 use Rattle.rv_count_tables.specs.declared.table.FunctionName.{FunctionName}
 use Rattle.rv_count_tables.specs.Lines.{lacks, whole_line}
-use Rattle.rv_count_tables.specs.Table.{is_before, is_greater_than_last, digests_rise, rise_from, IsCounted, IsImage}
-use Rattle.rv_count_tables.specs.Text.{line, address_line, image_line, image_text, line_of_spot}
-use Rattle.rv_count_tables.specs.ReadSteps.{lowest_after, last_digest, before_first_image, at_image, place_in, after_entries, entries_of, NextLines, IsNotAnAddress, IsNotAnEntry, IsNotAnImage, AreAddressLines, AreImageLines, AreSpotLines, IsOneImage}
+use Rattle.rv_count_tables.specs.Table.{is_before, is_greater_than_last, digests_increase_from, increase_from, IsCounted, IsValidImage}
+use Rattle.rv_count_tables.specs.Text.{line, address_line, image_line, image_text, line_of_node}
+use Rattle.rv_count_tables.specs.ReadSteps.{lowest_after, last_digest, before_first_image, after_image_line, place_in, after_entries, entries_of, NextLines, IsNotAnAddress, IsNotAnEntry, IsNotAnImage, AreParsedAddresses, AreParsedImages, AreParsedNodes, IsParsedImage}
 use Rattle.rv_call_tree.specs.declared.spot.Spot.{Spot}
 use Rattle.rv_count_tables.proofs.Pieces.{cases_line, line_at, no_line}
 use Rattle.rv_count_tables.proofs.AddingImages.{image_low, images_behind, images_rise, no_images_rise}
-use Rattle.rv_count_tables.proofs.Entries.{all_entries, no_entry, nothing_nowhere}
+use Rattle.rv_count_tables.proofs.Entries.{all_entries, empty_entry, nothing_nowhere}
 use Rattle.rv_count_tables.proofs.LineTexts.{address_is_line, image_is_line, address_words, image_words}
 
 -- ---- the first line of a text, and what stands behind it
@@ -72,14 +72,14 @@ pub lowest_push : (lowest : ℕ) (cs : List AddressCounts) (c : AddressCounts)
 lowest_push lowest [] c = refl
 lowest_push lowest (d ∷ ds) c = lowest_push (d.address + 1) ds c
 
-pub rise_push : (lowest : ℕ) (cs : List AddressCounts) (c : AddressCounts) → rise_from lowest cs ≡ true
-    → lowest_after lowest cs ≤ c.address → rise_from lowest (cs ++ c ∷ []) ≡ true
-unfolding rise_from
+pub rise_push : (lowest : ℕ) (cs : List AddressCounts) (c : AddressCounts) → increase_from lowest cs ≡ true
+    → lowest_after lowest cs ≤ c.address → increase_from lowest (cs ++ c ∷ []) ≡ true
+unfolding increase_from
 rise_push lowest [] c h k =
     let t : nat_le lowest c.address ≡ true = grind (arith, nat_tests) in and_from (nat_le lowest c.address) true t refl
 rise_push lowest (d ∷ ds) c h k =
-    let p = and_parts (nat_le lowest d.address) (rise_from (d.address + 1) ds) h in
-    and_from (nat_le lowest d.address) (rise_from (d.address + 1) (ds ++ c ∷ [])) p.0 (rise_push (d.address + 1) ds c p.1 k)
+    let p = and_parts (nat_le lowest d.address) (increase_from (d.address + 1) ds) h in
+    and_from (nat_le lowest d.address) (increase_from (d.address + 1) (ds ++ c ∷ [])) p.0 (rise_push (d.address + 1) ds c p.1 k)
 
 pub digest_push : (last : Option (List ℕ)) (is : List ImageCounts) (i : ImageCounts)
     → last_digest last (is ++ i ∷ []) ≡ Some i.digest
@@ -87,12 +87,12 @@ digest_push last [] i = refl
 digest_push last (j ∷ js) i = digest_push (Some j.digest) js i
 
 pub place_push : (place : NextLines) (is : List ImageCounts) (i : ImageCounts)
-    → place_in place (is ++ i ∷ []) ≡ after_entries at_image (entries_of i)
+    → place_in place (is ++ i ∷ []) ≡ after_entries after_image_line (entries_of i)
 place_push place [] i = refl
-place_push place (j ∷ js) i = place_push (after_entries at_image (entries_of j)) js i
+place_push place (j ∷ js) i = place_push (after_entries after_image_line (entries_of j)) js i
 
-pub digests_push : (last : Option (List ℕ)) (is : List ImageCounts) (i : ImageCounts) → digests_rise last is ≡ true
-    → is_greater_than_last (last_digest last is) i.digest ≡ true → digests_rise last (is ++ i ∷ []) ≡ true
+pub digests_push : (last : Option (List ℕ)) (is : List ImageCounts) (i : ImageCounts) → digests_increase_from last is ≡ true
+    → is_greater_than_last (last_digest last is) i.digest ≡ true → digests_increase_from last (is ++ i ∷ []) ≡ true
 digests_push last [] i h k = images_rise last i [] k (no_images_rise (Some i.digest))
 digests_push last (j ∷ js) i h k = images_rise last j (js ++ i ∷ []) (image_low last j js h)
     (digests_push (Some j.digest) js i (images_behind last j js h) k)
@@ -127,11 +127,11 @@ pub record AreSoFar (text : List ℕ) (cs : List AddressCounts) (from n : ℕ) :
   pub within : n ≤ length text
   pub lines : text ≡ flat_map address_line cs ++ drop n text
   pub each : AllByRecursion IsCounted cs
-  pub rising : rise_from 0 cs ≡ true
+  pub rising : increase_from 0 cs ≡ true
   pub lowest : from ≡ lowest_after 0 cs
 
 pub none_so_far : (text : List ℕ) → AreSoFar text [] 0 0
-unfolding rise_from
+unfolding increase_from
 none_so_far text = record { within = omega arith; lines = refl; each = tt; rising = refl; lowest = refl }
 
 pub further_within : (text : List ℕ) (n : ℕ) → n ≤ length text → n + length (whole_line (drop n text)) ≤ length text
@@ -157,8 +157,8 @@ one_so_far text cs lowest n m c h counted under is e =
       lowest = sym (lowest_push 0 cs c);
     }
 
-pub all_so_far : (text : List ℕ) (lowest : ℕ) (read : AddressLines) → AreSoFar text read.addresses lowest read.length
-    → IsNotAnAddress lowest (whole_line (drop read.length text)) → AreAddressLines text read
+pub all_so_far : (text : List ℕ) (lowest : ℕ) (read : ParsedAddresses) → AreSoFar text read.addresses lowest read.length
+    → IsNotAnAddress lowest (whole_line (drop read.length text)) → AreParsedAddresses text read
 all_so_far text lowest read h no_more = record {
   within = h.within;
   lines = h.lines;
@@ -170,7 +170,7 @@ all_so_far text lowest read h no_more = record {
 
 image_line_is_kept : (i : ImageCounts) (cs : List AddressCounts) (ns : List FunctionName) (ss : List Spot)
     → image_text (record i { addresses = cs; functions = ns; spots = ss })
-    ≡ image_line i ++ flat_map address_line cs ++ flat_map (line_of_spot ns) ss
+    ≡ image_line i ++ flat_map address_line cs ++ flat_map (line_of_node ns) ss
 unfolding image_text image_line
 image_line_is_kept i cs ns ss = refl
 
@@ -199,12 +199,12 @@ plain_image text i e =
     (ap (lacks 10) (sym (same_words p.0 (image_words i) p.2)) ∙ p.1)
 
 -- what was read behind the line of an image
-pub record AreParts (text : List ℕ) (start : ℕ) (lines : AddressLines) (spots : SpotLines) (n : ℕ) : Type 0 where
-  pub addresses : AreAddressLines (drop start text) lines
-  pub stacks : AreSpotLines (drop (start + lines.length) text) spots
+pub record AreParts (text : List ℕ) (start : ℕ) (lines : ParsedAddresses) (spots : ParsedNodes) (n : ℕ) : Type 0 where
+  pub addresses : AreParsedAddresses (drop start text) lines
+  pub stacks : AreParsedNodes (drop (start + lines.length) text) spots
   pub end : n ≡ start + lines.length + spots.length
 
-parts_within : (text : List ℕ) (start : ℕ) (lines : AddressLines) (spots : SpotLines) (n : ℕ)
+parts_within : (text : List ℕ) (start : ℕ) (lines : ParsedAddresses) (spots : ParsedNodes) (n : ℕ)
     → AreParts text start lines spots n → start ≤ length text → n ≤ length text
 parts_within text start lines spots n h le =
     let a = h.addresses.within in
@@ -214,32 +214,32 @@ parts_within text start lines spots n h le =
     let e = h.end in
     omega (arith, a, b, p, q, e)
 
-parts_text : (text : List ℕ) (start : ℕ) (lines : AddressLines) (spots : SpotLines) (n : ℕ)
+parts_text : (text : List ℕ) (start : ℕ) (lines : ParsedAddresses) (spots : ParsedNodes) (n : ℕ)
     → AreParts text start lines spots n → drop start text ≡ flat_map address_line lines.addresses
-    ++ (flat_map (line_of_spot spots.functions) spots.spots ++ drop n text)
+    ++ (flat_map (line_of_node spots.functions) spots.spots ++ drop n text)
 parts_text text start lines spots n h =
-    let second : drop (start + lines.length) text ≡ flat_map (line_of_spot spots.functions) spots.spots ++ drop n text =
-    h.stacks.lines ∙ ap (λ (t : List ℕ). flat_map (line_of_spot spots.functions) spots.spots ++ t)
+    let second : drop (start + lines.length) text ≡ flat_map (line_of_node spots.functions) spots.spots ++ drop n text =
+    h.stacks.lines ∙ ap (λ (t : List ℕ). flat_map (line_of_node spots.functions) spots.spots ++ t)
     (drop-drop spots.length (start + lines.length) text ∙ ap (λ (k : ℕ). drop k text) (sym h.end)) in
     h.addresses.lines ∙ ap (λ (t : List ℕ). flat_map address_line lines.addresses ++ t)
     (drop-drop lines.length start text ∙ second)
 
-no_part : (text : List ℕ) (start : ℕ) (lines : AddressLines) (spots : SpotLines) (n : ℕ) → AreParts text start lines spots n
-    → IsNotAnEntry (after_entries at_image (all_entries lines.addresses spots.functions spots.spots)) (whole_line (drop n text))
+no_part : (text : List ℕ) (start : ℕ) (lines : ParsedAddresses) (spots : ParsedNodes) (n : ℕ) → AreParts text start lines spots n
+    → IsNotAnEntry (after_entries after_image_line (all_entries lines.addresses spots.functions spots.spots)) (whole_line (drop n text))
 no_part text start lines spots n h =
     let end = drop-drop spots.length (start + lines.length) text ∙ ap (λ (k : ℕ). drop k text) (sym h.end) in
-    subst (λ (t : List ℕ). IsNotAnEntry (after_entries at_image (all_entries lines.addresses spots.functions spots.spots)) (whole_line t)) end
-    (no_entry lines.addresses spots.functions spots.spots (whole_line (drop lines.length (drop start text)))
+    subst (λ (t : List ℕ). IsNotAnEntry (after_entries after_image_line (all_entries lines.addresses spots.functions spots.spots)) (whole_line t)) end
+    (empty_entry lines.addresses spots.functions spots.spots (whole_line (drop lines.length (drop start text)))
     (whole_line (drop spots.length (drop (start + lines.length) text)))
     h.addresses.behind h.stacks.behind h.stacks.known
     (λ e. ap whole_line (drop-drop lines.length start text ∙ h.stacks.lines
-    ∙ ap (λ (ss : List Spot). flat_map (line_of_spot spots.functions) ss ++ drop spots.length (drop (start + lines.length) text)) e)))
+    ∙ ap (λ (ss : List Spot). flat_map (line_of_node spots.functions) ss ++ drop spots.length (drop (start + lines.length) text)) e)))
 
-pub one_image : (last : Option (List ℕ)) (text : List ℕ) (image : ImageCounts) (lines : AddressLines)
-    (spots : SpotLines) (n : ℕ) → whole_line text ≡ image_line image → length image.digest ≡ 32
+pub one_image : (last : Option (List ℕ)) (text : List ℕ) (image : ImageCounts) (lines : ParsedAddresses)
+    (spots : ParsedNodes) (n : ℕ) → whole_line text ≡ image_line image → length image.digest ≡ 32
     → is_greater_than_last last image.digest ≡ true → AllByRecursion (λ b. b < 256) image.digest → IsUtf8 image.path
     → AreParts text (length (whole_line text)) lines spots n
-    → IsOneImage last text (record {
+    → IsParsedImage last text (record {
       image = record image { addresses = lines.addresses; functions = spots.functions; spots = spots.spots };
       length = n;
     })
@@ -252,7 +252,7 @@ one_image last text image lines spots n is long rising bytes utf h =
       lines = split ∙ ap (λ (s : List ℕ). s ++ drop (length w) text) is
           ∙ ap (λ (s : List ℕ). image_line image ++ s) (parts_text text (length w) lines spots n h)
           ∙ four_parts (image_line image) (flat_map address_line lines.addresses)
-          (flat_map (line_of_spot spots.functions) spots.spots) (drop n text)
+          (flat_map (line_of_node spots.functions) spots.spots) (drop n text)
           ∙ ap (λ (s : List ℕ). s ++ drop n text) (sym (image_line_is_kept image lines.addresses spots.functions spots.spots));
       some = omega (arith, long_enough, end);
       image = record {
@@ -270,7 +270,7 @@ one_image last text image lines spots n is long rising bytes utf h =
     }
 
 pub no_image_digest : (last : Option (List ℕ)) (text digest : List ℕ)
-    → ((i : ImageCounts) → IsImage i → text ≡ image_line i → digest ≡ i.digest)
+    → ((i : ImageCounts) → IsValidImage i → text ≡ image_line i → digest ≡ i.digest)
     → ((length digest == 32) && is_greater_than_last last digest) ≡ false → IsNotAnImage last text
 no_image_digest last text digest same other i h rising e =
     let d = same i h e in
@@ -282,8 +282,8 @@ unfolding image_line
 image_line_of i j d p = λ k. line (codes "image " ++ encode_lower (d k) ++ codes " " ++ p k)
 
 pub no_image_line : (last : Option (List ℕ)) (text : List ℕ) (image : ImageCounts)
-    → ((i : ImageCounts) → IsImage i → text ≡ image_line i → image.digest ≡ i.digest)
-    → ((i : ImageCounts) → IsImage i → text ≡ image_line i → image.path ≡ i.path)
+    → ((i : ImageCounts) → IsValidImage i → text ≡ image_line i → image.digest ≡ i.digest)
+    → ((i : ImageCounts) → IsValidImage i → text ≡ image_line i → image.path ≡ i.path)
     → bytes_eq text (image_line image) ≡ false → IsNotAnImage last text
 no_image_line last text image digest path other i h rising e =
     both_ways _ other ((bytes_decides text (image_line image)).1
@@ -294,8 +294,8 @@ no_image_line last text image digest path other i h rising e =
 pub record ImagesSoFar (text : List ℕ) (is : List ImageCounts) (n : ℕ) : Type 0 where
   pub within : n ≤ length text
   pub lines : text ≡ flat_map image_text is ++ drop n text
-  pub images : AllByRecursion IsImage is
-  pub rising : digests_rise None is ≡ true
+  pub images : AllByRecursion IsValidImage is
+  pub rising : digests_increase_from None is ≡ true
   pub entry : IsNotAnEntry (place_in before_first_image is) (whole_line (drop n text))
 
 pub no_images_so_far : (text : List ℕ) → ImagesSoFar text [] 0
@@ -307,8 +307,8 @@ no_images_so_far text = record {
   entry = nothing_nowhere (whole_line text);
 }
 
-pub image_so_far : (text : List ℕ) (is : List ImageCounts) (n m : ℕ) (read : OneImage) → ImagesSoFar text is n
-    → IsOneImage (last_digest None is) (drop n text) read → m ≡ n + read.length
+pub image_so_far : (text : List ℕ) (is : List ImageCounts) (n m : ℕ) (read : ParsedImage) → ImagesSoFar text is n
+    → IsParsedImage (last_digest None is) (drop n text) read → m ≡ n + read.length
     → ImagesSoFar text (is ++ read.image ∷ []) m
 image_so_far text is n m read h one e =
     let d : drop read.length (drop n text) ≡ drop m text =
@@ -319,14 +319,14 @@ image_so_far text is n m read h one e =
       within = omega (arith, within, before, l, e);
       lines = lines_push image_text is read.image text (drop n text) (drop m text) h.lines
           (one.lines ∙ ap (λ (s : List ℕ). image_text read.image ++ s) d);
-      images = each_push IsImage is read.image h.images one.image;
+      images = each_push IsValidImage is read.image h.images one.image;
       rising = digests_push None is read.image h.rising one.rising;
       entry = subst (λ (p : NextLines). IsNotAnEntry p (whole_line (drop m text))) (sym (place_push before_first_image is read.image))
-          (subst (λ (s : List ℕ). IsNotAnEntry (after_entries at_image (entries_of read.image)) (whole_line s)) d one.behind);
+          (subst (λ (s : List ℕ). IsNotAnEntry (after_entries after_image_line (entries_of read.image)) (whole_line s)) d one.behind);
     }
 
-pub images_read : (text : List ℕ) (read : ImageLines) → ImagesSoFar text read.images read.length
-    → IsNotAnImage (last_digest None read.images) (whole_line (drop read.length text)) → AreImageLines text read
+pub images_read : (text : List ℕ) (read : ParsedImages) → ImagesSoFar text read.images read.length
+    → IsNotAnImage (last_digest None read.images) (whole_line (drop read.length text)) → AreParsedImages text read
 images_read text read h no_more = record {
   within = h.within;
   lines = h.lines;

@@ -7,12 +7,12 @@ use Rattle.std.specs.Cmp.Lexicographic.{bytes_decides}
 use Rattle.std.specs.List.{AllByRecursion, flat_map}
 use Rattle.std.specs.Str.{bytes_eq}
 use Rattle.rv_count_tables.specs.declared.table.FunctionName.{FunctionName}
-use Rattle.rv_count_tables.specs.declared.table.NamedSpot.{NamedSpot}
-use Rattle.rv_count_tables.specs.declared.read_stacks.SpotLines.{SpotLines}
+use Rattle.rv_count_tables.specs.declared.table.NamedCallNode.{NamedCallNode}
+use Rattle.rv_count_tables.specs.declared.read_stacks.ParsedNodes.{ParsedNodes}
 use Rattle.rv_count_tables.specs.Lines.{lacks, whole_line}
-use Rattle.rv_count_tables.specs.Table.{name_of, IsNamedSpot, IsSpot}
-use Rattle.rv_count_tables.specs.Text.{line_of_spot, named, spot_line, words_of_spot}
-use Rattle.rv_count_tables.specs.ReadSteps.{function_name, with_name, AgreesWith, AreSpotLines, IsNotANode}
+use Rattle.rv_count_tables.specs.Table.{name_of, IsValidNamedNode, IsValidNode}
+use Rattle.rv_count_tables.specs.Text.{line_of_node, named, node_line, fields_of_node}
+use Rattle.rv_count_tables.specs.ReadSteps.{function_name, with_name, AgreesWithName, AreParsedNodes, IsNotANode}
 use Rattle.rv_count_tables.proofs.LineTexts.{spot_is_line, spot_words}
 use Rattle.rv_count_tables.proofs.NamesOfSpots.{it_has_its_name, names_so_far, no_names_so_far, others_are_named, text_of_named, AreNamesSoFar}
 use Rattle.rv_count_tables.proofs.ReadingLines.{each_push, further_within, lacks_path, line_is_long, lines_push, plain_line, same_words, whole_split}
@@ -39,12 +39,12 @@ one_line f text xs x n m h is e =
 
 -- ---- spots
 
-pub spot_is_long : (n : NamedSpot) → 0 < length (spot_line n)
+pub spot_is_long : (n : NamedCallNode) → 0 < length (node_line n)
 spot_is_long n = subst (λ (t : List ℕ). 0 < length t) (sym (spot_is_line n)) (line_is_long (spot_words n))
 
 pub record SpotsSoFar (text : List ℕ) (ss : List Spot) (names : List FunctionName) (front : List ℕ) (n : ℕ) : Type 0 where
-  pub lines : AreLines (line_of_spot names) text ss n
-  pub each : AllByRecursion IsSpot ss
+  pub lines : AreLines (line_of_node names) text ss n
+  pub each : AllByRecursion IsValidNode ss
   pub tree : IsTree ss
   pub path : front ≡ last_path [] ss
   pub named : AreNamesSoFar ss names
@@ -60,32 +60,32 @@ no_spots_so_far text = record {
 
 -- the lines so far are those by the names with one more
 lines_by_more : (text : List ℕ) (ss : List Spot) (names more : List FunctionName) (n : ℕ)
-    → map (named more) ss ≡ map (named names) ss → AreLines (line_of_spot names) text ss n
-    → AreLines (line_of_spot more) text ss n
+    → map (named more) ss ≡ map (named names) ss → AreLines (line_of_node names) text ss n
+    → AreLines (line_of_node more) text ss n
 lines_by_more text ss names more n e h = record {
   within = h.within;
   lines = h.lines ∙ ap (λ (t : List ℕ). t ++ drop n text)
-      (text_of_named names ss ∙ ap (flat_map spot_line) (sym e) ∙ sym (text_of_named more ss));
+      (text_of_named names ss ∙ ap (flat_map node_line) (sym e) ∙ sym (text_of_named more ss));
 }
 
-pub one_spot : (text : List ℕ) (ss : List Spot) (names : List FunctionName) (front : List ℕ) (n m : ℕ) (x : NamedSpot)
-    → SpotsSoFar text ss names front n → IsNamedSpot x → FollowsInPreorder front x.spot
-    → AgreesWith x.name (name_of x.spot.function names) → whole_line (drop n text) ≡ spot_line x
+pub one_spot : (text : List ℕ) (ss : List Spot) (names : List FunctionName) (front : List ℕ) (n m : ℕ) (x : NamedCallNode)
+    → SpotsSoFar text ss names front n → IsValidNamedNode x → FollowsInPreorder front x.spot
+    → AgreesWithName x.name (name_of x.spot.function names) → whole_line (drop n text) ≡ node_line x
     → m ≡ n + length (whole_line (drop n text))
     → SpotsSoFar text (ss ++ x.spot ∷ []) (with_name (function_name x) names) (path_after front x.spot) m
 one_spot text ss names front n m x h fits stands agrees is e =
     let more = with_name (function_name x) names in record {
-      lines = one_line (line_of_spot more) text ss x.spot n m
+      lines = one_line (line_of_node more) text ss x.spot n m
           (lines_by_more text ss names more n (others_are_named ss names x fits agrees h.named.of_spots) h.lines)
-          (is ∙ ap spot_line (sym (it_has_its_name ss names x fits agrees))) e;
-      each = each_push IsSpot ss x.spot h.each fits.spot;
+          (is ∙ ap node_line (sym (it_has_its_name ss names x fits agrees))) e;
+      each = each_push IsValidNode ss x.spot h.each fits.spot;
       tree = stand_of_parts [] ss (x.spot ∷ []) h.tree (subst (λ (path : List ℕ). FollowsInPreorder path x.spot) h.path stands, tt);
       path = ap (λ (path : List ℕ). path_after path x.spot) h.path ∙ sym (last_parts [] ss (x.spot ∷ []));
       named = names_so_far ss names x fits agrees h.named;
     }
 
-spots_read : (text : List ℕ) (front : List ℕ) (read : SpotLines) → SpotsSoFar text read.spots read.functions front read.length
-    → IsNotANode read.functions front (whole_line (drop read.length text)) → AreSpotLines text read
+spots_read : (text : List ℕ) (front : List ℕ) (read : ParsedNodes) → SpotsSoFar text read.spots read.functions front read.length
+    → IsNotANode read.functions front (whole_line (drop read.length text)) → AreParsedNodes text read
 spots_read text front read h no_more = record {
   within = h.lines.within;
   lines = h.lines.lines;
@@ -98,41 +98,41 @@ spots_read text front read h no_more = record {
 
 -- ---- a line that is read
 
-pub plain_name : (text : List ℕ) (n : NamedSpot) → whole_line text ≡ spot_line n → lacks 10 n.name ≡ true
+pub plain_name : (text : List ℕ) (n : NamedCallNode) → whole_line text ≡ node_line n → lacks 10 n.name ≡ true
 plain_name text n e =
     let p = plain_line text (spot_words n) (e ∙ spot_is_line n) in
-    lacks_path (words_of_spot n.spot ++ codes " ") n.name (ap (lacks 10) (sym (same_words p.0 (spot_words n) p.2)) ∙ p.1)
+    lacks_path (fields_of_node n.spot ++ codes " ") n.name (ap (lacks 10) (sym (same_words p.0 (spot_words n) p.2)) ∙ p.1)
 
-pub no_spot_here : (names : List FunctionName) (front text : List ℕ) (read : NamedSpot)
-    → ((n : NamedSpot) → IsNamedSpot n → text ≡ spot_line n → read.spot ≡ n.spot)
-    → ((IsSpot read.spot × FollowsInPreorder front read.spot) → ⊥) → IsNotANode names front text
+pub no_spot_here : (names : List FunctionName) (front text : List ℕ) (read : NamedCallNode)
+    → ((n : NamedCallNode) → IsValidNamedNode n → text ≡ node_line n → read.spot ≡ n.spot)
+    → ((IsValidNode read.spot × FollowsInPreorder front read.spot) → ⊥) → IsNotANode names front text
 no_spot_here names front text read same not n h stands agrees e =
     let s = same n h e in
-    not (subst IsSpot (sym s) h.spot, subst (FollowsInPreorder front) (sym s) stands)
+    not (subst IsValidNode (sym s) h.spot, subst (FollowsInPreorder front) (sym s) stands)
 
-pub no_spot_by_name : (names : List FunctionName) (front text : List ℕ) (read : NamedSpot)
-    → ((n : NamedSpot) → IsNamedSpot n → text ≡ spot_line n → read.spot ≡ n.spot)
-    → ((n : NamedSpot) → IsNamedSpot n → text ≡ spot_line n → read.name ≡ n.name)
-    → (AgreesWith read.name (name_of read.spot.function names) → ⊥) → IsNotANode names front text
+pub no_spot_by_name : (names : List FunctionName) (front text : List ℕ) (read : NamedCallNode)
+    → ((n : NamedCallNode) → IsValidNamedNode n → text ≡ node_line n → read.spot ≡ n.spot)
+    → ((n : NamedCallNode) → IsValidNamedNode n → text ≡ node_line n → read.name ≡ n.name)
+    → (AgreesWithName read.name (name_of read.spot.function names) → ⊥) → IsNotANode names front text
 no_spot_by_name names front text read same name not n h stands agrees e =
     let s = same n h e in
-    not (subst (λ (t : List ℕ). AgreesWith t (name_of read.spot.function names)) (sym (name n h e))
-    (subst (λ (t : Spot). AgreesWith n.name (name_of t.function names)) (sym s) agrees))
+    not (subst (λ (t : List ℕ). AgreesWithName t (name_of read.spot.function names)) (sym (name n h e))
+    (subst (λ (t : Spot). AgreesWithName n.name (name_of t.function names)) (sym s) agrees))
 
-pub no_spot_line : (names : List FunctionName) (front text : List ℕ) (read : NamedSpot)
-    → ((n : NamedSpot) → IsNamedSpot n → text ≡ spot_line n → read.spot ≡ n.spot)
-    → ((n : NamedSpot) → IsNamedSpot n → text ≡ spot_line n → read.name ≡ n.name)
-    → bytes_eq text (spot_line read) ≡ false → IsNotANode names front text
+pub no_spot_line : (names : List FunctionName) (front text : List ℕ) (read : NamedCallNode)
+    → ((n : NamedCallNode) → IsValidNamedNode n → text ≡ node_line n → read.spot ≡ n.spot)
+    → ((n : NamedCallNode) → IsValidNamedNode n → text ≡ node_line n → read.name ≡ n.name)
+    → bytes_eq text (node_line read) ≡ false → IsNotANode names front text
 no_spot_line names front text read same name other n h stands agrees e =
     let s = same n h e in
     let t = name n h e in
     let one : read ≡ n = λ i. record { spot = s i; name = t i } in
-    both_ways _ other ((bytes_decides text (spot_line read)).1 (e ∙ ap spot_line (sym one)))
+    both_ways _ other ((bytes_decides text (node_line read)).1 (e ∙ ap node_line (sym one)))
 
 -- no other spot stands behind those that were read
-pub all_spots : (text behind front line : List ℕ) (ss : List Spot) (names : List FunctionName) (read : SpotLines)
+pub all_spots : (text behind front line : List ℕ) (ss : List Spot) (names : List FunctionName) (read : ParsedNodes)
     → SpotsSoFar text ss names front read.length → read.spots ≡ ss → read.functions ≡ names → behind ≡ front
-    → line ≡ whole_line (drop read.length text) → IsNotANode names behind line → AreSpotLines text read
+    → line ≡ whole_line (drop read.length text) → IsNotANode names behind line → AreParsedNodes text read
 all_spots text behind front line ss names read h same named e w none = spots_read text front read
     (subst (λ (xs : List Spot). SpotsSoFar text xs read.functions front read.length) (sym same)
     (subst (λ (ns : List FunctionName). SpotsSoFar text ss ns front read.length) (sym named) h))

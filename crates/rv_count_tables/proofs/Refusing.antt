@@ -5,12 +5,12 @@ use Rattle.std.specs.Prelude.{codes}
 use Rattle.std.specs.List.{AllByRecursion, flat_map}
 use Rattle.rv_count_tables.specs.declared.table.ImageCounts.{ImageCounts}
 use Rattle.rv_count_tables.specs.declared.table.CountTable.{CountTable}
-use Rattle.rv_count_tables.specs.Lines.{lacks, count_of_line_feeds, first_lines}
-use Rattle.rv_count_tables.specs.Table.{digests_rise, IsImage, IsTable}
+use Rattle.rv_count_tables.specs.Lines.{lacks, line_feed_count, first_lines}
+use Rattle.rv_count_tables.specs.Table.{digests_increase_from, IsValidImage, IsTable}
 use Rattle.rv_count_tables.specs.Text.{line, first_line, image_line, image_text, last_line, table_text}
 use Rattle.rv_count_tables.specs.ReadSteps.{Entry, entry_line, entries_of, before_first_image, place_in, last_digest, IsNotAnEntry, IsNotAnImage}
 use Rattle.rv_count_tables.proofs.Entries.{image_entries}
-use Rattle.rv_count_tables.specs.Read.{BeginsTable, IsLeastRefusedLine}
+use Rattle.rv_count_tables.specs.Read.{IsTablePrefix, IsFirstInvalidLine}
 use Rattle.rv_count_tables.proofs.LineTexts.{entry_words, image_words, last_words, entry_is_line, image_is_line, last_is_line, lacks-last}
 use Rattle.rv_count_tables.proofs.LineTexts.{entry_is_not_last, image_is_not_last}
 use Rattle.rv_count_tables.proofs.Decode.{same_line, first_entry, first_image, IsRest, behind_images, rest_of_table, no_rest}
@@ -55,36 +55,36 @@ so_far_ends images = ends_images first_line images (record { front = codes "rvco
 
 -- ---- the first lines of a text that goes on
 
-feeds_of_front : (text : List ℕ) (h : EndsLine text) → count_of_line_feeds text ≡ suc (count_of_line_feeds h.front)
+feeds_of_front : (text : List ℕ) (h : EndsLine text) → line_feed_count text ≡ suc (line_feed_count h.front)
 feeds_of_front text h =
-    let e = ap count_of_line_feeds h.all in
+    let e = ap line_feed_count h.all in
     let f = feeds-append h.front (10 ∷ []) in
     omega (arith, e, f)
 
-pub lines_of_front : (text rest : List ℕ) → EndsLine text → first_lines (count_of_line_feeds text) (text ++ rest) ≡ text
+pub lines_of_front : (text rest : List ℕ) → EndsLine text → first_lines (line_feed_count text) (text ++ rest) ≡ text
 lines_of_front text rest h =
     ap (λ (n : ℕ). first_lines n (text ++ rest)) (feeds_of_front text h)
-    ∙ ap (λ (s : List ℕ). first_lines (suc (count_of_line_feeds h.front)) s)
+    ∙ ap (λ (s : List ℕ). first_lines (suc (line_feed_count h.front)) s)
     (ap (λ (s : List ℕ). s ++ rest) h.all ∙ append_assoc h.front (10 ∷ []) rest)
-    ∙ lines_up_to h.front rest (count_of_line_feeds h.front) refl ∙ sym h.all
+    ∙ lines_up_to h.front rest (line_feed_count h.front) refl ∙ sym h.all
 
 pub lines_of_next : (text xs rest : List ℕ) → lacks 10 xs ≡ true
-    → first_lines (count_of_line_feeds text + 1) (text ++ (xs ++ 10 ∷ rest)) ≡ text ++ line xs
+    → first_lines (line_feed_count text + 1) (text ++ (xs ++ 10 ∷ rest)) ≡ text ++ line xs
 lines_of_next text xs rest h =
     let e = feeds-append text xs in
     let f = no_feeds xs h in
-    ap (λ (n : ℕ). first_lines n (text ++ (xs ++ 10 ∷ rest))) (add-one (count_of_line_feeds text))
-    ∙ ap (λ (s : List ℕ). first_lines (suc (count_of_line_feeds text)) s) (sym (append_assoc text xs (10 ∷ rest)))
-    ∙ lines_up_to (text ++ xs) rest (count_of_line_feeds text) (omega (arith, e, f))
+    ap (λ (n : ℕ). first_lines n (text ++ (xs ++ 10 ∷ rest))) (add-one (line_feed_count text))
+    ∙ ap (λ (s : List ℕ). first_lines (suc (line_feed_count text)) s) (sym (append_assoc text xs (10 ∷ rest)))
+    ∙ lines_up_to (text ++ xs) rest (line_feed_count text) (omega (arith, e, f))
     ∙ append_assoc text xs (10 ∷ [])
 
 pub lines_of_more : (text rest : List ℕ) (b : ℕ) → EndsLine text
-    → (more : List ℕ) × (first_lines (count_of_line_feeds text + 1) (text ++ b ∷ rest) ≡ text ++ b ∷ more)
+    → (more : List ℕ) × (first_lines (line_feed_count text + 1) (text ++ b ∷ rest) ≡ text ++ b ∷ more)
 lines_of_more text rest b h =
-    let k = lines_past h.front rest b (count_of_line_feeds h.front) refl in (
+    let k = lines_past h.front rest b (line_feed_count h.front) refl in (
       k.0,
-      ap (λ (n : ℕ). first_lines n (text ++ b ∷ rest)) (add-one (count_of_line_feeds text) ∙ ap suc (feeds_of_front text h))
-          ∙ ap (λ (s : List ℕ). first_lines (suc (suc (count_of_line_feeds h.front))) s)
+      ap (λ (n : ℕ). first_lines n (text ++ b ∷ rest)) (add-one (line_feed_count text) ∙ ap suc (feeds_of_front text h))
+          ∙ ap (λ (s : List ℕ). first_lines (suc (suc (line_feed_count h.front))) s)
           (ap (λ (s : List ℕ). s ++ b ∷ rest) h.all ∙ append_assoc h.front (10 ∷ []) (b ∷ rest))
           ∙ k.1 ∙ sym (append_assoc h.front (10 ∷ []) (b ∷ k.0)) ∙ ap (λ (s : List ℕ). s ++ b ∷ k.0) (sym h.all),
     )
@@ -92,8 +92,8 @@ lines_of_more text rest b h =
 -- ---- what a table begins with
 
 pub record AreImages (images : List ImageCounts) : Type 0 where
-  pub each : AllByRecursion IsImage images
-  pub rising : digests_rise None images ≡ true
+  pub each : AllByRecursion IsValidImage images
+  pub rising : digests_increase_from None images ≡ true
   pub few : length images < 2 ^ 64
 
 pub is_table : (images : List ImageCounts) (runs : ℕ) → AreImages images → runs < 2 ^ 64
@@ -105,15 +105,15 @@ pub text_of : (images : List ImageCounts) (runs : ℕ)
 unfolding table_text
 text_of images runs = refl
 
-begins_so_far : (images : List ImageCounts) → AreImages images → BeginsTable (text_so_far images)
+begins_so_far : (images : List ImageCounts) → AreImages images → IsTablePrefix (text_so_far images)
 begins_so_far images h =
     (record { images = images; runs = 0 }, last_line (length images) 0, is_table images 0 h (omega arith), text_of images 0)
 
-none_rise : digests_rise None [] ≡ true
-unfolding digests_rise
+none_rise : digests_increase_from None [] ≡ true
+unfolding digests_increase_from
 none_rise = refl
 
-begins_nothing : BeginsTable []
+begins_nothing : IsTablePrefix []
 begins_nothing = (
   record { images = []; runs = 0 },
   text_so_far [] ++ last_line 0 0,
@@ -132,26 +132,26 @@ behind_so_far t images s h k e =
 
 -- ---- a line that is refused
 
-pub refused_line : (images : List ImageCounts) (xs rest bytes : List ℕ) (n : ℕ) → AreImages images → lacks 10 xs ≡ true
+pub invalid_line : (images : List ImageCounts) (xs rest bytes : List ℕ) (n : ℕ) → AreImages images → lacks 10 xs ≡ true
     → IsNotAnEntry (place_in before_first_image images) (line xs) → IsNotAnImage (last_digest None images) (line xs)
     → ((r : ℕ) → r < 2 ^ 64 → line xs ≡ last_line (length images) r → ⊥)
-    → bytes ≡ text_so_far images ++ (xs ++ 10 ∷ rest) → n ≡ count_of_line_feeds (text_so_far images) + 1
-    → IsLeastRefusedLine n bytes
-refused_line images xs rest bytes n h plain no_entry no_image no_last is number =
+    → bytes ≡ text_so_far images ++ (xs ++ 10 ∷ rest) → n ≡ line_feed_count (text_so_far images) + 1
+    → IsFirstInvalidLine n bytes
+invalid_line images xs rest bytes n h plain empty_entry no_image no_last is number =
     let text = text_so_far images in
     let before : first_lines (n - 1) bytes ≡ text =
-    (let m : n - 1 ≡ count_of_line_feeds text = omega arith in
-    ap (λ (k : ℕ). first_lines k bytes) m ∙ ap (first_lines (count_of_line_feeds text)) is
+    (let m : n - 1 ≡ line_feed_count text = omega arith in
+    ap (λ (k : ℕ). first_lines k bytes) m ∙ ap (first_lines (line_feed_count text)) is
     ∙ lines_of_front text (xs ++ 10 ∷ rest) (so_far_ends images)) in
     let here : first_lines n bytes ≡ text ++ line xs =
-    ap (λ (k : ℕ). first_lines k bytes) number ∙ ap (first_lines (count_of_line_feeds text + 1)) is
+    ap (λ (k : ℕ). first_lines k bytes) number ∙ ap (first_lines (line_feed_count text + 1)) is
     ∙ lines_of_next text xs rest plain in
     record {
-      before = subst (λ (s : List ℕ). BeginsTable s) (sym before) (begins_so_far images h);
+      before = subst (λ (s : List ℕ). IsTablePrefix s) (sym before) (begins_so_far images h);
       refused = λ b.
           let e = b.3 ∙ ap (λ (s : List ℕ). s ++ b.1) here ∙ append_assoc text (line xs) b.1 in
           let m : 0 + length images ≡ length images = omega arith in
-          no_rest (0 + length images) (last_digest None images) (place_in before_first_image images) xs b.1 plain no_entry no_image
+          no_rest (0 + length images) (last_digest None images) (place_in before_first_image images) xs b.1 plain empty_entry no_image
           (λ r small same. no_last r small (same ∙ ap (λ (k : ℕ). last_line k r) m))
           (behind_so_far b.0 images (line xs ++ b.1) b.2 h e);
     }
@@ -165,11 +165,11 @@ first_is_first xs t r plain e =
 
 -- the first line is another
 pub refused_first : (xs rest bytes : List ℕ) → lacks 10 xs ≡ true → (line xs ≡ first_line → ⊥) → bytes ≡ xs ++ 10 ∷ rest
-    → IsLeastRefusedLine 1 bytes
+    → IsFirstInvalidLine 1 bytes
 refused_first xs rest bytes plain other is =
     let here : first_lines 1 bytes ≡ line xs = ap (first_lines 1) is ∙ lines_of_next [] xs rest plain in
     record {
-      before = subst (λ (s : List ℕ). BeginsTable s) (sym (no_lines bytes)) begins_nothing;
+      before = subst (λ (s : List ℕ). IsTablePrefix s) (sym (no_lines bytes)) begins_nothing;
       refused = λ b. other (first_is_first xs b.0 b.1 plain (b.3 ∙ ap (λ (s : List ℕ). s ++ b.1) here));
     }
 
@@ -193,20 +193,20 @@ refused_behind n r b s [] [] runs hn hr all few fits =
 
 pub refused_end : (images : List ImageCounts) (runs b : ℕ) (rest bytes : List ℕ) (n : ℕ) → AreImages images → runs < 2 ^ 64
     → bytes ≡ (text_so_far images ++ last_line (length images) runs) ++ b ∷ rest
-    → n ≡ count_of_line_feeds (text_so_far images ++ last_line (length images) runs) + 1 → IsLeastRefusedLine n bytes
+    → n ≡ line_feed_count (text_so_far images ++ last_line (length images) runs) + 1 → IsFirstInvalidLine n bytes
 refused_end images runs b rest bytes n h fits is number =
     let text = text_so_far images ++ last_line (length images) runs in
     let ends : EndsLine text = ends-append (text_so_far images) (last_line (length images) runs)
     (record { front = last_words (length images) runs; all = last_is_line (length images) runs }) in
     let before : first_lines (n - 1) bytes ≡ text =
-    (let m : n - 1 ≡ count_of_line_feeds text = omega arith in
-    ap (λ (k : ℕ). first_lines k bytes) m ∙ ap (first_lines (count_of_line_feeds text)) is
+    (let m : n - 1 ≡ line_feed_count text = omega arith in
+    ap (λ (k : ℕ). first_lines k bytes) m ∙ ap (first_lines (line_feed_count text)) is
     ∙ lines_of_front text (b ∷ rest) ends) in
     let more = lines_of_more text rest b ends in
     let here : first_lines n bytes ≡ text ++ b ∷ more.0 =
-    ap (λ (k : ℕ). first_lines k bytes) number ∙ ap (first_lines (count_of_line_feeds text + 1)) is ∙ more.1 in
+    ap (λ (k : ℕ). first_lines k bytes) number ∙ ap (first_lines (line_feed_count text + 1)) is ∙ more.1 in
     record {
-      before = subst (λ (s : List ℕ). BeginsTable s) (sym before) (
+      before = subst (λ (s : List ℕ). IsTablePrefix s) (sym before) (
         record { images = images; runs = runs },
         [],
         is_table images runs h fits,
@@ -225,25 +225,25 @@ refused_end images runs b rest bytes n h fits is number =
 
 -- ---- a text that is cut off
 
-pub cut_first : (bytes : List ℕ) → lacks 10 bytes ≡ true → BeginsTable (first_lines (count_of_line_feeds bytes) bytes)
+pub cut_first : (bytes : List ℕ) → lacks 10 bytes ≡ true → IsTablePrefix (first_lines (line_feed_count bytes) bytes)
 cut_first bytes plain =
-    subst (λ (s : List ℕ). BeginsTable s)
+    subst (λ (s : List ℕ). IsTablePrefix s)
     (sym (ap (λ (n : ℕ). first_lines n bytes) (no_feeds bytes plain) ∙ no_lines bytes)) begins_nothing
 
 pub cut_behind : (images : List ImageCounts) (rest bytes : List ℕ) → AreImages images → lacks 10 rest ≡ true
-    → bytes ≡ text_so_far images ++ rest → BeginsTable (first_lines (count_of_line_feeds bytes) bytes)
+    → bytes ≡ text_so_far images ++ rest → IsTablePrefix (first_lines (line_feed_count bytes) bytes)
 cut_behind images rest bytes h plain is =
     let text = text_so_far images in
-    let feeds : count_of_line_feeds bytes ≡ count_of_line_feeds text =
-    (let e = ap count_of_line_feeds is in let f = feeds-append text rest in let g = no_feeds rest plain in
+    let feeds : line_feed_count bytes ≡ line_feed_count text =
+    (let e = ap line_feed_count is in let f = feeds-append text rest in let g = no_feeds rest plain in
     omega (arith, e, f, g)) in
-    subst (λ (s : List ℕ). BeginsTable s)
-    (sym (ap (λ (n : ℕ). first_lines n bytes) feeds ∙ ap (first_lines (count_of_line_feeds text)) is
+    subst (λ (s : List ℕ). IsTablePrefix s)
+    (sym (ap (λ (n : ℕ). first_lines n bytes) feeds ∙ ap (first_lines (line_feed_count text)) is
     ∙ lines_of_front text rest (so_far_ends images))) (begins_so_far images h)
 
 -- ---- what is refused is no table's text
 
-pub no_table_refused : (n : ℕ) (bytes : List ℕ) → IsLeastRefusedLine n bytes → (t : CountTable) → IsTable t
+pub no_table_refused : (n : ℕ) (bytes : List ℕ) → IsFirstInvalidLine n bytes → (t : CountTable) → IsTable t
     → table_text t ≡ bytes → ⊥
 no_table_refused n bytes h t is e = let k = lines_begin bytes n in h.refused (t, k.0, is, e ∙ k.1)
 

@@ -7,10 +7,10 @@ use Rattle.std.specs.Fmt.{decimal}
 use Rattle.std.specs.List.{flat_map}
 use Rattle.std.specs.Ordering.{is_eq, nat_cmp}
 use Rattle.rv_count_tables.specs.declared.table.FunctionName.{FunctionName}
-use Rattle.rv_count_tables.specs.declared.text.FunctionWords.{FunctionWords}
-use Rattle.rv_count_tables.specs.SpotLines.{line_by_index, line_by_words, line_with_digits, words_of_function, words_with_digits, IsIndexOf}
+use Rattle.rv_count_tables.specs.declared.text.FunctionFields.{FunctionFields}
+use Rattle.rv_count_tables.specs.ParsedNodes.{line_by_index, line_by_fields, line_with_digits, fields_of_function, fields_with_digits, IsIndexOf}
 use Rattle.rv_count_tables.specs.Table.{name_of}
-use Rattle.rv_count_tables.specs.Text.{line_of_spot, name_or_nothing, spot_line, words_of_spot}
+use Rattle.rv_count_tables.specs.Text.{line_of_node, name_or_empty, node_line, fields_of_node}
 use Rattle.rv_call_tree.specs.declared.spot.Spot.{Spot}
 
 -- a name behind others is that of a function without another
@@ -30,7 +30,7 @@ nothing : (o : Option (List ℕ)) → is_some o ≡ false → o ≡ None
 nothing None h = refl
 nothing (Some name) h = absurd (false≢true (sym h))
 
-some_words : (o : Option (List ℕ)) (f : ℕ) → is_some (option_map (words_of_function f) o) ≡ is_some o
+some_words : (o : Option (List ℕ)) (f : ℕ) → is_some (option_map (fields_of_function f) o) ≡ is_some o
 some_words None f = refl
 some_words (Some name) f = refl
 
@@ -66,57 +66,57 @@ same_key : (f g : ℕ) → is_eq (nat_cmp f g) ≡ (f == g)
 same_key f g = grind (arith, nat_tests)
 
 -- whether a function is in an index is whether it has a name
-is_named : (index : BTreeMap ℕ FunctionWords) (ns : List FunctionName) (f g : ℕ) → IsIndexOf ns index → (f == g) ≡ true
+is_named : (index : BTreeMap ℕ FunctionFields) (ns : List FunctionName) (f g : ℕ) → IsIndexOf ns index → (f == g) ≡ true
     → is_some (name_of g ns) ≡ is_some (get nat_cmp index f)
 is_named index ns f g is t =
     sym (some_words (name_of g ns) g) ∙ ap is_some (sym (is g))
     ∙ ap (λ (h : ℕ). is_some (get nat_cmp index h)) (sym (eqb-true f g t))
 
-pub no_index : (index : BTreeMap ℕ FunctionWords) → index.entries ≡ [] → IsIndexOf [] index
+pub no_index : (index : BTreeMap ℕ FunctionFields) → index.entries ≡ [] → IsIndexOf [] index
 no_index index none f = rw none refl
 
 -- a function that has a name keeps it
-pub index_keeps : (index : BTreeMap ℕ FunctionWords) (ns : List FunctionName) (n : FunctionName) → IsIndexOf ns index
+pub index_keeps : (index : BTreeMap ℕ FunctionFields) (ns : List FunctionName) (n : FunctionName) → IsIndexOf ns index
     → is_some (get nat_cmp index n.function) ≡ true → IsIndexOf (ns ++ n ∷ []) index
-index_keeps index ns n is some f = is f ∙ ap (option_map (words_of_function f)) (sym (elim (cases_Bool (n.function == f)) [
+index_keeps index ns n is some f = is f ∙ ap (option_map (fields_of_function f)) (sym (elim (cases_Bool (n.function == f)) [
   | inl t ↦ earlier_name f ns n (is_named index ns n.function f is t ∙ some)
   | inr t ↦ other_name f ns n t
 ]))
 
 -- one that has none is given it
-pub index_more : (index more : BTreeMap ℕ FunctionWords) (ns : List FunctionName) (n : FunctionName) (x : FunctionWords)
+pub index_more : (index more : BTreeMap ℕ FunctionFields) (ns : List FunctionName) (n : FunctionName) (x : FunctionFields)
     → IsIndexOf ns index → is_some (get nat_cmp index n.function) ≡ false → Updates nat_cmp index more n.function (Some x)
-    → x ≡ words_of_function n.function n.name → IsIndexOf (ns ++ n ∷ []) more
+    → x ≡ fields_of_function n.function n.name → IsIndexOf (ns ++ n ∷ []) more
 index_more index more ns n x is none put words f =
     put.0 f ∙ ap (λ (b : Bool). cond b (Some x) (get nat_cmp index f)) (same_key n.function f)
     ∙ elim (cases_Bool (n.function == f)) [
       | inl t ↦
           ap (λ (b : Bool). cond b (Some x) (get nat_cmp index f)) t
-          ∙ ap Some (words ∙ ap (λ (g : ℕ). words_of_function g n.name) (eqb-true n.function f t))
-          ∙ ap (option_map (words_of_function f))
+          ∙ ap Some (words ∙ ap (λ (g : ℕ). fields_of_function g n.name) (eqb-true n.function f t))
+          ∙ ap (option_map (fields_of_function f))
           (sym (first_name f ns n t (nothing (name_of f ns) (is_named index ns n.function f is t ∙ none))))
       | inr t ↦
           ap (λ (b : Bool). cond b (Some x) (get nat_cmp index f)) t ∙ is f
-          ∙ ap (option_map (words_of_function f)) (sym (other_name f ns n t))
+          ∙ ap (option_map (fields_of_function f)) (sym (other_name f ns n t))
     ]
 
 -- ---- the line of a spot
 
 -- by the words of a function it is that of its name
 line_by_name : (o : Option (List ℕ)) (s : Spot)
-    → line_by_words (option_map (words_of_function s.function) o) s ≡ spot_line (record { spot = s; name = name_or_nothing o })
-unfolding line_with_digits words_with_digits spot_line words_of_spot
+    → line_by_fields (option_map (fields_of_function s.function) o) s ≡ node_line (record { spot = s; name = name_or_empty o })
+unfolding line_with_digits fields_with_digits node_line fields_of_node
 line_by_name None s = refl
 line_by_name (Some name) s = refl
 
-line_is : (index : BTreeMap ℕ FunctionWords) (ns : List FunctionName) (s : Spot) → IsIndexOf ns index
-    → line_by_index index s ≡ line_of_spot ns s
+line_is : (index : BTreeMap ℕ FunctionFields) (ns : List FunctionName) (s : Spot) → IsIndexOf ns index
+    → line_by_index index s ≡ line_of_node ns s
 unfolding line_by_index
 line_is index ns s is =
-    ap (λ (o : Option FunctionWords). line_by_words o s) (is s.function) ∙ line_by_name (name_of s.function ns) s
+    ap (λ (o : Option FunctionFields). line_by_fields o s) (is s.function) ∙ line_by_name (name_of s.function ns) s
 
-pub lines_are : (index : BTreeMap ℕ FunctionWords) (ns : List FunctionName) (ss : List Spot) → IsIndexOf ns index
-    → flat_map (line_by_index index) ss ≡ flat_map (line_of_spot ns) ss
+pub lines_are : (index : BTreeMap ℕ FunctionFields) (ns : List FunctionName) (ss : List Spot) → IsIndexOf ns index
+    → flat_map (line_by_index index) ss ≡ flat_map (line_of_node ns) ss
 lines_are index ns [] is = refl
 lines_are index ns (s ∷ ss) is = (λ i. line_is index ns s is i ++ lines_are index ns ss is i)
 
@@ -131,8 +131,8 @@ next_word text more whole words word e f =
 pub words_pushed : (text first second third fourth fifth digits : List ℕ) (s : Spot) → first ≡ text ++ codes "spot"
     → second ≡ first ++ codes " " ++ decimal s.depth → third ≡ second ++ codes " " ++ digits
     → fourth ≡ third ++ codes " " ++ decimal s.arrivals → fifth ≡ fourth ++ codes " " ++ decimal s.steps
-    → fifth ≡ text ++ words_with_digits digits s
-unfolding words_with_digits
+    → fifth ≡ text ++ fields_with_digits digits s
+unfolding fields_with_digits
 words_pushed text first second third fourth fifth digits s e1 e2 e3 e4 e5 =
     let depth = next_word text first second (codes "spot") (decimal s.depth) e1 e2 in
     let function = next_word text second third _ digits depth e3 in

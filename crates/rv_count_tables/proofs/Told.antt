@@ -5,7 +5,7 @@ use Rattle.std.proofs.lemmas.Bool.Decides.{nat_tests}
 use Rattle.std.specs.Prelude.{◌&&◌, nat_le}
 use Rattle.std.specs.List.{AllByRecursion}
 use Rattle.rv_count_tables.specs.declared.table.AddressCounts.{AddressCounts}
-use Rattle.rv_count_tables.specs.Table.{executed_at, taken_at, rise_from, IsCounted, AreCounts}
+use Rattle.rv_count_tables.specs.Table.{executed_at, taken_at, increase_from, IsCounted, AreValidCounts}
 use Rattle.rv_count_tables.specs.Sum.{IsSumOfCounts}
 
 pub here : (a : ℕ) → (a == a) ≡ true
@@ -21,17 +21,17 @@ pub passed : (t : Bool) (n m : ℕ) → t ≡ false → cond t n 0 + m ≡ m
 passed t n m h = ap (λ (s : Bool). cond s n 0 + m) h ∙ omega arith
 
 -- the lowest address, and the rest rises behind it
-pub low : (lowest : ℕ) (c : AddressCounts) (cs : List AddressCounts) → rise_from lowest (c ∷ cs) ≡ true → lowest ≤ c.address
-unfolding rise_from
-low lowest c cs h = let p = (and_parts (nat_le lowest c.address) (rise_from (c.address + 1) cs) h).0 in grind (arith, nat_tests)
+pub low : (lowest : ℕ) (c : AddressCounts) (cs : List AddressCounts) → increase_from lowest (c ∷ cs) ≡ true → lowest ≤ c.address
+unfolding increase_from
+low lowest c cs h = let p = (and_parts (nat_le lowest c.address) (increase_from (c.address + 1) cs) h).0 in grind (arith, nat_tests)
 
-pub behind : (lowest : ℕ) (c : AddressCounts) (cs : List AddressCounts) → rise_from lowest (c ∷ cs) ≡ true
-    → rise_from (c.address + 1) cs ≡ true
-unfolding rise_from
-behind lowest c cs h = (and_parts (nat_le lowest c.address) (rise_from (c.address + 1) cs) h).1
+pub behind : (lowest : ℕ) (c : AddressCounts) (cs : List AddressCounts) → increase_from lowest (c ∷ cs) ≡ true
+    → increase_from (c.address + 1) cs ≡ true
+unfolding increase_from
+behind lowest c cs h = (and_parts (nat_le lowest c.address) (increase_from (c.address + 1) cs) h).1
 
 -- below its lowest address a list has nothing
-pub none_below : (cs : List AddressCounts) (lowest address : ℕ) → rise_from lowest cs ≡ true → address < lowest
+pub none_below : (cs : List AddressCounts) (lowest address : ℕ) → increase_from lowest cs ≡ true → address < lowest
     → executed_at address cs ≡ 0
 none_below [] lowest address h under = refl
 none_below (c ∷ cs) lowest address h under =
@@ -39,7 +39,7 @@ none_below (c ∷ cs) lowest address h under =
     passed (c.address == address) c.begun (executed_at address cs) (elsewhere address c.address (omega arith))
     ∙ none_below cs (c.address + 1) address (behind lowest c cs h) (omega arith)
 
-pub untaken_below : (cs : List AddressCounts) (lowest address : ℕ) → rise_from lowest cs ≡ true → address < lowest
+pub untaken_below : (cs : List AddressCounts) (lowest address : ℕ) → increase_from lowest cs ≡ true → address < lowest
     → taken_at address cs ≡ 0
 untaken_below [] lowest address h under = refl
 untaken_below (c ∷ cs) lowest address h under =
@@ -48,30 +48,30 @@ untaken_below (c ∷ cs) lowest address h under =
     ∙ untaken_below cs (c.address + 1) address (behind lowest c cs h) (omega arith)
 
 -- at its first address a list has the first entry's numbers
-pub first_begun : (lowest : ℕ) (c : AddressCounts) (cs : List AddressCounts) → rise_from lowest (c ∷ cs) ≡ true
+pub first_begun : (lowest : ℕ) (c : AddressCounts) (cs : List AddressCounts) → increase_from lowest (c ∷ cs) ≡ true
     → executed_at c.address (c ∷ cs) ≡ c.begun
 first_begun lowest c cs h =
     let rest = none_below cs (c.address + 1) c.address (behind lowest c cs h) (omega arith) in
     picked (c.address == c.address) c.begun (executed_at c.address cs) (here c.address) ∙ omega arith
 
-pub first_taken : (lowest : ℕ) (c : AddressCounts) (cs : List AddressCounts) → rise_from lowest (c ∷ cs) ≡ true
+pub first_taken : (lowest : ℕ) (c : AddressCounts) (cs : List AddressCounts) → increase_from lowest (c ∷ cs) ≡ true
     → taken_at c.address (c ∷ cs) ≡ c.taken
 first_taken lowest c cs h =
     let rest = untaken_below cs (c.address + 1) c.address (behind lowest c cs h) (omega arith) in
     picked (c.address == c.address) c.taken (taken_at c.address cs) (here c.address) ∙ omega arith
 
 -- a list rises from its first address
-pub from_own : (k : ℕ) (e : AddressCounts) (es : List AddressCounts) → rise_from k (e ∷ es) ≡ true
-    → rise_from e.address (e ∷ es) ≡ true
-unfolding rise_from
+pub from_own : (k : ℕ) (e : AddressCounts) (es : List AddressCounts) → increase_from k (e ∷ es) ≡ true
+    → increase_from e.address (e ∷ es) ≡ true
+unfolding increase_from
 from_own k e es h =
-    let rest = (and_parts (nat_le k e.address) (rise_from (e.address + 1) es) h).1 in
+    let rest = (and_parts (nat_le k e.address) (increase_from (e.address + 1) es) h).1 in
     let n : nat_le e.address e.address ≡ true = grind (arith, nat_tests) in
-    ap (λ (t : Bool). t && rise_from (e.address + 1) es) n ∙ rest
+    ap (λ (t : Bool). t && increase_from (e.address + 1) es) n ∙ rest
 
 -- lists with the same numbers begin at one address
-pub one_address : (c d : AddressCounts) (cs ds : List AddressCounts) (l m : ℕ) → rise_from l (c ∷ cs) ≡ true
-    → rise_from m (d ∷ ds) ≡ true → 0 < c.begun → 0 < d.begun
+pub one_address : (c d : AddressCounts) (cs ds : List AddressCounts) (l m : ℕ) → increase_from l (c ∷ cs) ≡ true
+    → increase_from m (d ∷ ds) ≡ true → 0 < c.begun → 0 < d.begun
     → executed_at c.address (c ∷ cs) ≡ executed_at c.address (d ∷ ds)
     → executed_at d.address (c ∷ cs) ≡ executed_at d.address (d ∷ ds) → c.address ≡ d.address
 one_address c d cs ds l m rc rd pc pd at_c at_d =
@@ -95,7 +95,7 @@ left_over n m p q e h = omega arith
 
 -- lists with the same numbers at each address are one
 pub one_list : (xs ys : List AddressCounts) (l m : ℕ) → AllByRecursion IsCounted xs → AllByRecursion IsCounted ys
-    → rise_from l xs ≡ true → rise_from m ys ≡ true
+    → increase_from l xs ≡ true → increase_from m ys ≡ true
     → ((address : ℕ) → executed_at address xs ≡ executed_at address ys)
     → ((address : ℕ) → taken_at address xs ≡ taken_at address ys) → xs ≡ ys
 one_list [] [] l m px py rx ry begun taken = refl
@@ -124,7 +124,7 @@ one_list (c ∷ cs) (d ∷ ds) l m px py rx ry begun taken =
     (λ i. cond (a i == address) (t i) 0) (taken address)) in
     λ i. same_entry c d a b t i ∷ rest i
 
-pub one_of : (xs ys : List AddressCounts) → AreCounts xs → AreCounts ys
+pub one_of : (xs ys : List AddressCounts) → AreValidCounts xs → AreValidCounts ys
     → ((address : ℕ) → executed_at address xs ≡ executed_at address ys)
     → ((address : ℕ) → taken_at address xs ≡ taken_at address ys) → xs ≡ ys
 one_of xs ys x y begun taken = one_list xs ys 0 0 x.each y.each x.rising y.rising begun taken

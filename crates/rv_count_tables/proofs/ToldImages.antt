@@ -6,22 +6,22 @@ use Rattle.std.specs.List.{AllByRecursion}
 use Rattle.std.specs.Str.{bytes_eq}
 use Rattle.rv_count_tables.specs.declared.table.ImageCounts.{ImageCounts}
 use Rattle.rv_count_tables.specs.declared.table.CountTable.{CountTable}
-use Rattle.rv_count_tables.specs.Table.{executed_at, taken_at, name_at, executed_in, taken_in, path_in, name_in, arrivals_in, steps_in, least_path_of, is_before, digests_rise, IsImage, IsTable}
-use Rattle.rv_call_tree.specs.Trees.{arrivals_at, steps_at}
+use Rattle.rv_count_tables.specs.Table.{executed_at, taken_at, name_at, executed_in, taken_in, next_path, truncated_name, arrivals_in, steps_in, min_text_of, is_before, digests_increase_from, IsValidImage, IsTable}
+use Rattle.rv_call_tree.specs.Trees.{calls_at, steps_at}
 use Rattle.rv_call_tree.proofs.Public.{one_tree_of_counts}
 use Rattle.rv_count_tables.proofs.AddingNames.{one_list_of_names}
-use Rattle.rv_count_tables.specs.Sum.{IsSum}
+use Rattle.rv_count_tables.specs.Sum.{IsSumOfTables}
 use Rattle.rv_count_tables.proofs.Told.{one_of, left_over, either_order, either_first}
 use Rattle.rv_count_tables.proofs.AddingImages.{all_come_to, head_differs, images_behind, images_raised, none_named, still_up}
 use Rattle.rv_count_tables.proofs.Paths.{none_before_itself, none_behind, same_place, either, any_first}
 
 -- ---- a digest that is not among those of a list
 
-no_path : (is : List ImageCounts) (last digest : List ℕ) → digests_rise (Some last) is ≡ true
-    → is_before last digest ≡ false → path_in digest is ≡ None
+no_path : (is : List ImageCounts) (last digest : List ℕ) → digests_increase_from (Some last) is ≡ true
+    → is_before last digest ≡ false → next_path digest is ≡ None
 no_path [] last digest h up = refl
 no_path (i ∷ is) last digest h up =
-    ap (λ (t : Bool). least_path_of (cond t (Some i.path) None) (path_in digest is)) (head_differs last digest i is h up)
+    ap (λ (t : Bool). min_text_of (cond t (Some i.path) None) (next_path digest is)) (head_differs last digest i is h up)
     ∙ no_path is i.digest digest (images_behind (Some last) i is h) (still_up last digest i is h up)
 
 -- what is counted of each image, in that of a digest
@@ -29,7 +29,7 @@ abbrev counted_in : (ImageCounts → ℕ) → List ℕ → List ImageCounts → 
 counted_in count digest [] = 0
 counted_in count digest (i ∷ is) = cond (bytes_eq i.digest digest) (count i) 0 + counted_in count digest is
 
-none_counted : (count : ImageCounts → ℕ) (is : List ImageCounts) (last digest : List ℕ) → digests_rise (Some last) is ≡ true
+none_counted : (count : ImageCounts → ℕ) (is : List ImageCounts) (last digest : List ℕ) → digests_increase_from (Some last) is ≡ true
     → is_before last digest ≡ false → counted_in count digest is ≡ 0
 none_counted count [] last digest h up = refl
 none_counted count (i ∷ is) last digest h up =
@@ -49,10 +49,10 @@ taken_is n digest [] = refl
 taken_is n digest (i ∷ is) = ap (λ (m : ℕ). cond (bytes_eq i.digest digest) (taken_at n i.addresses) 0 + m) (taken_is n digest is)
 
 arrivals_is : (path digest : List ℕ) (is : List ImageCounts)
-    → arrivals_in digest path is ≡ counted_in (λ i. arrivals_at path i.spots) digest is
+    → arrivals_in digest path is ≡ counted_in (λ i. calls_at path i.spots) digest is
 arrivals_is path digest [] = refl
 arrivals_is path digest (i ∷ is) =
-    ap (λ (m : ℕ). cond (bytes_eq i.digest digest) (arrivals_at path i.spots) 0 + m) (arrivals_is path digest is)
+    ap (λ (m : ℕ). cond (bytes_eq i.digest digest) (calls_at path i.spots) 0 + m) (arrivals_is path digest is)
 
 steps_is : (path digest : List ℕ) (is : List ImageCounts)
     → steps_in digest path is ≡ counted_in (λ i. steps_at path i.spots) digest is
@@ -65,34 +65,34 @@ steps_is path digest (i ∷ is) =
 itself : (s : List ℕ) → bytes_eq s s ≡ true
 itself s = (bytes_decides s s).1 refl
 
-path_of_first : (last : Option (List ℕ)) (i : ImageCounts) (is : List ImageCounts) → digests_rise last (i ∷ is) ≡ true
-    → path_in i.digest (i ∷ is) ≡ Some i.path
-path_of_first last i is h =
-    ap (λ (t : Bool). least_path_of (cond t (Some i.path) None) (path_in i.digest is)) (itself i.digest)
-    ∙ ap (least_path_of (Some i.path)) (no_path is i.digest i.digest (images_behind last i is h) (none_before_itself i.digest))
+path_after_first : (last : Option (List ℕ)) (i : ImageCounts) (is : List ImageCounts) → digests_increase_from last (i ∷ is) ≡ true
+    → next_path i.digest (i ∷ is) ≡ Some i.path
+path_after_first last i is h =
+    ap (λ (t : Bool). min_text_of (cond t (Some i.path) None) (next_path i.digest is)) (itself i.digest)
+    ∙ ap (min_text_of (Some i.path)) (no_path is i.digest i.digest (images_behind last i is h) (none_before_itself i.digest))
 
 counted_of_first : (count : ImageCounts → ℕ) (last : Option (List ℕ)) (i : ImageCounts) (is : List ImageCounts)
-    → digests_rise last (i ∷ is) ≡ true → counted_in count i.digest (i ∷ is) ≡ count i
+    → digests_increase_from last (i ∷ is) ≡ true → counted_in count i.digest (i ∷ is) ≡ count i
 counted_of_first count last i is h =
     let e = ap (λ (t : Bool). cond t (count i) 0) (itself i.digest) in
     let r = none_counted count is i.digest i.digest (images_behind last i is h) (none_before_itself i.digest) in
     omega (arith, e, r)
 
-name_of_first : (last : Option (List ℕ)) (i : ImageCounts) (is : List ImageCounts) (f : ℕ) → digests_rise last (i ∷ is) ≡ true
-    → name_in i.digest f (i ∷ is) ≡ name_at f i.functions
+name_of_first : (last : Option (List ℕ)) (i : ImageCounts) (is : List ImageCounts) (f : ℕ) → digests_increase_from last (i ∷ is) ≡ true
+    → truncated_name i.digest f (i ∷ is) ≡ name_at f i.functions
 name_of_first last i is f h =
-    ap (λ (t : Bool). least_path_of (cond t (name_at f i.functions) None) (name_in i.digest f is)) (itself i.digest)
-    ∙ ap (least_path_of (name_at f i.functions)) (none_named is i.digest i.digest f (images_behind last i is h) (none_before_itself i.digest))
+    ap (λ (t : Bool). min_text_of (cond t (name_at f i.functions) None) (truncated_name i.digest f is)) (itself i.digest)
+    ∙ ap (min_text_of (name_at f i.functions)) (none_named is i.digest i.digest f (images_behind last i is h) (none_before_itself i.digest))
     ∙ none_behind (name_at f i.functions)
 
 -- the first digest of one list is not below that of a list with the same paths
-not_earlier : (l m : Option (List ℕ)) (i j : ImageCounts) (is js : List ImageCounts) → digests_rise l (i ∷ is) ≡ true
-    → digests_rise m (j ∷ js) ≡ true → path_in i.digest (i ∷ is) ≡ path_in i.digest (j ∷ js)
+not_earlier : (l m : Option (List ℕ)) (i j : ImageCounts) (is js : List ImageCounts) → digests_increase_from l (i ∷ is) ≡ true
+    → digests_increase_from m (j ∷ js) ≡ true → next_path i.digest (i ∷ is) ≡ next_path i.digest (j ∷ js)
     → is_before i.digest j.digest ≡ false
 not_earlier l m i j is js h k e = elim (cases_Bool (is_before i.digest j.digest)) [
   | inl t ↦
       let none = no_path (j ∷ js) i.digest i.digest (images_raised m i.digest j js k t) (none_before_itself i.digest) in
-      let some = path_of_first l i is h in
+      let some = path_after_first l i is h in
       let c : Some i.path ≡ None = sym some ∙ e ∙ none in absurd (cc)
   | inr f ↦ f
 ]
@@ -104,14 +104,14 @@ some_is p q e = cc
 pub record AreAlike (is js : List ImageCounts) : Type 0 where
   pub begun : (digest : List ℕ) (n : ℕ) → executed_in digest n is ≡ executed_in digest n js
   pub taken : (digest : List ℕ) (n : ℕ) → taken_in digest n is ≡ taken_in digest n js
-  pub paths : (digest : List ℕ) → path_in digest is ≡ path_in digest js
-  pub names : (digest : List ℕ) (f : ℕ) → name_in digest f is ≡ name_in digest f js
+  pub paths : (digest : List ℕ) → next_path digest is ≡ next_path digest js
+  pub names : (digest : List ℕ) (f : ℕ) → truncated_name digest f is ≡ truncated_name digest f js
   pub arrivals : (digest path : List ℕ) → arrivals_in digest path is ≡ arrivals_in digest path js
   pub steps : (digest path : List ℕ) → steps_in digest path is ≡ steps_in digest path js
 
 -- a number of the first images of both lists
 first_count : (count : ImageCounts → ℕ) (l m : Option (List ℕ)) (i j : ImageCounts) (is js : List ImageCounts)
-    → digests_rise l (i ∷ is) ≡ true → digests_rise m (j ∷ js) ≡ true → i.digest ≡ j.digest
+    → digests_increase_from l (i ∷ is) ≡ true → digests_increase_from m (j ∷ js) ≡ true → i.digest ≡ j.digest
     → counted_in count i.digest (i ∷ is) ≡ counted_in count i.digest (j ∷ js) → count i ≡ count j
 first_count count l m i j is js h k d e = sym (counted_of_first count l i is h) ∙ e
     ∙ ap (λ (s : List ℕ). counted_in count s (j ∷ js)) d ∙ counted_of_first count m j js k
@@ -123,11 +123,11 @@ other_counts count digest i j is js one e =
     left_over (cond (bytes_eq i.digest digest) (count i) 0) (cond (bytes_eq j.digest digest) (count j) 0) _ _
     (λ x. cond (bytes_eq (one x).digest digest) (count (one x)) 0) e
 
-same_image : (l m : Option (List ℕ)) (i j : ImageCounts) (is js : List ImageCounts) → digests_rise l (i ∷ is) ≡ true
-    → digests_rise m (j ∷ js) ≡ true → IsImage i → IsImage j → i.digest ≡ j.digest → AreAlike (i ∷ is) (j ∷ js) → i ≡ j
+same_image : (l m : Option (List ℕ)) (i j : ImageCounts) (is js : List ImageCounts) → digests_increase_from l (i ∷ is) ≡ true
+    → digests_increase_from m (j ∷ js) ≡ true → IsValidImage i → IsValidImage j → i.digest ≡ j.digest → AreAlike (i ∷ is) (j ∷ js) → i ≡ j
 same_image l m i j is js h k p q d alike =
-    let path = some_is i.path j.path (sym (path_of_first l i is h) ∙ alike.paths i.digest
-    ∙ ap (λ (s : List ℕ). path_in s (j ∷ js)) d ∙ path_of_first m j js k) in
+    let path = some_is i.path j.path (sym (path_after_first l i is h) ∙ alike.paths i.digest
+    ∙ ap (λ (s : List ℕ). next_path s (j ∷ js)) d ∙ path_after_first m j js k) in
     let addresses = one_of i.addresses j.addresses p.counts q.counts
     (λ n. first_count (λ x. executed_at n x.addresses) l m i j is js h k d
     (sym (begun_is n i.digest (i ∷ is)) ∙ alike.begun i.digest n ∙ begun_is n i.digest (j ∷ js)))
@@ -135,10 +135,10 @@ same_image l m i j is js h k p q d alike =
     (sym (taken_is n i.digest (i ∷ is)) ∙ alike.taken i.digest n ∙ taken_is n i.digest (j ∷ js))) in
     let functions = one_list_of_names i.functions j.functions p.names q.names
     (λ f. sym (name_of_first l i is f h) ∙ alike.names i.digest f
-    ∙ ap (λ (s : List ℕ). name_in s f (j ∷ js)) d ∙ name_of_first m j js f k) in
+    ∙ ap (λ (s : List ℕ). truncated_name s f (j ∷ js)) d ∙ name_of_first m j js f k) in
     let spots = one_tree_of_counts i.spots j.spots p.spots.tree q.spots.tree (all_come_to i.spots p.spots.each)
     (all_come_to j.spots q.spots.each)
-    (λ at. first_count (λ x. arrivals_at at x.spots) l m i j is js h k d
+    (λ at. first_count (λ x. calls_at at x.spots) l m i j is js h k d
     (sym (arrivals_is at i.digest (i ∷ is)) ∙ alike.arrivals i.digest at ∙ arrivals_is at i.digest (j ∷ js)))
     (λ at. first_count (λ x. steps_at at x.spots) l m i j is js h k d
     (sym (steps_is at i.digest (i ∷ is)) ∙ alike.steps i.digest at ∙ steps_is at i.digest (j ∷ js))) in
@@ -146,8 +146,8 @@ same_image l m i j is js h k p q d alike =
 
 -- the paths of the others
 other_paths : (l m : Option (List ℕ)) (i j : ImageCounts) (is js : List ImageCounts) (digest : List ℕ) → i ≡ j
-    → digests_rise l (i ∷ is) ≡ true → digests_rise m (j ∷ js) ≡ true
-    → path_in digest (i ∷ is) ≡ path_in digest (j ∷ js) → path_in digest is ≡ path_in digest js
+    → digests_increase_from l (i ∷ is) ≡ true → digests_increase_from m (j ∷ js) ≡ true
+    → next_path digest (i ∷ is) ≡ next_path digest (j ∷ js) → next_path digest is ≡ next_path digest js
 other_paths l m i j is js digest same h k e = elim (cases_Bool (bytes_eq i.digest digest)) [
   | inl t ↦
       let d : i.digest ≡ digest = (bytes_decides i.digest digest).0 t in
@@ -156,14 +156,14 @@ other_paths l m i j is js digest same h k e = elim (cases_Bool (bytes_eq i.diges
       ∙ sym (no_path js j.digest digest (images_behind m j js k) (ap (is_before j.digest) (sym d') ∙ none_before_itself j.digest))
   | inr f ↦
       let g : bytes_eq j.digest digest ≡ false = ap (λ (x : ImageCounts). bytes_eq x.digest digest) (sym same) ∙ f in
-      sym (ap (λ (t : Bool). least_path_of (cond t (Some i.path) None) (path_in digest is)) f) ∙ e
-      ∙ ap (λ (t : Bool). least_path_of (cond t (Some j.path) None) (path_in digest js)) g
+      sym (ap (λ (t : Bool). min_text_of (cond t (Some i.path) None) (next_path digest is)) f) ∙ e
+      ∙ ap (λ (t : Bool). min_text_of (cond t (Some j.path) None) (next_path digest js)) g
 ]
 
 -- the names
 other_names : (l m : Option (List ℕ)) (i j : ImageCounts) (is js : List ImageCounts) (digest : List ℕ) (f : ℕ) → i ≡ j
-    → digests_rise l (i ∷ is) ≡ true → digests_rise m (j ∷ js) ≡ true
-    → name_in digest f (i ∷ is) ≡ name_in digest f (j ∷ js) → name_in digest f is ≡ name_in digest f js
+    → digests_increase_from l (i ∷ is) ≡ true → digests_increase_from m (j ∷ js) ≡ true
+    → truncated_name digest f (i ∷ is) ≡ truncated_name digest f (j ∷ js) → truncated_name digest f is ≡ truncated_name digest f js
 other_names l m i j is js digest f same h k e = elim (cases_Bool (bytes_eq i.digest digest)) [
   | inl t ↦
       let d : i.digest ≡ digest = (bytes_decides i.digest digest).0 t in
@@ -172,12 +172,12 @@ other_names l m i j is js digest f same h k e = elim (cases_Bool (bytes_eq i.dig
       ∙ sym (none_named js j.digest digest f (images_behind m j js k) (ap (is_before j.digest) (sym d') ∙ none_before_itself j.digest))
   | inr t ↦
       let g : bytes_eq j.digest digest ≡ false = ap (λ (x : ImageCounts). bytes_eq x.digest digest) (sym same) ∙ t in
-      sym (ap (λ (b : Bool). least_path_of (cond b (name_at f i.functions) None) (name_in digest f is)) t) ∙ e
-      ∙ ap (λ (b : Bool). least_path_of (cond b (name_at f j.functions) None) (name_in digest f js)) g
+      sym (ap (λ (b : Bool). min_text_of (cond b (name_at f i.functions) None) (truncated_name digest f is)) t) ∙ e
+      ∙ ap (λ (b : Bool). min_text_of (cond b (name_at f j.functions) None) (truncated_name digest f js)) g
 ]
 
-others_alike : (l m : Option (List ℕ)) (i j : ImageCounts) (is js : List ImageCounts) → digests_rise l (i ∷ is) ≡ true
-    → digests_rise m (j ∷ js) ≡ true → i ≡ j → AreAlike (i ∷ is) (j ∷ js) → AreAlike is js
+others_alike : (l m : Option (List ℕ)) (i j : ImageCounts) (is js : List ImageCounts) → digests_increase_from l (i ∷ is) ≡ true
+    → digests_increase_from m (j ∷ js) ≡ true → i ≡ j → AreAlike (i ∷ is) (j ∷ js) → AreAlike is js
 others_alike l m i j is js h k one alike = record {
   begun = λ d n. begun_is n d is ∙ other_counts (λ x. executed_at n x.addresses) d i j is js one
       (sym (begun_is n d (i ∷ is)) ∙ alike.begun d n ∙ begun_is n d (j ∷ js)) ∙ sym (begun_is n d js);
@@ -185,20 +185,20 @@ others_alike l m i j is js h k one alike = record {
       (sym (taken_is n d (i ∷ is)) ∙ alike.taken d n ∙ taken_is n d (j ∷ js)) ∙ sym (taken_is n d js);
   paths = λ d. other_paths l m i j is js d one h k (alike.paths d);
   names = λ d f. other_names l m i j is js d f one h k (alike.names d f);
-  arrivals = λ d p. arrivals_is p d is ∙ other_counts (λ x. arrivals_at p x.spots) d i j is js one
+  arrivals = λ d p. arrivals_is p d is ∙ other_counts (λ x. calls_at p x.spots) d i j is js one
       (sym (arrivals_is p d (i ∷ is)) ∙ alike.arrivals d p ∙ arrivals_is p d (j ∷ js)) ∙ sym (arrivals_is p d js);
   steps = λ d p. steps_is p d is ∙ other_counts (λ x. steps_at p x.spots) d i j is js one
       (sym (steps_is p d (i ∷ is)) ∙ alike.steps d p ∙ steps_is p d (j ∷ js)) ∙ sym (steps_is p d js);
 }
 
 -- lists of images that are alike are one
-one_list : (is js : List ImageCounts) (l m : Option (List ℕ)) → AllByRecursion IsImage is → AllByRecursion IsImage js
-    → digests_rise l is ≡ true → digests_rise m js ≡ true → AreAlike is js → is ≡ js
+one_list : (is js : List ImageCounts) (l m : Option (List ℕ)) → AllByRecursion IsValidImage is → AllByRecursion IsValidImage js
+    → digests_increase_from l is ≡ true → digests_increase_from m js ≡ true → AreAlike is js → is ≡ js
 one_list [] [] l m p q h k alike = refl
 one_list [] (j ∷ js) l m p q h k alike =
-    let c : None ≡ Some j.path = alike.paths j.digest ∙ path_of_first m j js k in absurd (cc)
+    let c : None ≡ Some j.path = alike.paths j.digest ∙ path_after_first m j js k in absurd (cc)
 one_list (i ∷ is) [] l m p q h k alike =
-    let c : None ≡ Some i.path = sym (alike.paths i.digest) ∙ path_of_first l i is h in absurd (cc)
+    let c : None ≡ Some i.path = sym (alike.paths i.digest) ∙ path_after_first l i is h in absurd (cc)
 one_list (i ∷ is) (j ∷ js) l m p q h k alike =
     let d : i.digest ≡ j.digest = same_place i.digest j.digest
     (not_earlier l m i j is js h k (alike.paths i.digest)) (not_earlier m l j i js is k h (sym (alike.paths j.digest))) in
@@ -210,8 +210,8 @@ one_list (i ∷ is) (j ∷ js) l m p q h k alike =
 pub one_table_of : (t u : CountTable) → IsTable t → IsTable u
     → ((digest : List ℕ) (n : ℕ) → executed_in digest n t.images ≡ executed_in digest n u.images)
     → ((digest : List ℕ) (n : ℕ) → taken_in digest n t.images ≡ taken_in digest n u.images)
-    → ((digest : List ℕ) → path_in digest t.images ≡ path_in digest u.images)
-    → ((digest : List ℕ) (f : ℕ) → name_in digest f t.images ≡ name_in digest f u.images)
+    → ((digest : List ℕ) → next_path digest t.images ≡ next_path digest u.images)
+    → ((digest : List ℕ) (f : ℕ) → truncated_name digest f t.images ≡ truncated_name digest f u.images)
     → ((digest path : List ℕ) → arrivals_in digest path t.images ≡ arrivals_in digest path u.images)
     → ((digest path : List ℕ) → steps_in digest path t.images ≡ steps_in digest path u.images) → t.runs ≡ u.runs → t ≡ u
 one_table_of t u h k begun taken paths names arrivals steps runs =
@@ -228,29 +228,29 @@ one_table_of t u h k begun taken paths names arrivals steps runs =
 
 -- ---- sums of tables
 
-pub tables_commute : (a b ab ba : CountTable) → IsSum a b ab → IsSum b a ba → ab ≡ ba
+pub tables_commute : (a b ab ba : CountTable) → IsSumOfTables a b ab → IsSumOfTables b a ba → ab ≡ ba
 tables_commute a b ab ba p q = one_table_of ab ba p.table q.table
     (λ d n. either_order _ _ (executed_in d n a.images) (executed_in d n b.images) (p.begun d n) (q.begun d n))
     (λ d n. either_order _ _ (taken_in d n a.images) (taken_in d n b.images) (p.taken d n) (q.taken d n))
-    (λ d. p.paths d ∙ either (path_in d a.images) (path_in d b.images) ∙ sym (q.paths d))
-    (λ d f. p.names d f ∙ either (name_in d f a.images) (name_in d f b.images) ∙ sym (q.names d f))
+    (λ d. p.paths d ∙ either (next_path d a.images) (next_path d b.images) ∙ sym (q.paths d))
+    (λ d f. p.names d f ∙ either (truncated_name d f a.images) (truncated_name d f b.images) ∙ sym (q.names d f))
     (λ d n. either_order _ _ (arrivals_in d n a.images) (arrivals_in d n b.images) (p.arrivals d n) (q.arrivals d n))
     (λ d n. either_order _ _ (steps_in d n a.images) (steps_in d n b.images) (p.steps d n) (q.steps d n))
     (either_order _ _ a.runs b.runs p.runs q.runs)
 
-pub tables_associate : (a b c ab bc first last : CountTable) → IsSum a b ab → IsSum ab c first → IsSum b c bc
-    → IsSum a bc last → first ≡ last
+pub tables_associate : (a b c ab bc first last : CountTable) → IsSumOfTables a b ab → IsSumOfTables ab c first → IsSumOfTables b c bc
+    → IsSumOfTables a bc last → first ≡ last
 tables_associate a b c ab bc first last p q r s = one_table_of first last q.table s.table
     (λ d n. either_first (executed_in d n ab.images) (executed_in d n bc.images) _ _ (executed_in d n a.images)
     (executed_in d n b.images) (executed_in d n c.images) (p.begun d n) (q.begun d n) (r.begun d n) (s.begun d n))
     (λ d n. either_first (taken_in d n ab.images) (taken_in d n bc.images) _ _ (taken_in d n a.images)
     (taken_in d n b.images) (taken_in d n c.images) (p.taken d n) (q.taken d n) (r.taken d n) (s.taken d n))
-    (λ d. q.paths d ∙ ap (λ x. least_path_of x (path_in d c.images)) (p.paths d)
-    ∙ any_first (path_in d a.images) (path_in d b.images) (path_in d c.images)
-    ∙ sym (ap (least_path_of (path_in d a.images)) (r.paths d)) ∙ sym (s.paths d))
-    (λ d f. q.names d f ∙ ap (λ x. least_path_of x (name_in d f c.images)) (p.names d f)
-    ∙ any_first (name_in d f a.images) (name_in d f b.images) (name_in d f c.images)
-    ∙ sym (ap (least_path_of (name_in d f a.images)) (r.names d f)) ∙ sym (s.names d f))
+    (λ d. q.paths d ∙ ap (λ x. min_text_of x (next_path d c.images)) (p.paths d)
+    ∙ any_first (next_path d a.images) (next_path d b.images) (next_path d c.images)
+    ∙ sym (ap (min_text_of (next_path d a.images)) (r.paths d)) ∙ sym (s.paths d))
+    (λ d f. q.names d f ∙ ap (λ x. min_text_of x (truncated_name d f c.images)) (p.names d f)
+    ∙ any_first (truncated_name d f a.images) (truncated_name d f b.images) (truncated_name d f c.images)
+    ∙ sym (ap (min_text_of (truncated_name d f a.images)) (r.names d f)) ∙ sym (s.names d f))
     (λ d n. either_first (arrivals_in d n ab.images) (arrivals_in d n bc.images) _ _ (arrivals_in d n a.images)
     (arrivals_in d n b.images) (arrivals_in d n c.images) (p.arrivals d n) (q.arrivals d n) (r.arrivals d n) (s.arrivals d n))
     (λ d n. either_first (steps_in d n ab.images) (steps_in d n bc.images) _ _ (steps_in d n a.images)

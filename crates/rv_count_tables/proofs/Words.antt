@@ -16,9 +16,9 @@ use Rattle.rv_count_tables.proofs.Pieces.{lacks-append}
 abbrev pub with_digit : ℕ → ℕ → ℕ → ℕ → ℕ
 with_digit most base value digit = min (min (value * base) most + digit) most
 
-unfoldable pub decimal_number_on : ℕ → List ℕ → ℕ
-decimal_number_on value [] = value
-decimal_number_on value (b ∷ bs) = decimal_number_on (with_digit (2 ^ 64 - 1) 10 value (b - 48)) bs
+unfoldable pub decimal_number_from : ℕ → List ℕ → ℕ
+decimal_number_from value [] = value
+decimal_number_from value (b ∷ bs) = decimal_number_from (with_digit (2 ^ 64 - 1) 10 value (b - 48)) bs
 
 unfoldable pub hex_number : ℕ → List ℕ → ℕ
 hex_number value [] = value
@@ -34,23 +34,23 @@ lacks-decimal byte n h small =
     decimal_by_steps (λ _ ds. lacks byte ds ≡ true) (λ m _. lacks_digit byte m h)
     (λ m ds _ so. lacks-append byte ds ((48 + m % 10) ∷ []) so (lacks_digit byte (m % 10) h)) n small
 
-number_push : (value : ℕ) (ds : List ℕ) (b : ℕ) → decimal_number_on value (ds ++ b ∷ [])
-    ≡ with_digit (2 ^ 64 - 1) 10 (decimal_number_on value ds) (b - 48)
-unfolding decimal_number_on
+number_push : (value : ℕ) (ds : List ℕ) (b : ℕ) → decimal_number_from value (ds ++ b ∷ [])
+    ≡ with_digit (2 ^ 64 - 1) 10 (decimal_number_from value ds) (b - 48)
+unfolding decimal_number_from
 number_push value [] b = refl
 number_push value (d ∷ ds) b = number_push (with_digit (2 ^ 64 - 1) 10 value (d - 48)) ds b
 
-one_digit : (n : ℕ) → n < 10 → decimal_number_on 0 ((48 + n) ∷ []) ≡ n
-unfolding decimal_number_on
+one_digit : (n : ℕ) → n < 10 → decimal_number_from 0 ((48 + n) ∷ []) ≡ n
+unfolding decimal_number_from
 one_digit n h = omega arith
 
 last_digit : (n value : ℕ) → n < 2 ^ 64 → value ≡ n / 10 → with_digit (2 ^ 64 - 1) 10 value (48 + n % 10 - 48) ≡ n
 last_digit n value h is = omega arith
 
-pub number_of-decimal : (n : ℕ) → n < 2 ^ 64 → decimal_number_on 0 (decimal n) ≡ n
+pub number_of-decimal : (n : ℕ) → n < 2 ^ 64 → decimal_number_from 0 (decimal n) ≡ n
 number_of-decimal n small =
-    decimal_by_steps (λ m ds. m < 2 ^ 64 → decimal_number_on 0 ds ≡ m) (λ m h _. one_digit m h)
-    (λ m ds _ so h. number_push 0 ds (48 + m % 10) ∙ last_digit m (decimal_number_on 0 ds) h (so (omega arith))) n small
+    decimal_by_steps (λ m ds. m < 2 ^ 64 → decimal_number_from 0 ds ≡ m) (λ m h _. one_digit m h)
+    (λ m ds _ so h. number_push 0 ds (48 + m % 10) ∙ last_digit m (decimal_number_from 0 ds) h (so (omega arith))) n small
     small
 
 -- ---- words

@@ -6,7 +6,7 @@ pub mod SumSteps
 pub mod ReadSteps
 pub mod Read
 pub mod NamesByFunctionInside
-pub mod SpotLines
+pub mod ParsedNodes
 pub use Rattle.rv_call_tree.specs.Limits
 pub use Rattle.rv_call_tree.specs.Profiles
 pub use Rattle.rv_call_tree.specs.Sums

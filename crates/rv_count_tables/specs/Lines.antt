@@ -26,9 +26,9 @@ unfoldable pub whole_line : List ℕ → List ℕ
 whole_line text = if place_of_byte 10 text == length text then [] else take (place_of_byte 10 text + 1) text
 
 -- the number of line feeds in a text
-abbrev pub count_of_line_feeds : List ℕ → ℕ
-count_of_line_feeds [] = 0
-count_of_line_feeds (b ∷ bs) = if b == 10 then count_of_line_feeds bs + 1 else count_of_line_feeds bs
+abbrev pub line_feed_count : List ℕ → ℕ
+line_feed_count [] = 0
+line_feed_count (b ∷ bs) = if b == 10 then line_feed_count bs + 1 else line_feed_count bs
 
 -- the first `count` lines of a text, each with its line feed if it has one
 unfoldable pub first_lines : ℕ → List ℕ → List ℕ

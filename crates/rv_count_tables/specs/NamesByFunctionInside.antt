@@ -3,9 +3,9 @@ use Rattle.std.specs.Prelude.{ℕ, List, map}
 use Rattle.rv_count_tables.specs.declared.table.FunctionName.{FunctionName}
 
 -- an entry of the map, as a function and its name
-abbrev pub named_entry : ℕ × List ℕ → FunctionName
-named_entry e = record { function = e.0; name = e.1 }
+abbrev pub function_name_of_entry : ℕ × List ℕ → FunctionName
+function_name_of_entry e = record { function = e.0; name = e.1 }
 
 -- the entries of the map, as functions and their names, in order
 abbrev pub names_of_entries : List (ℕ × List ℕ) → List FunctionName
-names_of_entries es = map named_entry es
+names_of_entries es = map function_name_of_entry es

@@ -3,32 +3,32 @@ use Rattle.std.specs.Prelude.{◌≡◌, ◌==◌, ◌+◌, ◌-◌, if◌then�
 use Rattle.rv_count_tables.specs.declared.table.CountTable.{CountTable}
 use Rattle.rv_count_tables.specs.declared.read.ReadError.{ReadError}
 use Rattle.rv_count_tables.specs.declared.read.ReadError.TheVariants.{OutOfMemory, Line, CutOff}
-use Rattle.rv_count_tables.specs.Lines.{count_of_line_feeds, first_lines, whole_line}
+use Rattle.rv_count_tables.specs.Lines.{line_feed_count, first_lines, whole_line}
 use Rattle.rv_count_tables.specs.Table.{IsTable}
 use Rattle.rv_count_tables.specs.Text.{table_text}
 
 -- the text of some table begins with these bytes
-abbrev pub BeginsTable : List ℕ → Type 0
-BeginsTable bytes = (table : CountTable) × (rest : List ℕ) × IsTable table × (table_text table ≡ bytes ++ rest)
+abbrev pub IsTablePrefix : List ℕ → Type 0
+IsTablePrefix bytes = (table : CountTable) × (rest : List ℕ) × IsTable table × (table_text table ≡ bytes ++ rest)
 
 -- some table begins with the first `line - 1` lines of the bytes, and no table begins with the first `line` lines
-pub record IsLeastRefusedLine (line : ℕ) (bytes : List ℕ) : Type 0 where
-  pub before : BeginsTable (first_lines (line - 1) bytes)
-  pub refused : BeginsTable (first_lines line bytes) → ⊥
+pub record IsFirstInvalidLine (line : ℕ) (bytes : List ℕ) : Type 0 where
+  pub before : IsTablePrefix (first_lines (line - 1) bytes)
+  pub refused : IsTablePrefix (first_lines line bytes) → ⊥
 
 -- `Line` has the number of the first line for which no table begins with the bytes up to its end; if the error is `CutOff`, some table
 -- begins with all lines that end with a line feed; `OutOfMemory` is always true
-abbrev pub IsLeast : ReadError → List ℕ → Type 0
-IsLeast OutOfMemory bytes = Unit {0}
-IsLeast (Line line) bytes = IsLeastRefusedLine line bytes
-IsLeast CutOff bytes = BeginsTable (first_lines (count_of_line_feeds bytes) bytes)
+abbrev pub IsFirstError : ReadError → List ℕ → Type 0
+IsFirstError OutOfMemory bytes = Unit {0}
+IsFirstError (Line line) bytes = IsFirstInvalidLine line bytes
+IsFirstError CutOff bytes = IsTablePrefix (first_lines (line_feed_count bytes) bytes)
 
 -- the result is `x`, or memory ran out
-abbrev pub AnswersUnlessMemory : {X : Type 0} → X → Result X ReadError → Type 0
-AnswersUnlessMemory x (Ok y) = y ≡ x
-AnswersUnlessMemory x (Err e) = e ≡ OutOfMemory
+abbrev pub IsOkOrOutOfMemory : {X : Type 0} → X → Result X ReadError → Type 0
+IsOkOrOutOfMemory x (Ok y) = y ≡ x
+IsOkOrOutOfMemory x (Err e) = e ≡ OutOfMemory
 
 -- the error for the line that begins at the index `place`: `CutOff` if it has no line feed, or else its number, counted from 1
 abbrev pub read_error_at : ℕ → List ℕ → ReadError
 read_error_at place bytes =
-    if length (whole_line (drop place bytes)) == 0 then CutOff else Line (count_of_line_feeds (take place bytes) + 1)
+    if length (whole_line (drop place bytes)) == 0 then CutOff else Line (line_feed_count (take place bytes) + 1)

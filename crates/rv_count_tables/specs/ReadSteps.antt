@@ -4,21 +4,21 @@ use Rattle.std.specs.List.{AllByRecursion, flat_map, insert, prefix_len}
 use Rattle.rv_count_tables.specs.declared.table.AddressCounts.{AddressCounts}
 use Rattle.rv_count_tables.specs.declared.table.FunctionName.{FunctionName}
 use Rattle.rv_count_tables.specs.declared.table.ImageCounts.{ImageCounts}
-use Rattle.rv_count_tables.specs.declared.table.NamedSpot.{NamedSpot}
-use Rattle.rv_count_tables.specs.declared.read_lines.AddressLines.{AddressLines}
-use Rattle.rv_count_tables.specs.declared.read_lines.ImageLines.{ImageLines}
-use Rattle.rv_count_tables.specs.declared.read_lines.OneImage.{OneImage}
-use Rattle.rv_count_tables.specs.declared.read_stacks.SpotLines.{SpotLines}
+use Rattle.rv_count_tables.specs.declared.table.NamedCallNode.{NamedCallNode}
+use Rattle.rv_count_tables.specs.declared.read_lines.ParsedAddresses.{ParsedAddresses}
+use Rattle.rv_count_tables.specs.declared.read_lines.ParsedImages.{ParsedImages}
+use Rattle.rv_count_tables.specs.declared.read_lines.ParsedImage.{ParsedImage}
+use Rattle.rv_count_tables.specs.declared.read_stacks.ParsedNodes.{ParsedNodes}
 use Rattle.rv_count_tables.specs.Lines.{whole_line}
-use Rattle.rv_count_tables.specs.Table.{has_name, is_greater_than_last, name_of, digests_rise, IsCounted, IsImage, IsNamedSpot, AreCounts, AreNames, AreNamesOf, AreSpots}
-use Rattle.rv_count_tables.specs.Text.{address_line, image_line, image_text, line_of_spot, named, spot_line}
+use Rattle.rv_count_tables.specs.Table.{has_name, is_greater_than_last, name_of, digests_increase_from, IsCounted, IsValidImage, IsValidNamedNode, AreValidCounts, AreValidNames, AreNamesOf, AreValidNodes}
+use Rattle.rv_count_tables.specs.Text.{address_line, image_line, image_text, line_of_node, named, node_line}
 use Rattle.rv_call_tree.specs.declared.spot.Spot.{Spot}
 use Rattle.rv_call_tree.specs.Trees.{last_path, path_after, FollowsInPreorder}
 
 -- ---- names
 
 -- the function of a node, with its name
-abbrev pub function_name : NamedSpot → FunctionName
+abbrev pub function_name : NamedCallNode → FunctionName
 function_name n = record { function = n.spot.function; name = n.name }
 
 -- the names with `n` inserted before the names of functions at higher addresses
@@ -30,39 +30,39 @@ abbrev pub with_name : FunctionName → List FunctionName → List FunctionName
 with_name n names = if has_name (name_of n.function names) then names else inserted n names
 
 -- the names with the names of these nodes' functions added; a function keeps the first name that it gets
-abbrev pub with_names : List FunctionName → List NamedSpot → List FunctionName
+abbrev pub with_names : List FunctionName → List NamedCallNode → List FunctionName
 with_names names [] = names
 with_names names (n ∷ ns) = with_names (with_name (function_name n) names) ns
 
 -- the two names of a function are equal, or there is no earlier name
-abbrev pub AgreesWith : List ℕ → Option (List ℕ) → Type 0
-AgreesWith name None = Unit {0}
-AgreesWith name (Some other) = name ≡ other
+abbrev pub AgreesWithName : List ℕ → Option (List ℕ) → Type 0
+AgreesWithName name None = Unit {0}
+AgreesWithName name (Some other) = name ≡ other
 
 -- ---- the lines of an image after its first line
 
 -- the content of a line of an image after its first line: the counts of an address, or a call-tree node
 pub data Entry : Type 0 where
-  OfAddress : AddressCounts → Entry
-  OfSpot : NamedSpot → Entry
+  Address : AddressCounts → Entry
+  Node : NamedCallNode → Entry
 
 -- the counts or the node are valid
-abbrev pub IsEntry : Entry → Type 0
-IsEntry (OfAddress c) = IsCounted c
-IsEntry (OfSpot n) = IsNamedSpot n
+abbrev pub IsValidEntry : Entry → Type 0
+IsValidEntry (Address c) = IsCounted c
+IsValidEntry (Node n) = IsValidNamedNode n
 
 -- the line of an address or a node
 abbrev pub entry_line : Entry → List ℕ
-entry_line (OfAddress c) = address_line c
-entry_line (OfSpot n) = spot_line n
+entry_line (Address c) = address_line c
+entry_line (Node n) = node_line n
 
 -- the entry of a node, with the name of its function in a list
-abbrev pub entry_of_spot : List FunctionName → Spot → Entry
-entry_of_spot names s = OfSpot (named names s)
+abbrev pub entry_of_node : List FunctionName → Spot → Entry
+entry_of_node names s = Node (named names s)
 
 -- the entries of all lines of an image after its first line, in order
 abbrev pub entries_of : ImageCounts → List Entry
-entries_of i = map OfAddress i.addresses ++ map (entry_of_spot i.functions) i.spots
+entries_of i = map Address i.addresses ++ map (entry_of_node i.functions) i.spots
 
 -- ---- which lines can come next
 
@@ -80,18 +80,18 @@ abbrev pub before_first_image : NextLines
 before_first_image = record { address = None; names = []; front = None }
 
 -- the lines that can come next after the first line of an image: all addresses, or a node of depth 0
-abbrev pub at_image : NextLines
-at_image = record { address = Some 0; names = []; front = Some [] }
+abbrev pub after_image_line : NextLines
+after_image_line = record { address = Some 0; names = []; front = Some [] }
 
 -- the path of a node that follows a node with the path `front`, or `None` if no node can come next
-abbrev pub path_in : Option (List ℕ) → Spot → Option (List ℕ)
-path_in None s = None
-path_in (Some front) s = Some (path_after front s)
+abbrev pub next_path : Option (List ℕ) → Spot → Option (List ℕ)
+next_path None s = None
+next_path (Some front) s = Some (path_after front s)
 
 -- the lines that can come next after the line of an address or a node: after a node, only another node
 abbrev pub after_entry : NextLines → Entry → NextLines
-after_entry p (OfAddress c) = record { address = Some (c.address + 1); names = []; front = Some [] }
-after_entry p (OfSpot n) = record { address = None; names = with_name (function_name n) p.names; front = path_in p.front n.spot }
+after_entry p (Address c) = record { address = Some (c.address + 1); names = []; front = Some [] }
+after_entry p (Node n) = record { address = None; names = with_name (function_name n) p.names; front = next_path p.front n.spot }
 
 -- the lines that can come next after the lines of these entries
 abbrev pub after_entries : NextLines → List Entry → NextLines
@@ -101,7 +101,7 @@ after_entries p (e ∷ es) = after_entries (after_entry p e) es
 -- the lines that can come next after the lines of these images
 abbrev pub place_in : NextLines → List ImageCounts → NextLines
 place_in p [] = p
-place_in p (i ∷ is) = place_in (after_entries at_image (entries_of i)) is
+place_in p (i ∷ is) = place_in (after_entries after_image_line (entries_of i)) is
 
 -- whether an address can come next: there is a lowest address, and this one is not below it
 abbrev pub can_be_next_address : Option ℕ → ℕ → Bool
@@ -109,18 +109,18 @@ can_be_next_address None address = false
 can_be_next_address (Some lowest) address = nat_le lowest address
 
 -- a node can come next, and this node may follow the path of the preceding one
-abbrev pub CanComeNextIn : Option (List ℕ) → Spot → Type 0
-CanComeNextIn None s = ⊥
-CanComeNextIn (Some front) s = FollowsInPreorder front s
+abbrev pub NodeCanComeNext : Option (List ℕ) → Spot → Type 0
+NodeCanComeNext None s = ⊥
+NodeCanComeNext (Some front) s = FollowsInPreorder front s
 
 -- the entry can come next: its address is not too low, or its node may follow the preceding one and its name agrees with the earlier ones
 abbrev pub CanComeNext : NextLines → Entry → Type 0
-CanComeNext p (OfAddress c) = can_be_next_address p.address c.address ≡ true
-CanComeNext p (OfSpot n) = CanComeNextIn p.front n.spot × AgreesWith n.name (name_of n.spot.function p.names)
+CanComeNext p (Address c) = can_be_next_address p.address c.address ≡ true
+CanComeNext p (Node n) = NodeCanComeNext p.front n.spot × AgreesWithName n.name (name_of n.spot.function p.names)
 
 -- the line is not the line of an address or a node that can come next
 abbrev pub IsNotAnEntry : NextLines → List ℕ → Type 0
-IsNotAnEntry p line = (e : Entry) → IsEntry e → CanComeNext p e → line ≡ entry_line e → ⊥
+IsNotAnEntry p line = (e : Entry) → IsValidEntry e → CanComeNext p e → line ≡ entry_line e → ⊥
 
 -- ---- lines of one kind
 
@@ -140,28 +140,28 @@ IsNotAnAddress lowest line = (c : AddressCounts) → IsCounted c → nat_le lowe
 
 -- no node that may follow the path `front` and whose name agrees with `names` has this line
 abbrev pub IsNotANode : List FunctionName → List ℕ → List ℕ → Type 0
-IsNotANode names front line = (n : NamedSpot) → IsNamedSpot n → FollowsInPreorder front n.spot
-    → AgreesWith n.name (name_of n.spot.function names) → line ≡ spot_line n → ⊥
+IsNotANode names front line = (n : NamedCallNode) → IsValidNamedNode n → FollowsInPreorder front n.spot
+    → AgreesWithName n.name (name_of n.spot.function names) → line ≡ node_line n → ⊥
 
 -- the line is not the line of an image whose digest is greater than `last`
 abbrev pub IsNotAnImage : Option (List ℕ) → List ℕ → Type 0
-IsNotAnImage last line = (i : ImageCounts) → IsImage i → is_greater_than_last last i.digest ≡ true → line ≡ image_line i → ⊥
+IsNotAnImage last line = (i : ImageCounts) → IsValidImage i → is_greater_than_last last i.digest ≡ true → line ≡ image_line i → ⊥
 
 -- `read` has the addresses of the first lines of the text, and the length of these lines in bytes; the next line is not the line of a
 -- higher address
-pub record AreAddressLines (text : List ℕ) (read : AddressLines) : Type 0 where
+pub record AreParsedAddresses (text : List ℕ) (read : ParsedAddresses) : Type 0 where
   pub within : read.length ≤ length text
   pub lines : text ≡ flat_map address_line read.addresses ++ drop read.length text
-  pub counts : AreCounts read.addresses
+  pub counts : AreValidCounts read.addresses
   pub behind : IsNotAnAddress (lowest_after 0 read.addresses) (whole_line (drop read.length text))
 
 -- `read` has the nodes of the first lines of the text, the names of their functions, and the length of these lines in bytes; the next line
 -- is not the line of a node that may follow
-pub record AreSpotLines (text : List ℕ) (read : SpotLines) : Type 0 where
+pub record AreParsedNodes (text : List ℕ) (read : ParsedNodes) : Type 0 where
   pub within : read.length ≤ length text
-  pub lines : text ≡ flat_map (line_of_spot read.functions) read.spots ++ drop read.length text
-  pub spots : AreSpots read.spots
-  pub names : AreNames read.functions
+  pub lines : text ≡ flat_map (line_of_node read.functions) read.spots ++ drop read.length text
+  pub spots : AreValidNodes read.spots
+  pub names : AreValidNames read.functions
   pub of_spots : AreNamesOf read.spots read.functions
   pub known : read.functions ≡ with_names [] (map (named read.functions) read.spots)
   pub behind : IsNotANode read.functions (last_path [] read.spots) (whole_line (drop read.length text))
@@ -170,20 +170,20 @@ pub record AreSpotLines (text : List ℕ) (read : SpotLines) : Type 0 where
 
 -- `read` has the image of the first lines of the text, and the length of these lines in bytes; its digest is greater than `last`, and the
 -- next line cannot belong to the image
-pub record IsOneImage (last : Option (List ℕ)) (text : List ℕ) (read : OneImage) : Type 0 where
+pub record IsParsedImage (last : Option (List ℕ)) (text : List ℕ) (read : ParsedImage) : Type 0 where
   pub within : read.length ≤ length text
   pub lines : text ≡ image_text read.image ++ drop read.length text
   pub some : 0 < read.length
-  pub image : IsImage read.image
+  pub image : IsValidImage read.image
   pub rising : is_greater_than_last last read.image.digest ≡ true
-  pub behind : IsNotAnEntry (after_entries at_image (entries_of read.image)) (whole_line (drop read.length text))
+  pub behind : IsNotAnEntry (after_entries after_image_line (entries_of read.image)) (whole_line (drop read.length text))
 
 -- `read` has the images of the first lines of the text, and the length of these lines in bytes; the next line cannot belong to the last
 -- image or begin another one
-pub record AreImageLines (text : List ℕ) (read : ImageLines) : Type 0 where
+pub record AreParsedImages (text : List ℕ) (read : ParsedImages) : Type 0 where
   pub within : read.length ≤ length text
   pub lines : text ≡ flat_map image_text read.images ++ drop read.length text
-  pub images : AllByRecursion IsImage read.images
-  pub rising : digests_rise None read.images ≡ true
+  pub images : AllByRecursion IsValidImage read.images
+  pub rising : digests_increase_from None read.images ≡ true
   pub entry : IsNotAnEntry (place_in before_first_image read.images) (whole_line (drop read.length text))
   pub image : IsNotAnImage (last_digest None read.images) (whole_line (drop read.length text))

@@ -7,14 +7,14 @@ use Rattle.rv_count_tables.specs.declared.table.ImageCounts.{ImageCounts}
 use Rattle.rv_count_tables.specs.declared.table.CountTable.{CountTable}
 use Rattle.rv_count_tables.specs.declared.sum.SumError.{SumError}
 use Rattle.rv_count_tables.specs.declared.sum.SumError.TheVariants.{OutOfMemory, Count, Spot, Names, Runs}
-use Rattle.rv_count_tables.specs.Table.{executed_at, taken_at, name_at, executed_in, taken_in, path_in, name_in, arrivals_in, steps_in, least_path_of, AreCounts, AreNames, IsTable}
+use Rattle.rv_count_tables.specs.Table.{executed_at, taken_at, name_at, executed_in, taken_in, next_path, truncated_name, arrivals_in, steps_in, min_text_of, AreValidCounts, AreValidNames, IsTable}
 use Rattle.rv_call_tree.specs.Trees.{ends_with}
-use Rattle.rv_call_tree.specs.declared.sum.SpotSumError.{SpotSumError}
-use Rattle.rv_call_tree.specs.declared.sum.SpotSumError.TheVariants as spots
+use Rattle.rv_call_tree.specs.declared.sum.CallTreeSumError.{CallTreeSumError}
+use Rattle.rv_call_tree.specs.declared.sum.CallTreeSumError.TheVariants as spots
 
 -- `sum` has valid counts, and at each address they are the sums of the counts in `a` and `b`
 pub record IsSumOfCounts (a b sum : List AddressCounts) : Type 0 where
-  pub counts : AreCounts sum
+  pub counts : AreValidCounts sum
   pub begun : (address : ℕ) → executed_at address sum ≡ executed_at address a + executed_at address b
   pub taken : (address : ℕ) → taken_at address sum ≡ taken_at address a + taken_at address b
 
@@ -26,25 +26,25 @@ Agree (Some name) (Some other) = name ≡ other
 
 -- no function has different names in the lists `a` and `b`, and `sum` has the name of each function of either list
 pub record IsSumOfNames (a b sum : List FunctionName) : Type 0 where
-  pub names : AreNames sum
+  pub names : AreValidNames sum
   pub agree : (function : ℕ) → Agree (name_at function a) (name_at function b)
-  pub each : (function : ℕ) → name_at function sum ≡ least_path_of (name_at function a) (name_at function b)
+  pub each : (function : ℕ) → name_at function sum ≡ min_text_of (name_at function a) (name_at function b)
 
 -- `sum` is a valid table: for each image, the counts at each address and of each call path are the sums of the counts in `a` and `b`, the
 -- path is the first of both in byte order, and each function has its name in `a` or `b`, which never differ; the number of runs is the sum
 -- of both
-pub record IsSum (a b sum : CountTable) : Type 0 where
+pub record IsSumOfTables (a b sum : CountTable) : Type 0 where
   pub table : IsTable sum
   pub begun : (digest : List ℕ) → (address : ℕ)
       → executed_in digest address sum.images ≡ executed_in digest address a.images + executed_in digest address b.images
   pub taken : (digest : List ℕ) → (address : ℕ)
       → taken_in digest address sum.images ≡ taken_in digest address a.images + taken_in digest address b.images
   pub paths : (digest : List ℕ)
-      → path_in digest sum.images ≡ least_path_of (path_in digest a.images) (path_in digest b.images)
+      → next_path digest sum.images ≡ min_text_of (next_path digest a.images) (next_path digest b.images)
   pub agree : (digest : List ℕ) → (function : ℕ)
-      → Agree (name_in digest function a.images) (name_in digest function b.images)
+      → Agree (truncated_name digest function a.images) (truncated_name digest function b.images)
   pub names : (digest : List ℕ) → (function : ℕ)
-      → name_in digest function sum.images ≡ least_path_of (name_in digest function a.images) (name_in digest function b.images)
+      → truncated_name digest function sum.images ≡ min_text_of (truncated_name digest function a.images) (truncated_name digest function b.images)
   pub arrivals : (digest path : List ℕ)
       → arrivals_in digest path sum.images ≡ arrivals_in digest path a.images + arrivals_in digest path b.images
   pub steps : (digest path : List ℕ)
@@ -52,7 +52,7 @@ pub record IsSum (a b sum : CountTable) : Type 0 where
   pub runs : sum.runs ≡ a.runs + b.runs
 
 -- the error of a sum of tables, given why their call trees have no sum
-abbrev pub sum_error_of : SpotSumError → SumError
+abbrev pub sum_error_of : CallTreeSumError → SumError
 sum_error_of spots.OutOfMemory = OutOfMemory
 sum_error_of (spots.Count function) = Spot function
 

@@ -10,15 +10,15 @@ use Rattle.rv_count_tables.specs.declared.sum_of_counts.NextCount.{NextCount}
 use Rattle.rv_count_tables.specs.declared.sum_of_images.NextImage.{NextImage}
 use Rattle.rv_count_tables.specs.declared.sum_of_names.NextName.{NextName}
 use Rattle.rv_count_tables.specs.Sum.{Agree, CountsHaveNoSum, HasNameIn, NamesHaveNoSum}
-use Rattle.rv_count_tables.specs.Table.{executed_at, taken_at, name_at, executed_in, taken_in, path_in, name_in, arrivals_in, steps_in, least_path_of}
-use Rattle.rv_count_tables.specs.Table.{rise_from, names_rise, digests_rise, IsCounted, IsImage, IsName}
-use Rattle.rv_call_tree.specs.Trees.{arrivals_at, ends_with, steps_at}
+use Rattle.rv_count_tables.specs.Table.{executed_at, taken_at, name_at, executed_in, taken_in, next_path, truncated_name, arrivals_in, steps_in, min_text_of}
+use Rattle.rv_count_tables.specs.Table.{increase_from, functions_increase_from, digests_increase_from, IsCounted, IsValidImage, IsValidName}
+use Rattle.rv_call_tree.specs.Trees.{calls_at, ends_with, steps_at}
 
 -- the counts at each address in `sum` are the sums of the counts in `a` and `b`; the addresses in `sum` increase if those in `a` and in `b`
 -- do
-pub record AddsUp (a b sum : List AddressCounts) : Type 0 where
+pub record CountsAddUp (a b sum : List AddressCounts) : Type 0 where
   pub each : AllByRecursion IsCounted sum
-  pub rising : (lowest : ℕ) → rise_from lowest a ≡ true → rise_from lowest b ≡ true → rise_from lowest sum ≡ true
+  pub rising : (lowest : ℕ) → increase_from lowest a ≡ true → increase_from lowest b ≡ true → increase_from lowest sum ≡ true
   pub begun : (address : ℕ) → executed_at address sum ≡ executed_at address a + executed_at address b
   pub taken : (address : ℕ) → taken_at address sum ≡ taken_at address a + taken_at address b
 
@@ -28,17 +28,17 @@ pub record IsNextCount (a b : List AddressCounts) (next : NextCount) : Type 0 wh
   pub of_a : next.of_a ≤ length a
   pub of_b : next.of_b ≤ length b
   pub some : 0 < next.of_a + next.of_b
-  pub ahead : (others : List AddressCounts) → AddsUp (drop next.of_a a) (drop next.of_b b) others
-      → AddsUp a b (next.sum ∷ others)
+  pub ahead : (others : List AddressCounts) → CountsAddUp (drop next.of_a a) (drop next.of_b b) others
+      → CountsAddUp a b (next.sum ∷ others)
 
 -- if the functions in `a` and in `b` increase, then those in `sum` do, no function has different names in the two lists, and `sum` has the
 -- name of each function of either list
 pub record NamesAddUp (a b sum : List FunctionName) : Type 0 where
-  pub each : AllByRecursion IsName sum
-  pub rising : (lowest : ℕ) → names_rise lowest a ≡ true → names_rise lowest b ≡ true → names_rise lowest sum ≡ true
-  pub agree : (lowest : ℕ) → names_rise lowest a ≡ true → names_rise lowest b ≡ true
+  pub each : AllByRecursion IsValidName sum
+  pub rising : (lowest : ℕ) → functions_increase_from lowest a ≡ true → functions_increase_from lowest b ≡ true → functions_increase_from lowest sum ≡ true
+  pub agree : (lowest : ℕ) → functions_increase_from lowest a ≡ true → functions_increase_from lowest b ≡ true
       → (function : ℕ) → Agree (name_at function a) (name_at function b)
-  pub names : (function : ℕ) → name_at function sum ≡ least_path_of (name_at function a) (name_at function b)
+  pub names : (function : ℕ) → name_at function sum ≡ min_text_of (name_at function a) (name_at function b)
 
 -- `next` has the name of the lowest function in a sum, and how many names of each list it comes from; followed by the sum of the remaining
 -- names, it is the sum of `a` and `b`
@@ -52,18 +52,18 @@ pub record IsNextName (a b : List FunctionName) (next : NextName) : Type 0 where
 -- for each image, the counts in `sum` at each address and of each call path are the sums of the counts in `a` and `b`, the path is the
 -- first of both in byte order, and each function has its name in `a` or `b`; the digests in `sum` increase if those in `a` and in `b` do
 pub record ImagesAddUp (a b sum : List ImageCounts) : Type 0 where
-  pub each : AllByRecursion IsImage sum
-  pub rising : (last : Option (List ℕ)) → digests_rise last a ≡ true → digests_rise last b ≡ true
-      → digests_rise last sum ≡ true
+  pub each : AllByRecursion IsValidImage sum
+  pub rising : (last : Option (List ℕ)) → digests_increase_from last a ≡ true → digests_increase_from last b ≡ true
+      → digests_increase_from last sum ≡ true
   pub begun : (digest : List ℕ) (address : ℕ)
       → executed_in digest address sum ≡ executed_in digest address a + executed_in digest address b
   pub taken : (digest : List ℕ) (address : ℕ)
       → taken_in digest address sum ≡ taken_in digest address a + taken_in digest address b
-  pub paths : (digest : List ℕ) → path_in digest sum ≡ least_path_of (path_in digest a) (path_in digest b)
-  pub agree : (last : Option (List ℕ)) → digests_rise last a ≡ true → digests_rise last b ≡ true
-      → (digest : List ℕ) (function : ℕ) → Agree (name_in digest function a) (name_in digest function b)
+  pub paths : (digest : List ℕ) → next_path digest sum ≡ min_text_of (next_path digest a) (next_path digest b)
+  pub agree : (last : Option (List ℕ)) → digests_increase_from last a ≡ true → digests_increase_from last b ≡ true
+      → (digest : List ℕ) (function : ℕ) → Agree (truncated_name digest function a) (truncated_name digest function b)
   pub names : (digest : List ℕ) (function : ℕ)
-      → name_in digest function sum ≡ least_path_of (name_in digest function a) (name_in digest function b)
+      → truncated_name digest function sum ≡ min_text_of (truncated_name digest function a) (truncated_name digest function b)
   pub arrivals : (digest path : List ℕ)
       → arrivals_in digest path sum ≡ arrivals_in digest path a + arrivals_in digest path b
   pub steps : (digest path : List ℕ) → steps_in digest path sum ≡ steps_in digest path a + steps_in digest path b
@@ -94,7 +94,7 @@ abbrev pub ImageHasNoSum : SumError → ImageCounts → ImageCounts → Type 0
 ImageHasNoSum OutOfMemory a b = Unit {0}
 ImageHasNoSum (Count address) a b = CountsHaveNoSum (Count address) a.addresses b.addresses
 ImageHasNoSum (Spot function) a b = (path : List ℕ) × (ends_with function path ≡ true)
-    × ((2 ^ 64 ≤ arrivals_at path a.spots + arrivals_at path b.spots)
+    × ((2 ^ 64 ≤ calls_at path a.spots + calls_at path b.spots)
     ⊎ (2 ^ 64 ≤ steps_at path a.spots + steps_at path b.spots))
 ImageHasNoSum (Names function) a b = NamesHaveNoSum (Names function) a.functions b.functions
 ImageHasNoSum Runs a b = ⊥

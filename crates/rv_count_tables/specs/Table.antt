@@ -7,11 +7,11 @@ use Rattle.rv_count_tables.specs.Lines.{lacks}
 use Rattle.rv_count_tables.specs.declared.table.AddressCounts.{AddressCounts}
 use Rattle.rv_count_tables.specs.declared.table.FunctionName.{FunctionName}
 use Rattle.rv_count_tables.specs.declared.table.ImageCounts.{ImageCounts}
-use Rattle.rv_count_tables.specs.declared.table.NamedSpot.{NamedSpot}
+use Rattle.rv_count_tables.specs.declared.table.NamedCallNode.{NamedCallNode}
 use Rattle.rv_count_tables.specs.declared.table.CountTable.{CountTable}
 use Rattle.rv_call_tree.specs.declared.spot.Spot.{Spot}
-use Rattle.rv_call_tree.specs.Profiles.{is_last_of_some}
-use Rattle.rv_call_tree.specs.Trees.{arrivals_at, steps_at, IsTree}
+use Rattle.rv_call_tree.specs.Profiles.{ends_some_path}
+use Rattle.rv_call_tree.specs.Trees.{calls_at, steps_at, IsTree}
 
 -- ---- the counts in a table
 
@@ -44,37 +44,37 @@ is_before [] (y ∷ ys) = true
 is_before (x ∷ xs) (y ∷ ys) = nat_lt x y || ((x == y) && is_before xs ys)
 
 -- whichever of two paths comes first in byte order
-abbrev pub least_path : List ℕ → List ℕ → List ℕ
-least_path path other = if is_before other path then other else path
+abbrev pub min_text : List ℕ → List ℕ → List ℕ
+min_text path other = if is_before other path then other else path
 
 -- whichever of two paths comes first in byte order, or the only path there is, or `None` without paths
-abbrev pub least_path_of : Option (List ℕ) → Option (List ℕ) → Option (List ℕ)
-least_path_of None other = other
-least_path_of (Some path) None = Some path
-least_path_of (Some path) (Some other) = Some (least_path path other)
+abbrev pub min_text_of : Option (List ℕ) → Option (List ℕ) → Option (List ℕ)
+min_text_of None other = other
+min_text_of (Some path) None = Some path
+min_text_of (Some path) (Some other) = Some (min_text path other)
 
 -- the path of the image with this digest, or `None` if there is none
-abbrev pub path_in : List ℕ → List ImageCounts → Option (List ℕ)
-path_in digest [] = None
-path_in digest (i ∷ is) =
-    least_path_of (if bytes_eq i.digest digest then Some i.path else None) (path_in digest is)
+abbrev pub next_path : List ℕ → List ImageCounts → Option (List ℕ)
+next_path digest [] = None
+next_path digest (i ∷ is) =
+    min_text_of (if bytes_eq i.digest digest then Some i.path else None) (next_path digest is)
 
 -- the name of a function, or `None` if it has none; if it has several, the first in byte order
 abbrev pub name_at : ℕ → List FunctionName → Option (List ℕ)
 name_at function [] = None
-name_at function (n ∷ ns) = least_path_of (if n.function == function then Some n.name else None) (name_at function ns)
+name_at function (n ∷ ns) = min_text_of (if n.function == function then Some n.name else None) (name_at function ns)
 
 -- the name of a function in the image with this digest, or `None` if it has none; if it has several, the first in byte order
-abbrev pub name_in : List ℕ → ℕ → List ImageCounts → Option (List ℕ)
-name_in digest function [] = None
-name_in digest function (i ∷ is) =
-    least_path_of (if bytes_eq i.digest digest then name_at function i.functions else None) (name_in digest function is)
+abbrev pub truncated_name : List ℕ → ℕ → List ImageCounts → Option (List ℕ)
+truncated_name digest function [] = None
+truncated_name digest function (i ∷ is) =
+    min_text_of (if bytes_eq i.digest digest then name_at function i.functions else None) (truncated_name digest function is)
 
 -- how often runs entered a call path in the image with this digest
 abbrev pub arrivals_in : List ℕ → List ℕ → List ImageCounts → ℕ
 arrivals_in digest path [] = 0
 arrivals_in digest path (i ∷ is) =
-    (if bytes_eq i.digest digest then arrivals_at path i.spots else 0) + arrivals_in digest path is
+    (if bytes_eq i.digest digest then calls_at path i.spots else 0) + arrivals_in digest path is
 
 -- how many instructions runs executed in a call path in the image with this digest
 abbrev pub steps_in : List ℕ → List ℕ → List ImageCounts → ℕ
@@ -94,33 +94,33 @@ pub record IsCounted (c : AddressCounts) : Type 0 where
   pub taken : c.taken ≤ c.begun
 
 -- whether the addresses increase strictly and none is below `lowest`
-unfoldable pub rise_from : ℕ → List AddressCounts → Bool
-rise_from lowest [] = true
-rise_from lowest (c ∷ cs) = nat_le lowest c.address && rise_from (c.address + 1) cs
+unfoldable pub increase_from : ℕ → List AddressCounts → Bool
+increase_from lowest [] = true
+increase_from lowest (c ∷ cs) = nat_le lowest c.address && increase_from (c.address + 1) cs
 
 -- the counts are valid, and each address occurs once, in increasing order
-pub record AreCounts (cs : List AddressCounts) : Type 0 where
+pub record AreValidCounts (cs : List AddressCounts) : Type 0 where
   pub each : AllByRecursion IsCounted cs
-  pub rising : rise_from 0 cs ≡ true
+  pub rising : increase_from 0 cs ≡ true
 
 -- the name of a function is valid: it is UTF-8 without line feeds, since the line ends there
-pub record IsName (n : FunctionName) : Type 0 where
+pub record IsValidName (n : FunctionName) : Type 0 where
   pub function : n.function < 2 ^ 32
   pub name : lacks 10 n.name ≡ true
   pub text : IsUtf8 n.name
 
 -- whether the addresses of the functions increase strictly and none is below `lowest`
-unfoldable pub names_rise : ℕ → List FunctionName → Bool
-names_rise lowest [] = true
-names_rise lowest (n ∷ ns) = nat_le lowest n.function && names_rise (n.function + 1) ns
+unfoldable pub functions_increase_from : ℕ → List FunctionName → Bool
+functions_increase_from lowest [] = true
+functions_increase_from lowest (n ∷ ns) = nat_le lowest n.function && functions_increase_from (n.function + 1) ns
 
 -- the names are valid, and each function occurs once, in increasing order
-pub record AreNames (ns : List FunctionName) : Type 0 where
-  pub each : AllByRecursion IsName ns
-  pub rising : names_rise 0 ns ≡ true
+pub record AreValidNames (ns : List FunctionName) : Type 0 where
+  pub each : AllByRecursion IsValidName ns
+  pub rising : functions_increase_from 0 ns ≡ true
 
 -- the node is valid: its numbers fit their fields, and a run entered it
-pub record IsSpot (s : Spot) : Type 0 where
+pub record IsValidNode (s : Spot) : Type 0 where
   pub depth : s.depth < 2 ^ 64
   pub function : s.function < 2 ^ 32
   pub some : 0 < s.arrivals
@@ -128,8 +128,8 @@ pub record IsSpot (s : Spot) : Type 0 where
   pub steps : s.steps < 2 ^ 64
 
 -- the node and the name of its function are valid
-pub record IsNamedSpot (n : NamedSpot) : Type 0 where
-  pub spot : IsSpot n.spot
+pub record IsValidNamedNode (n : NamedCallNode) : Type 0 where
+  pub spot : IsValidNode n.spot
   pub name : lacks 10 n.name ≡ true
   pub text : IsUtf8 n.name
 
@@ -145,22 +145,22 @@ name_of function (n ∷ ns) = if n.function == function then Some n.name else na
 
 -- the functions that have names are exactly those in which a node's path ends
 abbrev pub AreNamesOf : List Spot → List FunctionName → Type 0
-AreNamesOf spots names = (function : ℕ) → has_name (name_of function names) ≡ is_last_of_some function spots
+AreNamesOf spots names = (function : ℕ) → has_name (name_of function names) ≡ ends_some_path function spots
 
 -- the nodes are valid and form a call tree in preorder
-pub record AreSpots (ss : List Spot) : Type 0 where
-  pub each : AllByRecursion IsSpot ss
+pub record AreValidNodes (ss : List Spot) : Type 0 where
+  pub each : AllByRecursion IsValidNode ss
   pub tree : IsTree ss
 
 -- the image is valid: its digest has 32 bytes, its path is UTF-8 without line feeds, and its counts, names and nodes are valid
-pub record IsImage (i : ImageCounts) : Type 0 where
+pub record IsValidImage (i : ImageCounts) : Type 0 where
   pub digest : length i.digest ≡ 32
   pub bytes : AllByRecursion (λ b. b < 256) i.digest
   pub path : lacks 10 i.path ≡ true
   pub text : IsUtf8 i.path
-  pub counts : AreCounts i.addresses
-  pub names : AreNames i.functions
-  pub spots : AreSpots i.spots
+  pub counts : AreValidCounts i.addresses
+  pub names : AreValidNames i.functions
+  pub spots : AreValidNodes i.spots
   pub of_spots : AreNamesOf i.spots i.functions
 
 -- whether a digest is greater than the last one; true if there is no last one
@@ -169,13 +169,13 @@ is_greater_than_last None digest = true
 is_greater_than_last (Some last) digest = is_before last digest
 
 -- whether the digests of images increase strictly and, if there is a last digest, are greater than it
-unfoldable pub digests_rise : Option (List ℕ) → List ImageCounts → Bool
-digests_rise last [] = true
-digests_rise last (i ∷ is) = is_greater_than_last last i.digest && digests_rise (Some i.digest) is
+unfoldable pub digests_increase_from : Option (List ℕ) → List ImageCounts → Bool
+digests_increase_from last [] = true
+digests_increase_from last (i ∷ is) = is_greater_than_last last i.digest && digests_increase_from (Some i.digest) is
 
 -- the table is valid: its images are valid and sorted by digest, and its numbers fit in 64 bits
 pub record IsTable (t : CountTable) : Type 0 where
-  pub images : AllByRecursion IsImage t.images
-  pub rising : digests_rise None t.images ≡ true
+  pub images : AllByRecursion IsValidImage t.images
+  pub rising : digests_increase_from None t.images ≡ true
   pub few : length t.images < 2 ^ 64
   pub runs : t.runs < 2 ^ 64

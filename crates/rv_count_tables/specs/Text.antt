@@ -7,7 +7,7 @@ use Rattle.rv_text.specs.Words.{word_digits}
 use Rattle.rv_count_tables.specs.declared.table.AddressCounts.{AddressCounts}
 use Rattle.rv_count_tables.specs.declared.table.FunctionName.{FunctionName}
 use Rattle.rv_count_tables.specs.declared.table.ImageCounts.{ImageCounts}
-use Rattle.rv_count_tables.specs.declared.table.NamedSpot.{NamedSpot}
+use Rattle.rv_count_tables.specs.declared.table.NamedCallNode.{NamedCallNode}
 use Rattle.rv_count_tables.specs.declared.table.CountTable.{CountTable}
 use Rattle.rv_count_tables.specs.Table.{name_of}
 use Rattle.rv_call_tree.specs.declared.spot.Spot.{Spot}
@@ -25,26 +25,26 @@ unfoldable pub address_line : AddressCounts → List ℕ
 address_line c = line (word_digits c.address ++ codes " " ++ decimal c.begun ++ codes " " ++ decimal c.taken)
 
 -- the words `spot DEPTH FUNCTION ARRIVALS STEPS` of a node
-unfoldable pub words_of_spot : Spot → List ℕ
-words_of_spot s = codes "spot " ++ decimal s.depth ++ codes " " ++ word_digits s.function ++ codes " "
+unfoldable pub fields_of_node : Spot → List ℕ
+fields_of_node s = codes "spot " ++ decimal s.depth ++ codes " " ++ word_digits s.function ++ codes " "
     ++ decimal s.arrivals ++ codes " " ++ decimal s.steps
 
 -- the line `spot DEPTH FUNCTION ARRIVALS STEPS NAME` of a node
-unfoldable pub spot_line : NamedSpot → List ℕ
-spot_line n = line (words_of_spot n.spot ++ codes " " ++ n.name)
+unfoldable pub node_line : NamedCallNode → List ℕ
+node_line n = line (fields_of_node n.spot ++ codes " " ++ n.name)
 
 -- the name, or an empty text if there is no name
-abbrev pub name_or_nothing : Option (List ℕ) → List ℕ
-name_or_nothing None = []
-name_or_nothing (Some name) = name
+abbrev pub name_or_empty : Option (List ℕ) → List ℕ
+name_or_empty None = []
+name_or_empty (Some name) = name
 
 -- a node with the name of its function in the list, or with an empty name if it has none there
-abbrev pub named : List FunctionName → Spot → NamedSpot
-named names s = record { spot = s; name = name_or_nothing (name_of s.function names) }
+abbrev pub named : List FunctionName → Spot → NamedCallNode
+named names s = record { spot = s; name = name_or_empty (name_of s.function names) }
 
 -- the line of a node, with the name of its function in the list
-abbrev pub line_of_spot : List FunctionName → Spot → List ℕ
-line_of_spot names s = spot_line (named names s)
+abbrev pub line_of_node : List FunctionName → Spot → List ℕ
+line_of_node names s = node_line (named names s)
 
 -- the line `image DIGEST PATH` of an image
 unfoldable pub image_line : ImageCounts → List ℕ
@@ -52,7 +52,7 @@ image_line i = line (codes "image " ++ encode_lower i.digest ++ codes " " ++ i.p
 
 -- the lines of an image: first its own line, then the lines of its addresses, then the lines of its nodes
 unfoldable pub image_text : ImageCounts → List ℕ
-image_text i = image_line i ++ flat_map address_line i.addresses ++ flat_map (line_of_spot i.functions) i.spots
+image_text i = image_line i ++ flat_map address_line i.addresses ++ flat_map (line_of_node i.functions) i.spots
 
 -- the last line `done IMAGES RUNS` of a table with these numbers of images and runs
 unfoldable pub last_line : ℕ → ℕ → List ℕ

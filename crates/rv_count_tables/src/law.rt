@@ -3,13 +3,13 @@
 ghost use Rattle.std.specs.Prelude.{◌≡◌, ℕ, List};
 ghost use Rattle.rv_count_tables.specs.declared.table.AddressCounts.{AddressCounts};
 ghost use Rattle.rv_count_tables.specs.declared.table.CountTable.{CountTable};
-ghost use Rattle.rv_count_tables.specs.Table.{AreCounts, IsTable, executed_at, taken_at, executed_in, taken_in, path_in, name_in, arrivals_in, steps_in};
+ghost use Rattle.rv_count_tables.specs.Table.{AreValidCounts, IsTable, executed_at, taken_at, executed_in, taken_in, next_path, truncated_name, arrivals_in, steps_in};
 ghost use Rattle.rv_count_tables.specs.Text.{table_text};
-ghost use Rattle.rv_count_tables.specs.Sum.{IsSumOfCounts, IsSum, no_counts};
+ghost use Rattle.rv_count_tables.specs.Sum.{IsSumOfCounts, IsSumOfTables, no_counts};
 
 /// Proves that two lists of counts are equal if each address has equal counts in both.
-pub fn one_list_has_these_counts()
-    ensures { (a b : List AddressCounts) → AreCounts a → AreCounts b
+pub fn lists_with_equal_counts_are_equal()
+    ensures { (a b : List AddressCounts) → AreValidCounts a → AreValidCounts b
         → ((address : ℕ) → executed_at address a ≡ executed_at address b)
         → ((address : ℕ) → taken_at address a ≡ taken_at address b) → a ≡ b }
 {}
@@ -27,12 +27,12 @@ pub fn sums_of_counts_associate()
 
 /// Proves that two tables are equal if they have equally many runs and the same images, and each image has the same path and function
 /// names, and equal counts at each address and of each call path.
-pub fn one_table_has_these_counts()
+pub fn tables_with_equal_counts_are_equal()
     ensures { (t u : CountTable) → IsTable t → IsTable u
         → ((digest : List ℕ) (address : ℕ) → executed_in digest address t.images ≡ executed_in digest address u.images)
         → ((digest : List ℕ) (address : ℕ) → taken_in digest address t.images ≡ taken_in digest address u.images)
-        → ((digest : List ℕ) → path_in digest t.images ≡ path_in digest u.images)
-        → ((digest : List ℕ) (function : ℕ) → name_in digest function t.images ≡ name_in digest function u.images)
+        → ((digest : List ℕ) → next_path digest t.images ≡ next_path digest u.images)
+        → ((digest : List ℕ) (function : ℕ) → truncated_name digest function t.images ≡ truncated_name digest function u.images)
         → ((digest path : List ℕ) → arrivals_in digest path t.images ≡ arrivals_in digest path u.images)
         → ((digest path : List ℕ) → steps_in digest path t.images ≡ steps_in digest path u.images)
         → t.runs ≡ u.runs → t ≡ u }
@@ -40,18 +40,18 @@ pub fn one_table_has_these_counts()
 
 /// Proves that the sum of two tables does not depend on their order, and that the sum of three does not depend on which two are added
 /// first.
-pub fn sums_of_tables_are_sums()
-    ensures commute { (a b ab ba : CountTable) → IsSum a b ab → IsSum b a ba → ab ≡ ba }
-    ensures associate { (a b c ab bc first last : CountTable) → IsSum a b ab → IsSum ab c first
-        → IsSum b c bc → IsSum a bc last → first ≡ last }
+pub fn sums_of_tables_commute_and_associate()
+    ensures commute { (a b ab ba : CountTable) → IsSumOfTables a b ab → IsSumOfTables b a ba → ab ≡ ba }
+    ensures associate { (a b c ab bc first last : CountTable) → IsSumOfTables a b ab → IsSumOfTables ab c first
+        → IsSumOfTables b c bc → IsSumOfTables a bc last → first ≡ last }
 {}
 
 /// Proves that two tables with equal texts are equal.
-pub fn one_table_has_this_text()
+pub fn tables_with_equal_texts_are_equal()
     ensures { (t u : CountTable) → IsTable t → IsTable u → table_text t ≡ table_text u → t ≡ u }
 {}
 
 /// Proves that adding the table of no runs changes nothing.
 pub fn empty_table_adds_nothing()
-    ensures { (t : CountTable) → IsTable t → IsSum no_counts t t }
+    ensures { (t : CountTable) → IsTable t → IsSumOfTables no_counts t t }
 {}

@@ -27,9 +27,9 @@ mod tests;
 mod text;
 
 pub use law::{
-    empty_table_adds_nothing, one_list_has_these_counts, one_table_has_these_counts,
-    one_table_has_this_text, sums_of_counts_associate, sums_of_counts_commute,
-    sums_of_tables_are_sums,
+    empty_table_adds_nothing, lists_with_equal_counts_are_equal, tables_with_equal_counts_are_equal,
+    tables_with_equal_texts_are_equal, sums_of_counts_associate, sums_of_counts_commute,
+    sums_of_tables_commute_and_associate,
 };
 pub use lookup::{counts_at, index_of_address, was_executed_within};
 pub use names::{add_name, name_of};
@@ -42,7 +42,7 @@ pub use text::table_text;
 
 // From the crates below: what this interface names, and what its callers need with it.
 pub use rv_call_tree::{
-    Bytes, FunctionSteps, Spot, SpotIndex, Spots, Text, one_tree_has_these_counts,
+    Bytes, FunctionSteps, Spot, CallTreeIndex, Spots, Text, trees_with_equal_counts_are_equal,
     own_steps_sum_to_all,
 };
 pub use rv_text::{

@@ -3,13 +3,13 @@
 ghost use Rattle.std.specs.Prelude.{◌≡◌, ◌<◌, ◌≤◌, ◌&&◌, ℕ, length, nat_le, nat_lt, slice_index_or, true};
 ghost use Rattle.std.specs.List.{list_any};
 ghost use Rattle.rv_count_tables.specs.declared.table.AddressCounts.{AddressCounts as Counts};
-ghost use Rattle.rv_count_tables.specs.Table.{executed_at, rise_from, taken_at};
+ghost use Rattle.rv_count_tables.specs.Table.{executed_at, increase_from, taken_at};
 
 use crate::table::AddressCounts;
 
 /// Returns the counts of the instruction at an address; they are 0 if it was never executed. `counts` is sorted by address.
 pub fn counts_at(counts: &[AddressCounts], address: u32) -> AddressCounts
-    requires { rise_from 0 counts.now ≡ true }
+    requires { increase_from 0 counts.now ≡ true }
     ensures { result ≡ record { address = address; begun = executed_at address counts.now; taken = taken_at address counts.now } }
 {
     let place = index_of_address(counts, address);
@@ -25,7 +25,7 @@ pub fn counts_at(counts: &[AddressCounts], address: u32) -> AddressCounts
 
 /// Whether an instruction was executed at some address in the range `from..behind`. `counts` is sorted by address.
 pub fn was_executed_within(counts: &[AddressCounts], from: u32, behind: u64) -> bool
-    requires { rise_from 0 counts.now ≡ true }
+    requires { increase_from 0 counts.now ≡ true }
     ensures { result ≡ list_any (λ c. nat_le from c.address && nat_lt c.address behind) counts.now }
 {
     let place = index_of_address(counts, from);
@@ -34,7 +34,7 @@ pub fn was_executed_within(counts: &[AddressCounts], from: u32, behind: u64) -> 
 
 /// Returns the index of the first count at or above an address, or the number of counts if there is none. `counts` is sorted by address.
 pub fn index_of_address(counts: &[AddressCounts], address: u32) -> usize
-    requires { rise_from 0 counts.now ≡ true }
+    requires { increase_from 0 counts.now ≡ true }
     ensures within { result ≤ length counts.now }
     ensures lower { (k : ℕ) (d : Counts) → k < result → (slice_index_or counts.now k d).address < address }
     ensures higher { (d : Counts) → result < length counts.now

@@ -32,14 +32,14 @@ pub fn add_name(names: &mut Vec<FunctionName>, name: FunctionName) -> Result<(),
     if name_of(names.as_slice(), name.function).is_some() {
         return Ok(());
     }
-    let place = lower_functions(names.as_slice(), name.function);
+    let place = index_of_function(names.as_slice(), name.function);
     names.insert(place, name)?;
     Ok(())
 }
 
 // Returns the index at which the list has the name of a function, or at which it would be inserted: the number of names of functions at
 // lower addresses.
-fn lower_functions(names: &[FunctionName], function: u32) -> usize
+fn index_of_function(names: &[FunctionName], function: u32) -> usize
     ensures { result ≡ prefix_len (λ m. nat_lt m.function function) names.now }
 {
     let mut count = 0;

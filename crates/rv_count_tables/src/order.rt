@@ -1,7 +1,7 @@
 //! Byte order.
 
 ghost use Rattle.std.specs.Prelude.{◌≡◌};
-ghost use Rattle.rv_count_tables.specs.Table.{is_before, least_path};
+ghost use Rattle.rv_count_tables.specs.Table.{is_before, min_text};
 
 /// Whether `a` comes before `b` in lexicographic byte order.
 pub(crate) fn is_before(a: &[u8], b: &[u8]) -> bool
@@ -19,8 +19,8 @@ pub(crate) fn is_before(a: &[u8], b: &[u8]) -> bool
 }
 
 /// Returns whichever of two paths comes first in byte order.
-pub(crate) fn least_path<'a>(path: &'a str, other: &'a str) -> &'a str
-    ensures { result.now ≡ least_path path.now other.now }
+pub(crate) fn min_text<'a>(path: &'a str, other: &'a str) -> &'a str
+    ensures { result.now ≡ min_text path.now other.now }
 {
     if is_before(other.as_bytes(), path.as_bytes()) {
         other

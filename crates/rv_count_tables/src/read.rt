@@ -2,10 +2,10 @@
 
 ghost use Rattle.std.specs.Prelude.{◌≡◌, ◌+◌, ◌≤◌, IfOk, IfErr, length, take, drop};
 ghost use Rattle.rv_count_tables.specs.declared.table.CountTable.{CountTable as Counted};
-ghost use Rattle.rv_count_tables.specs.Lines.{count_of_line_feeds, whole_line};
+ghost use Rattle.rv_count_tables.specs.Lines.{line_feed_count, whole_line};
 ghost use Rattle.rv_count_tables.specs.Table.{IsTable};
 ghost use Rattle.rv_count_tables.specs.Text.{table_text};
-ghost use Rattle.rv_count_tables.specs.Read.{AnswersUnlessMemory, IsLeast, read_error_at};
+ghost use Rattle.rv_count_tables.specs.Read.{IsOkOrOutOfMemory, IsFirstError, read_error_at};
 ghost use Rattle.rv_count_tables.specs.declared.read.ReadError.TheVariants.{OutOfMemory, CutOff};
 
 use crate::line_parts::{leading_bytes, whole_line};
@@ -45,9 +45,9 @@ pub fn read_table(alloc: Global, bytes: &[u8]) -> Result<CountTable, ReadError>
     ensures text { IfOk result (λ table. table_text table ≡ bytes.now) }
     // Every valid table with this text is the result.
     ensures only { (table : Counted) → IsTable table → table_text table ≡ bytes.now
-        → AnswersUnlessMemory table result }
+        → IsOkOrOutOfMemory table result }
     // Some table begins with the lines before the reported one, and none with those lines and the reported one.
-    ensures least { IfErr result (λ error. IsLeast error bytes.now) }
+    ensures least { IfErr result (λ error. IsFirstError error bytes.now) }
 {
     if whole_line(bytes) != "rvcounts 1\n".as_bytes() {
         return Err(refused_at(bytes, 0));
@@ -65,7 +65,7 @@ pub fn read_table(alloc: Global, bytes: &[u8]) -> Result<CountTable, ReadError>
                     runs,
                 })
             } else {
-                Err(ReadError::Line(number_of_line(bytes, end)))
+                Err(ReadError::Line(line_number_at(bytes, end)))
             }
         }
     }
@@ -78,13 +78,13 @@ fn refused_at(bytes: &[u8], place: usize) -> ReadError
     if whole_line(tail_from(bytes, place)).is_empty() {
         ReadError::CutOff
     } else {
-        ReadError::Line(number_of_line(bytes, place))
+        ReadError::Line(line_number_at(bytes, place))
     }
 }
 
 // Returns the number, counted from 1, of the line that begins at an index.
-fn number_of_line(bytes: &[u8], place: usize) -> usize
-    ensures { result ≡ count_of_line_feeds (take place bytes.now) + 1 }
+fn line_number_at(bytes: &[u8], place: usize) -> usize
+    ensures { result ≡ line_feed_count (take place bytes.now) + 1 }
 {
     let front = leading_bytes(bytes, place);
     let mut number = 1;

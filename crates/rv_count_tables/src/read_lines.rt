@@ -7,9 +7,9 @@ ghost use Rattle.std.specs.Str.{bytes_eq, IsUtf8};
 ghost use Rattle.rv_count_tables.specs.declared.table.AddressCounts.{AddressCounts as Counts};
 ghost use Rattle.rv_count_tables.specs.declared.table.ImageCounts.{ImageCounts as Image};
 ghost use Rattle.rv_count_tables.specs.Lines.{whole_line};
-ghost use Rattle.rv_count_tables.specs.Table.{IsCounted, IsImage, is_greater_than_last};
+ghost use Rattle.rv_count_tables.specs.Table.{IsCounted, IsValidImage, is_greater_than_last};
 ghost use Rattle.rv_count_tables.specs.Text.{address_line, image_line, last_line};
-ghost use Rattle.rv_count_tables.specs.ReadSteps.{AreAddressLines, AreImageLines, IsOneImage, IsNotAnAddress, IsNotAnImage, last_digest};
+ghost use Rattle.rv_count_tables.specs.ReadSteps.{AreParsedAddresses, AreParsedImages, IsParsedImage, IsNotAnAddress, IsNotAnImage, last_digest};
 
 use crate::growth::push_item;
 use crate::line_parts::{
@@ -17,7 +17,7 @@ use crate::line_parts::{
     whole_line,
 };
 use crate::order::is_before;
-use crate::read_stacks::read_spots;
+use crate::read_stacks::read_nodes;
 use crate::table::{AddressCounts, Addresses, Digest, FunctionNames, ImageCounts, Images};
 use crate::text::{push_address_line, push_image_line, push_last_line};
 use rv_call_tree::{Spots, Text};
@@ -26,28 +26,28 @@ use std::alloc::{AllocError, Global};
 
 /// Parsed addresses, and the length of their lines in bytes.
 #[derive(Drop)]
-pub(crate) struct AddressLines {
+pub(crate) struct ParsedAddresses {
     pub(crate) addresses: Addresses,
     pub(crate) length: usize,
 }
 
 /// A parsed image, and the length of its lines in bytes.
 #[derive(Drop)]
-pub(crate) struct OneImage {
+pub(crate) struct ParsedImage {
     pub(crate) image: ImageCounts,
     pub(crate) length: usize,
 }
 
 /// Parsed images, and the length of their lines in bytes.
 #[derive(Drop)]
-pub(crate) struct ImageLines {
+pub(crate) struct ParsedImages {
     pub(crate) images: Images,
     pub(crate) length: usize,
 }
 
 /// Parses the lines of images at the start of a text, up to the first line that cannot belong to them.
-pub(crate) fn read_images(alloc: Global, text: &[u8]) -> Result<ImageLines, AllocError>
-    ensures { IfOk result (λ read. AreImageLines text.now read) }
+pub(crate) fn read_images(alloc: Global, text: &[u8]) -> Result<ParsedImages, AllocError>
+    ensures { IfOk result (λ read. AreParsedImages text.now read) }
 {
     let mut images = Vec::new(alloc);
     let mut length = 0;
@@ -58,7 +58,7 @@ pub(crate) fn read_images(alloc: Global, text: &[u8]) -> Result<ImageLines, Allo
                 push_item(&mut images, read.image)?;
             }
             None => {
-                return Ok(ImageLines {
+                return Ok(ParsedImages {
                     images: Images::new(images),
                     length,
                 });
@@ -73,8 +73,8 @@ fn read_image(
     alloc: Global,
     text: &[u8],
     earlier: &[ImageCounts],
-) -> Result<Option<OneImage>, AllocError>
-    ensures found { IfOk result (λ read. IfSome read (IsOneImage (last_digest None earlier.now) text.now)) }
+) -> Result<Option<ParsedImage>, AllocError>
+    ensures found { IfOk result (λ read. IfSome read (IsParsedImage (last_digest None earlier.now) text.now)) }
     ensures none { IfOk result (λ read. IfNone read (IsNotAnImage (last_digest None earlier.now) (whole_line text.now))) }
 {
     let line = whole_line(text);
@@ -87,12 +87,12 @@ fn read_image(
     }
     let lines = read_addresses(alloc, tail_from(text, line.len()))?;
     let addresses_end = line.len() + lines.length;
-    let spots = read_spots(alloc, tail_from(text, addresses_end))?;
+    let spots = read_nodes(alloc, tail_from(text, addresses_end))?;
     let length = addresses_end + spots.length;
     image.addresses = lines.addresses;
     image.functions = spots.functions;
     image.spots = spots.spots;
-    Ok(Some(OneImage { image, length }))
+    Ok(Some(ParsedImage { image, length }))
 }
 
 // Whether these bytes are a digest that is greater than the digest of the last of the earlier images, if there are any.
@@ -108,8 +108,8 @@ fn can_follow(digest: &[u8], earlier: &[ImageCounts]) -> bool
 }
 
 // Parses the lines of addresses at the start of a text, up to the first line that is not a line of a higher address.
-fn read_addresses(alloc: Global, text: &[u8]) -> Result<AddressLines, AllocError>
-    ensures { IfOk result (λ read. AreAddressLines text.now read) }
+fn read_addresses(alloc: Global, text: &[u8]) -> Result<ParsedAddresses, AllocError>
+    ensures { IfOk result (λ read. AreParsedAddresses text.now read) }
 {
     let mut addresses = Vec::new(alloc);
     let mut length = 0;
@@ -123,7 +123,7 @@ fn read_addresses(alloc: Global, text: &[u8]) -> Result<AddressLines, AllocError
                 push_item(&mut addresses, counts)?;
             }
             None => {
-                return Ok(AddressLines {
+                return Ok(ParsedAddresses {
                     addresses: Addresses::new(addresses),
                     length,
                 });
@@ -144,7 +144,7 @@ fn parse_address_line(
     ensures none { IfOk result (λ read. IfNone read (IsNotAnAddress lowest line.now)) }
 {
     let counts = counts_of_line(line);
-    if can_come_next(counts, lowest) && has_address_line(alloc, counts, line)? {
+    if can_come_next(counts, lowest) && is_address_line(alloc, counts, line)? {
         Ok(Some(counts))
     } else {
         Ok(None)
@@ -174,7 +174,7 @@ fn counts_of_line(line: &[u8]) -> AddressCounts
 }
 
 // Whether `line` is the text of the line of these counts.
-fn has_address_line(alloc: Global, counts: AddressCounts, line: &[u8]) -> Result<bool, AllocError>
+fn is_address_line(alloc: Global, counts: AddressCounts, line: &[u8]) -> Result<bool, AllocError>
     ensures { IfOk result (λ same. same ≡ bytes_eq line.now (address_line counts)) }
 {
     let mut text = String::new(alloc);
@@ -184,9 +184,9 @@ fn has_address_line(alloc: Global, counts: AddressCounts, line: &[u8]) -> Result
 
 // Returns the image, without counts, in a line `image DIGEST PATH`. For any other line, the result is arbitrary.
 fn image_of_line(alloc: Global, line: &[u8]) -> Result<ImageCounts, AllocError>
-    ensures digest { (i : Image) → IsImage i → line.now ≡ image_line i
+    ensures digest { (i : Image) → IsValidImage i → line.now ≡ image_line i
         → IfOk result (λ read. read.digest ≡ i.digest) }
-    ensures path { (i : Image) → IsImage i → line.now ≡ image_line i
+    ensures path { (i : Image) → IsValidImage i → line.now ≡ image_line i
         → IfOk result (λ read. read.path ≡ i.path) }
     ensures text { IfOk result (λ read. IsUtf8 read.path) }
 {

@@ -1,13 +1,13 @@
 //! The sum of two tables.
 
 ghost use Rattle.std.specs.Prelude.{◌≡◌, IfOk, IfErr};
-ghost use Rattle.rv_count_tables.specs.Sum.{IsSum, HaveNoSum, sum_error_of};
+ghost use Rattle.rv_count_tables.specs.Sum.{IsSumOfTables, HaveNoSum, sum_error_of};
 ghost use Rattle.rv_count_tables.specs.Table.{IsTable};
 ghost use Rattle.rv_count_tables.specs.declared.sum.SumError.TheVariants.{OutOfMemory};
 
 use crate::sum_of_images::{add_images, sum_of_images};
 use crate::table::CountTable;
-use rv_call_tree::SpotSumError;
+use rv_call_tree::CallTreeSumError;
 use std::alloc::{AllocError, Global};
 use thiserror::Error;
 
@@ -40,14 +40,14 @@ impl From<AllocError> for SumError {
     }
 }
 
-impl From<SpotSumError> for SumError {
+impl From<CallTreeSumError> for SumError {
     ghost from_gives = { λ why error. error ≡ sum_error_of why };
 
     // Returns the error of a sum of tables, given why their call trees have no sum.
-    fn from(why: SpotSumError) -> SumError {
+    fn from(why: CallTreeSumError) -> SumError {
         match why {
-            SpotSumError::OutOfMemory => SumError::OutOfMemory,
-            SpotSumError::Count(function) => SumError::Spot(function),
+            CallTreeSumError::OutOfMemory => SumError::OutOfMemory,
+            CallTreeSumError::Count(function) => SumError::Spot(function),
         }
     }
 }
@@ -57,7 +57,7 @@ impl From<SpotSumError> for SumError {
 pub fn sum_of_tables(alloc: Global, a: &CountTable, b: &CountTable) -> Result<CountTable, SumError>
     requires a { IsTable a.now }
     requires b { IsTable b.now }
-    ensures value { IfOk result (λ sum. IsSum a.now b.now sum) }
+    ensures value { IfOk result (λ sum. IsSumOfTables a.now b.now sum) }
     ensures refused { IfErr result (λ error. HaveNoSum error a.now b.now) }
 {
     let runs = a.runs.checked_add(b.runs).ok_or(SumError::Runs)?;
@@ -70,7 +70,7 @@ pub fn sum_of_tables(alloc: Global, a: &CountTable, b: &CountTable) -> Result<Co
 pub fn add_table(alloc: Global, sum: CountTable, table: CountTable) -> Result<CountTable, SumError>
     requires sum { IsTable sum }
     requires table { IsTable table }
-    ensures value { IfOk result (λ total. IsSum sum table total) }
+    ensures value { IfOk result (λ total. IsSumOfTables sum table total) }
     ensures refused { IfErr result (λ error. HaveNoSum error sum table) }
 {
     let runs = sum.runs.checked_add(table.runs).ok_or(SumError::Runs)?;

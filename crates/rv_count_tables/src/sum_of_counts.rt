@@ -4,7 +4,7 @@ ghost use Rattle.std.specs.Prelude.{◌≡◌, ◌+◌, ◌^◌, ◌≤◌, ◌<
 ghost use Rattle.std.specs.List.{AllByRecursion};
 ghost use Rattle.rv_count_tables.specs.Sum.{IsSumOfCounts, CountsHaveNoSum};
 ghost use Rattle.rv_count_tables.specs.SumSteps.{IsNextCount};
-ghost use Rattle.rv_count_tables.specs.Table.{AreCounts, IsCounted};
+ghost use Rattle.rv_count_tables.specs.Table.{AreValidCounts, IsCounted};
 ghost use Rattle.rv_count_tables.specs.declared.sum.SumError.TheVariants.{Count};
 
 use crate::growth::push_item;
@@ -19,8 +19,8 @@ pub(crate) fn sum_of_counts(
     a: &[AddressCounts],
     b: &[AddressCounts],
 ) -> Result<Addresses, SumError>
-    requires a { AreCounts a.now }
-    requires b { AreCounts b.now }
+    requires a { AreValidCounts a.now }
+    requires b { AreValidCounts b.now }
     ensures value { IfOk result (λ sum. IsSumOfCounts a.now b.now sum) }
     ensures refused { IfErr result (λ error. CountsHaveNoSum error a.now b.now) }
 {

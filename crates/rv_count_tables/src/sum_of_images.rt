@@ -5,16 +5,16 @@ ghost use Rattle.std.specs.List.{AllByRecursion};
 ghost use Rattle.rv_count_tables.specs.declared.sum.SumError.TheVariants.{OutOfMemory};
 ghost use Rattle.rv_count_tables.specs.Sum.{IsSumOfCounts, IsSumOfNames};
 ghost use Rattle.rv_count_tables.specs.SumSteps.{ImagesAddUp, IsNextImage, ImagesHaveNoSum, ImageHasNoSum};
-ghost use Rattle.rv_count_tables.specs.Table.{AreNamesOf, AreSpots, IsImage, is_before, least_path};
-ghost use Rattle.rv_call_tree.specs.Sums.{IsSumOfSpots};
+ghost use Rattle.rv_count_tables.specs.Table.{AreNamesOf, AreValidNodes, IsValidImage, is_before, min_text};
+ghost use Rattle.rv_call_tree.specs.Sums.{IsSumOfCallTrees};
 
 use crate::growth::push_item;
-use crate::order::{is_before, least_path};
+use crate::order::{is_before, min_text};
 use crate::sum::SumError;
 use crate::sum_of_counts::sum_of_counts;
 use crate::sum_of_names::{copy_of_names, sum_of_names};
 use crate::table::{Addresses, Digest, ImageCounts, Images};
-use rv_call_tree::{Spots, Text, sum_of_spots};
+use rv_call_tree::{Spots, Text, sum_of_call_trees};
 use std::alloc::{AllocError, Global};
 
 /// Returns the sum of the images of two tables, sorted by digest, or why there is none. Allocates only the sum.
@@ -23,8 +23,8 @@ pub(crate) fn sum_of_images(
     a: &[ImageCounts],
     b: &[ImageCounts],
 ) -> Result<Images, SumError>
-    requires a { AllByRecursion IsImage a.now }
-    requires b { AllByRecursion IsImage b.now }
+    requires a { AllByRecursion IsValidImage a.now }
+    requires b { AllByRecursion IsValidImage b.now }
     ensures value { IfOk result (λ sum. ImagesAddUp a.now b.now sum) }
     ensures refused { IfErr result (λ error. ImagesHaveNoSum error a.now b.now) }
 {
@@ -42,8 +42,8 @@ pub(crate) fn sum_of_images(
 
 /// Returns the sum of the images of two tables, or why there is none. If only one of the tables has images, they are moved, not copied.
 pub(crate) fn add_images(alloc: Global, a: Images, b: Images) -> Result<Images, SumError>
-    requires a { AllByRecursion IsImage a }
-    requires b { AllByRecursion IsImage b }
+    requires a { AllByRecursion IsValidImage a }
+    requires b { AllByRecursion IsValidImage b }
     ensures value { IfOk result (λ sum. ImagesAddUp a b sum) }
     ensures refused { IfErr result (λ error. ImagesHaveNoSum error a b) }
 {
@@ -66,8 +66,8 @@ pub(crate) struct NextImage {
 
 // Returns the image with the lowest digest in the sum of two lists, and how many images of each list it is made of.
 fn next_image(alloc: Global, a: &[ImageCounts], b: &[ImageCounts]) -> Result<NextImage, SumError>
-    requires a { AllByRecursion IsImage a.now }
-    requires b { AllByRecursion IsImage b.now }
+    requires a { AllByRecursion IsValidImage a.now }
+    requires b { AllByRecursion IsValidImage b.now }
     requires some { 0 < length a.now + length b.now }
     ensures value { IfOk result (λ next. IsNextImage a.now b.now next) }
     ensures refused { IfErr result (λ error. ImagesHaveNoSum error a.now b.now) }
@@ -80,10 +80,10 @@ fn next_image(alloc: Global, a: &[ImageCounts], b: &[ImageCounts]) -> Result<Nex
     }
     let first = &a[0];
     let second = &b[0];
-    if is_earlier(first, second) {
+    if has_lower_digest(first, second) {
         return image_of_first(alloc, first);
     }
-    if is_earlier(second, first) {
+    if has_lower_digest(second, first) {
         return image_of_second(alloc, second);
     }
     let image = sum_of_image(alloc, first, second)?;
@@ -121,7 +121,7 @@ fn image_of_second(alloc: Global, image: &ImageCounts) -> Result<NextImage, SumE
 }
 
 // Whether the digest of image `a` comes before the digest of image `b`.
-fn is_earlier(a: &ImageCounts, b: &ImageCounts) -> bool
+fn has_lower_digest(a: &ImageCounts, b: &ImageCounts) -> bool
     ensures { result ≡ is_before a.now.digest b.now.digest }
 {
     is_before(a.digest.as_slice(), b.digest.as_slice())
@@ -129,22 +129,22 @@ fn is_earlier(a: &ImageCounts, b: &ImageCounts) -> bool
 
 // Returns the sum of the counts, names and call trees of one image in two tables, or why there is none.
 fn sum_of_image(alloc: Global, a: &ImageCounts, b: &ImageCounts) -> Result<ImageCounts, SumError>
-    requires a { IsImage a.now }
-    requires b { IsImage b.now }
+    requires a { IsValidImage a.now }
+    requires b { IsValidImage b.now }
     ensures digest { IfOk result (λ sum. sum.digest ≡ a.now.digest) }
-    ensures path { IfOk result (λ sum. sum.path ≡ least_path a.now.path b.now.path) }
+    ensures path { IfOk result (λ sum. sum.path ≡ min_text a.now.path b.now.path) }
     ensures counts { IfOk result (λ sum. IsSumOfCounts a.now.addresses b.now.addresses sum.addresses) }
     ensures names { IfOk result (λ sum. IsSumOfNames a.now.functions b.now.functions sum.functions) }
     ensures of_spots { IfOk result (λ sum. AreNamesOf sum.spots sum.functions) }
-    ensures tree { IfOk result (λ sum. AreSpots sum.spots) }
-    ensures spots { IfOk result (λ sum. IsSumOfSpots a.now.spots b.now.spots sum.spots) }
+    ensures tree { IfOk result (λ sum. AreValidNodes sum.spots) }
+    ensures spots { IfOk result (λ sum. IsSumOfCallTrees a.now.spots b.now.spots sum.spots) }
     ensures refused { IfErr result (λ error. ImageHasNoSum error a.now b.now) }
 {
     let addresses = sum_of_counts(alloc, a.addresses.as_slice(), b.addresses.as_slice())?;
     let digest = Digest::new(copy_of(alloc, a.digest.as_slice())?);
-    let path = Text::copy(alloc, least_path(a.path.as_str(), b.path.as_str()))?;
+    let path = Text::copy(alloc, min_text(a.path.as_str(), b.path.as_str()))?;
     let functions = sum_of_names(alloc, a.functions.as_slice(), b.functions.as_slice())?;
-    let spots = sum_of_spots(alloc, a.spots.as_slice(), b.spots.as_slice())?;
+    let spots = sum_of_call_trees(alloc, a.spots.as_slice(), b.spots.as_slice())?;
     Ok(ImageCounts {
         digest,
         path,

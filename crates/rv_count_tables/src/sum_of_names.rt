@@ -5,7 +5,7 @@ ghost use Rattle.std.specs.List.{AllByRecursion};
 ghost use Rattle.rv_count_tables.specs.declared.sum.SumError.TheVariants.{OutOfMemory};
 ghost use Rattle.rv_count_tables.specs.Sum.{IsSumOfNames, NamesHaveNoSum};
 ghost use Rattle.rv_count_tables.specs.SumSteps.{IsNextName};
-ghost use Rattle.rv_count_tables.specs.Table.{AreNames, IsName};
+ghost use Rattle.rv_count_tables.specs.Table.{AreValidNames, IsValidName};
 
 use crate::growth::push_item;
 use crate::sum::SumError;
@@ -20,8 +20,8 @@ pub(crate) fn sum_of_names(
     a: &[FunctionName],
     b: &[FunctionName],
 ) -> Result<FunctionNames, SumError>
-    requires a { AreNames a.now }
-    requires b { AreNames b.now }
+    requires a { AreValidNames a.now }
+    requires b { AreValidNames b.now }
     ensures value { IfOk result (λ sum. IsSumOfNames a.now b.now sum) }
     ensures refused { IfErr result (λ error. NamesHaveNoSum error a.now b.now) }
 {
@@ -48,8 +48,8 @@ pub(crate) struct NextName {
 // Returns the name of the lowest function in both lists, and how many entries of each list it is made of, or an error if the function has
 // different names in them.
 fn next_name(alloc: Global, a: &[FunctionName], b: &[FunctionName]) -> Result<NextName, SumError>
-    requires a { AllByRecursion IsName a.now }
-    requires b { AllByRecursion IsName b.now }
+    requires a { AllByRecursion IsValidName a.now }
+    requires b { AllByRecursion IsValidName b.now }
     requires some { 0 < length a.now + length b.now }
     ensures value { IfOk result (λ next. IsNextName a.now b.now next) }
     ensures refused { IfErr result (λ error. NamesHaveNoSum error a.now b.now) }
@@ -68,7 +68,7 @@ fn next_name(alloc: Global, a: &[FunctionName], b: &[FunctionName]) -> Result<Ne
     if second.function < first.function {
         return name_of_second(alloc, second);
     }
-    if !have_one_name(first, second) {
+    if !have_equal_names(first, second) {
         return Err(SumError::Names(first.function));
     }
     let name = copy_of_name(alloc, first)?;
@@ -80,7 +80,7 @@ fn next_name(alloc: Global, a: &[FunctionName], b: &[FunctionName]) -> Result<Ne
 }
 
 // Whether the names of two functions are equal.
-fn have_one_name(a: &FunctionName, b: &FunctionName) -> bool
+fn have_equal_names(a: &FunctionName, b: &FunctionName) -> bool
     ensures { IsTrue result ↔ (a.now.name ≡ b.now.name) }
 {
     a.name.as_str() == b.name.as_str()

@@ -35,7 +35,7 @@ pub struct FunctionName {
 
 /// A call-tree node with the name of its function, as in a line of the text.
 #[derive(Debug, Drop)]
-pub struct NamedSpot {
+pub struct NamedCallNode {
     pub spot: Spot,
     pub name: Text,
 }

@@ -3,8 +3,8 @@
 ghost use Rattle.std.specs.Prelude.{◌≡◌, ◌++◌, IfOk, OnOk, codes, string_bytes, length};
 ghost use Rattle.std.specs.Fmt.{decimal};
 ghost use Rattle.std.specs.List.{flat_map};
-ghost use Rattle.rv_count_tables.specs.SpotLines.{words_of_function, words_with_digits, line_with_digits, line_by_index, IsIndexOf};
-ghost use Rattle.rv_count_tables.specs.Text.{address_line, image_line, image_text, last_line, line_of_spot, spot_line, table_text};
+ghost use Rattle.rv_count_tables.specs.ParsedNodes.{fields_of_function, fields_with_digits, line_with_digits, line_by_index, IsIndexOf};
+ghost use Rattle.rv_count_tables.specs.Text.{address_line, image_line, image_text, last_line, line_of_node, node_line, table_text};
 
 use crate::table::{AddressCounts, CountTable, FunctionName, ImageCounts};
 use itoa::Buffer;
@@ -41,7 +41,7 @@ fn push_image(alloc: Global, text: &mut String, image: &ImageCounts) -> Result<(
 {
     push_image_line(alloc, text, image)?;
     push_addresses(alloc, text, image.addresses.as_slice())?;
-    push_spots(
+    push_nodes(
         alloc,
         text,
         image.functions.as_slice(),
@@ -64,13 +64,13 @@ fn push_addresses(
 }
 
 // Appends the lines of nodes. `names` has the names of their functions.
-fn push_spots(
+fn push_nodes(
     alloc: Global,
     text: &mut String,
     names: &[FunctionName],
     spots: &[Spot],
 ) -> Result<(), AllocError>
-    ensures { OnOk result (string_bytes text.new ≡ string_bytes text.old ++ flat_map (line_of_spot names.now) spots.now) }
+    ensures { OnOk result (string_bytes text.new ≡ string_bytes text.old ++ flat_map (line_of_node names.now) spots.now) }
 {
     let index = index_of_functions(alloc, names)?;
     for spot in spots {
@@ -81,7 +81,7 @@ fn push_spots(
 
 /// The words that the lines of all nodes of one function have.
 #[derive(Drop)]
-pub(crate) struct FunctionWords {
+pub(crate) struct FunctionFields {
     pub(crate) digits: Text,
     pub(crate) name: Text,
 }
@@ -90,13 +90,13 @@ pub(crate) struct FunctionWords {
 fn index_of_functions(
     alloc: Global,
     names: &[FunctionName],
-) -> Result<BTreeMap<u32, FunctionWords>, AllocError>
+) -> Result<BTreeMap<u32, FunctionFields>, AllocError>
     ensures { IfOk result (λ index. IsIndexOf names.now index) }
 {
     let mut index = BTreeMap::new(alloc);
     for name in names {
         if !index.contains_key(&name.function) {
-            let words = words_of_function(alloc, name)?;
+            let words = fields_of_function(alloc, name)?;
             index.insert(name.function, words)?;
         }
     }
@@ -105,11 +105,11 @@ fn index_of_functions(
 
 // Returns the words of a function: the digits of its address, and its name.
 #[tactic(auto, unfolding(rv_text::specs::Words::word_digits))]
-fn words_of_function(alloc: Global, name: &FunctionName) -> Result<FunctionWords, AllocError>
-    ensures { IfOk result (λ words. words ≡ words_of_function name.now.function name.now.name) }
+fn fields_of_function(alloc: Global, name: &FunctionName) -> Result<FunctionFields, AllocError>
+    ensures { IfOk result (λ words. words ≡ fields_of_function name.now.function name.now.name) }
 {
     let digits = hex::encode(alloc, name.function.to_be_bytes().as_slice())?;
-    Ok(FunctionWords {
+    Ok(FunctionFields {
         digits: Text::new(digits),
         name: Text::copy(alloc, name.name.as_str())?,
     })
@@ -117,12 +117,12 @@ fn words_of_function(alloc: Global, name: &FunctionName) -> Result<FunctionWords
 
 // Appends the line of a node, with the words of its function from the index. In a valid table each function has a name; a function without
 // one gets an empty name.
-#[tactic(auto, unfolding(crate::specs::SpotLines::line_by_index))]
+#[tactic(auto, unfolding(crate::specs::ParsedNodes::line_by_index))]
 fn push_indexed_line(
     alloc: Global,
     text: &mut String,
     spot: Spot,
-    index: &BTreeMap<u32, FunctionWords>,
+    index: &BTreeMap<u32, FunctionFields>,
 ) -> Result<(), AllocError>
     ensures { OnOk result (string_bytes text.new ≡ string_bytes text.old ++ line_by_index index.now spot) }
 {
@@ -130,7 +130,7 @@ fn push_indexed_line(
         Some(words) => {
             push_line_with_digits(text, spot, words.digits.as_str(), words.name.as_str())
         }
-        None => push_spot_line(alloc, text, spot, ""),
+        None => push_node_line(alloc, text, spot, ""),
     }
 }
 
@@ -166,21 +166,21 @@ pub(crate) fn push_address_line(
 }
 
 /// Appends the line of a node, which ends with this name of its function.
-#[tactic(auto, unfolding(crate::specs::SpotLines::line_with_digits, crate::specs::SpotLines::words_with_digits, crate::specs::Text::spot_line, crate::specs::Text::words_of_spot, rv_text::specs::Words::word_digits))]
-pub(crate) fn push_spot_line(
+#[tactic(auto, unfolding(crate::specs::ParsedNodes::line_with_digits, crate::specs::ParsedNodes::fields_with_digits, crate::specs::Text::node_line, crate::specs::Text::fields_of_node, rv_text::specs::Words::word_digits))]
+pub(crate) fn push_node_line(
     alloc: Global,
     text: &mut String,
     spot: Spot,
     name: &str,
 ) -> Result<(), AllocError>
-    ensures { OnOk result (string_bytes text.new ≡ string_bytes text.old ++ spot_line (record { spot = spot; name = name.now })) }
+    ensures { OnOk result (string_bytes text.new ≡ string_bytes text.old ++ node_line (record { spot = spot; name = name.now })) }
 {
     let digits = hex::encode(alloc, spot.function.to_be_bytes().as_slice())?;
     push_line_with_digits(text, spot, digits.as_str(), name)
 }
 
 // Appends the line of a node, with these digits for the address of its function.
-#[tactic(auto, unfolding(crate::specs::SpotLines::line_with_digits))]
+#[tactic(auto, unfolding(crate::specs::ParsedNodes::line_with_digits))]
 fn push_line_with_digits(
     text: &mut String,
     spot: Spot,
@@ -189,25 +189,25 @@ fn push_line_with_digits(
 ) -> Result<(), AllocError>
     ensures { OnOk result (string_bytes text.new ≡ string_bytes text.old ++ line_with_digits digits.now spot name.now) }
 {
-    push_words_with_digits(text, spot, digits)?;
-    push_word(text, name)?;
+    push_fields_with_digits(text, spot, digits)?;
+    push_field(text, name)?;
     text.push_str("\n")
 }
 
 // Appends the words of a node's line before the name, with these digits for the address of its function.
-#[tactic(auto, unfolding(crate::specs::SpotLines::words_with_digits))]
-fn push_words_with_digits(text: &mut String, spot: Spot, digits: &str) -> Result<(), AllocError>
-    ensures { OnOk result (string_bytes text.new ≡ string_bytes text.old ++ words_with_digits digits.now spot) }
+#[tactic(auto, unfolding(crate::specs::ParsedNodes::fields_with_digits))]
+fn push_fields_with_digits(text: &mut String, spot: Spot, digits: &str) -> Result<(), AllocError>
+    ensures { OnOk result (string_bytes text.new ≡ string_bytes text.old ++ fields_with_digits digits.now spot) }
 {
     text.push_str("spot")?;
     push_number(text, spot.depth as u64)?;
-    push_word(text, digits)?;
+    push_field(text, digits)?;
     push_number(text, spot.arrivals)?;
     push_number(text, spot.steps)
 }
 
 // Appends a space and a word.
-fn push_word(text: &mut String, word: &str) -> Result<(), AllocError>
+fn push_field(text: &mut String, word: &str) -> Result<(), AllocError>
     ensures { OnOk result (string_bytes text.new ≡ string_bytes text.old ++ codes " " ++ word.now) }
 {
     text.push_str(" ")?;
@@ -219,7 +219,7 @@ fn push_number(text: &mut String, number: u64) -> Result<(), AllocError>
     ensures { OnOk result (string_bytes text.new ≡ string_bytes text.old ++ codes " " ++ decimal number) }
 {
     let mut digits = Buffer::new();
-    push_word(text, digits.format(number))
+    push_field(text, digits.format(number))
 }
 
 /// Appends the last line of a table with these numbers of images and runs.

@@ -5,46 +5,46 @@ use Rattle.std.proofs.Math.Seq.{get_or-append_seam}
 use Rattle.std.proofs.lemmas.Bool.{false≢true}
 use Rattle.std.proofs.lemmas.Result.{IfErr-weaker, IfOk-weaker}
 use Rattle.std.proofs.lemmas.List.{get_or_append_left, length-append, length-take, map-append, map-id, take_all}
-use Rattle.rv_count_tables.specs.Limits.{most_jobs}
+use Rattle.rv_count_tables.specs.Limits.{max_jobs}
 use Rattle.rv_count_tables.specs.declared.sum.SumError.{SumError}
 use Rattle.rv_count_tables.specs.declared.sum.SumError.TheVariants.{OutOfMemory, Count, Spot, Names, Runs}
 use Rattle.rv_count_tables.specs.declared.table.CountTable.{CountTable}
-use Rattle.rv_count_tables.specs.Sum.{IsSum, HaveNoSum, no_counts}
+use Rattle.rv_count_tables.specs.Sum.{IsSumOfTables, HaveNoSum, no_counts}
 use Rattle.rv_fleet.specs.declared_engine.RunError.{RunError}
 use Rattle.rv_fleet.specs.declared_listener.Flow.{Flow}
-use Rattle.rv_fleet.specs.declared_listener.Flow.TheVariants.{GoOn, Stop}
+use Rattle.rv_fleet.specs.declared_listener.Flow.TheVariants.{Continue, Stop}
 use Rattle.rv_fleet.specs.Results.{IsRunDelivered, HasReceived, HasReceivedSome}
 use Rattle.rv_trace.specs.Plans.{Planned}
 use Rattle.rv_counting.specs.declared.pieces.Piece.{Piece}
-use Rattle.rv_counting.specs.JobTables.{jobs_at, IsTableOfFew, IsTableOfJobs, IsTableOfPiece, IsTableOfPlaces, SumsTo}
-use Rattle.rv_counting.specs.BatchPieces.{piece_in, places_of, start_of, ArePieces}
-use Rattle.rv_counting.specs.TableSums.{sum_of_run, sum_or_error, Added, AreAdded, EndAdded}
+use Rattle.rv_counting.specs.JobTables.{jobs_at, IsTableOfFew, IsTableOfJobs, IsTableOfRange, IsTableOfJobsAt, SumsTo}
+use Rattle.rv_counting.specs.BatchRanges.{range_at, places_of, start_of, AreIndexRanges}
+use Rattle.rv_counting.specs.TableSums.{sum_of_run, sum_or_error, Added, AreTablesAdded, IsLastNotAdded}
 use Rattle.rv_counting.proofs.OfJobs.{few_more, joined, no_counts_are_few, no_two_names, none_of_none}
 
 -- ---- what a listener has heard
 
-sums_more : (start sum u next : CountTable) (us : List CountTable) → SumsTo start us sum → IsSum sum u next
+sums_more : (start sum u next : CountTable) (us : List CountTable) → SumsTo start us sum → IsSumOfTables sum u next
     → SumsTo start (us ++ u ∷ []) next
-sums_more start sum u next [] sums is = (next, subst (λ t. IsSum t u next) (sym sums) is, refl)
+sums_more start sum u next [] sums is = (next, subst (λ t. IsSumOfTables t u next) (sym sums) is, refl)
 sums_more start sum u next (v ∷ us) sums is = (sums.0, sums.1, sums_more sums.0 sum u next us sums.2 is)
 
 -- what has not failed is a sum
-sums_so_far : (sum : CountTable) (failed : Option SumError) (ts : List CountTable) → (is_some failed ≡ true → ⊥) → AreAdded sum failed ts
+sums_so_far : (sum : CountTable) (failed : Option SumError) (ts : List CountTable) → (is_some failed ≡ true → ⊥) → AreTablesAdded sum failed ts
     → SumsTo no_counts ts sum
 sums_so_far sum None ts goes h = h
 sums_so_far sum (Some error) ts goes h = absurd (goes refl)
 
 pub one_added : {H : Type 0} (table : H → CountTable) (sum next : CountTable) (failed : Option SumError) (results : List H) (made : H)
-    → (is_some failed ≡ true → ⊥) → AreAdded sum failed (map table results) → IsSum sum (table made) next
-    → AreAdded next failed (map table (results ++ made ∷ []))
+    → (is_some failed ≡ true → ⊥) → AreTablesAdded sum failed (map table results) → IsSumOfTables sum (table made) next
+    → AreTablesAdded next failed (map table (results ++ made ∷ []))
 one_added table sum next None results made goes h is =
     subst (λ ts. SumsTo no_counts ts next) (sym (map-append table results (made ∷ [])))
     (sums_more no_counts sum (table made) next (map table results) h is)
 one_added table sum next (Some error) results made goes h is = absurd (goes refl)
 
 pub none_more : {H : Type 0} (table : H → CountTable) (sum : CountTable) (failed : Option SumError) (error : SumError) (results : List H)
-    (made : H) → (is_some failed ≡ true → ⊥) → AreAdded sum failed (map table results) → HaveNoSum error sum (table made)
-    → AreAdded sum (Some error) (map table (results ++ made ∷ []))
+    (made : H) → (is_some failed ≡ true → ⊥) → AreTablesAdded sum failed (map table results) → HaveNoSum error sum (table made)
+    → AreTablesAdded sum (Some error) (map table (results ++ made ∷ []))
 none_more table sum failed error results made goes h refused = record {
   before = map table results;
   last = table made;
@@ -55,11 +55,11 @@ none_more table sum failed error results made goes h refused = record {
 
 module _ {H : Type 0} (is_made : ℕ → H → Type 0) (jobs : ℕ) (has_received : List H → Type 0) (stops : Type 0) where
   heard_some : (flow : Flow) → IsRunDelivered is_made jobs has_received stops (Ok flow) → HasReceivedSome is_made jobs has_received
-  heard_some GoOn h = record { count = jobs; hears = h.0 }
+  heard_some Continue h = record { count = jobs; hears = h.0 }
   heard_some Stop h = h.0
 
   heard_all : (flow : Flow) → (stops → ⊥) → IsRunDelivered is_made jobs has_received stops (Ok flow) → HasReceived is_made jobs has_received jobs
-  heard_all GoOn goes h = h.0
+  heard_all Continue goes h = h.0
   heard_all Stop goes h = absurd (goes h.1)
 
 -- ---- the tables of the first so many numbers
@@ -70,13 +70,13 @@ pub record NextRefused (P One : ℕ → CountTable → Type 0) (total : ℕ) (er
   pub within : count < total
   pub first : CountTable
   pub next : CountTable
-  pub of_first : P count first
+  pub node_of_first : P count first
   pub of_next : One count next
   pub refused : HaveNoSum error first next
 
 -- what is so of the table of no number, and stays so with the table of one number more
 module _ (P One : ℕ → CountTable → Type 0) (total : ℕ) (none : P 0 no_counts)
-    (more : (n : ℕ) (t u next : CountTable) → n < total → P n t → One n u → IsSum t u next → P (n + 1) next) where
+    (more : (n : ℕ) (t u next : CountTable) → n < total → P n t → One n u → IsSumOfTables t u next → P (n + 1) next) where
   added_from : (k : ℕ) (us : List CountTable) (start sum : CountTable) → k + length us ≤ total → P k start
       → ((n : ℕ) (d : CountTable) → n < length us → One (k + n) (get_or us n d))
       → SumsTo start us sum → P (k + length us) sum
@@ -114,7 +114,7 @@ module _ (P One : ℕ → CountTable → Type 0) (total : ℕ) (none : P 0 no_co
         within = omega (arith, long, within);
         first = sum;
         next = last;
-        of_first = added_first before sum (omega (arith, long, within))
+        node_of_first = added_first before sum (omega (arith, long, within))
             (λ n d less. subst (λ t. One n t) (get_or_append_left before (last ∷ []) d n less)
             (each n d (omega (arith, long, less)))) sums;
         of_next = subst (λ t. One (length before) t) (get_or-append_seam before last [] last)
@@ -124,14 +124,14 @@ module _ (P One : ℕ → CountTable → Type 0) (total : ℕ) (none : P 0 no_co
 
   -- the last was not added
   last_refused : (us : List CountTable) (sum : CountTable) (error : SumError) → length us ≤ total
-      → ((n : ℕ) (d : CountTable) → n < length us → One n (get_or us n d)) → EndAdded sum error us → NextRefused P One total error
+      → ((n : ℕ) (d : CountTable) → n < length us → One n (get_or us n d)) → IsLastNotAdded sum error us → NextRefused P One total error
   last_refused us sum error within each h =
       ended_at h.before h.last sum error (subst (λ ts. length ts ≤ total) h.tables within)
       (subst (λ ts. (n : ℕ) (d : CountTable) → n < length ts → One n (get_or ts n d)) h.tables each)
       h.sums h.refused
 
   sum_added : (sum : CountTable) (failed : Option SumError) (flow : Flow)
-      → IsRunDelivered (λ n u. One n u) total (λ ts. AreAdded sum failed (map (λ (u : CountTable). u) ts)) (is_some failed ≡ true) (Ok flow)
+      → IsRunDelivered (λ n u. One n u) total (λ ts. AreTablesAdded sum failed (map (λ (u : CountTable). u) ts)) (is_some failed ≡ true) (Ok flow)
       → IfOk (sum_or_error sum failed) (P total)
   sum_added sum None flow ran =
       let h = heard_all _ total _ _ flow (λ is. false≢true is) ran in
@@ -142,7 +142,7 @@ module _ (P One : ℕ → CountTable → Type 0) (total : ℕ) (none : P 0 no_co
   sum_added sum (Some error) flow ran = tt
 
   sum_ended : (sum : CountTable) (failed : Option SumError) (flow : Flow)
-      → IsRunDelivered (λ n u. One n u) total (λ ts. AreAdded sum failed (map (λ (u : CountTable). u) ts)) (is_some failed ≡ true) (Ok flow)
+      → IsRunDelivered (λ n u. One n u) total (λ ts. AreTablesAdded sum failed (map (λ (u : CountTable). u) ts)) (is_some failed ≡ true) (Ok flow)
       → IfErr (sum_or_error sum failed) (λ error. (error ≡ OutOfMemory) ⊎ NextRefused P One total error)
   sum_ended sum None flow ran = tt
   sum_ended sum (Some error) flow ran =
@@ -150,18 +150,18 @@ module _ (P One : ℕ → CountTable → Type 0) (total : ℕ) (none : P 0 no_co
       let long = h.count_is in
       let few = h.few in
       inr (last_refused h.results sum error (omega (arith, long, few)) (λ n d lt. h.each n d lt)
-      (subst (λ ts. EndAdded sum error ts) (map-id h.results) h.received))
+      (subst (λ ts. IsLastNotAdded sum error ts) (map-id h.results) h.received))
 
   -- behind a run that made the table of each number
   module _ (added : Added) where
     pub run_added : (ran : Result Flow RunError)
-        → IsRunDelivered (λ n u. One n u) total (λ ts. AreAdded added.sum added.failed (map (λ (u : CountTable). u) ts))
+        → IsRunDelivered (λ n u. One n u) total (λ ts. AreTablesAdded added.sum added.failed (map (λ (u : CountTable). u) ts))
         (is_some added.failed ≡ true) ran → IfOk (sum_of_run added ran) (P total)
     run_added (Ok flow) received = sum_added added.sum added.failed flow received
     run_added (Err error) received = tt
 
     pub run_ended : (ran : Result Flow RunError)
-        → IsRunDelivered (λ n u. One n u) total (λ ts. AreAdded added.sum added.failed (map (λ (u : CountTable). u) ts))
+        → IsRunDelivered (λ n u. One n u) total (λ ts. AreTablesAdded added.sum added.failed (map (λ (u : CountTable). u) ts))
         (is_some added.failed ≡ true) ran
         → IfErr (sum_of_run added ran) (λ error. (error ≡ OutOfMemory) ⊎ NextRefused P One total error)
     run_ended (Ok flow) received = sum_ended added.sum added.failed flow received
@@ -170,7 +170,7 @@ module _ (P One : ℕ → CountTable → Type 0) (total : ℕ) (none : P 0 no_co
 -- ---- counts alone
 
 -- so few tables without stacks have a sum
-wanting : (n m : ℕ) (t u : CountTable) (error : SumError) → n + m ≤ most_jobs → IsTableOfFew n t → IsTableOfFew m u → HaveNoSum error t u
+wanting : (n m : ℕ) (t u : CountTable) (error : SumError) → n + m ≤ max_jobs → IsTableOfFew n t → IsTableOfFew m u → HaveNoSum error t u
     → error ≡ OutOfMemory
 wanting n m t u OutOfMemory few h k no_sum = refl
 wanting n m t u (Count address) few h k no_sum =
@@ -201,22 +201,22 @@ take_both (suc n) (suc m) [] = let on : suc n + suc m ≡ suc (n + suc m) = omeg
 take_both (suc n) m (x ∷ xs) =
     let on : suc n + m ≡ suc (n + m) = omega arith in ap (λ k. take k (x ∷ xs)) on ∙ ap (λ ys. x ∷ ys) (take_both n m xs)
 
-module _ (plan : Planned) (places : List ℕ) (pieces : List Piece) (are : ArePieces plan places pieces) where
+module _ (plan : Planned) (places : List ℕ) (pieces : List Piece) (are : AreIndexRanges plan places pieces) where
   -- the table of the first pieces
   abbrev OfFirst : ℕ → CountTable → Type 0
-  OfFirst n t = IsTableOfPiece plan (take (start_of pieces n) places) t
+  OfFirst n t = IsTableOfRange plan (take (start_of pieces n) places) t
 
   abbrev OfOne : ℕ → CountTable → Type 0
-  OfOne n t = IsTableOfPiece plan (places_of places (piece_in pieces n)) t
+  OfOne n t = IsTableOfRange plan (places_of places (range_at pieces n)) t
 
   none_counted : OfFirst 0 no_counts
   none_counted = record { table = none_of_none plan.answers; few = no_counts_are_few 0 }
 
   -- the indices of the first pieces and of one piece more
   joined_places : (n : ℕ) → n < length pieces
-      → take (start_of pieces n) places ++ places_of places (piece_in pieces n) ≡ take (start_of pieces (n + 1)) places
+      → take (start_of pieces n) places ++ places_of places (range_at pieces n) ≡ take (start_of pieces (n + 1)) places
   joined_places n lt =
-      let piece = piece_in pieces n in
+      let piece = range_at pieces n in
       let h = are.each n lt in
       let some = h.some in
       let on : n + 1 ≡ suc n = omega arith in
@@ -225,12 +225,12 @@ module _ (plan : Planned) (places : List ℕ) (pieces : List Piece) (are : ArePi
       ap (λ m. take m places ++ places_of places piece) (sym h.starts)
       ∙ sym (take_both piece.from (piece.to - piece.from) places) ∙ ap (λ m. take m places) (sym more)
 
-  one_counted : (n : ℕ) (t u next : CountTable) → n < length pieces → OfFirst n t → OfOne n u → IsSum t u next → OfFirst (n + 1) next
+  one_counted : (n : ℕ) (t u next : CountTable) → n < length pieces → OfFirst n t → OfOne n u → IsSumOfTables t u next → OfFirst (n + 1) next
   one_counted n t u next lt h one sums =
       let ps = take (start_of pieces n) places in
-      let qs = places_of places (piece_in pieces n) in
+      let qs = places_of places (range_at pieces n) in
       let long = length-append ps qs in
-      subst (λ rs. IsTableOfPiece plan rs next) (joined_places n lt) (
+      subst (λ rs. IsTableOfRange plan rs next) (joined_places n lt) (
       record {
         table = subst (λ js. IsTableOfJobs plan.answers js next) (sym (map-append _ ps qs))
             (joined plan.answers (jobs_at plan ps) (jobs_at plan qs) t u next h.table one.table sums);
@@ -239,26 +239,26 @@ module _ (plan : Planned) (places : List ℕ) (pieces : List Piece) (are : ArePi
       )
 
   module _ (added : Added) (ran : Result Flow RunError)
-      (received : IsRunDelivered (λ n u. IsTableOfPiece plan (places_of places (piece_in pieces n)) u) (length pieces)
-      (λ ts. AreAdded added.sum added.failed (map (λ (u : CountTable). u) ts)) (is_some added.failed ≡ true) ran) where
-    pub all_counted : IfOk (sum_of_run added ran) (IsTableOfPlaces plan places)
+      (received : IsRunDelivered (λ n u. IsTableOfRange plan (places_of places (range_at pieces n)) u) (length pieces)
+      (λ ts. AreTablesAdded added.sum added.failed (map (λ (u : CountTable). u) ts)) (is_some added.failed ≡ true) ran) where
+    pub all_counted : IfOk (sum_of_run added ran) (IsTableOfJobsAt plan places)
     all_counted =
-        IfOk-weaker (sum_of_run added ran) (OfFirst (length pieces)) (IsTableOfPlaces plan places)
-        (λ t h. subst (λ ps. IsTableOfPlaces plan ps t)
+        IfOk-weaker (sum_of_run added ran) (OfFirst (length pieces)) (IsTableOfJobsAt plan places)
+        (λ t h. subst (λ ps. IsTableOfJobsAt plan ps t)
         (ap (λ m. take m places) are.all ∙ take_all (length places) places (omega arith)) h.table)
         (run_added OfFirst OfOne (length pieces) none_counted one_counted added ran received)
 
-    memory_if_refused : (error : SumError) → length places ≤ most_jobs → NextRefused OfFirst OfOne (length pieces) error
+    memory_if_refused : (error : SumError) → length places ≤ max_jobs → NextRefused OfFirst OfOne (length pieces) error
         → error ≡ OutOfMemory
     memory_if_refused error few h =
         let ps = take (start_of pieces h.count) places in
-        let qs = places_of places (piece_in pieces h.count) in
+        let qs = places_of places (range_at pieces h.count) in
         let long = length-append ps qs in
         let same = ap length (joined_places h.count h.within) in
         let most = length-take (start_of pieces (h.count + 1)) places in
-        wanting (length ps) (length qs) h.first h.next error (omega (arith, long, same, most, few)) h.of_first.few h.of_next.few h.refused
+        wanting (length ps) (length qs) h.first h.next error (omega (arith, long, same, most, few)) h.node_of_first.few h.of_next.few h.refused
 
-    pub memory_alone : length places ≤ most_jobs → IfErr (sum_of_run added ran) (λ error. error ≡ OutOfMemory)
+    pub memory_alone : length places ≤ max_jobs → IfErr (sum_of_run added ran) (λ error. error ≡ OutOfMemory)
     memory_alone few =
         IfErr-weaker (sum_of_run added ran) (λ error. (error ≡ OutOfMemory) ⊎ NextRefused OfFirst OfOne (length pieces) error)
         (λ error. error ≡ OutOfMemory)

@@ -19,13 +19,13 @@ use Rattle.rv_trace.specs.declared_ending.Ending.{Ending}
 use Rattle.rv_trace.specs.declared_ending.Ending.TheVariants.{Exit, Fault}
 use Rattle.rv_trace.specs.declared_ending.FaultKind.TheVariants as fault
 use Rattle.rv_trace.specs.State.{State, register, is_misaligned}
-use Rattle.rv_trace.specs.Effect.{effect, effect_of, after_branch, from_pc, address, rs2_value, load, after_load, store, after_store, fault_of_load, fault_of_store, next_pc}
-use Rattle.rv_trace.specs.Fetch.{Fetched, fetch, with_half, or_illegal, fault_of_fetch, second_half}
-use Rattle.rv_trace.specs.Run.{Ran, after_fetch, step_of, run_of, run_rest}
+use Rattle.rv_trace.specs.Effect.{effect, effect_of, after_branch, pc_plus_immediate, address, rs2_value, load, after_load, store, after_store, fault_of_load, fault_of_store, next_pc}
+use Rattle.rv_trace.specs.Fetch.{Fetched, fetch, after_half_fetch, decoded_or_illegal, fault_of_fetch, second_half_address}
+use Rattle.rv_trace.specs.Run.{Ran, after_fetch, step_of, run_of, run_after_step}
 use Rattle.rv_trace.specs.declared.code.Code.{Code}
 use Rattle.rv_trace.specs.Code.{code_at, instr_of}
 use Rattle.rv_trace.proofs.Public.{code_is_fetched}
-use Rattle.rv_counting.specs.Coverage.{fetch_at, is_executed, is_taken, takes, begins_at_fault, begins_at_end, is_branch_instr, is_taken_code}
+use Rattle.rv_counting.specs.Coverage.{fetch_at, is_executed, is_taken, takes, is_executed_at_fault, is_executed_at_end, is_branch_instr, is_taken_code}
 
 -- what holds of an error
 abbrev pub err_is : {A E : Type 0} → (E → Type 0) → Result A E → Type 0
@@ -35,7 +35,7 @@ err_is P (Err e) = P e
 -- ---- an effect that ends the run is of an instruction that was fetched
 
 abbrev IsOfEffect : Result State Ending → Type 0
-IsOfEffect r = err_is (λ e. begins_at_end e ≡ true) r
+IsOfEffect r = err_is (λ e. is_executed_at_end e ≡ true) r
 
 gone : (misaligned : Bool) (s after : State) (target : ℕ)
     → IsOfEffect (cond misaligned (Err (Fault fault.FetchMisaligned s.pc target)) (Ok after))
@@ -43,10 +43,10 @@ gone true s after target = refl
 gone false s after target = tt
 
 branched : (holds : Bool) (s : State) (i : Instr) (next : ℕ) → IsOfEffect (after_branch holds s i next)
-branched true s i next = gone (is_misaligned s.isa (from_pc s i)) s _ (from_pc s i)
+branched true s i next = gone (is_misaligned s.isa (pc_plus_immediate s i)) s _ (pc_plus_immediate s i)
 branched false s i next = tt
 
-of_load : (e : BusFault) → begins_at_fault (fault_of_load e) ≡ true
+of_load : (e : BusFault) → is_executed_at_fault (fault_of_load e) ≡ true
 of_load bus.Misaligned = refl
 of_load bus.Access = refl
 of_load bus.ConsoleFull = refl
@@ -58,7 +58,7 @@ loaded w x i next s = go (load_from s.bus (address s i) w)
     go (Ok p) = tt
     go (Err e) = of_load e
 
-of_store : (e : BusFault) (pc at value : ℕ) → begins_at_end (fault_of_store e pc at value) ≡ true
+of_store : (e : BusFault) (pc at value : ℕ) → is_executed_at_end (fault_of_store e pc at value) ≡ true
 of_store bus.Misaligned pc at value = refl
 of_store bus.Access pc at value = refl
 of_store bus.ConsoleFull pc at value = refl
@@ -70,12 +70,12 @@ stored w i next s = go (store_to s.bus (address s i) w (rs2_value s i))
     go (Ok d) = tt
     go (Err e) = of_store e s.pc (address s i) (rs2_value s i)
 
-called : (t : Bool) (s : State) → begins_at_end (cond t (Exit (register s 10)) (Fault fault.UnknownCall s.pc (register s 17))) ≡ true
+called : (t : Bool) (s : State) → is_executed_at_end (cond t (Exit (register s 10)) (Fault fault.UnknownCall s.pc (register s 17))) ≡ true
 called true s = refl
 called false s = refl
 
 effect_begins : (o : Op) (i : Instr) (next : ℕ) (s : State) → IsOfEffect (effect_of o i next s)
-effect_begins op.Jal i next s = gone (is_misaligned s.isa (from_pc s i)) s _ (from_pc s i)
+effect_begins op.Jal i next s = gone (is_misaligned s.isa (pc_plus_immediate s i)) s _ (pc_plus_immediate s i)
 effect_begins op.Jalr i next s = gone (is_misaligned s.isa (address s i / 2 * 2)) s _ (address s i / 2 * 2)
 effect_begins op.Beq i next s = branched _ s i next
 effect_begins op.Bne i next s = branched _ s i next
@@ -127,19 +127,19 @@ effect_begins op.Remu i next s = tt
 
 -- ---- a fetch that gives none
 
-of_fetch : (e : FetchFault) → begins_at_fault (fault_of_fetch e) ≡ false
+of_fetch : (e : FetchFault) → is_executed_at_fault (fault_of_fetch e) ≡ false
 of_fetch Unmapped = refl
 of_fetch Stale = refl
 
 abbrev IsNoInstr : Fetched → Type 0
-IsNoInstr r = err_is (λ f. begins_at_fault f.0 ≡ false) r
+IsNoInstr r = err_is (λ f. is_executed_at_fault f.0 ≡ false) r
 
 behind_half : (r : Result ℕ FetchFault) (a : ℕ) (rest : ℕ → Fetched) → ((h : ℕ) → IsNoInstr (rest h))
-    → IsNoInstr (with_half r a rest)
+    → IsNoInstr (after_half_fetch r a rest)
 behind_half (Ok h) a rest k = k h
 behind_half (Err e) a rest k = of_fetch e
 
-meant : (i : Option Instr) (n bits : ℕ) → IsNoInstr (or_illegal i n bits)
+meant : (i : Option Instr) (n bits : ℕ) → IsNoInstr (decoded_or_illegal i n bits)
 meant (Some i) n bits = tt
 meant None n bits = refl
 
@@ -152,7 +152,7 @@ unfolding fetch
 fetch_begins_none isa contents pc =
     behind_half (fetch_half_from contents pc) pc _
     (λ low. by_length (field low 1 0 == 3) _ _
-    (behind_half (fetch_half_from contents (second_half pc)) (second_half pc) _
+    (behind_half (fetch_half_from contents (second_half_address pc)) (second_half_address pc) _
     (λ high. meant (meaning32 isa (low + 0x1_0000 * high)) 4 (low + 0x1_0000 * high)))
     (meant (meaning16 isa low) 2 low))
 
@@ -161,7 +161,7 @@ fetch_begins_none isa contents pc =
 -- what a step says of its fetch
 abbrev Tells : Fetched → Result State Ending → Type 0
 Tells r (Ok t) = is_executed r ≡ true
-Tells r (Err e) = begins_at_end e ≡ is_executed r
+Tells r (Err e) = is_executed_at_end e ≡ is_executed r
 
 effect_tells : (p : Instr × ℕ) (r : Result State Ending) → IsOfEffect r → Tells (Ok p) r
 effect_tells p (Ok t) h = refl
@@ -179,7 +179,7 @@ step_tells s = fetch_tells (fetch_at s) s (fetch_begins_none s.isa s.bus s.pc)
 pub completed_begins : (s t : State) → step_of s ≡ Ok t → is_executed (fetch_at s) ≡ true
 completed_begins s t e = subst (λ (r : Result State Ending). Tells (fetch_at s) r) e (step_tells s)
 
-pub ended_begins : (s : State) (e : Ending) → step_of s ≡ Err e → begins_at_end e ≡ is_executed (fetch_at s)
+pub ended_begins : (s : State) (e : Ending) → step_of s ≡ Err e → is_executed_at_end e ≡ is_executed (fetch_at s)
 ended_begins s e is = subst (λ (r : Result State Ending). Tells (fetch_at s) r) is (step_tells s)
 
 -- ---- a run of one step
@@ -188,7 +188,7 @@ abbrev RanOnce : Result State Ending → State → Ran → Type 0
 RanOnce (Ok u) s ran = (ran.steps ≡ 1) × (ran.state ≡ u)
 RanOnce (Err e) s ran = (ran.steps ≡ 0) × (ran.state ≡ s) × (ran.ending ≡ e)
 
-ran_once : (s : State) (r : Result State Ending) → RanOnce r s (run_rest r s (λ t. run_of 0 t))
+ran_once : (s : State) (r : Result State Ending) → RanOnce r s (run_after_step r s (λ t. run_of 0 t))
 unfolding run_of
 ran_once s (Ok u) = (refl, refl)
 ran_once s (Err e) = (refl, refl, refl)

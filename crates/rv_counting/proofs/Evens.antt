@@ -9,8 +9,8 @@ use Rattle.rv_trace.specs.Fetch.{Fetched}
 use Rattle.rv_trace.specs.Run.{after_fetch, step_of}
 use Rattle.rv_trace.specs.State.{State}
 use Rattle.rv_count_tables.specs.declared.table.AddressCounts.{AddressCounts}
-use Rattle.rv_count_tables.specs.Table.{executed_at, AreCounts, IsCounted}
-use Rattle.rv_counting.specs.Coverage.{fetch_at, is_executed, once_if, behind, executed_in_run, IsTallied, AreCountsOf, AreTallied}
+use Rattle.rv_count_tables.specs.Table.{executed_at, AreValidCounts, IsCounted}
+use Rattle.rv_counting.specs.Coverage.{fetch_at, is_executed, one_if, behind, executed_in_run, IsConsistentCount, AreCountsOf, AreSortedCounts}
 
 -- ---- a step
 
@@ -40,8 +40,8 @@ other_address pc at even odd = elim (eqb_tells pc at) [
   | inr h ↦ h.0
 ]
 
-never_once : (b c : Bool) → c ≡ false → once_if (b && c) ≡ 0
-never_once true c h = ap once_if h
+never_once : (b c : Bool) → c ≡ false → one_if (b && c) ≡ 0
+never_once true c h = ap one_if h
 never_once false c h = refl
 
 none_behind : (r : Result State Ending) (rest : State → ℕ) → ok_is IsEven r → ((t : State) → IsEven t → rest t ≡ 0)
@@ -57,7 +57,7 @@ none_at_odd (suc n) at s even odd =
     let rest = none_behind (step_of s) (λ t. executed_in_run at n t) (step_even s even) (λ t e. none_at_odd n at t e odd) in
     omega (arith, here, rest)
 
-at_most_once : (b : Bool) → once_if b ≤ 1
+at_most_once : (b : Bool) → one_if b ≤ 1
 at_most_once true = omega arith
 at_most_once false = omega arith
 
@@ -87,7 +87,7 @@ even_or_odd n = elim (eqb_tells (n % 2) 0) [
 own_address : (a : ℕ) → (a == a) ≡ true
 own_address a = elim (eqb_tells a a) [ inl h ↦ h.0 | inr h ↦ absurd (h.1 refl) ]
 
-even_if_begun : (c : AddressCounts) (cs : List AddressCounts) → IsTallied c
+even_if_begun : (c : AddressCounts) (cs : List AddressCounts) → IsConsistentCount c
     → ((at : ℕ) → at % 2 ≡ 1 → executed_at at (c ∷ cs) ≡ 0) → c.address % 2 ≡ 0
 even_if_begun c cs h none = elim (even_or_odd c.address) [
   | inl even ↦ even
@@ -98,7 +98,7 @@ even_if_begun c cs h none = elim (even_or_odd c.address) [
       omega (arith, here, all, some))
 ]
 
-each_even : (cs : List AddressCounts) → AllByRecursion IsTallied cs → ((at : ℕ) → at % 2 ≡ 1 → executed_at at cs ≡ 0)
+each_even : (cs : List AddressCounts) → AllByRecursion IsConsistentCount cs → ((at : ℕ) → at % 2 ≡ 1 → executed_at at cs ≡ 0)
     → AllByRecursion IsCounted cs
 each_even [] h none = tt
 each_even (c ∷ cs) h none = (
@@ -112,11 +112,11 @@ each_even (c ∷ cs) h none = (
   each_even cs h.1 (λ at odd. let all = none at odd in omega (arith, all)),
 )
 
-pub all_even : (cs : List AddressCounts) → AreTallied cs → ((at : ℕ) → at % 2 ≡ 1 → executed_at at cs ≡ 0) → AreCounts cs
+pub all_even : (cs : List AddressCounts) → AreSortedCounts cs → ((at : ℕ) → at % 2 ≡ 1 → executed_at at cs ≡ 0) → AreValidCounts cs
 all_even cs h none = record { each = each_even cs h.each none; rising = h.rising }
 
 -- the counts of a run that begins at an even address
-pub counts_even : (n : ℕ) (s : State) (cs : List AddressCounts) → AreCountsOf n s cs → IsEven s → AreCounts cs
+pub counts_even : (n : ℕ) (s : State) (cs : List AddressCounts) → AreCountsOf n s cs → IsEven s → AreValidCounts cs
 counts_even n s cs h even = all_even cs h.tallied (λ at odd. h.begun at ∙ none_at_odd n at s even odd)
 
 -- the run counts an address at most once a step

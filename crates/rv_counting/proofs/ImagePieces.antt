@@ -9,7 +9,7 @@ use Rattle.rv_trace.specs.declared_job.Job.{Job}
 use Rattle.rv_trace.specs.Plans.{Planned}
 use Rattle.rv_trace.specs.Trace.{job_at}
 use Rattle.rv_counting.specs.declared.pieces.Piece.{Piece}
-use Rattle.rv_counting.specs.BatchPieces.{piece_in, places_of, start_of, ArePieces, ArePiecesTo, HaveOneImage, IsPiece}
+use Rattle.rv_counting.specs.BatchRanges.{range_at, places_of, start_of, AreIndexRanges, AreIndexRangesTo, HaveOneImage, IsIndexRange}
 
 -- ---- one piece
 
@@ -43,7 +43,7 @@ module _ (plan : Planned) (places : List ℕ) (from : ℕ) where
         ap (λ place. (job_at plan place d).image) (taken_place k low) ∙ h (from + k) d (omega arith) (omega (arith, low))
         ∙ sym (ap (λ place. (job_at plan place d).image) (taken_place 0 some ∙ ap (λ j. get_or places j 0) here))
 
-    pub is_piece : from < to → to ≤ length places → IsPiece plan places from (record { from = from; to = to })
+    pub is_piece : from < to → to ≤ length places → IsIndexRange plan places from (record { from = from; to = to })
     is_piece some within = record { starts = refl; some = some; within = within; same = same_image }
 
 -- ---- all of them
@@ -53,30 +53,30 @@ start_kept pieces piece zero few = refl
 start_kept pieces piece (suc k) few =
     ap (λ (p : Piece). p.to) (get_or_append_left pieces (piece ∷ []) (record { from = 0; to = 0 }) k (omega (arith, few)))
 
-pub no_pieces : (plan : Planned) (places : List ℕ) → ArePiecesTo plan places 0 []
+pub no_pieces : (plan : Planned) (places : List ℕ) → AreIndexRangesTo plan places 0 []
 no_pieces plan places = record { few = omega arith; each = λ k lt. absurd (omega (arith, lt)); all = refl }
 
-module _ (plan : Planned) (places : List ℕ) (from : ℕ) (pieces : List Piece) (piece : Piece) (h : ArePiecesTo plan places from pieces)
-    (next : IsPiece plan places from piece) where
-  here : piece_in (pieces ++ piece ∷ []) (length pieces) ≡ piece
+module _ (plan : Planned) (places : List ℕ) (from : ℕ) (pieces : List Piece) (piece : Piece) (h : AreIndexRangesTo plan places from pieces)
+    (next : IsIndexRange plan places from piece) where
+  here : range_at (pieces ++ piece ∷ []) (length pieces) ≡ piece
   here = get_or-append_seam pieces piece [] (record { from = 0; to = 0 })
 
   long : length (pieces ++ piece ∷ []) ≡ length pieces + 1
   long = length-append pieces (piece ∷ [])
 
-  last : IsPiece plan places (start_of (pieces ++ piece ∷ []) (length pieces)) (piece_in (pieces ++ piece ∷ []) (length pieces))
+  last : IsIndexRange plan places (start_of (pieces ++ piece ∷ []) (length pieces)) (range_at (pieces ++ piece ∷ []) (length pieces))
   last =
-      subst (λ (p : Piece). IsPiece plan places (start_of (pieces ++ piece ∷ []) (length pieces)) p) (sym here)
-      (subst (λ (n : ℕ). IsPiece plan places n piece) (sym (start_kept pieces piece (length pieces) (omega arith) ∙ h.all)) next)
+      subst (λ (p : Piece). IsIndexRange plan places (start_of (pieces ++ piece ∷ []) (length pieces)) p) (sym here)
+      (subst (λ (n : ℕ). IsIndexRange plan places n piece) (sym (start_kept pieces piece (length pieces) (omega arith) ∙ h.all)) next)
 
   earlier : (k : ℕ) → k < length pieces
-      → IsPiece plan places (start_of (pieces ++ piece ∷ []) k) (piece_in (pieces ++ piece ∷ []) k)
+      → IsIndexRange plan places (start_of (pieces ++ piece ∷ []) k) (range_at (pieces ++ piece ∷ []) k)
   earlier k lt =
-      subst (λ (p : Piece). IsPiece plan places (start_of (pieces ++ piece ∷ []) k) p)
+      subst (λ (p : Piece). IsIndexRange plan places (start_of (pieces ++ piece ∷ []) k) p)
       (sym (get_or_append_left pieces (piece ∷ []) (record { from = 0; to = 0 }) k lt))
-      (subst (λ (n : ℕ). IsPiece plan places n (piece_in pieces k)) (sym (start_kept pieces piece k (omega (arith, lt)))) (h.each k lt))
+      (subst (λ (n : ℕ). IsIndexRange plan places n (range_at pieces k)) (sym (start_kept pieces piece k (omega (arith, lt)))) (h.each k lt))
 
-  pub one_piece_more : ArePiecesTo plan places piece.to (pieces ++ piece ∷ [])
+  pub one_piece_more : AreIndexRangesTo plan places piece.to (pieces ++ piece ∷ [])
   one_piece_more = record {
     few = (let n = long in
         let f = h.few in
@@ -84,7 +84,7 @@ module _ (plan : Planned) (places : List ℕ) (from : ℕ) (pieces : List Piece)
         let e = next.starts in
         omega (arith, n, f, s, e));
     each = λ k lt. ⊎_elim
-        (λ (e : k ≡ length pieces). subst (λ n. IsPiece plan places (start_of (pieces ++ piece ∷ []) n) (piece_in (pieces ++ piece ∷ []) n))
+        (λ (e : k ≡ length pieces). subst (λ n. IsIndexRange plan places (start_of (pieces ++ piece ∷ []) n) (range_at (pieces ++ piece ∷ []) n))
         (sym e) last)
         (λ (apart : k ≢ length pieces). let n = long in earlier k (omega (arith, lt, n, apart)))
         (cases_eq k (length pieces));
@@ -96,10 +96,10 @@ module _ (plan : Planned) (places : List ℕ) (from : ℕ) (pieces : List Piece)
 
 -- ---- one of them
 
-module _ (plan : Planned) (places : List ℕ) (pieces : List Piece) (are : ArePieces plan places pieces) (number : ℕ)
+module _ (plan : Planned) (places : List ℕ) (pieces : List Piece) (are : AreIndexRanges plan places pieces) (number : ℕ)
     (lt : number < length pieces) where
   abbrev pub piece : Piece
-  piece = piece_in pieces number
+  piece = range_at pieces number
 
   piece_long : length (places_of places piece) ≡ piece.to - piece.from
   piece_long =

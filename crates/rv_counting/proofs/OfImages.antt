@@ -12,11 +12,11 @@ use Rattle.rv_count_tables.proofs.Public.{none_behind}
 use Rattle.rv_count_tables.specs.declared.table.AddressCounts.{AddressCounts}
 use Rattle.rv_count_tables.specs.declared.table.CountTable.{CountTable}
 use Rattle.rv_count_tables.specs.Sum.{no_counts}
-use Rattle.rv_count_tables.specs.Table.{executed_at, is_before, least_path, least_path_of, IsTable}
+use Rattle.rv_count_tables.specs.Table.{executed_at, is_before, min_text, min_text_of, IsTable}
 use Rattle.rv_trace.specs.declared_answers.Answer.{Answer}
 use Rattle.rv_trace.specs.declared_job.Job.{Job}
 use Rattle.rv_trace.specs.Jobs.{single_job}
-use Rattle.rv_trace.specs.Plans.{result_for_path, Planned}
+use Rattle.rv_trace.specs.Plans.{result_or_unreadable, Planned}
 use Rattle.rv_trace.specs.State.{State}
 use Rattle.rv_fleet.specs.declared_row.Refusal.{Refusal}
 use Rattle.rv_trace.specs.Rows.{content_if_read, start_in}
@@ -26,18 +26,18 @@ use Rattle.rv_counting.proofs.OfJobs.{no_counts_are_few, no_counts_have_none, no
 use Rattle.rv_counting.proofs.RunCounts.{few_runs}
 use Rattle.rv_counting.proofs.Starts.{no_bytes}
 use Rattle.rv_counting.specs.declared.runs_counter.RunsCounter.{RunsCounter}
-use Rattle.rv_counting.specs.BatchPieces.{HaveOneImage}
+use Rattle.rv_counting.specs.BatchRanges.{HaveOneImage}
 use Rattle.rv_counting.specs.Counters.{counts_of}
-use Rattle.rv_counting.specs.Coverage.{once_if}
-use Rattle.rv_counting.specs.JobTables.{has_digest, start_over, begun_from, taken_from, begun_by, taken_by, path_by, runs_by, first_path, jobs_at, table_of_runs, IsTableOfFew, IsTableOfJobs, IsTableOfPiece}
-use Rattle.rv_counting.specs.RunCounts.{begun_of, taken_of, HasCountedJobs}
+use Rattle.rv_counting.specs.Coverage.{one_if}
+use Rattle.rv_counting.specs.JobTables.{has_digest, start_over, executed_from, taken_from, executed_by, taken_by, path_by, runs_by, first_path, jobs_at, table_of_runs, IsTableOfFew, IsTableOfJobs, IsTableOfRange}
+use Rattle.rv_counting.specs.RunCounts.{executed_of, taken_of, HasCountedJobs}
 use Rattle.rv_counting.specs.Tallies.{IsSorted}
 
 none_if_not_ok : (r : Result State Refusal) → is_ok r ≡ false → result_ok r ≡ None
 none_if_not_ok (Ok s) h = cc
 none_if_not_ok (Err why) h = refl
 
-not_ok_if_no_run : (r : Result State Refusal) → once_if (is_ok r) ≡ 0 → is_ok r ≡ false
+not_ok_if_no_run : (r : Result State Refusal) → one_if (is_ok r) ≡ 0 → is_ok r ≡ false
 not_ok_if_no_run (Ok s) h = absurd (omega (arith, h))
 not_ok_if_no_run (Err why) h = refl
 
@@ -48,8 +48,8 @@ module _ (answers : List Answer) where
     nothing_begins : result_ok (start_in answers j) ≡ None
     nothing_begins = none_if_not_ok (start_in answers j) (not_ok_if_no_run (start_in answers j) none)
 
-    none_begun : (digest : List ℕ) (at : ℕ) → begun_by answers digest at j ≡ 0
-    none_begun digest at = ap (begun_from at j.budget) (not_over answers j digest nothing_begins)
+    none_begun : (digest : List ℕ) (at : ℕ) → executed_by answers digest at j ≡ 0
+    none_begun digest at = ap (executed_from at j.budget) (not_over answers j digest nothing_begins)
 
     none_taken : (digest : List ℕ) (at : ℕ) → taken_by answers digest at j ≡ 0
     none_taken digest at = ap (taken_from at j.budget) (not_over answers j digest nothing_begins)
@@ -70,13 +70,13 @@ module _ (answers : List Answer) where
   no_first_path digest [] none = refl
   no_first_path digest (j ∷ js) none =
       let runs = sum_by-cons (runs_by answers) j js in
-      (λ i. least_path_of (no_path j (omega (arith, none, runs)) digest i) (first_path answers digest js))
+      (λ i. min_text_of (no_path j (omega (arith, none, runs)) digest i) (first_path answers digest js))
       ∙ no_first_path digest js (omega (arith, none, runs))
 
   pub none_ran : (js : List Job) → sum_by (runs_by answers) js ≡ 0 → IsTableOfJobs answers js no_counts
   none_ran js none = record {
     table = no_counts_is_table;
-    begun = λ digest at. sym (none_of_all (begun_by answers digest at) (λ j h. none_begun j h digest at) js none);
+    begun = λ digest at. sym (none_of_all (executed_by answers digest at) (λ j h. none_begun j h digest at) js none);
     taken = λ digest at. sym (none_of_all (taken_by answers digest at) (λ j h. none_taken j h digest at) js none);
     paths = λ digest. sym (no_first_path digest js none);
     runs = sym none;
@@ -112,7 +112,7 @@ module _ (answers : List Answer) where
         let rest = sums_to false f g each js over.1 in
         omega (arith, first, rest, sum_by-cons f j js)
 
-    same_least : (p : List ℕ) → least_path p p ≡ p
+    same_least : (p : List ℕ) → min_text p p ≡ p
     same_least p = by (is_before p p)
       where
         by : (b : Bool) → cond b p p ≡ p
@@ -124,11 +124,11 @@ module _ (answers : List Answer) where
 
     -- the path of the first job that runs
     first_is_path : (b : Bool) (r : Result State Refusal) (rest : Option (List ℕ)) (n : ℕ)
-        → ((n ≡ 0 → rest ≡ None) × (0 < n → rest ≡ cond b (Some shown) None)) → 0 < once_if (is_ok r) + n
-        → least_path_of (option_map (λ (s : State). shown) (cond b (result_ok r) None)) rest ≡ cond b (Some shown) None
-    first_is_path true (Ok s) rest zero h some = ap (least_path_of (Some shown)) (h.0 refl)
+        → ((n ≡ 0 → rest ≡ None) × (0 < n → rest ≡ cond b (Some shown) None)) → 0 < one_if (is_ok r) + n
+        → min_text_of (option_map (λ (s : State). shown) (cond b (result_ok r) None)) rest ≡ cond b (Some shown) None
+    first_is_path true (Ok s) rest zero h some = ap (min_text_of (Some shown)) (h.0 refl)
     first_is_path true (Ok s) rest (suc n) h some =
-        ap (least_path_of (Some shown)) (h.1 (omega arith)) ∙ ap (λ (p : List ℕ). Some p) (same_least shown)
+        ap (min_text_of (Some shown)) (h.1 (omega arith)) ∙ ap (λ (p : List ℕ). Some p) (same_least shown)
     first_is_path true (Err why) rest n h some = h.1 (omega (arith, some))
     first_is_path false r rest zero h some = h.0 refl
     first_is_path false r rest (suc n) h some = h.1 (omega arith)
@@ -138,7 +138,7 @@ module _ (answers : List Answer) where
     path_first digest [] over some = absurd (omega (arith, some))
     path_first digest (j ∷ js) over some =
         let runs = sum_by-cons (runs_by answers) j js in
-        (λ i. least_path_of (option_map (λ (s : State). printable_text (over.0.image i)) (over_file digest j over.0 i))
+        (λ i. min_text_of (option_map (λ (s : State). printable_text (over.0.image i)) (over_file digest j over.0 i))
         (first_path answers digest js))
         ∙ first_is_path (bytes_eq (sha256 file) digest) (start_in answers j) (first_path answers digest js) (sum_by (runs_by answers) js)
         (no_first_path digest js, path_first digest js over.1) (omega (arith, some, runs))
@@ -156,9 +156,9 @@ module _ (answers : List Answer) where
             table = subst IsTable is table;
             begun = λ digest at.
                 let b = bytes_eq (sha256 file) digest in
-                let e = sums_to b (begun_by answers digest at) (begun_of answers at)
-                (λ j o. ap (begun_from at j.budget) (over_file digest j o)
-                ∙ picked b (begun_from at j.budget) (result_ok (start_in answers j)) refl) js over in
+                let e = sums_to b (executed_by answers digest at) (executed_of answers at)
+                (λ j o. ap (executed_from at j.budget) (over_file digest j o)
+                ∙ picked b (executed_from at j.budget) (result_ok (start_in answers j)) refl) js over in
                 let k = ap (λ (n : ℕ). cond b n 0) (sorted.begun at ∙ h.begun at) in
                 omega (arith, e, k);
             taken = λ digest at.
@@ -204,8 +204,8 @@ module _ (plan : Planned) (places : List ℕ) where
   job k = job_at plan (get_or places k 0) no_job
 
   pub nothing_ran : (t : CountTable) → t ≡ no_counts → sum_by (runs_by plan.answers) (jobs_at plan places) ≡ 0
-      → IsTableOfPiece plan places t
-  nothing_ran t is none = subst (IsTableOfPiece plan places) (sym is)
+      → IsTableOfRange plan places t
+  nothing_ran t is none = subst (IsTableOfRange plan places) (sym is)
       (record { table = none_ran plan.answers (jobs_at plan places) none; few = no_counts_are_few (length places) })
 
   module _ (same : HaveOneImage plan places) where
@@ -215,7 +215,7 @@ module _ (plan : Planned) (places : List ℕ) where
     each_of P (p ∷ ps) h = (h 0 (omega arith), each_of P ps (λ k lt. h (suc k) (omega (arith, lt))))
 
     same_bytes : (k : ℕ) → k < length places → image_bytes plan.answers (job k) ≡ image_bytes plan.answers (job 0)
-    same_bytes k lt = ap (λ (path : List ℕ). content_if_read (Some (result_for_path plan.answers path))) (same k no_job lt)
+    same_bytes k lt = ap (λ (path : List ℕ). content_if_read (Some (result_or_unreadable plan.answers path))) (same k no_job lt)
 
     -- without an image
     none_of_each : (js : List Job) → AllByRecursion (λ j. runs_by plan.answers j ≡ 0) js → sum_by (runs_by plan.answers) js ≡ 0
@@ -228,16 +228,16 @@ module _ (plan : Planned) (places : List ℕ) where
     no_run : image_bytes plan.answers (job 0) ≡ None → (k : ℕ) → k < length places → runs_by plan.answers (job k) ≡ 0
     no_run none k lt =
         let start = start_in plan.answers (job k) in
-        ap once_if (not_ok_if_none start (none_if_no_ok start (λ s is. no_bytes (job k) s plan.answers (same_bytes k lt ∙ none) is)))
+        ap one_if (not_ok_if_none start (none_if_no_ok start (λ s is. no_bytes (job k) s plan.answers (same_bytes k lt ∙ none) is)))
 
-    pub no_image_ran : (t : CountTable) → t ≡ no_counts → image_bytes plan.answers (job 0) ≡ None → IsTableOfPiece plan places t
+    pub no_image_ran : (t : CountTable) → t ≡ no_counts → image_bytes plan.answers (job 0) ≡ None → IsTableOfRange plan places t
     no_image_ran t is none = nothing_ran t is (none_of_each (jobs_at plan places) (each_of _ places (no_run none)))
 
     -- with an image
     pub image_ran : (file path : List ℕ) (c : RunsCounter) (cs : List AddressCounts) (t : CountTable)
         → image_bytes plan.answers (job 0) ≡ Some file → (job 0).image ≡ path
         → HasCountedJobs plan.answers (jobs_at plan places) c → 0 < c.runs → IsSorted (counts_of c.counter) cs
-        → t ≡ table_of_runs c.runs path file cs → IsTable t → IsTableOfPiece plan places t
+        → t ≡ table_of_runs c.runs path file cs → IsTable t → IsTableOfRange plan places t
     image_ran file path c cs t bytes image h some sorted is table =
         let over = each_of (IsOver plan.answers file path) places
         (λ k lt. record { bytes = same_bytes k lt ∙ bytes; image = same k no_job lt ∙ image }) in

@@ -14,33 +14,33 @@ use Rattle.rv_count_tables.specs.declared.table.CountTable.{CountTable}
 use Rattle.rv_count_tables.specs.declared.table.FunctionName.{FunctionName}
 use Rattle.rv_count_tables.specs.declared.table.ImageCounts.{ImageCounts}
 use Rattle.rv_count_tables.specs.declared.sum.SumError.TheVariants.{Names}
-use Rattle.rv_count_tables.specs.Sum.{HasName, HasNameIn, HaveNoSum, IsSum, no_counts}
-use Rattle.rv_count_tables.specs.Table.{name_at, name_in, least_path, least_path_of, digests_rise, names_rise, AreNames, AreNamesOf, AreSpots, IsImage, IsTable}
+use Rattle.rv_count_tables.specs.Sum.{HasName, HasNameIn, HaveNoSum, IsSumOfTables, no_counts}
+use Rattle.rv_count_tables.specs.Table.{name_at, truncated_name, min_text, min_text_of, digests_increase_from, functions_increase_from, AreValidNames, AreNamesOf, AreValidNodes, IsValidImage, IsTable}
 use Rattle.rv_trace.specs.declared_answers.Answer.{Answer}
 use Rattle.rv_trace.specs.declared_job.Job.{Job}
 use Rattle.rv_trace.specs.State.{State}
 use Rattle.rv_fleet.specs.declared_row.Refusal.{Refusal}
 use Rattle.rv_trace.specs.Rows.{start_in}
 use Rattle.rv_counting.specs.Coverage.{executed_in_run, taken_in_run}
-use Rattle.rv_counting.specs.JobTables.{has_digest, start_over, begun_from, taken_from, begun_by, taken_by, path_by, runs_by, first_path, table_of_runs, HasNoStacks, IsTableOfFew, IsTableOfJobs}
+use Rattle.rv_counting.specs.JobTables.{has_digest, start_over, executed_from, taken_from, executed_by, taken_by, path_by, runs_by, first_path, table_of_runs, HasNoStacks, IsTableOfFew, IsTableOfJobs}
 use Rattle.rv_trace.specs.Trace.{image_bytes}
 
-none_rise : digests_rise None [] ≡ true
-unfolding digests_rise
+none_rise : digests_increase_from None [] ≡ true
+unfolding digests_increase_from
 none_rise = refl
 
-pub no_names : AreNames []
-unfolding names_rise
+pub no_names : AreValidNames []
+unfolding functions_increase_from
 no_names = record { each = tt; rising = refl }
 
 pub no_owners : AreNamesOf [] []
 no_owners f = refl
 
-pub no_spots : AreSpots []
+pub no_spots : AreValidNodes []
 no_spots = record { each = tt; tree = tt }
 
-pub one_rises : (i : ImageCounts) → digests_rise None (i ∷ []) ≡ true
-unfolding digests_rise
+pub one_rises : (i : ImageCounts) → digests_increase_from None (i ∷ []) ≡ true
+unfolding digests_increase_from
 one_rises i = refl
 
 pub no_counts_is_table : IsTable no_counts
@@ -48,7 +48,7 @@ no_counts_is_table = record { images = tt; rising = none_rise; few = omega arith
 
 -- the table of one image, in some runs
 pub one_image_is_table : (i : ImageCounts) (runs : ℕ) (t : CountTable) → t ≡ record { images = i ∷ []; runs = runs } → runs < 2 ^ 64
-    → IsImage i → IsTable t
+    → IsValidImage i → IsTable t
 one_image_is_table i runs t is few h = subst IsTable (sym is) (
     record {
       images = (h, tt);
@@ -63,7 +63,7 @@ one_image_is_table i runs t is few h = subst IsTable (sym is) (
 pub no_counts_have_none : HasNoStacks no_counts
 no_counts_have_none = record { names = λ digest f. refl; arrivals = λ digest path. refl; steps = λ digest path. refl }
 
-no_name_either : (b : Bool) → least_path_of (cond b None None) None ≡ None
+no_name_either : (b : Bool) → min_text_of (cond b None None) None ≡ None
 no_name_either true = refl
 no_name_either false = refl
 
@@ -78,9 +78,9 @@ run_has_none runs path file cs = record {
   steps = λ digest at. none_either (bytes_eq (sha256 file) digest);
 }
 
-pub sum_has_none : (t u sum : CountTable) → HasNoStacks t → HasNoStacks u → IsSum t u sum → HasNoStacks sum
+pub sum_has_none : (t u sum : CountTable) → HasNoStacks t → HasNoStacks u → IsSumOfTables t u sum → HasNoStacks sum
 sum_has_none t u sum h k is = record {
-  names = λ digest f. is.names digest f ∙ (λ i. least_path_of (h.names digest f i) (k.names digest f i));
+  names = λ digest f. is.names digest f ∙ (λ i. min_text_of (h.names digest f i) (k.names digest f i));
   arrivals = λ digest path.
       let s = is.arrivals digest path in
       let p = h.arrivals digest path in
@@ -97,10 +97,10 @@ sum_has_none t u sum h k is = record {
 some_is_none : (name : List ℕ) → Some name ≡ None → ⊥
 some_is_none name h = cc
 
-none_of_either : (o p : Option (List ℕ)) → least_path_of o p ≡ None → (o ≡ None) × (p ≡ None)
+none_of_either : (o p : Option (List ℕ)) → min_text_of o p ≡ None → (o ≡ None) × (p ≡ None)
 none_of_either None p h = (refl, h)
 none_of_either (Some name) None h = absurd (some_is_none name h)
-none_of_either (Some name) (Some other) h = absurd (some_is_none (least_path name other) h)
+none_of_either (Some name) (Some other) h = absurd (some_is_none (min_text name other) h)
 
 no_name_here : (t : Bool) (name : List ℕ) → t ≡ true → cond t (Some name) None ≡ None → ⊥
 no_name_here true name h e = some_is_none name e
@@ -120,15 +120,15 @@ taken_if : (t : Bool) (o : Option (List ℕ)) → t ≡ true → cond t o None �
 taken_if true o h e = e
 taken_if false o h e = absurd (false≢true h)
 
-no_name_in : (digest : List ℕ) (f : ℕ) (name : List ℕ) (is : List ImageCounts) → name_in digest f is ≡ None
+no_name_in : (digest : List ℕ) (f : ℕ) (name : List ℕ) (is : List ImageCounts) → truncated_name digest f is ≡ None
     → HasNameIn digest f name is → ⊥
 no_name_in digest f name [] none has = has
 no_name_in digest f name (i ∷ is) none (inl here) =
     no_name_of f name i.functions (taken_if (bytes_eq i.digest digest) (name_at f i.functions) ((bytes_decides i.digest digest).1 here.0)
-    (none_of_either (cond (bytes_eq i.digest digest) (name_at f i.functions) None) (name_in digest f is) none).0) here.1
+    (none_of_either (cond (bytes_eq i.digest digest) (name_at f i.functions) None) (truncated_name digest f is) none).0) here.1
 no_name_in digest f name (i ∷ is) none (inr more) =
     no_name_in digest f name is
-    (none_of_either (cond (bytes_eq i.digest digest) (name_at f i.functions) None) (name_in digest f is) none).1 more
+    (none_of_either (cond (bytes_eq i.digest digest) (name_at f i.functions) None) (truncated_name digest f is) none).1 more
 
 pub no_two_names : (t u : CountTable) (f : ℕ) → HasNoStacks t → HaveNoSum (Names f) t u → ⊥
 no_two_names t u f h have = no_name_in have.0 f have.1 t.images (h.names have.0 f) have.3
@@ -167,7 +167,7 @@ not_ok_if_none (Ok s) h = cc
 not_ok_if_none (Err why) h = refl
 
 pub picked_begun : (b : Bool) (n address budget : ℕ) (s : State) → n ≡ executed_in_run address budget s
-    → cond b n 0 ≡ begun_from address budget (cond b (Some s) None)
+    → cond b n 0 ≡ executed_from address budget (cond b (Some s) None)
 picked_begun true n address budget s h = h
 picked_begun false n address budget s h = refl
 
@@ -194,21 +194,21 @@ module _ (answers : List Answer) (job : Job) where
 -- ---- jobs of both
 
 pub first_path-append : (answers : List Answer) (digest : List ℕ) (js ks : List Job) → first_path answers digest (js ++ ks)
-    ≡ least_path_of (first_path answers digest js) (first_path answers digest ks)
+    ≡ min_text_of (first_path answers digest js) (first_path answers digest ks)
 first_path-append answers digest [] ks = refl
 first_path-append answers digest (j ∷ js) ks =
-    ap (least_path_of (path_by answers digest j)) (first_path-append answers digest js ks)
+    ap (min_text_of (path_by answers digest j)) (first_path-append answers digest js ks)
     ∙ sym (any_first (path_by answers digest j) (first_path answers digest js) (first_path answers digest ks))
 
 pub joined : (answers : List Answer) (js ks : List Job) (t u sum : CountTable) → IsTableOfJobs answers js t
-    → IsTableOfJobs answers ks u → IsSum t u sum → IsTableOfJobs answers (js ++ ks) sum
+    → IsTableOfJobs answers ks u → IsSumOfTables t u sum → IsTableOfJobs answers (js ++ ks) sum
 joined answers js ks t u sum h k is = record {
   table = is.table;
   begun = λ digest address.
       let s = is.begun digest address in
       let p = h.begun digest address in
       let q = k.begun digest address in
-      let e = sum_by-append (begun_by answers digest address) js ks in
+      let e = sum_by-append (executed_by answers digest address) js ks in
       omega (arith, s, p, q, e);
   taken = λ digest address.
       let s = is.taken digest address in
@@ -217,7 +217,7 @@ joined answers js ks t u sum h k is = record {
       let e = sum_by-append (taken_by answers digest address) js ks in
       omega (arith, s, p, q, e);
   paths = λ digest.
-      is.paths digest ∙ (λ i. least_path_of (h.paths digest i) (k.paths digest i))
+      is.paths digest ∙ (λ i. min_text_of (h.paths digest i) (k.paths digest i))
       ∙ sym (first_path-append answers digest js ks);
   runs = (let s = is.runs in
       let p = h.runs in
@@ -229,7 +229,7 @@ joined answers js ks t u sum h k is = record {
 
 -- ---- numbers that fit
 
-pub few_more : (n m : ℕ) (t u sum : CountTable) → IsTableOfFew n t → IsTableOfFew m u → IsSum t u sum
+pub few_more : (n m : ℕ) (t u sum : CountTable) → IsTableOfFew n t → IsTableOfFew m u → IsSumOfTables t u sum
     → IsTableOfFew (n + m) sum
 few_more n m t u sum h k is = record {
   begun = λ digest address.

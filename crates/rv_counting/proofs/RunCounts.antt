@@ -20,9 +20,9 @@ use Rattle.rv_counting.proofs.OfJobs.{none_if_no_ok}
 use Rattle.rv_counting.proofs.Starts.{start_even}
 use Rattle.rv_counting.specs.declared.runs_counter.RunsCounter.{RunsCounter}
 use Rattle.rv_counting.specs.Counters.{counts_of, HasCountedOn}
-use Rattle.rv_counting.specs.Coverage.{once_if}
-use Rattle.rv_counting.specs.JobTables.{begun_from, taken_from, jobs_at, runs_by}
-use Rattle.rv_counting.specs.RunCounts.{begun_of, taken_of, AddsJob, AddsRun, CanCountRuns, HasCountedJobs}
+use Rattle.rv_counting.specs.Coverage.{one_if}
+use Rattle.rv_counting.specs.JobTables.{executed_from, taken_from, jobs_at, runs_by}
+use Rattle.rv_counting.specs.RunCounts.{executed_of, taken_of, AddsJob, AddsRun, CanCountRuns, HasCountedJobs}
 
 -- ---- one run more
 
@@ -54,8 +54,8 @@ ran_job answers job s old new start adds =
 module _ (budget g : ℕ) (s : State) (base : List AddressCounts) (old new : RunsCounter) (fits : budget < 2 ^ 32) (h : CanCountRuns old)
     (same : base ≡ counts_of old.counter) (early : g ≡ old.counter.codes.generation)
     (counted : HasCountedOn base g budget s new.counter) (one : new.runs ≡ old.runs + 1) where
-  begun_more : (at : ℕ) → executed_at at (counts_of new.counter) ≡ executed_at at (counts_of old.counter) + begun_from at budget (Some s)
-  begun_more at = counted.sums.begun at ∙ ap (λ cs. executed_at at cs + begun_from at budget (Some s)) same
+  begun_more : (at : ℕ) → executed_at at (counts_of new.counter) ≡ executed_at at (counts_of old.counter) + executed_from at budget (Some s)
+  begun_more at = counted.sums.begun at ∙ ap (λ cs. executed_at at cs + executed_from at budget (Some s)) same
 
   pub adds_run : AddsRun budget (Some s) old new
   adds_run = record {
@@ -77,7 +77,7 @@ module _ (budget g : ℕ) (s : State) (base : List AddressCounts) (old new : Run
 
 -- ---- the runs of jobs
 
-ok_is_some : (r : Result State Refusal) → once_if (is_some (result_ok r)) ≡ once_if (is_ok r)
+ok_is_some : (r : Result State Refusal) → one_if (is_some (result_ok r)) ≡ one_if (is_ok r)
 ok_is_some (Ok s) = refl
 ok_is_some (Err why) = refl
 
@@ -93,7 +93,7 @@ one_job_more answers js j old new h adds = record {
   begun = λ at.
       let a = adds.begun at in
       let b = h.begun at in
-      let e = sum_by_push (begun_of answers at) js j in
+      let e = sum_by_push (executed_of answers at) js j in
       omega (arith, a, b, e);
   taken = λ at.
       let a = adds.taken at in
@@ -114,7 +114,7 @@ module _ (plan : Planned) (places : List ℕ) where
       (one_job_more plan.answers (jobs_at plan (take k places)) (job_at plan place no_job) old new h (adds no_job)))
 
 -- there are no more runs than jobs
-at_most_one : (r : Result State Refusal) → once_if (is_ok r) ≤ 1
+at_most_one : (r : Result State Refusal) → one_if (is_ok r) ≤ 1
 at_most_one (Ok s) = omega arith
 at_most_one (Err why) = omega arith
 
@@ -127,17 +127,17 @@ few_runs answers (j ∷ js) =
 
 -- no run executes an instruction at an odd address
 module _ (answers : List Answer) (at : ℕ) (odd : at % 2 ≡ 1) where
-  none_of_job : (j : Job) → begun_of answers at j ≡ 0
+  none_of_job : (j : Job) → executed_of answers at j ≡ 0
   none_of_job j = by (start_in answers j) refl
     where
-      by : (r : Result State Refusal) → start_in answers j ≡ r → begun_from at j.budget (result_ok r) ≡ 0
+      by : (r : Result State Refusal) → start_in answers j ≡ r → executed_from at j.budget (result_ok r) ≡ 0
       by (Ok s) start = none_at_odd j.budget at s (start_even j s answers start) odd
       by (Err why) start = refl
 
-  none_of_jobs : (js : List Job) → sum_by (begun_of answers at) js ≡ 0
+  none_of_jobs : (js : List Job) → sum_by (executed_of answers at) js ≡ 0
   none_of_jobs [] = refl
   none_of_jobs (j ∷ js) =
-      let first = none_of_job j in let rest = none_of_jobs js in omega (arith, first, rest, sum_by-cons (begun_of answers at) j js)
+      let first = none_of_job j in let rest = none_of_jobs js in omega (arith, first, rest, sum_by-cons (executed_of answers at) j js)
 
   pub none_counted_at_odd : (js : List Job) (c : RunsCounter) → HasCountedJobs answers js c → executed_at at (counts_of c.counter) ≡ 0
   none_counted_at_odd js c h = h.begun at ∙ none_of_jobs js

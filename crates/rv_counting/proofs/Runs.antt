@@ -2,24 +2,24 @@
 use Rattle.std.proofs.Common.{◌≡◌, ◌∙◌, ◌+◌, ◌-◌, ◌<◌, ◌≤◌, ◌⊎◌, inl, inr, ℕ, zero, suc, Ok, Err, refl, sym, ap, arith}
 use Rattle.std.specs.Prelude.{◌==◌, ◌&&◌}
 use Rattle.rv_trace.specs.declared_ending.Ending.{Ending}
-use Rattle.rv_trace.specs.Run.{Ran, step_of, run_of, run_rest}
+use Rattle.rv_trace.specs.Run.{Ran, step_of, run_of, run_after_step}
 use Rattle.rv_trace.specs.State.{State}
 use Rattle.rv_trace.proofs.Public.{after_none}
 use Rattle.rv_trace.specs.Trace.{state_after}
-use Rattle.rv_counting.specs.Coverage.{fetch_at, is_executed, takes, once_if, behind, executed_steps, executed_in_run, taken_in_run}
+use Rattle.rv_counting.specs.Coverage.{fetch_at, is_executed, takes, one_if, behind, executed_steps, executed_in_run, taken_in_run}
 
 -- ---- the first step of a run
 
 pub by_step : (s : State) (P : Type 0) → ((t : State) → step_of s ≡ Ok t → P) → ((e : Ending) → step_of s ≡ Err e → P) → P
 by_step s P ok err = elim (step_of s) as (λ r. step_of s ≡ r → P) [ Ok t ↦ ok t | Err e ↦ err e ] refl
 
-run_first : (n : ℕ) (s t : State) → step_of s ≡ Ok t → run_of (suc n) s ≡ run_rest (Ok t) s (λ u. run_of n u)
+run_first : (n : ℕ) (s t : State) → step_of s ≡ Ok t → run_of (suc n) s ≡ run_after_step (Ok t) s (λ u. run_of n u)
 unfolding run_of
-run_first n s t e = ap (λ r. run_rest r s (λ u. run_of n u)) e
+run_first n s t e = ap (λ r. run_after_step r s (λ u. run_of n u)) e
 
 run_end : (n : ℕ) (s : State) (e : Ending) → step_of s ≡ Err e → run_of (suc n) s ≡ record { ending = e; steps = 0; state = s }
 unfolding run_of
-run_end n s e is = ap (λ r. run_rest r s (λ u. run_of n u)) is
+run_end n s e is = ap (λ r. run_after_step r s (λ u. run_of n u)) is
 
 steps_first : (n : ℕ) (s t : State) → step_of s ≡ Ok t → (run_of (suc n) s).steps ≡ (run_of n t).steps + 1
 steps_first n s t e = ap (λ r. r.steps) (run_first n s t e)
@@ -139,7 +139,7 @@ unfolding executed_in_run
 begun_none at s = refl
 
 pub begun_first : (at n : ℕ) (s : State) → executed_in_run at (suc n) s
-    ≡ once_if (is_executed (fetch_at s) && (s.pc == at)) + behind (step_of s) (λ t. executed_in_run at n t)
+    ≡ one_if (is_executed (fetch_at s) && (s.pc == at)) + behind (step_of s) (λ t. executed_in_run at n t)
 unfolding executed_in_run
 begun_first at n s = refl
 
@@ -148,7 +148,7 @@ unfolding taken_in_run
 taken_none at s = refl
 
 pub taken_first : (at n : ℕ) (s : State) → taken_in_run at (suc n) s
-    ≡ once_if (takes (step_of s) s && (s.pc == at)) + behind (step_of s) (λ t. taken_in_run at n t)
+    ≡ one_if (takes (step_of s) s && (s.pc == at)) + behind (step_of s) (λ t. taken_in_run at n t)
 unfolding taken_in_run
 taken_first at n s = refl
 
@@ -157,7 +157,7 @@ unfolding executed_steps
 steps_none s = refl
 
 pub begins_first : (n : ℕ) (s : State) → executed_steps (suc n) s
-    ≡ once_if (is_executed (fetch_at s)) + behind (step_of s) (λ t. executed_steps n t)
+    ≡ one_if (is_executed (fetch_at s)) + behind (step_of s) (λ t. executed_steps n t)
 unfolding executed_steps
 begins_first n s = refl
 

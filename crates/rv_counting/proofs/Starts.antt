@@ -7,7 +7,7 @@ use Rattle.rv_trace.specs.declared_image.Image.{Image}
 use Rattle.rv_trace.specs.Image.{image_of}
 use Rattle.rv_trace.specs.Loading.{map_check}
 use Rattle.rv_trace.specs.Jobs.{console_path}
-use Rattle.rv_trace.specs.Plans.{result_for_path}
+use Rattle.rv_trace.specs.Plans.{result_or_unreadable}
 use Rattle.rv_trace.specs.Reading.{◌>>=◌}
 use Rattle.rv_trace.specs.declared_answers.Answer.{Answer}
 use Rattle.rv_trace.specs.declared_kept.Kept.{Kept}
@@ -16,7 +16,7 @@ use Rattle.rv_trace.specs.declared_job.Job.{Job}
 use Rattle.rv_trace.specs.State.{State}
 use Rattle.rv_trace.specs.declared_outcome.Loadable.{Loadable}
 use Rattle.rv_fleet.specs.declared_row.Refusal.{Refusal}
-use Rattle.rv_trace.specs.Outcome.{image_file_or_refusal, loadable_image, loaded_state, range_if_asked, reference_or_refusal, start_if_loadable, start_if_readable, start_of}
+use Rattle.rv_trace.specs.Outcome.{image_file_or_refusal, loadable_image, loaded_state, range_if_requested, reference_or_refusal, start_if_loadable, start_if_readable, start_of}
 use Rattle.rv_trace.specs.Rows.{content_if_read, start_in}
 use Rattle.rv_trace.specs.Trace.{image_bytes}
 
@@ -46,7 +46,7 @@ module _ (job : Job) (s : State) where
   image_read file l e =
       let image = stepped (image_of job.isa file) _ l e in
       let fits = stepped (map_check image.0.segments job.regions job.load) _ l image.2 in
-      let range = stepped (range_if_asked file job.regions job.signature) _ l fits.2 in
+      let range = stepped (range_if_requested file job.regions job.signature) _ l fits.2 in
       let made : Loadable = record { image = image.0; range = range.0 } in
       let same : made ≡ l = cc (range.2) in
       image.1 ∙ ap (λ (x : Loadable). Ok x.image) same
@@ -77,8 +77,8 @@ module _ (job : Job) (s : State) where
   started_of kept.TooLong reference console e = cc
 
   pub started : (answers : List Answer) → start_in answers job ≡ Ok s → IsStart job (image_bytes answers job) s
-  started answers e = started_of (result_for_path answers job.image) (option_map (result_for_path answers) job.expect_signature)
-      (option_map (result_for_path answers) (console_path job.expect_console)) e
+  started answers e = started_of (result_or_unreadable answers job.image) (option_map (result_or_unreadable answers) job.expect_signature)
+      (option_map (result_or_unreadable answers) (console_path job.expect_console)) e
 
   pub start_even : (answers : List Answer) → start_in answers job ≡ Ok s → s.pc % 2 ≡ 0
   start_even answers e =

@@ -7,8 +7,8 @@ use Rattle.std.specs.Str.{bytes_eq}
 use Rattle.sha2.specs.Sha256.{sha256}
 use Rattle.rv_count_tables.specs.declared.table.AddressCounts.{AddressCounts}
 use Rattle.rv_count_tables.specs.declared.table.CountTable.{CountTable}
-use Rattle.rv_count_tables.specs.Sum.{IsSum}
-use Rattle.rv_count_tables.specs.Table.{executed_in, taken_in, path_in, name_in, arrivals_in, steps_in, least_path_of, IsTable}
+use Rattle.rv_count_tables.specs.Sum.{IsSumOfTables}
+use Rattle.rv_count_tables.specs.Table.{executed_in, taken_in, next_path, truncated_name, arrivals_in, steps_in, min_text_of, IsTable}
 use Rattle.rv_trace.specs.declared_answers.Answer.{Answer}
 use Rattle.rv_trace.specs.declared_job.Job.{Job}
 use Rattle.rv_trace.specs.Jobs.{single_job}
@@ -17,7 +17,7 @@ use Rattle.rv_trace.specs.State.{State}
 use Rattle.rv_trace.specs.Rows.{start_in}
 use Rattle.rv_count_tables.specs.Printable.{printable_text}
 use Rattle.rv_trace.specs.Trace.{image_bytes}
-use Rattle.rv_counting.specs.Coverage.{once_if, executed_in_run, taken_in_run}
+use Rattle.rv_counting.specs.Coverage.{one_if, executed_in_run, taken_in_run}
 
 -- whether there are bytes and this is their SHA-256 digest
 abbrev pub has_digest : List ℕ → Option (List ℕ) → Bool
@@ -30,9 +30,9 @@ start_over answers digest job =
     if has_digest digest (image_bytes answers job) then result_ok (start_in answers job) else None
 
 -- how often a run from this state executes the instruction at an address, within a budget of `n` steps; 0 if there is no state
-abbrev pub begun_from : ℕ → ℕ → Option State → ℕ
-begun_from address n None = 0
-begun_from address n (Some s) = executed_in_run address n s
+abbrev pub executed_from : ℕ → ℕ → Option State → ℕ
+executed_from address n None = 0
+executed_from address n (Some s) = executed_in_run address n s
 
 -- how often a run from this state takes the branch at an address, within a budget of `n` steps; 0 if there is no state
 abbrev pub taken_from : ℕ → ℕ → Option State → ℕ
@@ -40,8 +40,8 @@ taken_from address n None = 0
 taken_from address n (Some s) = taken_in_run address n s
 
 -- how often a job's run executes the instruction at an address, or 0 if the job is refused or its image does not have this digest
-abbrev pub begun_by : List Answer → List ℕ → ℕ → Job → ℕ
-begun_by answers digest address job = begun_from address job.budget (start_over answers digest job)
+abbrev pub executed_by : List Answer → List ℕ → ℕ → Job → ℕ
+executed_by answers digest address job = executed_from address job.budget (start_over answers digest job)
 
 -- how often a job's run takes the branch at an address, or 0 if the job is refused or its image does not have this digest
 abbrev pub taken_by : List Answer → List ℕ → ℕ → Job → ℕ
@@ -53,12 +53,12 @@ path_by answers digest job = option_map (λ s. printable_text job.image) (start_
 
 -- 1 for a job that runs, 0 for a refused one
 abbrev pub runs_by : List Answer → Job → ℕ
-runs_by answers job = once_if (is_ok (start_in answers job))
+runs_by answers job = one_if (is_ok (start_in answers job))
 
 -- the first path in byte order by which the jobs that run the image with this digest name it, or `None` if none runs it
 abbrev pub first_path : List Answer → List ℕ → List Job → Option (List ℕ)
 first_path answers digest [] = None
-first_path answers digest (j ∷ js) = least_path_of (path_by answers digest j) (first_path answers digest js)
+first_path answers digest (j ∷ js) = min_text_of (path_by answers digest j) (first_path answers digest js)
 
 -- the table of some runs of the image with this path and these bytes
 abbrev pub table_of_runs : ℕ → List ℕ → List ℕ → List AddressCounts → CountTable
@@ -75,7 +75,7 @@ table_of_runs runs path bytes addresses = record {
 
 -- the table has no call trees and no function names
 pub record HasNoStacks (t : CountTable) : Type 0 where
-  pub names : (digest : List ℕ) (function : ℕ) → name_in digest function t.images ≡ None
+  pub names : (digest : List ℕ) (function : ℕ) → truncated_name digest function t.images ≡ None
   pub arrivals : (digest path : List ℕ) → arrivals_in digest path t.images ≡ 0
   pub steps : (digest path : List ℕ) → steps_in digest path t.images ≡ 0
 
@@ -83,10 +83,10 @@ pub record HasNoStacks (t : CountTable) : Type 0 where
 pub record IsTableOfJobs (answers : List Answer) (jobs : List Job) (t : CountTable) : Type 0 where
   pub table : IsTable t
   pub begun : (digest : List ℕ) (address : ℕ)
-      → executed_in digest address t.images ≡ sum_by (begun_by answers digest address) jobs
+      → executed_in digest address t.images ≡ sum_by (executed_by answers digest address) jobs
   pub taken : (digest : List ℕ) (address : ℕ)
       → taken_in digest address t.images ≡ sum_by (taken_by answers digest address) jobs
-  pub paths : (digest : List ℕ) → path_in digest t.images ≡ first_path answers digest jobs
+  pub paths : (digest : List ℕ) → next_path digest t.images ≡ first_path answers digest jobs
   pub runs : t.runs ≡ sum_by (runs_by answers) jobs
   pub stacks : HasNoStacks t
 
@@ -95,8 +95,8 @@ abbrev pub jobs_at : Planned → List ℕ → List Job
 jobs_at plan places = map (λ place. slice_index_or plan.jobs place (single_job [] 0 [])) places
 
 -- `t` is the table of the jobs at these indices of a plan
-abbrev pub IsTableOfPlaces : Planned → List ℕ → CountTable → Type 0
-IsTableOfPlaces plan places t = IsTableOfJobs plan.answers (jobs_at plan places) t
+abbrev pub IsTableOfJobsAt : Planned → List ℕ → CountTable → Type 0
+IsTableOfJobsAt plan places t = IsTableOfJobs plan.answers (jobs_at plan places) t
 
 -- ---- sums that fit
 
@@ -107,8 +107,8 @@ pub record IsTableOfFew (jobs : ℕ) (t : CountTable) : Type 0 where
   pub stacks : HasNoStacks t
 
 -- `t` is the table of the jobs at some indices, and has at most one run for each of them
-pub record IsTableOfPiece (plan : Planned) (places : List ℕ) (t : CountTable) : Type 0 where
-  pub table : IsTableOfPlaces plan places t
+pub record IsTableOfRange (plan : Planned) (places : List ℕ) (t : CountTable) : Type 0 where
+  pub table : IsTableOfJobsAt plan places t
   pub few : IsTableOfFew (length places) t
 
 -- ---- parts
@@ -122,11 +122,11 @@ AreTablesOfParts answers _ _ = ⊥
 -- `t` is the result of adding the tables in the list to `sum`, one after another
 abbrev pub SumsTo : CountTable → List CountTable → CountTable → Type 0
 SumsTo sum [] t = sum ≡ t
-SumsTo sum (u ∷ us) t = (next : CountTable) × IsSum sum u next × SumsTo next us t
+SumsTo sum (u ∷ us) t = (next : CountTable) × IsSumOfTables sum u next × SumsTo next us t
 
 -- there is one table for each shard of the jobs at these indices, in order; a shard has the indices that leave the same remainder when
 -- divided by the number of shards
 pub record AreTablesOfShards (plan : Planned) (shards : ℕ) (places : List ℕ) (ts : List CountTable) : Type 0 where
   pub count : length ts ≡ shards
   pub each : (k : ℕ) (d : CountTable) → k < shards
-      → IsTableOfPlaces plan (filter (λ place. place % shards == k) places) (slice_index_or ts k d)
+      → IsTableOfJobsAt plan (filter (λ place. place % shards == k) places) (slice_index_or ts k d)

@@ -4,7 +4,7 @@ pub mod Tallies
 pub mod Counters
 pub mod JobTables
 pub mod RunCounts
-pub mod BatchPieces
+pub mod BatchRanges
 pub mod TableSums
 pub use Rattle.rv_fleet.specs.Choices
 pub use Rattle.rv_fleet.specs.Results

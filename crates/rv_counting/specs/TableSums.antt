@@ -25,7 +25,7 @@ sum_of_run added (Ok flow) = sum_or_error added.sum added.failed
 sum_of_run added (Err error) = Err OutOfMemory
 
 -- `sum` is the sum of all tables but the last one, and the error says why it cannot be added to `sum`
-pub record EndAdded (sum : CountTable) (error : SumError) (ts : List CountTable) : Type 0 where
+pub record IsLastNotAdded (sum : CountTable) (error : SumError) (ts : List CountTable) : Type 0 where
   pub before : List CountTable
   pub last : CountTable
   pub tables : ts ≡ before ++ last ∷ []
@@ -34,6 +34,6 @@ pub record EndAdded (sum : CountTable) (error : SumError) (ts : List CountTable)
 
 -- `sum` is the sum of all tables; if there is an error, it is the sum of all but the last one, and the error says why that cannot be added
 -- to `sum`
-abbrev pub AreAdded : CountTable → Option SumError → List CountTable → Type 0
-AreAdded sum None ts = SumsTo no_counts ts sum
-AreAdded sum (Some error) ts = EndAdded sum error ts
+abbrev pub AreTablesAdded : CountTable → Option SumError → List CountTable → Type 0
+AreTablesAdded sum None ts = SumsTo no_counts ts sum
+AreTablesAdded sum (Some error) ts = IsLastNotAdded sum error ts

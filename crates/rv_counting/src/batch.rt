@@ -2,9 +2,9 @@
 
 ghost use Rattle.std.specs.Prelude.{◌≡◌, IfOk};
 ghost use Rattle.rv_count_tables.specs.declared.sum.SumError.TheVariants.{OutOfMemory};
-ghost use Rattle.rv_counting.specs.JobTables.{IsTableOfPlaces};
+ghost use Rattle.rv_counting.specs.JobTables.{IsTableOfJobsAt};
 
-use crate::count_work::{CountWork, JobTable};
+use crate::count_work::{CountWork, JobsTable};
 use crate::pieces::pieces_of;
 use crate::table_sum::TableSum;
 use rv_count_tables::{CountTable, SumError};
@@ -22,7 +22,7 @@ pub fn count_batch<R: Threads + Wait + Sync>(
     crew: &Crew<'_, R>,
     batch: &Batch<'_>,
 ) -> Result<CountTable, AllocError>
-    ensures { IfOk result (λ table. IsTableOfPlaces batch.now.plan.now batch.now.places.now table) }
+    ensures { IfOk result (λ table. IsTableOfJobsAt batch.now.plan.now batch.now.places.now table) }
 {
     let pieces = pieces_of(crew.alloc, batch.plan, batch.places, crew.workers)?;
     let work = CountWork {
@@ -30,7 +30,7 @@ pub fn count_batch<R: Threads + Wait + Sync>(
         pieces: pieces.as_slice(),
     };
     let crew = Crew::new(crew.rt, crew.alloc, crew.workers, 1);
-    let (sum, ran) = run_jobs::<Brand, JobTable, R, CountWork<'_>, TableSum>(
+    let (sum, ran) = run_jobs::<Brand, JobsTable, R, CountWork<'_>, TableSum>(
         &crew,
         &work,
         TableSum::new(crew.alloc),

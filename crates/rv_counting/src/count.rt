@@ -3,9 +3,9 @@
 ghost use Rattle.std.specs.Prelude.{◌^◌, ◌<◌, ℕ, IfOk, OnOk};
 ghost use Rattle.rv_count_tables.specs.Table.{executed_at};
 ghost use Rattle.rv_trace.specs.Machine.{state_of};
-ghost use Rattle.rv_counting.specs.Blocks.{AreRight};
+ghost use Rattle.rv_counting.specs.Blocks.{IsValidCache};
 ghost use Rattle.rv_counting.specs.Counters.{counts_of, HasCountedOn};
-ghost use Rattle.rv_counting.specs.Coverage.{AreCountsOf, EachTallied};
+ghost use Rattle.rv_counting.specs.Coverage.{AreCountsOf, AreConsistentCounts};
 ghost use Rattle.rv_counting.specs.Tallies.{IsIndexed};
 
 use crate::counter::Counter;
@@ -30,10 +30,10 @@ pub(crate) fn follow_run(
     machine: Machine,
     budget: u32,
 ) -> Result<Machine, AllocError>
-    requires tallied { EachTallied (counts_of counter.old) }
+    requires tallied { AreConsistentCounts (counts_of counter.old) }
     requires few { (at : ℕ) → executed_at at (counts_of counter.old) < 2 ^ 61 }
     requires indexed { IsIndexed counter.old.tally }
-    requires right { AreRight counter.old.codes (state_of machine) }
+    requires right { IsValidCache counter.old.codes (state_of machine) }
     requires generations { counter.old.codes.generation < 2 ^ 61 }
     ensures { OnOk result (HasCountedOn (counts_of counter.old) counter.old.codes.generation budget (state_of machine) counter.new) }
 {

@@ -2,11 +2,11 @@
 
 ghost use Rattle.std.specs.Prelude.{◌≡◌};
 ghost use Rattle.rv_count_tables.specs.Table.{IsTable};
-ghost use Rattle.rv_counting.specs.BatchPieces.{ArePieces};
+ghost use Rattle.rv_counting.specs.BatchRanges.{AreIndexRanges};
 
 use crate::pieces::Piece;
-use crate::table_of_job::count_places;
-use crate::table_sum::HasTable;
+use crate::table_of_jobs::table_of_jobs_at;
+use crate::table_sum::HasProgramHeaders;
 use rv_count_tables::CountTable;
 use rv_fleet::{Batch, Work, WorkerState};
 use std::alloc::{AllocError, Global};
@@ -14,11 +14,11 @@ use std::marker::Model;
 
 /// The table of one or more jobs.
 #[derive(Drop)]
-pub struct JobTable {
+pub struct JobsTable {
     table: CountTable,
 }
 
-impl Model for JobTable {
+impl Model for JobsTable {
     ghost use Rattle.rv_count_tables.specs.Table.{IsTable};
     ghost use Rattle.rv_count_tables.specs.declared.table.CountTable.{CountTable as Counted};
 
@@ -29,17 +29,17 @@ impl Model for JobTable {
     ghost invariant = { λ s. IsTable s.table };
 }
 
-impl JobTable {
+impl JobsTable {
     /// Returns the result of a job that has this table of counts.
-    pub fn new(table: CountTable) -> JobTable
+    pub fn new(table: CountTable) -> JobsTable
         requires { IsTable table }
         ensures { result ≡ table }
     {
-        JobTable { table }
+        JobsTable { table }
     }
 }
 
-impl HasTable for JobTable {
+impl HasProgramHeaders for JobsTable {
     ghost table = { λ s. s };
 
     // Returns the table of the job.
@@ -53,18 +53,18 @@ impl HasTable for JobTable {
 pub(crate) struct CountWork<'a> {
     pub(crate) batch: &'a Batch<'a>,
     pub(crate) pieces: &'a [Piece],
-    pub(crate) ghost are: { ArePieces batch.now.plan.now batch.now.places.now pieces.now },
+    pub(crate) ghost are: { AreIndexRanges batch.now.plan.now batch.now.places.now pieces.now },
 }
 
-impl Work<JobTable> for CountWork<'_> {
+impl Work<JobsTable> for CountWork<'_> {
     ghost use Rattle.std.specs.Prelude.{length};
-    ghost use Rattle.rv_counting.specs.BatchPieces.{piece_in, places_of};
-    ghost use Rattle.rv_counting.specs.JobTables.{IsTableOfPiece};
+    ghost use Rattle.rv_counting.specs.BatchRanges.{range_at, places_of};
+    ghost use Rattle.rv_counting.specs.JobTables.{IsTableOfRange};
 
     ghost jobs = { λ s. length s.pieces.now };
 
-    ghost is_made = { λ s number table. IsTableOfPiece s.batch.now.plan.now
-        (places_of s.batch.now.places.now (piece_in s.pieces.now number)) table };
+    ghost is_made = { λ s number table. IsTableOfRange s.batch.now.plan.now
+        (places_of s.batch.now.places.now (range_at s.pieces.now number)) table };
 
     ghost is_worker_state = { λ _ _. Unit {0} };
 
@@ -84,10 +84,10 @@ impl Work<JobTable> for CountWork<'_> {
         alloc: Global,
         number: usize,
         worker_state: &mut WorkerState,
-    ) -> Result<JobTable, AllocError> {
+    ) -> Result<JobsTable, AllocError> {
         let piece = self.pieces[number];
         let places = &self.batch.places[piece.from..piece.to];
-        let table = count_places(alloc, self.batch.plan, places, &mut worker_state.spare)?;
-        Ok(JobTable::new(table))
+        let table = table_of_jobs_at(alloc, self.batch.plan, places, &mut worker_state.spare)?;
+        Ok(JobsTable::new(table))
     }
 }

@@ -17,23 +17,23 @@ mod law;
 mod pieces;
 mod runs_counter;
 mod step;
-mod table_of_job;
+mod table_of_jobs;
 mod table_sum;
 mod tally;
 
 pub use batch::count_batch;
 pub use block::{Block, first_of};
 pub use count::count_run;
-pub use count_work::JobTable;
+pub use count_work::JobsTable;
 pub use counter::{Counter, Stepped};
 pub use law::{
-    counts_stand_at_even_addresses, counts_sum_to_the_steps, jobs_have_one_table,
-    jobs_have_one_table_over_the_same_files, run_begins_its_end, run_begins_its_steps,
+    counts_have_even_addresses, counts_sum_to_the_steps, jobs_have_one_table,
+    jobs_have_one_table_over_the_same_files, ending_says_whether_the_last_step_is_executed, completed_steps_are_executed,
     tables_of_parts_sum_to_that_of_the_list, tables_of_shards_sum_to_that_of_all,
 };
-pub use step::{begins_at_end, is_branch};
-pub use table_of_job::{digest_of, empty_table, images_of_one, shown_text};
-pub use table_sum::{HasTable, TableSum};
+pub use step::{is_executed_at_end, is_branch};
+pub use table_of_jobs::{digest_of, empty_table, images_of_one, shown_text};
+pub use table_sum::{HasProgramHeaders, TableSum};
 
 // From the crates below: what this interface names, and what its callers need with it.
 pub use rv_count_tables::table_text;

@@ -2,7 +2,7 @@
 
 ghost use Rattle.std.specs.Prelude.{◌≡◌, ◌+◌, ◌<◌, ◌≤◌, IfOk, length};
 ghost use Rattle.rv_fleet.specs.Choices.{AreJobIndices};
-ghost use Rattle.rv_counting.specs.BatchPieces.{ArePieces, IsPiece};
+ghost use Rattle.rv_counting.specs.BatchRanges.{AreIndexRanges, IsIndexRange};
 
 use rv_trace::Plan;
 use std::alloc::{AllocError, Global};
@@ -15,10 +15,10 @@ pub(crate) struct Piece {
 }
 
 /// The maximum number of jobs in a piece.
-const MOST_IN_PIECE: usize = 64;
+const MAX_JOBS_IN_RANGE: usize = 64;
 
 /// How many pieces there are for each worker, if there are enough jobs, so that no worker waits long for the others.
-const PIECES_PER_WORKER: usize = 8;
+const RANGES_PER_WORKER: usize = 8;
 
 /// Divides jobs into pieces of the same image, each of them as long as it can be without leaving workers idle.
 pub(crate) fn pieces_of(
@@ -29,13 +29,13 @@ pub(crate) fn pieces_of(
 ) -> Result<Vec<Piece>, AllocError>
     requires within { AreJobIndices plan.now places.now }
     requires workers { 0 < workers }
-    ensures { IfOk result (λ pieces. ArePieces plan.now places.now pieces.items) }
+    ensures { IfOk result (λ pieces. AreIndexRanges plan.now places.now pieces.items) }
 {
-    let most = (places.len() / (workers as usize * PIECES_PER_WORKER)).clamp(1, MOST_IN_PIECE);
+    let most = (places.len() / (workers as usize * RANGES_PER_WORKER)).clamp(1, MAX_JOBS_IN_RANGE);
     let mut pieces = Vec::new(alloc);
     let mut from = 0;
     while from < places.len() {
-        let to = end_of_piece(plan, places, from, most);
+        let to = range_end(plan, places, from, most);
         pieces.push(Piece { from, to })?;
         from = to;
     }
@@ -43,10 +43,10 @@ pub(crate) fn pieces_of(
 }
 
 // Returns the end of the piece of at most `most` jobs that begins at an index.
-fn end_of_piece(plan: &Plan, places: &[usize], from: usize, most: usize) -> usize
+fn range_end(plan: &Plan, places: &[usize], from: usize, most: usize) -> usize
     requires within { AreJobIndices plan.now places.now }
     requires some { from < length places.now }
-    ensures { IsPiece plan.now places.now from (record { from = from; to = result }) }
+    ensures { IsIndexRange plan.now places.now from (record { from = from; to = result }) }
 {
     let image = plan.job(places[from]).image.as_str();
     let mut to = from + 1;

@@ -3,7 +3,7 @@
 ghost use Rattle.std.specs.Prelude.{◌<◌, [], IfOk, List, OnOk, Some};
 ghost use Rattle.rv_trace.specs.declared_answers.Answer.{Answer};
 ghost use Rattle.rv_trace.specs.declared_job.Job.{Job as AJob};
-ghost use Rattle.rv_count_tables.specs.Limits.{most_jobs};
+ghost use Rattle.rv_count_tables.specs.Limits.{max_jobs};
 ghost use Rattle.rv_trace.specs.Machine.{state_of};
 ghost use Rattle.rv_trace.specs.Trace.{job_at};
 ghost use Rattle.rv_counting.specs.RunCounts.{AddsJob, AddsRun, CanCountRuns, HasCountedJobs};
@@ -38,7 +38,7 @@ impl RunsCounter {
         spare: &mut Spare,
     ) -> Result<(), AllocError>
         requires ready { CanCountRuns self.old }
-        requires few { self.old.runs < most_jobs }
+        requires few { self.old.runs < max_jobs }
         ensures { OnOk result ((d : AJob) → AddsJob job.now.plan.now.answers (job_at job.now.plan.now job.now.place d) self.old self.new) }
     {
         let Ok(machine) = machine_at_reusing(alloc, job.plan, job.place, job.image, spare)? else {
@@ -46,17 +46,17 @@ impl RunsCounter {
         };
         let budget = job.plan.job(job.place).budget;
         let machine = self.count_run(machine, budget)?;
-        spare.keep_bus(machine.into_bus());
+        spare.recycle_bus(machine.into_bus());
         Ok(())
     }
 
     /// Counts a machine's run within a budget of steps, and returns the machine after it.
     pub(crate) fn count_run(&mut self, machine: Machine, budget: u32) -> Result<Machine, AllocError>
         requires ready { CanCountRuns self.old }
-        requires few { self.old.runs < most_jobs }
+        requires few { self.old.runs < max_jobs }
         ensures { OnOk result (AddsRun budget (Some (state_of machine)) self.old self.new) }
     {
-        self.counter.codes.fetch_again(machine.bus());
+        self.counter.codes.refetch(machine.bus());
         let machine = follow_run(&mut self.counter, machine, budget)?;
         self.runs += 1;
         Ok(machine)

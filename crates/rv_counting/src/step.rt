@@ -4,7 +4,7 @@ ghost use Rattle.std.specs.Prelude.{◌≡◌};
 ghost use Rattle.rv_trace.specs.Machine.{state_of};
 ghost use Rattle.rv_trace.specs.Code.{code_at, size_of_code};
 ghost use Rattle.rv_counting.specs.Blocks.{is_fence, is_straight};
-ghost use Rattle.rv_counting.specs.Coverage.{is_branch, is_branch_code, is_taken_code, begins_at_end, begins_at_fault, IsStepCount};
+ghost use Rattle.rv_counting.specs.Coverage.{is_branch, is_branch_code, is_taken_code, is_executed_at_end, is_executed_at_fault, IsStepCount};
 
 use rv_trace::{Code, Ending, FaultKind, Machine, Op, code_length, instr_of};
 
@@ -26,7 +26,7 @@ pub(crate) fn count_step(machine: &mut Machine, code: Option<Code>) -> StepCount
     let outcome = machine.run(1);
     if outcome.steps == 0 {
         return StepCount {
-            begun: begins_at_end(outcome.ending),
+            begun: is_executed_at_end(outcome.ending),
             completed: false,
             taken: false,
         };
@@ -89,19 +89,19 @@ pub(crate) fn is_straight(op: Op) -> bool
 
 /// Whether the step that ended a run with this ending executed an instruction. It did not if the fetch faulted, the encoding was illegal,
 /// or the budget was used up.
-pub fn begins_at_end(ending: Ending) -> bool
-    ensures { result ≡ begins_at_end ending }
+pub fn is_executed_at_end(ending: Ending) -> bool
+    ensures { result ≡ is_executed_at_end ending }
 {
     match ending {
         Ending::Exit(_) => true,
-        Ending::Fault(kind, _, _) => begins_at_fault(kind),
+        Ending::Fault(kind, _, _) => is_executed_at_fault(kind),
         Ending::Budget => false,
     }
 }
 
 // Whether a step that ended with a fault of this kind executed an instruction. It did not if the fetch faulted or the encoding was illegal.
-fn begins_at_fault(kind: FaultKind) -> bool
-    ensures { result ≡ begins_at_fault kind }
+fn is_executed_at_fault(kind: FaultKind) -> bool
+    ensures { result ≡ is_executed_at_fault kind }
 {
     match kind {
         FaultKind::FetchAccess | FaultKind::StaleCode | FaultKind::Illegal => false,

@@ -4,14 +4,14 @@ ghost use Rattle.std.specs.Prelude.{◌≡◌, None};
 ghost use Rattle.rv_count_tables.specs.Sum.{no_counts};
 ghost use Rattle.rv_counting.specs.TableSums.{sum_of_run};
 
-use crate::table_of_job::empty_table;
+use crate::table_of_jobs::empty_table;
 use rv_count_tables::{CountTable, SumError, sum_of_tables};
 use rv_fleet::{Flow, Listener, RunError};
 use std::alloc::Global;
 use std::marker::Model;
 
 /// A result that has a table of counts.
-pub trait HasTable {
+pub trait HasProgramHeaders {
     ghost use Rattle.std.specs.Prelude.{◌≡◌};
     ghost use Rattle.rv_count_tables.specs.Table.{IsTable};
     ghost use Rattle.rv_count_tables.specs.declared.table.CountTable.{CountTable as Counted};
@@ -71,11 +71,11 @@ impl TableSum {
     }
 }
 
-impl<H: HasTable + Drop> Listener<H> for TableSum {
+impl<H: HasProgramHeaders + Drop> Listener<H> for TableSum {
     ghost use Rattle.std.specs.Prelude.{◌≡◌, true, is_some, map};
-    ghost use Rattle.rv_counting.specs.TableSums.{AreAdded};
+    ghost use Rattle.rv_counting.specs.TableSums.{AreTablesAdded};
 
-    ghost has_received = { λ s results. AreAdded s.sum s.failed (map H.table results) };
+    ghost has_received = { λ s results. AreTablesAdded s.sum s.failed (map H.table results) };
 
     ghost stops = { λ s. is_some s.failed ≡ true };
 
@@ -84,7 +84,7 @@ impl<H: HasTable + Drop> Listener<H> for TableSum {
         match sum_of_tables(self.alloc, &self.sum, made.table()) {
             Ok(sum) => {
                 self.sum = sum;
-                Flow::GoOn
+                Flow::Continue
             }
             Err(error) => {
                 self.failed = Some(error);
@@ -95,6 +95,6 @@ impl<H: HasTable + Drop> Listener<H> for TableSum {
 
     // Lets the run continue: the sum has nothing to do in a pause.
     fn pause(&mut self) -> Flow {
-        Flow::GoOn
+        Flow::Continue
     }
 }

@@ -11,8 +11,8 @@ use Rattle.std.proofs.lemmas.List.Sums.{sum_by-cons}
 use Rattle.rv_elf.specs.declared.function.Function.{Function}
 use Rattle.rv_elf.specs.declared.image.Image.{Image}
 use Rattle.rv_elf.specs.declared.image.Segment.{Segment}
-use Rattle.rv_elf.specs.Functions.{Named, bytes_in_segment, code_of_symbol, function_of_symbol, functions, functions_in, is_code_segment_of, is_sized_function, named_code}
-use Rattle.rv_elf.specs.Sections.{section_bytes, string_table_section, symbol_entry, symbol_table_section, symbols_of}
+use Rattle.rv_elf.specs.Functions.{Named, bytes_in_segment, code_of_symbol, function_of_symbol, functions, functions_in, is_code_segment_of, is_sized_function, function_view}
+use Rattle.rv_elf.specs.Sections.{section_bytes, string_table_section, symbol_at_offset, symbol_table_section, symbols_of}
 use Rattle.rv_elf.specs.Symbols.{symbol_and_string_bytes, symbol_tables_check, tables_of_section}
 use Rattle.rv_cover_view.specs.Functions.{bytes_of, code_bytes, named}
 use Rattle.rv_cover_view.proofs.Once.{is_same, starts}
@@ -86,16 +86,16 @@ module _ (file : List ℕ) (small : length file ≤ 0x100_0000) where
   table_few ss table strings l =
       let a = sum_few (function_of_symbol ss file strings)
       (λ s. elim (is_sized_function strings s)
-      as (λ b. IsFew (cond b (option_map (named_code strings s) (code_of_symbol ss file s)) None)) [
+      as (λ b. IsFew (cond b (option_map (function_view strings s) (code_of_symbol ss file s)) None)) [
         | true ↦ elim (find (is_code_segment_of s) ss)
-            as (λ o. IsFew (option_map (named_code strings s) (option_map (bytes_in_segment file s) o))) [
+            as (λ o. IsFew (option_map (function_view strings s) (option_map (bytes_in_segment file s) o))) [
               | Some g ↦ part_few s.size (g.offset + (s.value - g.vaddr))
               | None ↦ tt
             ]
         | false ↦ tt
       ])
       (symbols_of table) in
-      let b = length-map-range_with_len (λ k. symbol_entry table (16 * k)) 0 (length table / 16) in
+      let b = length-map-range_with_len (λ k. symbol_at_offset table (16 * k)) 0 (length table / 16) in
       omega (arith, a, b, l)
 
   tables_few : {X : Type 0} (ss : List Segment) (table : List ℕ) (strings : X → List ℕ) (o : Option X) → length table ≤ 0x100_0000

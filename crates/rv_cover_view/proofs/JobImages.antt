@@ -14,7 +14,7 @@ use Rattle.rv_counting.specs.declared_answers.Answer.{Answer}
 use Rattle.rv_counting.specs.declared_job.Job.{Job}
 use Rattle.rv_counting.specs.Rows.{image_if_read}
 use Rattle.rv_counting.specs.Trace.{image_bytes, job_at}
-use Rattle.rv_cover_view.specs.JobImages.{AreSmall, FileImage, image_of_file, image_of_job, images_of, images_of_files, with_image, with_image_of}
+use Rattle.rv_cover_view.specs.JobImages.{AreSmall, ImageFileView, image_of_file, image_of_job, images_of, images_of_files, with_image, with_image_of}
 use Rattle.rv_cover_view.specs.declared.image_file.ImageFile.{ImageFile}
 
 jobs_more : (plan : Planned) (places : List ℕ) (i place : ℕ) → i < length places → place ≡ get_or places i place
@@ -36,9 +36,9 @@ pub images_whole : (plan : Planned) (places : List ℕ) (i : ℕ) → length pla
 images_whole plan places i all = ap (λ (ps : List ℕ). images_of plan.answers (jobs_at plan ps)) (take_all i places all)
 
 -- an image that is found is that of the job, and so is none
-pub found_here : (answers : List Answer) (images : List FileImage) (job : Job) (found : Option FileImage) → found ≡ image_of_job answers job
+pub found_here : (answers : List Answer) (images : List ImageFileView) (job : Job) (found : Option ImageFileView) → found ≡ image_of_job answers job
     → option_map_or (with_image images) found images ≡ with_image_of answers images job
-found_here answers images job found is = ap (λ (o : Option FileImage). option_map_or (with_image images) o images) is
+found_here answers images job found is = ap (λ (o : Option ImageFileView). option_map_or (with_image images) o images) is
 
 -- an image that was read is that of its job
 pub image_here : (answers : List Answer) (job : Job) (bytes : List ℕ) (image : Image) → Some bytes ≡ image_bytes answers job

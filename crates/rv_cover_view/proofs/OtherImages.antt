@@ -4,7 +4,7 @@ use Rattle.std.proofs.lemmas.List.{take_all}
 use Rattle.rv_count_tables.specs.declared.table.CountTable.{CountTable}
 use Rattle.rv_cover_view.proofs.FirstFound.{found_first}
 use Rattle.rv_cover_view.specs.ImageCounts.{is_other_image, other_image}
-use Rattle.rv_cover_view.specs.JobImages.{FileImage, image_of_file, images_of_files}
+use Rattle.rv_cover_view.specs.JobImages.{ImageFileView, image_of_file, images_of_files}
 use Rattle.rv_cover_view.specs.declared.image_file.ImageFile.{ImageFile}
 
 find_map : {X Y : Type 0} (test : Y → Bool) (h : X → Y) (xs : List X) → find test (map h xs) ≡ option_map h (find (λ x. test (h x)) xs)
@@ -21,7 +21,7 @@ is_other table file = is_other_image table (image_of_file file)
 of_found : (table : CountTable) (files : List ImageFile) (found : Option ImageFile) → find (is_other table) files ≡ found
     → other_image table (images_of_files files) ≡ option_map (λ file. file.path.now) found
 of_found table files found is =
-    ap (λ (o : Option FileImage). option_map (λ image. image.path) o) (find_map (is_other_image table) image_of_file files)
+    ap (λ (o : Option ImageFileView). option_map (λ image. image.path) o) (find_map (is_other_image table) image_of_file files)
     ∙ ap (λ (o : Option ImageFile). option_map (λ image. image.path) (option_map image_of_file o)) is
     ∙ same found
   where

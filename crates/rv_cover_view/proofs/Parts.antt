@@ -2,13 +2,13 @@
 use Rattle.std.proofs.Common.{◌≡◌, ◌+◌, ◌^◌, ◌<◌, ◌++◌, List, length, arith}
 use Rattle.std.proofs.lemmas.List.Sums.{count_by-le-length, sum_by-append}
 use Rattle.rv_count_tables.specs.declared.table.AddressCounts.{AddressCounts}
-use Rattle.rv_cover_view.specs.declared.amounts.CodeAmounts.{CodeAmounts}
+use Rattle.rv_cover_view.specs.declared.amounts.CodeTotals.{CodeTotals}
 use Rattle.rv_cover_view.specs.Codes.{Placed}
-use Rattle.rv_cover_view.specs.Cover.{amounts_of_codes, is_instruction, is_run, is_branch_both_ways, is_branch_one_way, is_branch_never}
-use Rattle.rv_cover_view.specs.Steps.{Fits, no_amounts, plus}
+use Rattle.rv_cover_view.specs.Cover.{totals_of_codes, is_instruction, is_executed_instruction, is_branch_both_ways, is_branch_one_way, is_branch_never}
+use Rattle.rv_cover_view.specs.Steps.{Fits, no_totals, plus}
 
 pub amounts_of_parts : (counts : List AddressCounts) (xs ys : List Placed)
-    → amounts_of_codes counts (xs ++ ys) ≡ plus (amounts_of_codes counts xs) (amounts_of_codes counts ys)
+    → totals_of_codes counts (xs ++ ys) ≡ plus (totals_of_codes counts xs) (totals_of_codes counts ys)
 amounts_of_parts counts xs ys =
     let a = sum_by-append _ xs ys in
     let b = sum_by-append _ xs ys in
@@ -23,7 +23,7 @@ amounts_of_parts counts xs ys =
       branches_never = e i;
     }
 
-pub plus_parts : (a b c : CodeAmounts) → plus (plus a b) c ≡ plus a (plus b c)
+pub plus_parts : (a b c : CodeTotals) → plus (plus a b) c ≡ plus a (plus b c)
 plus_parts a b c =
     let p : a.instructions + b.instructions + c.instructions ≡ a.instructions + (b.instructions + c.instructions) = omega arith in
     let q : a.instructions_run + b.instructions_run + c.instructions_run ≡ a.instructions_run + (b.instructions_run + c.instructions_run) = omega arith in
@@ -39,7 +39,7 @@ plus_parts a b c =
       branches_never = t i;
     }
 
-pub plus_none : (a : CodeAmounts) → plus a no_amounts ≡ a
+pub plus_none : (a : CodeTotals) → plus a no_totals ≡ a
 plus_none a =
     let p : a.instructions + 0 ≡ a.instructions = omega arith in
     let q : a.instructions_run + 0 ≡ a.instructions_run = omega arith in
@@ -55,17 +55,17 @@ plus_none a =
     }
 
 -- so many codes are counted in 64 bits
-pub codes_fit : (counts : List AddressCounts) (ps : List Placed) → length ps < 2 ^ 64 → Fits (amounts_of_codes counts ps)
+pub codes_fit : (counts : List AddressCounts) (ps : List Placed) → length ps < 2 ^ 64 → Fits (totals_of_codes counts ps)
 codes_fit counts ps few = record {
   instructions = let l = count_by-le-length is_instruction ps in omega (arith, l, few);
-  instructions_run = let l = count_by-le-length (is_run counts) ps in omega (arith, l, few);
+  instructions_run = let l = count_by-le-length (is_executed_instruction counts) ps in omega (arith, l, few);
   branches_both_ways = let l = count_by-le-length (is_branch_both_ways counts) ps in omega (arith, l, few);
   branches_one_way = let l = count_by-le-length (is_branch_one_way counts) ps in omega (arith, l, few);
   branches_never = let l = count_by-le-length (is_branch_never counts) ps in omega (arith, l, few);
 }
 
 -- what is a part of it, too
-pub part_fits : (a b : CodeAmounts) → Fits (plus a b) → Fits a
+pub part_fits : (a b : CodeTotals) → Fits (plus a b) → Fits a
 part_fits a b f = record {
   instructions = let l = f.instructions in omega (arith, l);
   instructions_run = let l = f.instructions_run in omega (arith, l);

@@ -3,7 +3,7 @@ use Rattle.std.proofs.Common.{◌≡◌, ◌==◌, ◌+◌, ◌<◌, ◌≤◌, 
 use Rattle.std.specs.List.{AllByRecursion, list_any}
 use Rattle.std.proofs.lemmas.Bool.Decides.{nat_tests}
 use Rattle.rv_count_tables.specs.declared.table.AddressCounts.{AddressCounts}
-use Rattle.rv_count_tables.specs.Table.{AreCounts, IsCounted, executed_at}
+use Rattle.rv_count_tables.specs.Table.{AreValidCounts, IsCounted, executed_at}
 use Rattle.rv_elf.specs.Functions.{Named}
 use Rattle.rv_cover_view.specs.Cover.{WasNotExecuted, has_run, never_run}
 use Rattle.rv_cover_view.specs.Functions.{address_of, bytes_of}
@@ -74,7 +74,7 @@ negated : (b : Bool) → not b ≡ true → b ≡ false
 negated true e = cc
 negated false e = refl
 
-pub never_run_has_not_begun : (counts : List AddressCounts) (fs : List Named) (f : Named) → AreCounts counts
+pub never_run_has_not_begun : (counts : List AddressCounts) (fs : List Named) (f : Named) → AreValidCounts counts
     → Contains (never_run counts fs) f ↔ (Contains fs f × WasNotExecuted counts f)
 never_run_has_not_begun counts fs f good = (
   λ h.

@@ -3,10 +3,10 @@ use Rattle.std.proofs.Common.{◌≡◌, ◌∙◌, ◌+◌, ◌<◌, ◌≤◌,
 use Rattle.std.proofs.lemmas.List.{map-append, take_all, take_more}
 use Rattle.rv_count_tables.specs.declared.table.CountTable.{CountTable}
 use Rattle.rv_cover_view.specs.ImagesText.{AreImageCoverTexts, IsImageCoverText}
-use Rattle.rv_cover_view.specs.JobImages.{FileImage, image_of_file, images_of_files}
+use Rattle.rv_cover_view.specs.JobImages.{ImageFileView, image_of_file, images_of_files}
 use Rattle.rv_cover_view.specs.declared.image_file.ImageFile.{ImageFile}
 
-shown_more : (csv : Bool) (table : CountTable) (images : List FileImage) (image : FileImage) (lines line : List ℕ)
+shown_more : (csv : Bool) (table : CountTable) (images : List ImageFileView) (image : ImageFileView) (lines line : List ℕ)
     → AreImageCoverTexts csv table images lines → IsImageCoverText csv table image line → AreImageCoverTexts csv table (images ++ image ∷ []) (lines ++ line)
 shown_more csv table [] image lines line shown one = (line, (one, ([], (refl, rw shown (sym (append-nil line))))))
 shown_more csv table (first ∷ images) image lines line shown one = (
@@ -28,7 +28,7 @@ pub file_more : (csv : Bool) (table : CountTable) (files : List ImageFile) (i : 
     → i < length files → file ≡ get_or files i file → AreImageCoverTexts csv table (images_of_files (take i files)) lines
     → IsImageCoverText csv table (image_of_file file) line → AreImageCoverTexts csv table (images_of_files (take (i + 1) files)) (lines ++ line)
 file_more csv table files i file lines line lt is shown one =
-    subst (λ (images : List FileImage). AreImageCoverTexts csv table images (lines ++ line))
+    subst (λ (images : List ImageFileView). AreImageCoverTexts csv table images (lines ++ line))
     (sym (ap images_of_files (take_more files i file lt) ∙ map-append image_of_file (take i files) (get_or files i file ∷ [])))
     (shown_more csv table (images_of_files (take i files)) (image_of_file (get_or files i file)) lines line shown
     (subst (λ (f : ImageFile). IsImageCoverText csv table (image_of_file f) line) is one))

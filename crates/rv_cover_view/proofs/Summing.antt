@@ -11,9 +11,9 @@ use Rattle.rv_cover_view.specs.Functions.{address_of, bytes_of, code_bytes, name
 use Rattle.rv_count_tables.specs.declared.table.AddressCounts.{AddressCounts}
 use Rattle.rv_counting.specs.declared_code.Code.{Code}
 use Rattle.rv_counting.specs.Code.{size_of_code}
-use Rattle.rv_cover_view.specs.declared.amounts.CodeAmounts.{CodeAmounts}
-use Rattle.rv_cover_view.specs.Codes.{Placed, codes_from, codes_of, front_code}
-use Rattle.rv_cover_view.specs.Cover.{amounts_of_codes}
+use Rattle.rv_cover_view.specs.declared.amounts.CodeTotals.{CodeTotals}
+use Rattle.rv_cover_view.specs.Codes.{Placed, codes_from, codes_of, first_code}
+use Rattle.rv_cover_view.specs.Cover.{totals_of_codes}
 use Rattle.rv_cover_view.specs.Steps.{Fits, plus}
 use Rattle.rv_cover_view.proofs.Codes.{codes_behind, codes_few}
 use Rattle.rv_cover_view.proofs.Parts.{amounts_of_parts, codes_fit, part_fits, plus_parts}
@@ -22,25 +22,25 @@ module _ (counts : List AddressCounts) (address : ℕ) (bytes : List ℕ) (code 
   abbrev pub behind : List Placed
   behind = codes_from (length (drop (size_of_code code) bytes)) ((address + size_of_code code) % 0x1_0000_0000) (drop (size_of_code code) bytes)
 
-  pub one_code_more : (amounts one all : CodeAmounts) → front_code bytes ≡ Some code
-      → plus amounts (amounts_of_codes counts (codes_from (length bytes) address bytes)) ≡ all
-      → one ≡ amounts_of_codes counts ((address, code) ∷ [])
-      → plus (plus amounts one) (amounts_of_codes counts behind) ≡ all
+  pub one_code_more : (amounts one all : CodeTotals) → first_code bytes ≡ Some code
+      → plus amounts (totals_of_codes counts (codes_from (length bytes) address bytes)) ≡ all
+      → one ≡ totals_of_codes counts ((address, code) ∷ [])
+      → plus (plus amounts one) (totals_of_codes counts behind) ≡ all
   one_code_more amounts one all e inv is =
-      plus_parts amounts one (amounts_of_codes counts behind)
-      ∙ ap (λ x. plus amounts (plus x (amounts_of_codes counts behind))) is
+      plus_parts amounts one (totals_of_codes counts behind)
+      ∙ ap (λ x. plus amounts (plus x (totals_of_codes counts behind))) is
       ∙ ap (plus amounts) (sym (amounts_of_parts counts ((address, code) ∷ []) behind)
-      ∙ ap (amounts_of_codes counts) (sym (codes_behind address bytes code e)))
+      ∙ ap (totals_of_codes counts) (sym (codes_behind address bytes code e)))
       ∙ inv
 
-  pub one_code_fits : (n from : ℕ) (whole : List ℕ) (amounts one : CodeAmounts) → n < 2 ^ 64 → front_code bytes ≡ Some code
-      → plus amounts (amounts_of_codes counts (codes_from (length bytes) address bytes)) ≡ amounts_of_codes counts (codes_from n from whole)
-      → one ≡ amounts_of_codes counts ((address, code) ∷ []) → Fits (plus amounts one)
+  pub one_code_fits : (n from : ℕ) (whole : List ℕ) (amounts one : CodeTotals) → n < 2 ^ 64 → first_code bytes ≡ Some code
+      → plus amounts (totals_of_codes counts (codes_from (length bytes) address bytes)) ≡ totals_of_codes counts (codes_from n from whole)
+      → one ≡ totals_of_codes counts ((address, code) ∷ []) → Fits (plus amounts one)
   one_code_fits n from whole amounts one few e inv is =
       let all = codes_from n from whole in
       let l = codes_few n from whole in
-      part_fits (plus amounts one) (amounts_of_codes counts behind)
-      (subst Fits (sym (one_code_more amounts one (amounts_of_codes counts all) e inv is))
+      part_fits (plus amounts one) (totals_of_codes counts behind)
+      (subst Fits (sym (one_code_more amounts one (totals_of_codes counts all) e inv is))
       (codes_fit counts all (omega (arith, l, few))))
 
 -- ---- functions
@@ -65,12 +65,12 @@ module _ (counts : List AddressCounts) (fs : List Function) (i : ℕ) (d : Funct
       ∙ flat_map-append codes_of (map named (take i fs)) (named (get_or fs i d) ∷ [])
       ∙ ap (λ ps. codes_before i ++ ps) (flat_map-cons codes_of (named (get_or fs i d)) [] ∙ append-nil (codes_of (named (get_or fs i d))))
 
-  pub one_function_more : (amounts one : CodeAmounts) → i < length fs → amounts ≡ amounts_of_codes counts (codes_before i)
-      → one ≡ amounts_of_codes counts (codes_of (named (get_or fs i d))) → plus amounts one ≡ amounts_of_codes counts (codes_before (i + 1))
+  pub one_function_more : (amounts one : CodeTotals) → i < length fs → amounts ≡ totals_of_codes counts (codes_before i)
+      → one ≡ totals_of_codes counts (codes_of (named (get_or fs i d))) → plus amounts one ≡ totals_of_codes counts (codes_before (i + 1))
   one_function_more amounts one within inv is =
-      ap (λ x. plus x one) inv ∙ ap (plus (amounts_of_codes counts (codes_before i))) is
+      ap (λ x. plus x one) inv ∙ ap (plus (totals_of_codes counts (codes_before i))) is
       ∙ sym (amounts_of_parts counts (codes_before i) (codes_of (named (get_or fs i d))))
-      ∙ ap (amounts_of_codes counts) (sym (one_more within))
+      ∙ ap (totals_of_codes counts) (sym (one_more within))
 
   few_before : (k : ℕ) → code_bytes (map named (take k fs)) ≤ code_bytes (map named fs)
   few_before k =
@@ -79,8 +79,8 @@ module _ (counts : List AddressCounts) (fs : List Function) (i : ℕ) (d : Funct
       ∙ sum_by-append (λ (g : Named). length (bytes_of g)) (map named (take k fs)) (map named (drop k fs)) in
       omega (arith, e)
 
-  pub one_function_fits : (amounts one : CodeAmounts) → i < length fs → code_bytes (map named fs) < 2 ^ 64
-      → amounts ≡ amounts_of_codes counts (codes_before i) → one ≡ amounts_of_codes counts (codes_of (named (get_or fs i d)))
+  pub one_function_fits : (amounts one : CodeTotals) → i < length fs → code_bytes (map named fs) < 2 ^ 64
+      → amounts ≡ totals_of_codes counts (codes_before i) → one ≡ totals_of_codes counts (codes_of (named (get_or fs i d)))
       → Fits (plus amounts one)
   one_function_fits amounts one within few inv is =
       let l = codes_bytes (map named (take (i + 1) fs)) in

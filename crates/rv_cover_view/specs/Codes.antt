@@ -9,20 +9,20 @@ use Rattle.rv_counting.specs.Code.{size_of_code}
 use Rattle.rv_cover_view.specs.Functions.{address_of, bytes_of}
 
 -- the little-endian halfword at the start of the bytes, or `None` if there are fewer than two
-abbrev pub front_half : List ℕ → Option ℕ
-front_half (low ∷ high ∷ rest) = Some (low + 0x100 * high)
-front_half _ = None
+abbrev pub first_half : List ℕ → Option ℕ
+first_half (low ∷ high ∷ rest) = Some (low + 0x100 * high)
+first_half _ = None
 
 -- the encoding that begins with the halfword `low`, before the bytes `behind`: a word if its low two bits are 11, and otherwise the
 -- halfword itself (ISA manual, 1.5); `None` if a word is cut off
 abbrev pub code_of_half : List ℕ → ℕ → Option Code
 code_of_half behind low = if field low 1 0 == 3
-    then option_map (λ high. Word (low + 0x1_0000 * high)) (front_half behind)
+    then option_map (λ high. Word (low + 0x1_0000 * high)) (first_half behind)
     else Some (Half low)
 
 -- the encoding at the start of the bytes, or `None` if there are too few bytes for one
-unfoldable pub front_code : List ℕ → Option Code
-front_code bytes = option_and_then (code_of_half (drop 2 bytes)) (front_half bytes)
+unfoldable pub first_code : List ℕ → Option Code
+first_code bytes = option_and_then (code_of_half (drop 2 bytes)) (first_half bytes)
 
 -- an address and the encoding there
 abbrev pub Placed : Type 0
@@ -34,7 +34,7 @@ unfoldable pub codes_from : ℕ → ℕ → List ℕ → List Placed
 codes_from zero address bytes = []
 codes_from (suc n) address bytes = option_map_or
     (λ code. (address, code) ∷ codes_from n ((address + size_of_code code) % 0x1_0000_0000) (drop (size_of_code code) bytes))
-    (front_code bytes) []
+    (first_code bytes) []
 
 -- all encodings of a function; each has at least one byte
 abbrev pub codes_of : Named → List Placed

@@ -7,7 +7,7 @@ use Rattle.rv_counting.specs.Coverage.{is_branch_code}
 use Rattle.rv_elf.specs.Functions.{Named}
 use Rattle.rv_counting.specs.Code.{instr_of}
 use Rattle.rv_cover_view.specs.declared.amounts.Amounts.{Amounts}
-use Rattle.rv_cover_view.specs.declared.amounts.CodeAmounts.{CodeAmounts}
+use Rattle.rv_cover_view.specs.declared.amounts.CodeTotals.{CodeTotals}
 use Rattle.rv_cover_view.specs.Codes.{Placed, codes_of}
 use Rattle.rv_cover_view.specs.Functions.{address_of, bytes_of}
 
@@ -32,8 +32,8 @@ abbrev pub was_executed : List AddressCounts → Placed → Bool
 was_executed counts p = nat_lt 0 (executed_at p.0 counts)
 
 -- whether RV32IMC has an instruction for the encoding and an instruction was executed at its address
-abbrev pub is_run : List AddressCounts → Placed → Bool
-is_run counts p = is_instruction p && was_executed counts p
+abbrev pub is_executed_instruction : List AddressCounts → Placed → Bool
+is_executed_instruction counts p = is_instruction p && was_executed counts p
 
 -- whether the branch was taken at least once and not taken at least once
 abbrev pub went_both_ways : List AddressCounts → Placed → Bool
@@ -55,21 +55,21 @@ is_branch_never counts p = is_branch_code p.1 && not (was_executed counts p)
 
 -- the coverage of encodings: how many are instructions, how many of these ran, and how many are conditional branches that went both ways,
 -- one way, or never ran
-abbrev pub amounts_of_codes : List AddressCounts → List Placed → CodeAmounts
-amounts_of_codes counts ps = record {
+abbrev pub totals_of_codes : List AddressCounts → List Placed → CodeTotals
+totals_of_codes counts ps = record {
   instructions = count_by is_instruction ps;
-  instructions_run = count_by (is_run counts) ps;
+  instructions_run = count_by (is_executed_instruction counts) ps;
   branches_both_ways = count_by (is_branch_both_ways counts) ps;
   branches_one_way = count_by (is_branch_one_way counts) ps;
   branches_never = count_by (is_branch_never counts) ps;
 }
 
 -- the coverage of functions: how many there are, how many ran, and the coverage of their encodings
-abbrev pub amounts_of : List AddressCounts → List Named → Amounts
-amounts_of counts fs = record {
+abbrev pub totals_of : List AddressCounts → List Named → Amounts
+totals_of counts fs = record {
   functions = length fs;
   functions_run = count_by (has_run counts) fs;
-  code = amounts_of_codes counts (flat_map codes_of fs);
+  code = totals_of_codes counts (flat_map codes_of fs);
 }
 
 -- ---- counts and lines agree

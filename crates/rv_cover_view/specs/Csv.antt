@@ -3,23 +3,23 @@ use Rattle.std.specs.Prelude.{◌++◌, ◌==◌, ◌||◌, ℕ, Bool, if◌then
 use Rattle.std.specs.Fmt.{decimal}
 use Rattle.std.specs.List.{flat_map, list_any}
 use Rattle.rv_cover_view.specs.declared.amounts.Amounts.{Amounts}
-use Rattle.rv_cover_view.specs.declared.amounts.CodeAmounts.{CodeAmounts}
+use Rattle.rv_cover_view.specs.declared.amounts.CodeTotals.{CodeTotals}
 
 -- the CSV header, which names the columns
-unfoldable pub csv_head : List ℕ
-csv_head = codes "image,functions,functions_run,instructions,instructions_run,branches_both_ways,branches_one_way,branches_never\n"
+unfoldable pub csv_header : List ℕ
+csv_header = codes "image,functions,functions_run,instructions,instructions_run,branches_both_ways,branches_one_way,branches_never\n"
 
 -- whether a field with this byte must be quoted: a comma, a quote, a line feed or a carriage return
 abbrev pub is_special : ℕ → Bool
 is_special byte = (byte == 44) || ((byte == 34) || ((byte == 10) || (byte == 13)))
 
 -- a byte of a quoted field, or two quotes for a quote
-abbrev pub quote_twice : ℕ → List ℕ
-quote_twice byte = if byte == 34 then 34 ∷ 34 ∷ [] else byte ∷ []
+abbrev pub doubled_quote : ℕ → List ℕ
+doubled_quote byte = if byte == 34 then 34 ∷ 34 ∷ [] else byte ∷ []
 
 -- a field with its quotes doubled
 abbrev pub with_quotes_twice : List ℕ → List ℕ
-with_quotes_twice field = flat_map quote_twice field
+with_quotes_twice field = flat_map doubled_quote field
 
 -- a field of a CSV row: if it has a special byte, it is put in quotes, and its own quotes are doubled
 unfoldable pub csv_field : List ℕ → List ℕ
@@ -30,11 +30,11 @@ unfoldable pub csv_functions : Amounts → List ℕ
 csv_functions a = codes "," ++ decimal a.functions ++ codes "," ++ decimal a.functions_run
 
 -- the fields of a row for the numbers of instructions
-unfoldable pub csv_instructions : CodeAmounts → List ℕ
+unfoldable pub csv_instructions : CodeTotals → List ℕ
 csv_instructions a = codes "," ++ decimal a.instructions ++ codes "," ++ decimal a.instructions_run
 
 -- the fields of a row for the numbers of conditional branches
-unfoldable pub csv_branches : CodeAmounts → List ℕ
+unfoldable pub csv_branches : CodeTotals → List ℕ
 csv_branches a = codes "," ++ decimal a.branches_both_ways ++ codes "," ++ decimal a.branches_one_way
     ++ codes "," ++ decimal a.branches_never
 

@@ -3,7 +3,7 @@ use Rattle.std.specs.Prelude.{◌≡◌, ℕ, List, map}
 use Rattle.rv_count_tables.specs.declared.table.AddressCounts.{AddressCounts}
 use Rattle.rv_elf.specs.Functions.{Named, functions}
 use Rattle.rv_elf.specs.declared.image.Image.{Image}
-use Rattle.rv_cover_view.specs.Cover.{amounts_of, never_run}
+use Rattle.rv_cover_view.specs.Cover.{totals_of, never_run}
 use Rattle.rv_cover_view.specs.Functions.{IsEachOnce, named}
 use Rattle.rv_cover_view.specs.declared.image_cover.ImageCover.{ImageCover}
 
@@ -13,5 +13,5 @@ pub record IsCoverOf (path : List ℕ) (image : Image) (file : List ℕ) (counts
   pub found : List Named
   pub once : IsEachOnce (functions image file) found
   pub shown : cover.path.now ≡ path
-  pub counted : cover.amounts ≡ amounts_of counts found
+  pub counted : cover.amounts ≡ totals_of counts found
   pub left : map named cover.never_run.items ≡ never_run counts found

@@ -1,12 +1,12 @@
 -- The coverage report of images, from a table's counts: a header, and then the coverage of each image.
 use Rattle.std.specs.Prelude.{◌≡◌, ◌++◌, ℕ, Bool, false, true, if◌then◌else◌, List, [], ◌∷◌, map}
 use Rattle.rv_count_tables.specs.declared.table.CountTable.{CountTable}
-use Rattle.rv_cover_view.specs.Csv.{csv_head, csv_row}
+use Rattle.rv_cover_view.specs.Csv.{csv_header, csv_row}
 use Rattle.rv_cover_view.specs.Functions.{named}
 use Rattle.rv_cover_view.specs.ImageCounts.{counts_of}
 use Rattle.rv_cover_view.specs.Images.{IsCoverOf}
-use Rattle.rv_cover_view.specs.JobImages.{FileImage}
-use Rattle.rv_cover_view.specs.Text.{cover_head, image_line, never_run_line}
+use Rattle.rv_cover_view.specs.JobImages.{ImageFileView}
+use Rattle.rv_cover_view.specs.Text.{cover_header, image_line, never_run_line}
 use Rattle.rv_cover_view.specs.declared.image_cover.ImageCover.{ImageCover}
 
 -- the coverage of an image: a CSV row if the Bool is true, or else a line with its totals, and a line with the functions that never ran, if
@@ -17,20 +17,20 @@ image_text false cover = image_line cover.path.now cover.amounts ++ never_run_li
 
 -- the header of the report: the CSV header if the Bool is true, or else the heading of a table for people
 abbrev pub head_text : Bool → List ℕ
-head_text csv = if csv then csv_head else cover_head
+head_text csv = if csv then csv_header else cover_header
 
 -- the text is the coverage of an image by a table's counts: a CSV row if `csv` is true, or else lines for people
-abbrev pub IsImageCoverText : Bool → CountTable → FileImage → List ℕ → Type 0
+abbrev pub IsImageCoverText : Bool → CountTable → ImageFileView → List ℕ → Type 0
 IsImageCoverText csv table image text = (cover : ImageCover)
     × (IsCoverOf image.path image.image image.bytes (counts_of table image.bytes) cover × (text ≡ image_text csv cover))
 
 -- the text is the coverage of each image by a table's counts, in order: as CSV if `csv` is true, or else as lines for people
-abbrev pub AreImageCoverTexts : Bool → CountTable → List FileImage → List ℕ → Type 0
+abbrev pub AreImageCoverTexts : Bool → CountTable → List ImageFileView → List ℕ → Type 0
 AreImageCoverTexts csv table [] text = text ≡ []
 AreImageCoverTexts csv table (image ∷ images) text = (first : List ℕ) × (IsImageCoverText csv table image first
     × ((rest : List ℕ) × (AreImageCoverTexts csv table images rest × (text ≡ first ++ rest))))
 
 -- the text is the header of a report, and then the coverage of each image by a table's counts, in order: as CSV if `csv` is true, or else
 -- for people
-abbrev pub IsCoverText : Bool → CountTable → List FileImage → List ℕ → Type 0
+abbrev pub IsCoverText : Bool → CountTable → List ImageFileView → List ℕ → Type 0
 IsCoverText csv table images text = (lines : List ℕ) × (AreImageCoverTexts csv table images lines × (text ≡ head_text csv ++ lines))

@@ -12,27 +12,27 @@ use Rattle.rv_cover_view.specs.declared.image_file.ImageFile.{ImageFile}
 use Rattle.rv_counting.specs.Trace.{image_bytes}
 
 -- an image file of a list: its path in the list, its bytes, and the image that they encode
-pub record FileImage : Type 0 where
+pub record ImageFileView : Type 0 where
   pub path : List ℕ
   pub bytes : List ℕ
   pub image : Image
 
 -- the image of a job, or `None` if its file was not read or is not an image
-abbrev pub image_of_job : List Answer → Job → Option FileImage
+abbrev pub image_of_job : List Answer → Job → Option ImageFileView
 image_of_job answers job = option_and_then (λ bytes. option_map (λ image. record { path = job.image; bytes = bytes; image = image })
     (image_if_read job.isa (Some bytes))) (image_bytes answers job)
 
 -- the images with this one appended, or unchanged if one of them has equal bytes
-abbrev pub with_image : List FileImage → FileImage → List FileImage
+abbrev pub with_image : List ImageFileView → ImageFileView → List ImageFileView
 with_image images image =
     if list_any (λ other. bytes_eq image.bytes other.bytes) images then images else images ++ image ∷ []
 
 -- the images with the image of a job appended, or unchanged if the job has no image or one of them has equal bytes
-abbrev pub with_image_of : List Answer → List FileImage → Job → List FileImage
+abbrev pub with_image_of : List Answer → List ImageFileView → Job → List ImageFileView
 with_image_of answers images job = option_map_or (with_image images) (image_of_job answers job) images
 
 -- the images of jobs, in job order; images with equal bytes occur once, with the path that the first of their jobs gives
-abbrev pub images_of : List Answer → List Job → List FileImage
+abbrev pub images_of : List Answer → List Job → List ImageFileView
 images_of answers jobs = fold (with_image_of answers) [] jobs
 
 -- no image file is larger than a file that is read may be
@@ -42,9 +42,9 @@ AreSmall answers = (job : Job) → IfSome (image_bytes answers job) (λ bytes. l
 -- ---- images as the code has them
 
 -- an image file of the code as contracts see it
-abbrev pub image_of_file : ImageFile → FileImage
+abbrev pub image_of_file : ImageFile → ImageFileView
 image_of_file file = record { path = file.path.now; bytes = file.bytes.now; image = file.image }
 
 -- the image files of the code as contracts see them, in order
-abbrev pub images_of_files : List ImageFile → List FileImage
+abbrev pub images_of_files : List ImageFile → List ImageFileView
 images_of_files files = map image_of_file files

@@ -1,13 +1,13 @@
 -- The totals of coverage as they are added up.
 use Rattle.std.specs.Prelude.{◌+◌, ◌^◌, ◌<◌}
-use Rattle.rv_cover_view.specs.declared.amounts.CodeAmounts.{CodeAmounts}
+use Rattle.rv_cover_view.specs.declared.amounts.CodeTotals.{CodeTotals}
 
 -- coverage totals that are all zero
-abbrev pub no_amounts : CodeAmounts
-no_amounts = record { instructions = 0; instructions_run = 0; branches_both_ways = 0; branches_one_way = 0; branches_never = 0 }
+abbrev pub no_totals : CodeTotals
+no_totals = record { instructions = 0; instructions_run = 0; branches_both_ways = 0; branches_one_way = 0; branches_never = 0 }
 
 -- the sums of two coverage totals
-abbrev pub plus : CodeAmounts → CodeAmounts → CodeAmounts
+abbrev pub plus : CodeTotals → CodeTotals → CodeTotals
 plus a b = record {
   instructions = a.instructions + b.instructions;
   instructions_run = a.instructions_run + b.instructions_run;
@@ -17,7 +17,7 @@ plus a b = record {
 }
 
 -- each of the coverage totals fits in 64 bits
-pub record Fits (a : CodeAmounts) : Type 0 where
+pub record Fits (a : CodeTotals) : Type 0 where
   pub instructions : a.instructions < 2 ^ 64
   pub instructions_run : a.instructions_run < 2 ^ 64
   pub branches_both_ways : a.branches_both_ways < 2 ^ 64

@@ -5,22 +5,22 @@ use Rattle.std.specs.List.{flat_map}
 use Rattle.rv_elf.specs.Functions.{Named}
 use Rattle.rv_count_tables.specs.Printable.{printable_name, printable_text}
 use Rattle.rv_cover_view.specs.declared.amounts.Amounts.{Amounts}
-use Rattle.rv_cover_view.specs.declared.amounts.CodeAmounts.{CodeAmounts}
+use Rattle.rv_cover_view.specs.declared.amounts.CodeTotals.{CodeTotals}
 
 -- a number, with leading spaces so that it fills `width` characters
 unfoldable pub right : ℕ → ℕ → List ℕ
 right width number = replicate (width - length (decimal number)) 32 ++ decimal number
 
 -- the heading of the coverage table for people
-unfoldable pub cover_head : List ℕ
-cover_head = codes "   functions run        instructions run  branches both ways   one way     never  image\n"
+unfoldable pub cover_header : List ℕ
+cover_header = codes "   functions run        instructions run  branches both ways   one way     never  image\n"
 
 -- the columns for the numbers of functions
 unfoldable pub function_columns : Amounts → List ℕ
 function_columns a = right 6 a.functions_run ++ codes " of " ++ right 6 a.functions
 
 -- the columns for the numbers of instructions and of conditional branches
-unfoldable pub code_columns : CodeAmounts → List ℕ
+unfoldable pub code_columns : CodeTotals → List ℕ
 code_columns a = right 11 a.instructions_run ++ codes " of " ++ right 9 a.instructions
     ++ right 20 a.branches_both_ways ++ right 10 a.branches_one_way ++ right 10 a.branches_never
 

@@ -1,7 +1,7 @@
 //! The totals of the coverage of functions.
 
 ghost use Rattle.std.specs.Prelude.{◌≡◌};
-ghost use Rattle.rv_cover_view.specs.Steps.{Fits, no_amounts, plus};
+ghost use Rattle.rv_cover_view.specs.Steps.{Fits, no_totals, plus};
 
 /// How many functions there are, how many of them ran, and the coverage of their code.
 #[derive(Clone, Copy, Debug, PartialEq)]
@@ -11,12 +11,12 @@ pub struct Amounts {
     /// The number of functions in which an instruction was executed.
     pub functions_run: u64,
     /// The totals of their code. Code shared by two functions counts twice.
-    pub code: CodeAmounts,
+    pub code: CodeTotals,
 }
 
 /// How many instructions and conditional branches there are, and how many of them were executed.
 #[derive(Clone, Copy, Debug, PartialEq)]
-pub struct CodeAmounts {
+pub struct CodeTotals {
     /// The number of encodings for which RV32IMC has an instruction.
     pub instructions: u64,
     /// The number of executed instructions.
@@ -29,12 +29,12 @@ pub struct CodeAmounts {
     pub branches_never: u64,
 }
 
-impl CodeAmounts {
+impl CodeTotals {
     /// Returns coverage totals that are all zero.
-    pub(crate) fn none() -> CodeAmounts
-        ensures { result ≡ no_amounts }
+    pub(crate) fn none() -> CodeTotals
+        ensures { result ≡ no_totals }
     {
-        CodeAmounts {
+        CodeTotals {
             instructions: 0,
             instructions_run: 0,
             branches_both_ways: 0,
@@ -44,11 +44,11 @@ impl CodeAmounts {
     }
 
     /// Returns the sums of two coverage totals, which must fit in 64 bits.
-    pub(crate) fn plus(self, other: CodeAmounts) -> CodeAmounts
+    pub(crate) fn plus(self, other: CodeTotals) -> CodeTotals
         requires { Fits (plus self other) }
         ensures { result ≡ plus self other }
     {
-        CodeAmounts {
+        CodeTotals {
             instructions: self.instructions + other.instructions,
             instructions_run: self.instructions_run + other.instructions_run,
             branches_both_ways: self.branches_both_ways + other.branches_both_ways,

@@ -1,25 +1,25 @@
 //! The coverage of the code of a function.
 
 ghost use Rattle.std.specs.Prelude.{◌≡◌, ◌≤◌, ◌∷◌, [], drop, length, true};
-ghost use Rattle.rv_count_tables.specs.Table.{rise_from};
+ghost use Rattle.rv_count_tables.specs.Table.{increase_from};
 ghost use Rattle.rv_counting.specs.Code.{size_of_code};
-ghost use Rattle.rv_cover_view.specs.Codes.{codes_from, front_code, front_half};
-ghost use Rattle.rv_cover_view.specs.Cover.{amounts_of_codes};
+ghost use Rattle.rv_cover_view.specs.Codes.{codes_from, first_code, first_half};
+ghost use Rattle.rv_cover_view.specs.Cover.{totals_of_codes};
 
-use crate::amounts::CodeAmounts;
+use crate::amounts::CodeTotals;
 use rv_count_tables::{AddressCounts, counts_at};
 use rv_counting::{Code, code_length, instr_of, is_branch, is_long};
 
 /// Returns the coverage of the encodings in `code`, whose first byte is at `address`.
-pub(crate) fn amounts_of_code(address: u32, code: &[u8], counts: &[AddressCounts]) -> CodeAmounts
-    requires { rise_from 0 counts.now ≡ true }
-    ensures { result ≡ amounts_of_codes counts.now (codes_from (length code.now) address code.now) }
+pub(crate) fn totals_of_code(address: u32, code: &[u8], counts: &[AddressCounts]) -> CodeTotals
+    requires { increase_from 0 counts.now ≡ true }
+    ensures { result ≡ totals_of_codes counts.now (codes_from (length code.now) address code.now) }
 {
-    let mut amounts = CodeAmounts::none();
+    let mut amounts = CodeTotals::none();
     let mut rest = code;
     let mut address = address;
-    while let Some(code) = front_code(rest) {
-        amounts = amounts.plus(amounts_at(address, code, counts));
+    while let Some(code) = first_code(rest) {
+        amounts = amounts.plus(totals_at(address, code, counts));
         address = address.wrapping_add(code_length(code));
         rest = bytes_after(rest, code);
     }
@@ -27,18 +27,18 @@ pub(crate) fn amounts_of_code(address: u32, code: &[u8], counts: &[AddressCounts
 }
 
 // Returns the coverage of one encoding: each total is 0 or 1.
-fn amounts_at(address: u32, code: Code, counts: &[AddressCounts]) -> CodeAmounts
-    requires { rise_from 0 counts.now ≡ true }
-    ensures { result ≡ amounts_of_codes counts.now ((address, code) ∷ []) }
+fn totals_at(address: u32, code: Code, counts: &[AddressCounts]) -> CodeTotals
+    requires { increase_from 0 counts.now ≡ true }
+    ensures { result ≡ totals_of_codes counts.now ((address, code) ∷ []) }
 {
     let Some(instr) = instr_of(code) else {
-        return CodeAmounts::none();
+        return CodeTotals::none();
     };
     let counts = counts_at(counts, address);
     let was_executed = 0 < counts.begun;
     let both_ways = 0 < counts.taken && counts.taken < counts.begun;
     let is_branch = is_branch(instr.op);
-    CodeAmounts {
+    CodeTotals {
         instructions: 1,
         instructions_run: u64::from(was_executed),
         branches_both_ways: u64::from(is_branch && both_ways),
@@ -48,21 +48,21 @@ fn amounts_at(address: u32, code: Code, counts: &[AddressCounts]) -> CodeAmounts
 }
 
 // Returns the encoding at the start of the bytes, or `None` if there are too few bytes for one.
-#[tactic(auto, unfolding(crate::specs::Codes::front_code))]
-fn front_code(bytes: &[u8]) -> Option<Code>
-    ensures { result ≡ front_code bytes.now }
+#[tactic(auto, unfolding(crate::specs::Codes::first_code))]
+fn first_code(bytes: &[u8]) -> Option<Code>
+    ensures { result ≡ first_code bytes.now }
 {
-    let low = front_half(bytes)?;
+    let low = first_half(bytes)?;
     if !is_long(low) {
         return Some(Code::Half(low));
     }
-    let high = front_half(&bytes[2..])?;
+    let high = first_half(&bytes[2..])?;
     Some(Code::Word(u32::from(low) + 0x1_0000 * u32::from(high)))
 }
 
 // Returns the little-endian halfword at the start of the bytes, or `None` if there are fewer than two.
-fn front_half(bytes: &[u8]) -> Option<u16>
-    ensures { result ≡ front_half bytes.now }
+fn first_half(bytes: &[u8]) -> Option<u16>
+    ensures { result ≡ first_half bytes.now }
 {
     match bytes {
         [low, high, ..] => Some(u16::from(*low) + 0x100 * u16::from(*high)),

@@ -2,13 +2,13 @@
 
 ghost use Rattle.std.specs.Prelude.{◌≡◌, ◌<◌, ◌^◌, IfOk, map, true};
 ghost use Rattle.std.specs.List.{count_by, flat_map};
-ghost use Rattle.rv_count_tables.specs.Table.{rise_from};
+ghost use Rattle.rv_count_tables.specs.Table.{increase_from};
 ghost use Rattle.rv_cover_view.specs.Codes.{codes_of};
-ghost use Rattle.rv_cover_view.specs.Cover.{amounts_of, amounts_of_codes, has_run, never_run};
+ghost use Rattle.rv_cover_view.specs.Cover.{totals_of, totals_of_codes, has_run, never_run};
 ghost use Rattle.rv_cover_view.specs.Functions.{code_bytes, named};
 
-use crate::amounts::{Amounts, CodeAmounts};
-use crate::code::amounts_of_code;
+use crate::amounts::{Amounts, CodeTotals};
+use crate::code::totals_of_code;
 use rv_count_tables::{AddressCounts, was_executed_within};
 use rv_elf::Function;
 use std::alloc::{AllocError, Global};
@@ -16,9 +16,9 @@ use std::alloc::{AllocError, Global};
 /// Returns the coverage of functions: how many ran, and how many of their instructions and conditional branches were executed. Takes one
 /// search among the counts for each function and each encoding.
 pub fn cover_of_functions(functions: &[Function<'_>], counts: &[AddressCounts]) -> Amounts
-    requires rising { rise_from 0 counts.now ≡ true }
+    requires rising { increase_from 0 counts.now ≡ true }
     requires few { code_bytes (map named functions.now) < 2 ^ 64 }
-    ensures { result ≡ amounts_of counts.now (map named functions.now) }
+    ensures { result ≡ totals_of counts.now (map named functions.now) }
 {
     Amounts {
         functions: functions.len() as u64,
@@ -33,7 +33,7 @@ pub fn never_run<'a>(
     functions: &[Function<'a>],
     counts: &[AddressCounts],
 ) -> Result<Vec<Function<'a>>, AllocError>
-    requires { rise_from 0 counts.now ≡ true }
+    requires { increase_from 0 counts.now ≡ true }
     ensures { IfOk result (λ found. map named found.items ≡ never_run counts.now (map named functions.now)) }
 {
     let mut found = Vec::new(alloc);
@@ -47,7 +47,7 @@ pub fn never_run<'a>(
 
 // Returns how many of the functions ran: an instruction was executed at one of their addresses.
 fn functions_run(functions: &[Function<'_>], counts: &[AddressCounts]) -> u64
-    requires { rise_from 0 counts.now ≡ true }
+    requires { increase_from 0 counts.now ≡ true }
     ensures { result ≡ count_by (has_run counts.now) (map named functions.now) }
 {
     let mut count = 0;
@@ -60,21 +60,21 @@ fn functions_run(functions: &[Function<'_>], counts: &[AddressCounts]) -> u64
 }
 
 // Returns the total coverage of the code of all functions.
-fn coverage_of_functions(functions: &[Function<'_>], counts: &[AddressCounts]) -> CodeAmounts
-    requires rising { rise_from 0 counts.now ≡ true }
+fn coverage_of_functions(functions: &[Function<'_>], counts: &[AddressCounts]) -> CodeTotals
+    requires rising { increase_from 0 counts.now ≡ true }
     requires few { code_bytes (map named functions.now) < 2 ^ 64 }
-    ensures { result ≡ amounts_of_codes counts.now (flat_map codes_of (map named functions.now)) }
+    ensures { result ≡ totals_of_codes counts.now (flat_map codes_of (map named functions.now)) }
 {
-    let mut amounts = CodeAmounts::none();
+    let mut amounts = CodeTotals::none();
     for function in functions {
-        amounts = amounts.plus(amounts_of_code(function.address, function.code, counts));
+        amounts = amounts.plus(totals_of_code(function.address, function.code, counts));
     }
     amounts
 }
 
 // Whether an instruction was executed at one of a function's addresses.
 fn has_run(function: &Function<'_>, counts: &[AddressCounts]) -> bool
-    requires { rise_from 0 counts.now ≡ true }
+    requires { increase_from 0 counts.now ≡ true }
     ensures { result ≡ has_run counts.now (named function.now) }
 {
     let behind = u64::from(function.address) + function.code.len() as u64;

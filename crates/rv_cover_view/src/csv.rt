@@ -2,16 +2,16 @@
 
 ghost use Rattle.std.specs.Prelude.{◌≡◌, ◌++◌, OnOk};
 ghost use Rattle.std.specs.List.{list_any};
-ghost use Rattle.rv_cover_view.specs.Csv.{csv_branches, csv_field, csv_functions, csv_head, csv_instructions, csv_row, is_special, with_quotes_twice};
+ghost use Rattle.rv_cover_view.specs.Csv.{csv_branches, csv_field, csv_functions, csv_header, csv_instructions, csv_row, is_special, with_quotes_twice};
 
-use crate::amounts::{Amounts, CodeAmounts};
+use crate::amounts::{Amounts, CodeTotals};
 use rv_count_tables::{Span, push_spans, push_text};
 use std::alloc::AllocError;
 
 /// Appends the CSV header, which names the columns.
-#[tactic(auto, unfolding(crate::specs::Csv::csv_head))]
+#[tactic(auto, unfolding(crate::specs::Csv::csv_header))]
 pub fn push_csv_head(bytes: &mut Vec<u8>) -> Result<(), AllocError>
-    ensures { OnOk result (bytes.new.items ≡ bytes.old.items ++ csv_head) }
+    ensures { OnOk result (bytes.new.items ≡ bytes.old.items ++ csv_header) }
 {
     push_text(
         bytes,
@@ -49,7 +49,7 @@ fn push_csv_functions(bytes: &mut Vec<u8>, amounts: &Amounts) -> Result<(), Allo
 
 // Appends the fields for the numbers of instructions.
 #[tactic(auto, unfolding(crate::specs::Csv::csv_instructions))]
-fn push_csv_instructions(bytes: &mut Vec<u8>, amounts: &CodeAmounts) -> Result<(), AllocError>
+fn push_csv_instructions(bytes: &mut Vec<u8>, amounts: &CodeTotals) -> Result<(), AllocError>
     ensures { OnOk result (bytes.new.items ≡ bytes.old.items ++ csv_instructions amounts.now) }
 {
     push_spans(
@@ -65,7 +65,7 @@ fn push_csv_instructions(bytes: &mut Vec<u8>, amounts: &CodeAmounts) -> Result<(
 
 // Appends the fields for the numbers of conditional branches.
 #[tactic(auto, unfolding(crate::specs::Csv::csv_branches))]
-fn push_csv_branches(bytes: &mut Vec<u8>, amounts: &CodeAmounts) -> Result<(), AllocError>
+fn push_csv_branches(bytes: &mut Vec<u8>, amounts: &CodeTotals) -> Result<(), AllocError>
     ensures { OnOk result (bytes.new.items ≡ bytes.old.items ++ csv_branches amounts.now) }
 {
     push_spans(
@@ -86,7 +86,7 @@ fn push_csv_branches(bytes: &mut Vec<u8>, amounts: &CodeAmounts) -> Result<(), A
 pub fn push_csv_field(bytes: &mut Vec<u8>, field: &[u8]) -> Result<(), AllocError>
     ensures { OnOk result (bytes.new.items ≡ bytes.old.items ++ csv_field field.now) }
 {
-    if !has_special(field) {
+    if !needs_quotes(field) {
         return bytes.extend_from_slice(field);
     }
     push_text(bytes, "\"")?;
@@ -95,7 +95,7 @@ pub fn push_csv_field(bytes: &mut Vec<u8>, field: &[u8]) -> Result<(), AllocErro
 }
 
 // Whether a field must be quoted: it has a comma, a quote, a line feed or a carriage return.
-fn has_special(field: &[u8]) -> bool
+fn needs_quotes(field: &[u8]) -> bool
     ensures { result ≡ list_any is_special field.now }
 {
     field.iter().any(|byte| is_special(*byte))

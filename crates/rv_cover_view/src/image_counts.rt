@@ -4,8 +4,8 @@ ghost use Rattle.std.specs.Prelude.{◌≡◌, IfOk, option_map, true};
 ghost use Rattle.std.specs.List.{list_any};
 ghost use Rattle.std.specs.Str.{bytes_eq};
 ghost use Rattle.sha2.specs.Sha256.{sha256};
-ghost use Rattle.rv_count_tables.specs.Table.{IsTable, rise_from};
-ghost use Rattle.rv_cover_view.specs.ImageCounts.{counted_image, counts_of, is_of_digest, is_other_image, other_image};
+ghost use Rattle.rv_count_tables.specs.Table.{IsTable, increase_from};
+ghost use Rattle.rv_cover_view.specs.ImageCounts.{entry_of_image, counts_of, is_of_digest, is_other_image, other_image};
 ghost use Rattle.rv_cover_view.specs.JobImages.{image_of_file, images_of_files};
 
 use crate::image_file::ImageFile;
@@ -69,17 +69,17 @@ fn has_path(table: &CountTable, path: &[u8]) -> bool
 pub(crate) fn counts_of<'t>(table: &'t CountTable, bytes: &[u8]) -> &'t [AddressCounts]
     requires { IsTable table.now }
     ensures counts { result.now ≡ counts_of table.now bytes.now }
-    ensures rising { rise_from 0 result.now ≡ true }
+    ensures rising { increase_from 0 result.now ≡ true }
 {
-    match counted_image(table, bytes) {
+    match entry_of_image(table, bytes) {
         Some(counted) => counted.addresses.as_slice(),
         None => &[],
     }
 }
 
 /// Returns a table's entry for the image with these bytes, which the digest identifies, or `None` if it does not have the image.
-pub fn counted_image<'t>(table: &'t CountTable, bytes: &[u8]) -> Option<&'t ImageCounts>
-    ensures { option_map (λ counted. counted.now) result ≡ counted_image table.now bytes.now }
+pub fn entry_of_image<'t>(table: &'t CountTable, bytes: &[u8]) -> Option<&'t ImageCounts>
+    ensures { option_map (λ counted. counted.now) result ≡ entry_of_image table.now bytes.now }
 {
     let digest = Sha256::digest(bytes);
     let images = table.images.as_slice();

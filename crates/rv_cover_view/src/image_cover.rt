@@ -1,7 +1,7 @@
 //! The coverage of an image.
 
 ghost use Rattle.std.specs.Prelude.{◌≡◌, ◌≤◌, IfOk, length, true};
-ghost use Rattle.rv_count_tables.specs.Table.{rise_from};
+ghost use Rattle.rv_count_tables.specs.Table.{increase_from};
 ghost use Rattle.rv_elf.specs.Image.{IsImageOf};
 ghost use Rattle.rv_cover_view.specs.Images.{IsCoverOf};
 
@@ -34,7 +34,7 @@ pub fn cover_of_image<'a>(
 ) -> Result<ImageCover<'a>, AllocError>
     requires image { IsImageOf file.now image.now }
     requires small { length file.now ≤ 0x100_0000 }
-    requires rising { rise_from 0 counts.now ≡ true }
+    requires rising { increase_from 0 counts.now ≡ true }
     ensures { IfOk result (IsCoverOf path.now image.now file.now counts.now) }
 {
     let functions = functions_by_address(alloc, image, file)?;

@@ -9,7 +9,7 @@ use crate::csv::{push_csv_head, push_csv_row};
 use crate::image_counts::counts_of;
 use crate::image_cover::{ImageCover, cover_of_image};
 use crate::image_file::ImageFile;
-use crate::text::{push_cover_head, push_image_line, push_never_run_line};
+use crate::text::{push_cover_header, push_image_line, push_never_run_line};
 use rv_count_tables::CountTable;
 use std::alloc::{AllocError, Global};
 
@@ -38,7 +38,7 @@ fn push_head(text: &mut Vec<u8>, csv: bool) -> Result<(), AllocError>
     if csv {
         push_csv_head(text)
     } else {
-        push_cover_head(text)
+        push_cover_header(text)
     }
 }
 

@@ -4,7 +4,7 @@
 //! their instructions and of their conditional branches ran, and [`never_run`] returns those that never did: exactly those at whose
 //! addresses no instruction was executed ([`functions_never_run_have_not_begun`]). [`push_image_line`] and [`push_never_run_line`] format
 //! them, and [`push_csv_row`] writes the totals for tools. [`cover_of_image`] returns both for an image, and [`cover_text`] formats them
-//! for the images of jobs, which [`images_of_jobs`] returns. Other views of images share [`counted_image`], [`push_right`] and
+//! for the images of jobs, which [`images_of_jobs`] returns. Other views of images share [`entry_of_image`], [`push_right_aligned`] and
 //! [`push_csv_field`].
 #![tactic(auto)]
 
@@ -23,14 +23,14 @@ mod law;
 mod tests;
 mod text;
 
-pub use amounts::{Amounts, CodeAmounts};
+pub use amounts::{Amounts, CodeTotals};
 pub use by_address::{each_address_once, functions_by_address};
 pub use cover::{cover_of_functions, never_run};
 pub use csv::{push_csv_field, push_csv_head, push_csv_row};
-pub use image_counts::{counted_image, other_image};
+pub use image_counts::{entry_of_image, other_image};
 pub use image_cover::{ImageCover, cover_of_image};
 pub use image_file::ImageFile;
 pub use images_text::cover_text;
 pub use job_images::images_of_jobs;
 pub use law::functions_never_run_have_not_begun;
-pub use text::{push_cover_head, push_image_line, push_never_run_line, push_right, push_spaces};
+pub use text::{push_cover_header, push_image_line, push_never_run_line, push_right_aligned, push_spaces};

@@ -1,7 +1,7 @@
 //! Tests with functions counted by hand.
 
 use crate::{
-    Amounts, CodeAmounts, cover_of_functions, each_address_once, never_run, push_cover_head,
+    Amounts, CodeTotals, cover_of_functions, each_address_once, never_run, push_cover_header,
     push_csv_head, push_csv_row, push_image_line, push_never_run_line,
 };
 use rv_count_tables::AddressCounts;
@@ -83,7 +83,7 @@ never run: last, idle
 
 // Functions are sorted by address, and of several at one address only the first is returned.
 #[test]
-fn functions_stand_by_address(rt: HostRuntime) -> Result<(), Fail> {
+fn functions_are_sorted_by_address(rt: HostRuntime) -> Result<(), Fail> {
     let alloc = rt.alloc();
     let mut functions = Vec::new(alloc);
     for (name, address) in [
@@ -108,7 +108,7 @@ fn functions_stand_by_address(rt: HostRuntime) -> Result<(), Fail> {
 
 // The lines of an image have the expected totals, and the names of the functions that never ran.
 #[test]
-#[tactic(auto, unfolding(rv_count_tables::specs::Table::rise_from))]
+#[tactic(auto, unfolding(rv_count_tables::specs::Table::increase_from))]
 fn functions_are_counted(rt: HostRuntime) -> Result<(), Fail> {
     let alloc = rt.alloc();
     let functions = [
@@ -136,7 +136,7 @@ fn functions_are_counted(rt: HostRuntime) -> Result<(), Fail> {
     let amounts = cover_of_functions(&functions, &COUNTS);
     let idle = never_run(alloc, &functions, &COUNTS)?;
     let mut text = Vec::new(alloc);
-    push_cover_head(&mut text)?;
+    push_cover_header(&mut text)?;
     push_image_line(alloc, &mut text, b"build/a.elf".as_slice(), &amounts)?;
     push_never_run_line(&mut text, idle.as_slice())?;
     push_never_run_line(&mut text, &[])?;
@@ -158,7 +158,7 @@ fn a_field_with_a_comma_or_a_quote_is_quoted(rt: HostRuntime) -> Result<(), Fail
     let amounts = Amounts {
         functions: 2,
         functions_run: 1,
-        code: CodeAmounts {
+        code: CodeTotals {
             instructions: 30,
             instructions_run: 20,
             branches_both_ways: 5,

@@ -2,17 +2,17 @@
 
 ghost use Rattle.std.specs.Prelude.{◌≡◌, ◌++◌, OnOk, map, replicate};
 ghost use Rattle.rv_cover_view.specs.Functions.{named};
-ghost use Rattle.rv_cover_view.specs.Text.{code_columns, cover_head, function_columns, further_names, image_line, never_run_line, right};
+ghost use Rattle.rv_cover_view.specs.Text.{code_columns, cover_header, function_columns, further_names, image_line, never_run_line, right};
 
-use crate::amounts::{Amounts, CodeAmounts};
+use crate::amounts::{Amounts, CodeTotals};
 use rv_count_tables::{Span, push_number, push_spans, push_text};
 use rv_elf::Function;
 use std::alloc::{AllocError, Global};
 
 /// Appends the heading of the coverage table for people.
-#[tactic(auto, unfolding(crate::specs::Text::cover_head))]
-pub fn push_cover_head(bytes: &mut Vec<u8>) -> Result<(), AllocError>
-    ensures { OnOk result (bytes.new.items ≡ bytes.old.items ++ cover_head) }
+#[tactic(auto, unfolding(crate::specs::Text::cover_header))]
+pub fn push_cover_header(bytes: &mut Vec<u8>) -> Result<(), AllocError>
+    ensures { OnOk result (bytes.new.items ≡ bytes.old.items ++ cover_header) }
 {
     push_text(
         bytes,
@@ -73,9 +73,9 @@ fn push_function_columns(
 ) -> Result<(), AllocError>
     ensures { OnOk result (bytes.new.items ≡ bytes.old.items ++ function_columns amounts.now) }
 {
-    push_right(alloc, bytes, 6, amounts.functions_run)?;
+    push_right_aligned(alloc, bytes, 6, amounts.functions_run)?;
     push_text(bytes, " of ")?;
-    push_right(alloc, bytes, 6, amounts.functions)
+    push_right_aligned(alloc, bytes, 6, amounts.functions)
 }
 
 // Appends the columns for the numbers of instructions and of conditional branches.
@@ -83,21 +83,21 @@ fn push_function_columns(
 fn push_code_columns(
     alloc: Global,
     bytes: &mut Vec<u8>,
-    amounts: &CodeAmounts,
+    amounts: &CodeTotals,
 ) -> Result<(), AllocError>
     ensures { OnOk result (bytes.new.items ≡ bytes.old.items ++ code_columns amounts.now) }
 {
-    push_right(alloc, bytes, 11, amounts.instructions_run)?;
+    push_right_aligned(alloc, bytes, 11, amounts.instructions_run)?;
     push_text(bytes, " of ")?;
-    push_right(alloc, bytes, 9, amounts.instructions)?;
-    push_right(alloc, bytes, 20, amounts.branches_both_ways)?;
-    push_right(alloc, bytes, 10, amounts.branches_one_way)?;
-    push_right(alloc, bytes, 10, amounts.branches_never)
+    push_right_aligned(alloc, bytes, 9, amounts.instructions)?;
+    push_right_aligned(alloc, bytes, 20, amounts.branches_both_ways)?;
+    push_right_aligned(alloc, bytes, 10, amounts.branches_one_way)?;
+    push_right_aligned(alloc, bytes, 10, amounts.branches_never)
 }
 
 /// Appends a number, with leading spaces so that it fills `width` characters. A longer number widens the column.
 #[tactic(auto, unfolding(crate::specs::Text::right))]
-pub fn push_right(
+pub fn push_right_aligned(
     alloc: Global,
     bytes: &mut Vec<u8>,
     width: usize,

@@ -9,10 +9,10 @@ use Rattle.rv_rows.specs.Report.{line}
 use Rattle.rv_rows.specs.Verdict.{are_same_signatures}
 use Rattle.rv_diff.specs.declared.change.Compare.{Compare}
 use Rattle.rv_diff.specs.Change.{rows_agree, have_same_console, are_same_endings, agree_in_steps, are_same_verdicts}
-use Rattle.rv_diff.specs.ByName.{row_named}
-use Rattle.rv_diff.specs.Diff.{difference_lines, counts_of_differing, differing_count, gone_line, is_changed, changes_of_row}
-use Rattle.rv_diff.specs.Differences.{becomes, change_begin, change_line, change_lines, console_words, ending_words}
-use Rattle.rv_diff.specs.Differences.{signature_words, steps_words, verdict_words}
+use Rattle.rv_diff.specs.RowsByName.{row_named}
+use Rattle.rv_diff.specs.Diff.{difference_lines, difference_counts, differing_count, gone_line, is_changed, changes_of_row}
+use Rattle.rv_diff.specs.Differences.{becomes, change_prefix, change_line, change_lines, console_change_text, ending_text}
+use Rattle.rv_diff.specs.Differences.{signature_change_text, steps_change_text, verdict_change_text}
 
 none_of_two : (m n : ℕ) → (m + n == 0) ≡ ((m == 0) && (n == 0))
 none_of_two zero n = ap (λ k. k == 0) (omega arith)
@@ -24,31 +24,31 @@ no_text xs ys = ap (λ n. n == 0) (length-append xs ys) ∙ none_of_two (length 
 
 change_due : (name : List ℕ) (same : Bool) (words : List ℕ) → (length (change_line name same words) == 0) ≡ same
 change_due name true words = refl
-change_due name false words = ne_eqb (length (line (change_begin name ++ words))) 0 (omega arith)
+change_due name false words = ne_eqb (length (line (change_prefix name ++ words))) 0 (omega arith)
 
 pub agree_where_none : (compare : Compare) (old new : Row) →
     (length (change_lines compare old new) == 0) ≡ rows_agree compare old new
 unfolding change_lines rows_agree
 agree_where_none compare old new =
     let ending = change_line new.name (are_same_endings compare old.ending new.ending)
-    (becomes (ending_words old.ending) (ending_words new.ending)) in
-    let counts = change_line new.name (agree_in_steps compare old new) (steps_words compare old.steps new.steps) in
-    let console = change_line new.name (have_same_console old new) (console_words old.console new.console) in
+    (becomes (ending_text old.ending) (ending_text new.ending)) in
+    let counts = change_line new.name (agree_in_steps compare old new) (steps_change_text compare old.steps new.steps) in
+    let console = change_line new.name (have_same_console old new) (console_change_text old.console new.console) in
     let signature = change_line new.name (are_same_signatures old.signature new.signature)
-    (signature_words old.signature new.signature) in
+    (signature_change_text old.signature new.signature) in
     let verdict = change_line new.name (are_same_verdicts old.verdict new.verdict)
-    (verdict_words old.verdict new.verdict) in
+    (verdict_change_text old.verdict new.verdict) in
     no_text (ending ++ counts ++ console ++ signature) verdict
     ∙ ap (λ b. b && (length verdict == 0)) (no_text (ending ++ counts ++ console) signature
     ∙ ap (λ b. b && (length signature == 0)) (no_text (ending ++ counts) console
     ∙ ap (λ b. b && (length console == 0)) (no_text ending counts)))
     ∙ (λ i. change_due new.name (are_same_endings compare old.ending new.ending)
-    (becomes (ending_words old.ending) (ending_words new.ending)) i
-    && change_due new.name (agree_in_steps compare old new) (steps_words compare old.steps new.steps) i
-    && change_due new.name (have_same_console old new) (console_words old.console new.console) i
+    (becomes (ending_text old.ending) (ending_text new.ending)) i
+    && change_due new.name (agree_in_steps compare old new) (steps_change_text compare old.steps new.steps) i
+    && change_due new.name (have_same_console old new) (console_change_text old.console new.console) i
     && change_due new.name (are_same_signatures old.signature new.signature)
-    (signature_words old.signature new.signature) i
-    && change_due new.name (are_same_verdicts old.verdict new.verdict) (verdict_words old.verdict new.verdict) i)
+    (signature_change_text old.signature new.signature) i
+    && change_due new.name (are_same_verdicts old.verdict new.verdict) (verdict_change_text old.verdict new.verdict) i)
 
 -- texts of elements are nothing where all weigh nothing
 none_of_all : {X : Type 0} (text : X → List ℕ) (weight : X → ℕ) →
@@ -84,7 +84,7 @@ new_due compare None row = ne_eqb (length (changes_of_row compare None row)) 0 (
 new_due compare (Some old) row = agree_where_none compare old row ∙ changed_due (rows_agree compare old row)
 
 pub differ_where_due : (compare : Compare) (old new : List Row) →
-    (length (difference_lines compare old new) == 0) ≡ (differing_count (counts_of_differing compare old new) == 0)
+    (length (difference_lines compare old new) == 0) ≡ (differing_count (difference_counts compare old new) == 0)
 differ_where_due compare old new =
     let gone : Row → ℕ = λ row. cond (is_none (row_named new row.name)) 1 0 in
     let added : Row → ℕ = λ row. cond (is_none (row_named old row.name)) 1 0 in

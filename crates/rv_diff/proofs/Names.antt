@@ -4,7 +4,7 @@ use Rattle.std.proofs.Common.{Option, Some, option_map, get_or, length, drop, dr
 use Rattle.std.specs.Str.{bytes_eq}
 use denote.Ref.{Bor}
 use Rattle.rv_rows.specs.declared_row.Row.{Row}
-use Rattle.rv_diff.specs.ByName.{row_named}
+use Rattle.rv_diff.specs.RowsByName.{row_named}
 
 abbrev pub now : Bor Row → Row
 now row = row.now

@@ -10,15 +10,15 @@ use Rattle.rv_diff.specs.declared.diff.Differing.{Differing}
 use Rattle.rv_diff.specs.declared.diff.StepSums.{StepSums}
 use Rattle.rv_diff.specs.declared.change.Compare.{Compare}
 use Rattle.rv_diff.specs.declared.change.Compare.TheVariants.{Outcomes, Slower, Steps}
-use Rattle.rv_diff.specs.ByName.{row_named}
+use Rattle.rv_diff.specs.RowsByName.{row_named}
 use Rattle.rv_diff.specs.Change.{rows_agree}
 use Rattle.rv_diff.specs.Differences.{change_lines}
 
 -- ---- a row, and the row with its name in the other report, if there is one
 
 -- whether no row in the other report has this row's name
-abbrev pub is_alone_in : List Row → Row → Bool
-is_alone_in others row = is_none (row_named others row.name)
+abbrev pub is_missing_from : List Row → Row → Bool
+is_missing_from others row = is_none (row_named others row.name)
 
 -- whether the old report has a row with the name of this new row, and the two do not agree
 abbrev pub is_changed : Compare → Option Row → Row → Bool
@@ -37,15 +37,15 @@ changes_of_row compare (Some old) new = change_lines compare old new
 
 -- the rows whose names also occur in the other report, in order
 abbrev pub rows_in_both : List Row → List Row → List Row
-rows_in_both others rows = filter (λ row. not (is_alone_in others row)) rows
+rows_in_both others rows = filter (λ row. not (is_missing_from others row)) rows
 
 -- ---- how many jobs differ
 
 -- how many jobs are only in the old report, are only in the new report, and have rows that differ
-abbrev pub counts_of_differing : Compare → List Row → List Row → Differing
-counts_of_differing compare old new = record {
-  gone = count_by (is_alone_in new) old;
-  added = count_by (is_alone_in old) new;
+abbrev pub difference_counts : Compare → List Row → List Row → Differing
+difference_counts compare old new = record {
+  gone = count_by (is_missing_from new) old;
+  added = count_by (is_missing_from old) new;
   changed = count_by (λ row. is_changed compare (row_named old row.name) row) new;
 }
 
@@ -63,18 +63,18 @@ difference_lines compare old new =
     ++ flat_map (λ row. changes_of_row compare (row_named old row.name) row) new
 
 -- the words `COUNT gone, COUNT new, COUNT changed`
-unfoldable pub change_counts_words : Differing → List ℕ
-change_counts_words counts = decimal counts.gone ++ codes " gone, " ++ decimal counts.added
+unfoldable pub change_counts_text : Differing → List ℕ
+change_counts_text counts = decimal counts.gone ++ codes " gone, " ++ decimal counts.added
     ++ codes " new, " ++ decimal counts.changed ++ codes " changed"
 
 -- ` differs: ` for 1 compared job, and ` differ: ` for any other number
-abbrev pub differ_words : ℕ → List ℕ
-differ_words jobs = if jobs == 1 then codes " differs: " else codes " differ: "
+abbrev pub differ_text : ℕ → List ℕ
+differ_text jobs = if jobs == 1 then codes " differs: " else codes " differ: "
 
 -- the words `COUNT of JOBS jobs differ: `
-unfoldable pub differing_words : ℕ → ℕ → List ℕ
-differing_words count jobs = decimal count ++ codes " of " ++ count_text jobs (codes "job")
-    ++ differ_words jobs
+unfoldable pub differing_text : ℕ → ℕ → List ℕ
+differing_text count jobs = decimal count ++ codes " of " ++ count_text jobs (codes "job")
+    ++ differ_text jobs
 
 -- the sum of the steps of all rows
 abbrev pub total_steps : List Row → ℕ
@@ -87,22 +87,22 @@ step_sums Steps old new = None
 step_sums (Slower percent) old new = Some record { old = total_steps old; new = total_steps new }
 
 -- the text for the total steps of both reports, or nothing if there are no sums
-abbrev pub sums_words : Option StepSums → List ℕ
-sums_words None = []
-sums_words (Some sums) = codes ", total steps " ++ decimal sums.old ++ codes " -> " ++ decimal sums.new
+abbrev pub sums_text : Option StepSums → List ℕ
+sums_text None = []
+sums_text (Some sums) = codes ", total steps " ++ decimal sums.old ++ codes " -> " ++ decimal sums.new
 
 -- the text for the number of jobs that were not compared, or nothing if it is 0
-abbrev pub left_out_words : ℕ → List ℕ
-left_out_words count = if count == 0 then [] else codes ", " ++ decimal count ++ codes " not compared"
+abbrev pub not_compared_text : ℕ → List ℕ
+not_compared_text count = if count == 0 then [] else codes ", " ++ decimal count ++ codes " not compared"
 
 -- the last line: how many of the compared jobs differ and how, how many jobs were not compared, and the total steps, if there are sums
 unfoldable pub count_line : ℕ → Differing → ℕ → Option StepSums → List ℕ
-count_line jobs counts left_out sums = line (differing_words (differing_count counts) jobs ++ change_counts_words counts
-    ++ left_out_words left_out ++ sums_words sums)
+count_line jobs counts left_out sums = line (differing_text (differing_count counts) jobs ++ change_counts_text counts
+    ++ not_compared_text left_out ++ sums_text sums)
 
 -- the output of `diff` for the rows of two reports: a line for each difference, and the line of counts; `left_out` is how many jobs were
 -- not compared, since one report is a part without them
 unfoldable pub diff_text : Compare → List Row → List Row → ℕ → List ℕ
-diff_text compare old new left_out = let counts = counts_of_differing compare old new in
+diff_text compare old new left_out = let counts = difference_counts compare old new in
     difference_lines compare old new
     ++ count_line (length new + counts.gone) counts left_out (step_sums compare old new)

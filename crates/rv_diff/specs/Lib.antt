@@ -1,5 +1,5 @@
 pub mod Change
-pub mod ByName
+pub mod RowsByName
 pub mod ByNameInside
 pub mod Differences
 pub mod Diff

@@ -1,7 +1,7 @@
 //! Rows by name.
 
 ghost use Rattle.std.specs.Prelude.{◌≡◌, IfOk, option_map};
-ghost use Rattle.rv_diff.specs.ByName.{row_named};
+ghost use Rattle.rv_diff.specs.RowsByName.{row_named};
 
 use rv_rows::Row;
 use std::alloc::{AllocError, Global};
@@ -11,27 +11,27 @@ use std::marker::Model;
 
 /// Rows that can be looked up by name, seen by contracts as a list. Among rows with one name the first is found.
 #[derive(Drop)]
-pub(crate) struct ByName<'a> {
+pub(crate) struct RowsByName<'a> {
     rows: &'a [Row],
     found: HashMap<&'a str, &'a Row, BuildHasherDefault<FoldHasher>>,
 }
 
-impl<'a> Model for ByName<'a> {
+impl<'a> Model for RowsByName<'a> {
     ghost use Rattle.std.specs.Prelude.{List};
     ghost use Rattle.rv_rows.specs.declared_row.Row.{Row};
 
     ghost Value = { List Row };
 
-    ghost use Rattle.rv_diff.specs.ByNameInside.{IsByNameInside};
+    ghost use Rattle.rv_diff.specs.ByNameInside.{IsValidRowsByName};
 
     ghost view = { λ named. named.rows.now };
 
-    ghost invariant = { IsByNameInside };
+    ghost invariant = { IsValidRowsByName };
 }
 
-impl<'a> ByName<'a> {
+impl<'a> RowsByName<'a> {
     /// Returns these rows with an index of their names.
-    pub(crate) fn new(alloc: Global, rows: &'a [Row]) -> Result<ByName<'a>, AllocError>
+    pub(crate) fn new(alloc: Global, rows: &'a [Row]) -> Result<RowsByName<'a>, AllocError>
         ensures { IfOk result (λ named. named ≡ rows.now) }
     {
         let mut found = HashMap::with_capacity_and_hasher(
@@ -46,7 +46,7 @@ impl<'a> ByName<'a> {
             let row = &rows[left];
             found.insert(row.name.as_str(), row)?;
         }
-        Ok(ByName { rows, found })
+        Ok(RowsByName { rows, found })
     }
 
     /// Returns the first row with this name, or `None` if there is none.

@@ -3,12 +3,12 @@
 ghost use Rattle.std.specs.Prelude.{◌≡◌, ◌==◌, ◌≤◌, ◌<◌, ◌+◌, ◌^◌, ◌++◌, IfOk, OnOk, count_by, length, not, option_map};
 ghost use Rattle.std.specs.List.{flat_map};
 ghost use Rattle.rv_rows.specs.Report.{line};
-ghost use Rattle.rv_diff.specs.ByName.{row_named};
-ghost use Rattle.rv_diff.specs.Diff.{count_line, diff_text, counts_of_differing, differing_count, gone_line, is_alone_in};
-ghost use Rattle.rv_diff.specs.Diff.{change_counts_words, changes_of_row, differ_words, differing_words, is_changed, left_out_words, step_sums};
-ghost use Rattle.rv_diff.specs.Diff.{rows_in_both, sums_words, total_steps};
+ghost use Rattle.rv_diff.specs.RowsByName.{row_named};
+ghost use Rattle.rv_diff.specs.Diff.{count_line, diff_text, difference_counts, differing_count, gone_line, is_missing_from};
+ghost use Rattle.rv_diff.specs.Diff.{change_counts_text, changes_of_row, differ_text, differing_text, is_changed, not_compared_text, step_sums};
+ghost use Rattle.rv_diff.specs.Diff.{rows_in_both, sums_text, total_steps};
 
-use crate::by_name::ByName;
+use crate::by_name::RowsByName;
 use crate::change::{Change, Compare, change_of};
 use crate::differences::push_change_lines;
 use rv_rows::{Row, Span, push_spans, push_text};
@@ -66,7 +66,7 @@ pub fn push_diff(
     ensures text { OnOk result (text.new.items ≡ text.old.items
         ++ diff_text compare compared.entry.old.now compared.entry.new.now compared.entry.left_out) }
     ensures counts { IfOk result (λ counts. counts
-        ≡ counts_of_differing compare compared.entry.old.now compared.entry.new.now) }
+        ≡ difference_counts compare compared.entry.old.now compared.entry.new.now) }
 {
     let Compared { old, new, left_out } = compared;
     let gone = push_gone_lines(alloc, text, compare, old, new)?;
@@ -85,7 +85,7 @@ pub fn push_diff(
 pub fn rows_in_both(alloc: Global, rows: Vec<Row>, others: &[Row]) -> Result<Vec<Row>, AllocError>
     ensures { IfOk result (λ kept. kept.items ≡ rows_in_both others.now rows.items) }
 {
-    let others = ByName::new(alloc, others)?;
+    let others = RowsByName::new(alloc, others)?;
     let mut rows = rows;
     rows.retain(|row| others.find(row.name.as_str()).is_some());
     Ok(rows)
@@ -124,10 +124,10 @@ fn push_gone_lines(
 ) -> Result<usize, AllocError>
     ensures text { OnOk result (text.new.items ≡ text.old.items
         ++ flat_map (λ row. gone_line (row_named new.now row.name) row) old.now) }
-    ensures count { IfOk result (λ gone. gone ≡ count_by (is_alone_in new.now) old.now) }
+    ensures count { IfOk result (λ gone. gone ≡ count_by (is_missing_from new.now) old.now) }
     ensures within { IfOk result (λ gone. gone ≤ length old.now) }
 {
-    let after = ByName::new(alloc, new)?;
+    let after = RowsByName::new(alloc, new)?;
     let mut gone = 0;
     for row in old {
         if let Change::Gone = change_of(compare, Some(row), after.find(row.name.as_str())) {
@@ -148,12 +148,12 @@ fn push_added_and_changed_lines(
 ) -> Result<(usize, usize), AllocError>
     ensures text { OnOk result (text.new.items ≡ text.old.items
         ++ flat_map (λ row. changes_of_row compare (row_named old.now row.name) row) new.now) }
-    ensures added { IfOk result (λ counts. counts.0 ≡ count_by (is_alone_in old.now) new.now) }
+    ensures added { IfOk result (λ counts. counts.0 ≡ count_by (is_missing_from old.now) new.now) }
     ensures changed { IfOk result (λ counts. counts.1
         ≡ count_by (λ row. is_changed compare (row_named old.now row.name) row) new.now) }
     ensures within { IfOk result (λ counts. counts.0 + counts.1 ≤ length new.now) }
 {
-    let before = ByName::new(alloc, old)?;
+    let before = RowsByName::new(alloc, old)?;
     let mut added = 0;
     let mut changed = 0;
     for row in new {
@@ -214,14 +214,14 @@ fn push_count_line(
     ensures { OnOk result (text.new.items ≡ text.old.items ++ count_line jobs counts left_out sums) }
 {
     push_counts(text, jobs, counts)?;
-    push_left_out(text, left_out)?;
+    push_not_compared(text, left_out)?;
     push_step_sums(text, sums)?;
     push_text(text, "\n")
 }
 
 // Appends how many jobs are not compared, or nothing if there are none.
-fn push_left_out(text: &mut Vec<u8>, count: usize) -> Result<(), AllocError>
-    ensures { OnOk result (text.new.items ≡ text.old.items ++ left_out_words count) }
+fn push_not_compared(text: &mut Vec<u8>, count: usize) -> Result<(), AllocError>
+    ensures { OnOk result (text.new.items ≡ text.old.items ++ not_compared_text count) }
 {
     if count == 0 {
         return Ok(());
@@ -238,7 +238,7 @@ fn push_left_out(text: &mut Vec<u8>, count: usize) -> Result<(), AllocError>
 
 // Appends the total steps of both reports, or nothing if there are no sums.
 fn push_step_sums(text: &mut Vec<u8>, sums: Option<StepSums>) -> Result<(), AllocError>
-    ensures { OnOk result (text.new.items ≡ text.old.items ++ sums_words sums) }
+    ensures { OnOk result (text.new.items ≡ text.old.items ++ sums_text sums) }
 {
     match sums {
         Some(sums) => push_spans(
@@ -255,8 +255,8 @@ fn push_step_sums(text: &mut Vec<u8>, sums: Option<StepSums>) -> Result<(), Allo
 }
 
 // Returns ` differs: ` for 1 compared job, and ` differ: ` for any other number.
-fn differ_words(jobs: usize) -> &'static str
-    ensures { result.now ≡ differ_words jobs }
+fn differ_text(jobs: usize) -> &'static str
+    ensures { result.now ≡ differ_text jobs }
 {
     if jobs == 1 { " differs: " } else { " differ: " }
 }
@@ -265,7 +265,7 @@ fn differ_words(jobs: usize) -> &'static str
 fn push_counts(text: &mut Vec<u8>, jobs: usize, counts: Differing) -> Result<(), AllocError>
     requires { differing_count counts < 2 ^ 64 }
     ensures { OnOk result (text.new.items ≡ text.old.items
-        ++ (differing_words (differing_count counts) jobs ++ change_counts_words counts)) }
+        ++ (differing_text (differing_count counts) jobs ++ change_counts_text counts)) }
 {
     let count = counts.gone + counts.added + counts.changed;
     push_spans(
@@ -274,7 +274,7 @@ fn push_counts(text: &mut Vec<u8>, jobs: usize, counts: Differing) -> Result<(),
             Span::Number(count as u64),
             Span::Text(" of "),
             Span::Count(jobs as u64, "job"),
-            Span::Text(differ_words(jobs)),
+            Span::Text(differ_text(jobs)),
             Span::Number(counts.gone as u64),
             Span::Text(" gone, "),
             Span::Number(counts.added as u64),

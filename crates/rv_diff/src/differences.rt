@@ -2,8 +2,8 @@
 
 ghost use Rattle.std.specs.Prelude.{◌≡◌, ◌++◌, OnOk};
 ghost use Rattle.rv_diff.specs.Change.{have_same_console, are_same_endings, agree_in_steps, are_same_verdicts};
-ghost use Rattle.rv_diff.specs.Differences.{becomes, change_line, change_lines, console_words};
-ghost use Rattle.rv_diff.specs.Differences.{ending_words, first_differing_index, percent_words, steps_words, verdict_words};
+ghost use Rattle.rv_diff.specs.Differences.{becomes, change_line, change_lines, console_change_text};
+ghost use Rattle.rv_diff.specs.Differences.{ending_text, first_differing_index, percent_text, steps_change_text, verdict_change_text};
 
 use crate::change::{
     Compare, agree_in_steps, are_same_endings, are_same_verdicts, have_same_console,
@@ -39,7 +39,7 @@ fn push_ending_change(
 ) -> Result<(), AllocError>
     ensures { OnOk result (text.new.items ≡ text.old.items
         ++ change_line new.now.name (are_same_endings compare old.now.ending new.now.ending)
-        (becomes (ending_words old.now.ending) (ending_words new.now.ending))) }
+        (becomes (ending_text old.now.ending) (ending_text new.now.ending))) }
 {
     if are_same_endings(compare, old.ending, new.ending) {
         return Ok(());
@@ -57,10 +57,10 @@ fn push_ending_change(
 }
 
 // Appends how a job ended, in the words of a report, followed by `end`.
-#[tactic(auto, unfolding(crate::specs::Differences::ending_words))]
+#[tactic(auto, unfolding(crate::specs::Differences::ending_text))]
 fn push_ending<'a>(text: &mut Vec<u8>, ending: RowEnd, end: &'a str) -> Result<(), AllocError>
     ensures { OnOk result (text.new.items
-        ≡ text.old.items ++ (ending_words ending ++ end.now)) }
+        ≡ text.old.items ++ (ending_text ending ++ end.now)) }
 {
     match ending {
         RowEnd::Exit(code) => push_spans(
@@ -100,7 +100,7 @@ fn push_steps_change(
 ) -> Result<(), AllocError>
     ensures { OnOk result (text.new.items ≡ text.old.items
         ++ change_line new.now.name (agree_in_steps compare old.now new.now)
-        (steps_words compare old.now.steps new.now.steps)) }
+        (steps_change_text compare old.now.steps new.now.steps)) }
 {
     if agree_in_steps(compare, old, new) {
         return Ok(());
@@ -125,7 +125,7 @@ fn push_steps_change(
 // Appends the increase of the steps in percent of the old number, if `compare` looks for slower jobs and the old number is not 0; otherwise
 // nothing.
 fn push_percent(text: &mut Vec<u8>, compare: Compare, old: u32, new: u32) -> Result<(), AllocError>
-    ensures { OnOk result (text.new.items ≡ text.old.items ++ percent_words compare old new) }
+    ensures { OnOk result (text.new.items ≡ text.old.items ++ percent_text compare old new) }
 {
     match compare {
         Compare::Slower(_) if old != 0 => {
@@ -141,11 +141,11 @@ fn push_percent(text: &mut Vec<u8>, compare: Compare, old: u32, new: u32) -> Res
 
 // Appends the line for the consoles, if they differ: the bytes from the first difference, or the lengths if one console is a prefix of the
 // other.
-#[tactic(auto, unfolding(crate::specs::Differences::console_words))]
+#[tactic(auto, unfolding(crate::specs::Differences::console_change_text))]
 fn push_console_change<'a>(text: &mut Vec<u8>, old: &'a Row, new: &'a Row) -> Result<(), AllocError>
     ensures { OnOk result (text.new.items ≡ text.old.items
         ++ change_line new.now.name (have_same_console old.now new.now)
-        (console_words old.now.console new.now.console)) }
+        (console_change_text old.now.console new.now.console)) }
 {
     if have_same_console(old, new) {
         return Ok(());
@@ -193,7 +193,7 @@ fn first_differing_byte(old: &[u8], new: &[u8]) -> Option<usize>
 fn push_verdict_change(text: &mut Vec<u8>, old: &Row, new: &Row) -> Result<(), AllocError>
     ensures { OnOk result (text.new.items ≡ text.old.items
         ++ change_line new.now.name (are_same_verdicts old.now.verdict new.now.verdict)
-        (verdict_words old.now.verdict new.now.verdict)) }
+        (verdict_change_text old.now.verdict new.now.verdict)) }
 {
     if are_same_verdicts(old.verdict, new.verdict) {
         return Ok(());

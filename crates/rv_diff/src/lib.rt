@@ -2,8 +2,8 @@
 //!
 //! [`push_diff`] appends a line for each job that only one report has and for each field in which the two rows of a job differ, and returns
 //! how many jobs are gone, added and changed ([`Differing`]). [`Compare`] selects what is compared. The text is exactly as defined in
-//! `specs/`. Two laws state that there is a line if and only if rows differ: [`rows_agree_where_no_line_is_due`] and
-//! [`jobs_differ_where_a_line_is_due`].
+//! `specs/`. Two laws state that there is a line if and only if rows differ: [`rows_agree_iff_no_line`] and
+//! [`jobs_differ_iff_some_line`].
 #![tactic(auto)]
 
 mod by_name;
@@ -15,4 +15,4 @@ mod signature_line;
 
 pub use change::Compare;
 pub use diff::{Compared, Differing, push_diff, rows_in_both};
-pub use law::{jobs_differ_where_a_line_is_due, rows_agree_where_no_line_is_due};
+pub use law::{jobs_differ_iff_some_line, rows_agree_iff_no_line};

@@ -3,7 +3,7 @@
 ghost use Rattle.std.specs.Prelude.{◌≡◌, ◌++◌, OnOk, codes, slice_index};
 ghost use Rattle.rv_rows.specs.Report.{line};
 ghost use Rattle.rv_rows.specs.Verdict.{are_same_signatures};
-ghost use Rattle.rv_diff.specs.Differences.{change_begin, change_line, first_differing_index, signature_words, word_change_words};
+ghost use Rattle.rv_diff.specs.Differences.{change_prefix, change_line, first_differing_index, signature_change_text, word_change_text};
 
 use rv_rows::{Row, Span, Words, are_same_signatures, push_spans};
 use std::alloc::AllocError;
@@ -17,7 +17,7 @@ pub(crate) fn push_signature_change(
 ) -> Result<(), AllocError>
     ensures { OnOk result (text.new.items ≡ text.old.items
         ++ change_line new.now.name (are_same_signatures old.now.signature new.now.signature)
-        (signature_words old.now.signature new.now.signature)) }
+        (signature_change_text old.now.signature new.now.signature)) }
 {
     if are_same_signatures(&old.signature, &new.signature) {
         return Ok(());
@@ -27,7 +27,7 @@ pub(crate) fn push_signature_change(
 
 // Appends the line for two signatures that differ: the first word that differs, or the sizes if one signature is missing or a prefix of the
 // other.
-#[tactic(auto, unfolding(crate::specs::Differences::signature_words))]
+#[tactic(auto, unfolding(crate::specs::Differences::signature_change_text))]
 fn push_signature_line<'a>(
     text: &mut Vec<u8>,
     name: &'a str,
@@ -35,7 +35,7 @@ fn push_signature_line<'a>(
     new: &Option<Words>,
 ) -> Result<(), AllocError>
     ensures { OnOk result (text.new.items ≡ text.old.items
-        ++ line (change_begin name.now ++ signature_words old.now new.now)) }
+        ++ line (change_prefix name.now ++ signature_change_text old.now new.now)) }
 {
     match (old, new) {
         (Some(before), Some(after)) => {
@@ -80,8 +80,8 @@ fn push_words_change<'a>(
     old: &[u32],
     new: &[u32],
 ) -> Result<(), AllocError>
-    ensures { OnOk result (text.new.items ≡ text.old.items ++ line (change_begin name.now
-        ++ (codes "signature " ++ word_change_words (first_differing_index old.now new.now) old.now new.now))) }
+    ensures { OnOk result (text.new.items ≡ text.old.items ++ line (change_prefix name.now
+        ++ (codes "signature " ++ word_change_text (first_differing_index old.now new.now) old.now new.now))) }
 {
     match first_differing_word(old, new) {
         Some(place) => push_spans(

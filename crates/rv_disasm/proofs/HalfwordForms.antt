@@ -6,8 +6,8 @@ use Rattle.rv_isa.specs.Bits.{field}
 use Rattle.rv_isa.specs.Halfwords.{rows16, immediate_ci, immediate_ciw, immediate_addi16sp, upper}
 use Rattle.rv_disasm.specs.declared.form.Operand.TheVariants.{Rs1, Target, Imm}
 use Rattle.rv_disasm.specs.declared.form.Operands.TheVariants.{Absent, One}
-use Rattle.rv_disasm.specs.Forms.{form16, form_row, immediate_operands, load_operands, store_operands, upper_immediate_operands, register_immediate, two_registers}
-use Rattle.rv_disasm.specs.Forms.{test_of_zero}
+use Rattle.rv_disasm.specs.Forms.{form16, form_row, immediate_operands, load_operands, store_operands, upper_immediate_operands, register_immediate_operands, two_register_operands}
+use Rattle.rv_disasm.specs.Forms.{zero_branch_operands}
 
 pub c_addi4spn : (h : ℕ) → field h 1 0 ≡ 0 → field h 15 13 ≡ 0 → immediate_ciw h ≢ 0
     → form16 h ≡ Some (form_row (codes "c.addi4spn") immediate_operands)
@@ -42,13 +42,13 @@ unfolding form16 rows16
 c_jal h p q = rw (p, q) refl
 
 pub c_li : (h : ℕ) → field h 1 0 ≡ 1 → field h 15 13 ≡ 2
-    → form16 h ≡ Some (form_row (codes "c.li") register_immediate)
+    → form16 h ≡ Some (form_row (codes "c.li") register_immediate_operands)
 unfolding form16 rows16
 c_li h p q = rw (p, q) refl
 
 pub c_addi16sp : (h : ℕ) → field h 1 0 ≡ 1 → field h 15 13 ≡ 3 → field h 11 7 ≡ 2
     → immediate_addi16sp h ≢ 0
-    → form16 h ≡ Some (form_row (codes "c.addi16sp") register_immediate)
+    → form16 h ≡ Some (form_row (codes "c.addi16sp") register_immediate_operands)
 unfolding form16 rows16
 c_addi16sp h p q r z = rw (p, q, r, ne_eqb (immediate_addi16sp h) 0 z) refl
 
@@ -69,41 +69,41 @@ unfolding form16 rows16
 c_lui_of_zero h p q r z = rw (p, q, ne_eqb (field h 11 7) 2 r, z) refl
 
 pub c_srli : (h : ℕ) → field h 1 0 ≡ 1 → field h 15 13 ≡ 4 → field h 11 10 ≡ 0 → field h 12 12 ≡ 0
-    → form16 h ≡ Some (form_row (codes "c.srli") register_immediate)
+    → form16 h ≡ Some (form_row (codes "c.srli") register_immediate_operands)
 unfolding form16 rows16
 c_srli h p q r s = rw (p, q, r, s) refl
 
 pub c_srai : (h : ℕ) → field h 1 0 ≡ 1 → field h 15 13 ≡ 4 → field h 11 10 ≡ 1 → field h 12 12 ≡ 0
-    → form16 h ≡ Some (form_row (codes "c.srai") register_immediate)
+    → form16 h ≡ Some (form_row (codes "c.srai") register_immediate_operands)
 unfolding form16 rows16
 c_srai h p q r s = rw (p, q, r, s) refl
 
 pub c_andi : (h : ℕ) → field h 1 0 ≡ 1 → field h 15 13 ≡ 4 → field h 11 10 ≡ 2
-    → form16 h ≡ Some (form_row (codes "c.andi") register_immediate)
+    → form16 h ≡ Some (form_row (codes "c.andi") register_immediate_operands)
 unfolding form16 rows16
 c_andi h p q r = rw (p, q, r) refl
 
 pub c_sub : (h : ℕ) → field h 1 0 ≡ 1 → field h 15 13 ≡ 4 → field h 11 10 ≡ 3 → field h 12 12 ≡ 0
     → field h 6 5 ≡ 0
-    → form16 h ≡ Some (form_row (codes "c.sub") two_registers)
+    → form16 h ≡ Some (form_row (codes "c.sub") two_register_operands)
 unfolding form16 rows16
 c_sub h p q r s t = rw (p, q, r, s, t) refl
 
 pub c_xor : (h : ℕ) → field h 1 0 ≡ 1 → field h 15 13 ≡ 4 → field h 11 10 ≡ 3 → field h 12 12 ≡ 0
     → field h 6 5 ≡ 1
-    → form16 h ≡ Some (form_row (codes "c.xor") two_registers)
+    → form16 h ≡ Some (form_row (codes "c.xor") two_register_operands)
 unfolding form16 rows16
 c_xor h p q r s t = rw (p, q, r, s, t) refl
 
 pub c_or : (h : ℕ) → field h 1 0 ≡ 1 → field h 15 13 ≡ 4 → field h 11 10 ≡ 3 → field h 12 12 ≡ 0
     → field h 6 5 ≡ 2
-    → form16 h ≡ Some (form_row (codes "c.or") two_registers)
+    → form16 h ≡ Some (form_row (codes "c.or") two_register_operands)
 unfolding form16 rows16
 c_or h p q r s t = rw (p, q, r, s, t) refl
 
 pub c_and : (h : ℕ) → field h 1 0 ≡ 1 → field h 15 13 ≡ 4 → field h 11 10 ≡ 3 → field h 12 12 ≡ 0
     → field h 6 5 ≡ 3
-    → form16 h ≡ Some (form_row (codes "c.and") two_registers)
+    → form16 h ≡ Some (form_row (codes "c.and") two_register_operands)
 unfolding form16 rows16
 c_and h p q r s t = rw (p, q, r, s, t) refl
 
@@ -119,17 +119,17 @@ unfolding form16 rows16
 c_j h p q = rw (p, q) refl
 
 pub c_beqz : (h : ℕ) → field h 1 0 ≡ 1 → field h 15 13 ≡ 6
-    → form16 h ≡ Some (form_row (codes "c.beqz") test_of_zero)
+    → form16 h ≡ Some (form_row (codes "c.beqz") zero_branch_operands)
 unfolding form16 rows16
 c_beqz h p q = rw (p, q) refl
 
 pub c_bnez : (h : ℕ) → field h 1 0 ≡ 1 → field h 15 13 ≡ 7
-    → form16 h ≡ Some (form_row (codes "c.bnez") test_of_zero)
+    → form16 h ≡ Some (form_row (codes "c.bnez") zero_branch_operands)
 unfolding form16 rows16
 c_bnez h p q = rw (p, q) refl
 
 pub c_slli : (h : ℕ) → field h 1 0 ≡ 2 → field h 15 13 ≡ 0 → field h 12 12 ≡ 0
-    → form16 h ≡ Some (form_row (codes "c.slli") register_immediate)
+    → form16 h ≡ Some (form_row (codes "c.slli") register_immediate_operands)
 unfolding form16 rows16
 c_slli h p q r = rw (p, q, r) refl
 
@@ -161,7 +161,7 @@ unfolding form16 rows16
 c_jr_x0 h p q r s t = rw (p, q, r, s, t) refl
 
 pub c_mv : (h : ℕ) → field h 1 0 ≡ 2 → field h 15 13 ≡ 4 → field h 12 12 ≡ 0 → field h 6 2 ≢ 0
-    → form16 h ≡ Some (form_row (codes "c.mv") two_registers)
+    → form16 h ≡ Some (form_row (codes "c.mv") two_register_operands)
 unfolding form16 rows16
 c_mv h p q r s = rw (p, q, r, ne_eqb (field h 6 2) 0 s) refl
 
@@ -178,7 +178,7 @@ unfolding form16 rows16
 c_jalr h p q r s t = rw (p, q, r, ne_eqb (field h 11 7) 0 s, t) refl
 
 pub c_add : (h : ℕ) → field h 1 0 ≡ 2 → field h 15 13 ≡ 4 → field h 12 12 ≡ 1 → field h 6 2 ≢ 0
-    → form16 h ≡ Some (form_row (codes "c.add") two_registers)
+    → form16 h ≡ Some (form_row (codes "c.add") two_register_operands)
 unfolding form16 rows16
 c_add h p q r s = rw (p, q, r, ne_eqb (field h 6 2) 0 s) refl
 
@@ -206,7 +206,7 @@ unfolding form16 rows16
 quadrant_3 h p q r = rw (ne_eqb (field h 1 0) 0 p, ne_eqb (field h 1 0) 1 q, ne_eqb (field h 1 0) 2 r) refl
 
 pub c_addi : (h : ℕ) → field h 1 0 ≡ 1 → field h 15 13 ≡ 0 → field h 11 7 ≢ 0
-    → form16 h ≡ Some (form_row (codes "c.addi") register_immediate)
+    → form16 h ≡ Some (form_row (codes "c.addi") register_immediate_operands)
 unfolding form16 rows16
 c_addi h p q r = rw (p, q, ne_eqb (field h 11 7) 0 r) refl
 

@@ -30,21 +30,21 @@ abbrev pub fetched_instr : Instr → ℕ → ℕ → Fetched
 fetched_instr i code pc = record { instr = i; code = code; pc = pc }
 
 -- the text of a word: of the instruction that it decodes to, or, if there is none, the description of an instruction that is not simulated
-abbrev pub text_by_name : Option Instr → ℕ → ℕ → List ℕ
-text_by_name None word pc = unsimulated_text (unsimulated32 word)
-text_by_name (Some i) word pc = form_text (form32 i.op) (fetched_instr i word pc)
+abbrev pub decoded_word_text : Option Instr → ℕ → ℕ → List ℕ
+decoded_word_text None word pc = unsimulated_text (unsimulated32 word)
+decoded_word_text (Some i) word pc = form_text (form32 i.op) (fetched_instr i word pc)
 
 -- the assembly text of a word fetched at `pc`, decoded as an instruction of RV32IMC
 unfoldable pub assembly32 : ℕ → ℕ → List ℕ
-assembly32 word pc = text_by_name (meaning32 set.Imc word) word pc
+assembly32 word pc = decoded_word_text (meaning32 set.Imc word) word pc
 
 -- the text of a halfword in this form with the operands of this instruction, or, if one is missing, the description of an instruction that
 -- is not simulated
-abbrev pub text_by_row : Option Form → Option Instr → ℕ → ℕ → List ℕ
-text_by_row None i half pc = unsimulated_text (unsimulated16 half)
-text_by_row (Some form) None half pc = unsimulated_text (unsimulated16 half)
-text_by_row (Some form) (Some i) half pc = form_text form (fetched_instr i half pc)
+abbrev pub decoded_half_text : Option Form → Option Instr → ℕ → ℕ → List ℕ
+decoded_half_text None i half pc = unsimulated_text (unsimulated16 half)
+decoded_half_text (Some form) None half pc = unsimulated_text (unsimulated16 half)
+decoded_half_text (Some form) (Some i) half pc = form_text form (fetched_instr i half pc)
 
 -- the assembly text of a halfword fetched at `pc`, decoded as an instruction of RV32IMC
 unfoldable pub assembly16 : ℕ → ℕ → List ℕ
-assembly16 half pc = text_by_row (form16 half) (meaning16 set.Imc half) half pc
+assembly16 half pc = decoded_half_text (form16 half) (meaning16 set.Imc half) half pc

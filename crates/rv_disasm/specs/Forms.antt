@@ -23,8 +23,8 @@ abbrev pub form_row : List ℕ → Operands → Form
 form_row mnemonic operands = record { mnemonic = mnemonic; operands = operands }
 
 -- a `Form` of the code as contracts see it, with the text in place of a reference
-abbrev pub form_of_code : CodesForm → Form
-form_of_code seen = form_row seen.0.now seen.1
+abbrev pub form_view : CodesForm → Form
+form_view seen = form_row seen.0.now seen.1
 
 -- ---- the 32-bit rows
 
@@ -117,22 +117,22 @@ form32 op.Remu = form_row (codes "remu") register_operands
 -- Instructions that write the register that they read, or that read x0, name it once (chapter 16).
 
 -- the operands of 16-bit computations with an immediate: `rd, imm`
-abbrev pub register_immediate : Operands
-register_immediate = Two Rd Imm
+abbrev pub register_immediate_operands : Operands
+register_immediate_operands = Two Rd Imm
 
 -- the operands of 16-bit computations on two registers: `rd, rs2`
-abbrev pub two_registers : Operands
-two_registers = Two Rd Rs2
+abbrev pub two_register_operands : Operands
+two_register_operands = Two Rd Rs2
 
 -- the operands of C.BEQZ and C.BNEZ: `rs1, target`
-abbrev pub test_of_zero : Operands
-test_of_zero = Two Rs1 Target
+abbrev pub zero_branch_operands : Operands
+zero_branch_operands = Two Rs1 Target
 
 -- the form of the halfword `h` as C.ADDI, or as C.NOP if its register is x0; a C.NOP with a nonzero immediate, which is a hint, shows it
 -- (section 16.5)
 abbrev pub addi_or_nop : ℕ → Form
 addi_or_nop h =
-    if not (rd h == 0) then form_row (codes "c.addi") register_immediate
+    if not (rd h == 0) then form_row (codes "c.addi") register_immediate_operands
     else if not (immediate_ci h == 0) then form_row (codes "c.nop") (One Imm)
     else form_row (codes "c.nop") Absent
 
@@ -144,26 +144,26 @@ forms16 h =
     form_row (codes "c.sw") store_operands ∷
     addi_or_nop h ∷
     form_row (codes "c.jal") (One Target) ∷
-    form_row (codes "c.li") register_immediate ∷
-    form_row (codes "c.addi16sp") register_immediate ∷
+    form_row (codes "c.li") register_immediate_operands ∷
+    form_row (codes "c.addi16sp") register_immediate_operands ∷
     form_row (codes "c.lui") upper_immediate_operands ∷
-    form_row (codes "c.srli") register_immediate ∷
-    form_row (codes "c.srai") register_immediate ∷
-    form_row (codes "c.andi") register_immediate ∷
-    form_row (codes "c.sub") two_registers ∷
-    form_row (codes "c.xor") two_registers ∷
-    form_row (codes "c.or") two_registers ∷
-    form_row (codes "c.and") two_registers ∷
+    form_row (codes "c.srli") register_immediate_operands ∷
+    form_row (codes "c.srai") register_immediate_operands ∷
+    form_row (codes "c.andi") register_immediate_operands ∷
+    form_row (codes "c.sub") two_register_operands ∷
+    form_row (codes "c.xor") two_register_operands ∷
+    form_row (codes "c.or") two_register_operands ∷
+    form_row (codes "c.and") two_register_operands ∷
     form_row (codes "c.j") (One Target) ∷
-    form_row (codes "c.beqz") test_of_zero ∷
-    form_row (codes "c.bnez") test_of_zero ∷
-    form_row (codes "c.slli") register_immediate ∷
+    form_row (codes "c.beqz") zero_branch_operands ∷
+    form_row (codes "c.bnez") zero_branch_operands ∷
+    form_row (codes "c.slli") register_immediate_operands ∷
     form_row (codes "c.lwsp") load_operands ∷
     form_row (codes "c.jr") (One Rs1) ∷
-    form_row (codes "c.mv") two_registers ∷
+    form_row (codes "c.mv") two_register_operands ∷
     form_row (codes "c.ebreak") Absent ∷
     form_row (codes "c.jalr") (One Rs1) ∷
-    form_row (codes "c.add") two_registers ∷
+    form_row (codes "c.add") two_register_operands ∷
     form_row (codes "c.swsp") store_operands ∷
     []
 

@@ -20,24 +20,24 @@ unsimulated_text (Some r) = name_and_reason r.mnemonic r.extension (codes "not s
 -- ---- encodings that are not an instruction of a job's set
 
 -- the description of an instruction of RV32IMC that the job's instruction set lacks, given its mnemonic and its extension
-abbrev pub missing_text : List ℕ → List ℕ → List ℕ
-missing_text mnemonic extension = name_and_reason mnemonic extension (codes "not in this job's \"isa\"")
+abbrev pub missing_extension_text : List ℕ → List ℕ → List ℕ
+missing_extension_text mnemonic extension = name_and_reason mnemonic extension (codes "not in this job's \"isa\"")
 
 -- the description of a word that is not an instruction of the job's set, given the instruction of RV32IMC that it decodes to; if there is
 -- one, the set lacks M, since every set has the base
-abbrev pub illegal_text_by_name : Option Instr → ℕ → List ℕ
-illegal_text_by_name None word = unsimulated_text (unsimulated32 word)
-illegal_text_by_name (Some i) word = missing_text (form32 i.op).mnemonic (codes "M")
+abbrev pub illegal_word_text : Option Instr → ℕ → List ℕ
+illegal_word_text None word = unsimulated_text (unsimulated32 word)
+illegal_word_text (Some i) word = missing_extension_text (form32 i.op).mnemonic (codes "M")
 
 -- the description of a word that is not an instruction of the job's set
 unfoldable pub illegal_text32 : ℕ → List ℕ
-illegal_text32 word = illegal_text_by_name (meaning32 set.Imc word) word
+illegal_text32 word = illegal_word_text (meaning32 set.Imc word) word
 
 -- the description of a halfword that is not an instruction of the job's set, given its form in RV32IMC; if it has one, the set lacks C
-abbrev pub illegal_text_by_row : Option Form → ℕ → List ℕ
-illegal_text_by_row None half = unsimulated_text (unsimulated16 half)
-illegal_text_by_row (Some form) half = missing_text form.mnemonic (codes "C")
+abbrev pub illegal_half_text : Option Form → ℕ → List ℕ
+illegal_half_text None half = unsimulated_text (unsimulated16 half)
+illegal_half_text (Some form) half = missing_extension_text form.mnemonic (codes "C")
 
 -- the description of a halfword that is not an instruction of the job's set
 unfoldable pub illegal_text16 : ℕ → List ℕ
-illegal_text16 half = illegal_text_by_row (form16 half) half
+illegal_text16 half = illegal_half_text (form16 half) half

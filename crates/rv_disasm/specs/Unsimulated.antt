@@ -18,8 +18,8 @@ row mask pattern mnemonic extension =
     record { mask = mask; pattern = pattern; mnemonic = mnemonic; extension = extension }
 
 -- a `Row` of the code as contracts see it, with texts in place of references
-abbrev pub row_of_code : CodesRow → Row
-row_of_code seen = row seen.0 seen.1 seen.2.now seen.3.now
+abbrev pub row_view : CodesRow → Row
+row_view seen = row seen.0 seen.1 seen.2.now seen.3.now
 
 -- whether an encoding matches a row: it has the row's values at the bits that the row fixes
 abbrev pub is_row_of : ℕ → Row → Bool
@@ -156,8 +156,8 @@ carry_less_products =
     []
 
 -- the single-bit instructions (bit manipulation 1.0.0, Zbs)
-abbrev pub single_bits : List Row
-single_bits =
+abbrev pub single_bit_operations : List Row
+single_bit_operations =
     row 0xfe00_707f 0x4800_1033 (codes "bclr") (codes "Zbs") ∷
     row 0xfe00_707f 0x4800_1013 (codes "bclri") (codes "Zbs") ∷
     row 0xfe00_707f 0x4800_5033 (codes "bext") (codes "Zbs") ∷
@@ -169,8 +169,8 @@ single_bits =
     []
 
 -- the conditional zeroing instructions (Zicond 1.0)
-abbrev pub conditional_zeros : List Row
-conditional_zeros =
+abbrev pub conditional_zeroing : List Row
+conditional_zeroing =
     row 0xfe00_707f 0x0e00_5033 (codes "czero.eqz") (codes "Zicond") ∷
     row 0xfe00_707f 0x0e00_7033 (codes "czero.nez") (codes "Zicond") ∷
     []
@@ -183,16 +183,16 @@ waits =
     []
 
 -- the cache block management instructions (CMO 1.0, Zicbom)
-abbrev pub cache_blocks : List Row
-cache_blocks =
+abbrev pub cache_block_management : List Row
+cache_block_management =
     row 0xfff0_7fff 0x0000_200f (codes "cbo.inval") (codes "Zicbom") ∷
     row 0xfff0_7fff 0x0010_200f (codes "cbo.clean") (codes "Zicbom") ∷
     row 0xfff0_7fff 0x0020_200f (codes "cbo.flush") (codes "Zicbom") ∷
     []
 
 -- the instruction that zeroes a cache block (CMO 1.0, Zicboz)
-abbrev pub zeroed_cache_blocks : List Row
-zeroed_cache_blocks =
+abbrev pub cache_block_zeroing : List Row
+cache_block_zeroing =
     row 0xfff0_7fff 0x0040_200f (codes "cbo.zero") (codes "Zicboz") ∷
     []
 
@@ -215,11 +215,11 @@ rows32 =
     (address_generation ++
     (basic_bit_manipulation ++
     (carry_less_products ++
-    (single_bits ++
-    (conditional_zeros ++
+    (single_bit_operations ++
+    (conditional_zeroing ++
     (waits ++
-    (cache_blocks ++
-    (zeroed_cache_blocks ++
+    (cache_block_management ++
+    (cache_block_zeroing ++
     privileged)))))))))))
 
 -- the first row that a word matches, or `None` if it matches none

@@ -2,7 +2,7 @@
 ghost use Rattle.std.specs.Prelude.{◌≡◌, ◌++◌, OnOk};
 ghost use Rattle.rv_isa.specs.Words.{IsWellFormed};
 ghost use Rattle.rv_disasm.specs.Assembly.{operands_text, assembly16, assembly32, form_text};
-ghost use Rattle.rv_disasm.specs.Forms.{form_of_code};
+ghost use Rattle.rv_disasm.specs.Forms.{form_view};
 ghost use Rattle.rv_disasm.specs.Operands.{operand_text};
 
 use crate::form::{Fetched, Form, Operand, Operands};
@@ -60,7 +60,7 @@ fn push_form(
 ) -> Result<(), AllocError>
     requires { IsWellFormed fetched.instr }
     ensures { OnOk result (bytes.new.items
-        ≡ bytes.old.items ++ form_text (form_of_code form) fetched) }
+        ≡ bytes.old.items ++ form_text (form_view form) fetched) }
 {
     let Form(mnemonic, operands) = form;
     push_literal(bytes, mnemonic)?;

@@ -70,4 +70,4 @@ pub(crate) const REGISTER_IMMEDIATE: Operands = Operands::Two(Operand::Rd, Opera
 
 pub(crate) const TWO_REGISTERS: Operands = Operands::Two(Operand::Rd, Operand::Rs2);
 
-pub(crate) const TEST_OF_ZERO: Operands = Operands::Two(Operand::Rs1, Operand::Target);
+pub(crate) const ZERO_BRANCH: Operands = Operands::Two(Operand::Rs1, Operand::Target);

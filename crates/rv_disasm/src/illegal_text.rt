@@ -1,7 +1,7 @@
 //! The description of an encoding that is not an instruction.
 ghost use Rattle.std.specs.Prelude.{◌≡◌, ◌++◌, OnOk, option_map};
-ghost use Rattle.rv_disasm.specs.Illegal.{illegal_text16, illegal_text32, missing_text, name_and_reason, unsimulated_text};
-ghost use Rattle.rv_disasm.specs.Unsimulated.{row_of_code};
+ghost use Rattle.rv_disasm.specs.Illegal.{illegal_text16, illegal_text32, missing_extension_text, name_and_reason, unsimulated_text};
+ghost use Rattle.rv_disasm.specs.Unsimulated.{row_view};
 
 use crate::form::Form;
 use crate::operand::push_literal;
@@ -18,7 +18,7 @@ pub fn push_illegal32(bytes: &mut Vec<u8>, word: u32) -> Result<(), AllocError>
     ensures { OnOk result (bytes.new.items ≡ bytes.old.items ++ illegal_text32 word) }
 {
     match decode32(word, Isa::Imc) {
-        Some(instr) => push_missing(bytes, form32(instr.op), "M"),
+        Some(instr) => push_missing_extension(bytes, form32(instr.op), "M"),
         None => push_unsimulated(bytes, unsimulated32(word)),
     }
 }
@@ -31,16 +31,16 @@ pub fn push_illegal16(bytes: &mut Vec<u8>, half: u16) -> Result<(), AllocError>
 {
     let half = u32::from(half);
     match form16(half) {
-        Some(form) => push_missing(bytes, form, "C"),
+        Some(form) => push_missing_extension(bytes, form, "C"),
         None => push_unsimulated(bytes, unsimulated16(half)),
     }
 }
 
 // Appends the description of an instruction that a job's set lacks, `MNEMONIC (EXTENSION: not in this job's "isa")`, given its form and its
 // extension.
-fn push_missing(bytes: &mut Vec<u8>, form: Form, extension: &str) -> Result<(), AllocError>
+fn push_missing_extension(bytes: &mut Vec<u8>, form: Form, extension: &str) -> Result<(), AllocError>
     ensures { OnOk result (bytes.new.items
-        ≡ bytes.old.items ++ missing_text form.0.now extension.now) }
+        ≡ bytes.old.items ++ missing_extension_text form.0.now extension.now) }
 {
     let Form(mnemonic, _) = form;
     push_name_and_reason(bytes, mnemonic, extension, "not in this job's \"isa\"")
@@ -50,7 +50,7 @@ fn push_missing(bytes: &mut Vec<u8>, form: Form, extension: &str) -> Result<(), 
 /// instruction` if it has no row.
 pub(crate) fn push_unsimulated(bytes: &mut Vec<u8>, row: Option<Row>) -> Result<(), AllocError>
     ensures { OnOk result (bytes.new.items
-        ≡ bytes.old.items ++ unsimulated_text (option_map row_of_code row)) }
+        ≡ bytes.old.items ++ unsimulated_text (option_map row_view row)) }
 {
     match row {
         Some(Row(_, _, mnemonic, extension)) => {

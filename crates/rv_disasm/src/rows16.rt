@@ -2,10 +2,10 @@
 ghost use Rattle.std.specs.Prelude.{◌≡◌, ◌≢◌, ◌↔◌, IsTrue, option_map};
 ghost use Rattle.rv_isa.specs.Bits.{field as bits_of};
 ghost use Rattle.rv_isa.specs.Halfwords.{immediate_ci};
-ghost use Rattle.rv_disasm.specs.Forms.{form16, form_of_code};
+ghost use Rattle.rv_disasm.specs.Forms.{form16, form_view};
 
 use crate::form::{
-    Form, IMMEDIATE, LOAD, Operand, Operands, REGISTER_IMMEDIATE, STORE, TEST_OF_ZERO,
+    Form, IMMEDIATE, LOAD, Operand, Operands, REGISTER_IMMEDIATE, STORE, ZERO_BRANCH,
     TWO_REGISTERS, UPPER_IMMEDIATE,
 };
 use rv_isa::field;
@@ -13,7 +13,7 @@ use rv_isa::field;
 /// Returns the form of a halfword, or `None` if it is not an instruction of RV32IMC.
 #[tactic(auto, using(crate::proofs::HalfwordForms::by_quadrant))]
 pub(crate) fn form16(half: u32) -> Option<Form>
-    ensures { option_map form_of_code result ≡ form16 half }
+    ensures { option_map form_view result ≡ form16 half }
 {
     match field(half, 1, 0) {
         0 => quadrant0_form(half),
@@ -27,7 +27,7 @@ pub(crate) fn form16(half: u32) -> Option<Form>
 #[tactic(auto, using(crate::proofs::HalfwordForms::by_quadrant))]
 fn quadrant0_form(half: u32) -> Option<Form>
     requires { bits_of half 1 0 ≡ 0 }
-    ensures { option_map form_of_code result ≡ form16 half }
+    ensures { option_map form_view result ≡ form16 half }
 {
     match field(half, 15, 13) {
         0 if field(half, 12, 5) != 0 => Some(Form("c.addi4spn", IMMEDIATE)),
@@ -41,7 +41,7 @@ fn quadrant0_form(half: u32) -> Option<Form>
 #[tactic(auto, using(crate::proofs::HalfwordForms::by_quadrant))]
 fn quadrant1_form(half: u32) -> Option<Form>
     requires { bits_of half 1 0 ≡ 1 }
-    ensures { option_map form_of_code result ≡ form16 half }
+    ensures { option_map form_view result ≡ form16 half }
 {
     match field(half, 15, 13) {
         0 if field(half, 11, 7) != 0 => Some(Form("c.addi", REGISTER_IMMEDIATE)),
@@ -52,8 +52,8 @@ fn quadrant1_form(half: u32) -> Option<Form>
         3 => lui_or_addi16sp_form(half),
         4 => misc_alu_form(half),
         5 => Some(Form("c.j", Operands::One(Operand::Target))),
-        6 => Some(Form("c.beqz", TEST_OF_ZERO)),
-        _ => Some(Form("c.bnez", TEST_OF_ZERO)),
+        6 => Some(Form("c.beqz", ZERO_BRANCH)),
+        _ => Some(Form("c.bnez", ZERO_BRANCH)),
     }
 }
 
@@ -69,7 +69,7 @@ fn has_ci_immediate(half: u32) -> bool
 fn lui_or_addi16sp_form(half: u32) -> Option<Form>
     requires quadrant { bits_of half 1 0 ≡ 1 }
     requires top { bits_of half 15 13 ≡ 3 }
-    ensures { option_map form_of_code result ≡ form16 half }
+    ensures { option_map form_view result ≡ form16 half }
 {
     if !has_ci_immediate(half) {
         None
@@ -85,7 +85,7 @@ fn lui_or_addi16sp_form(half: u32) -> Option<Form>
 fn misc_alu_form(half: u32) -> Option<Form>
     requires quadrant { bits_of half 1 0 ≡ 1 }
     requires top { bits_of half 15 13 ≡ 4 }
-    ensures { option_map form_of_code result ≡ form16 half }
+    ensures { option_map form_view result ≡ form16 half }
 {
     match (field(half, 11, 10), field(half, 12, 12)) {
         (0, 0) => Some(Form("c.srli", REGISTER_IMMEDIATE)),
@@ -105,7 +105,7 @@ fn misc_alu_form(half: u32) -> Option<Form>
 #[tactic(auto, using(crate::proofs::HalfwordForms::by_quadrant))]
 fn quadrant2_form(half: u32) -> Option<Form>
     requires { bits_of half 1 0 ≡ 2 }
-    ensures { option_map form_of_code result ≡ form16 half }
+    ensures { option_map form_view result ≡ form16 half }
 {
     match field(half, 15, 13) {
         0 if field(half, 12, 12) == 0 => Some(Form("c.slli", REGISTER_IMMEDIATE)),
@@ -121,7 +121,7 @@ fn quadrant2_form(half: u32) -> Option<Form>
 fn cr_format_form(half: u32) -> Option<Form>
     requires quadrant { bits_of half 1 0 ≡ 2 }
     requires top { bits_of half 15 13 ≡ 4 }
-    ensures { option_map form_of_code result ≡ form16 half }
+    ensures { option_map form_view result ≡ form16 half }
 {
     match (field(half, 12, 12), field(half, 11, 7), field(half, 6, 2)) {
         (0, 0, 0) => None,

@@ -1,6 +1,6 @@
 //! The forms of 32-bit instructions: the mnemonic and the operands of each row of the listing.
 ghost use Rattle.std.specs.Prelude.{◌≡◌};
-ghost use Rattle.rv_disasm.specs.Forms.{form32, form_of_code};
+ghost use Rattle.rv_disasm.specs.Forms.{form32, form_view};
 
 use crate::form::{
     BRANCH, FENCE, Form, IMMEDIATE, JUMP, LOAD, Operands, REGISTERS, STORE, UPPER_IMMEDIATE,
@@ -9,7 +9,7 @@ use rv_isa::Op;
 
 /// Returns the form of the 32-bit instruction with this name: its mnemonic and its operands.
 pub(crate) fn form32(op: Op) -> Form
-    ensures { form_of_code result ≡ form32 op }
+    ensures { form_view result ≡ form32 op }
 {
     Form(mnemonic(op), operands_of_op(op))
 }

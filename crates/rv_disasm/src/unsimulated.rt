@@ -1,6 +1,6 @@
 //! The rows of instructions that are not simulated.
 ghost use Rattle.std.specs.Prelude.{◌≡◌, ◌==◌, bit_and, find, map, option_map};
-ghost use Rattle.rv_disasm.specs.Unsimulated.{row_of_code, rows16, rows32, unsimulated16, unsimulated32};
+ghost use Rattle.rv_disasm.specs.Unsimulated.{row_view, rows16, rows32, unsimulated16, unsimulated32};
 
 /// A row of a listing: the mask of the bits that it fixes, their values, the mnemonic, and the extension.
 #[derive(Clone, Copy)]
@@ -8,14 +8,14 @@ pub(crate) struct Row(pub u32, pub u32, pub &'static str, pub &'static str);
 
 /// Returns the row of a word in the listings of instructions that are not simulated, or `None` if it has none there.
 pub(crate) fn unsimulated32(word: u32) -> Option<Row>
-    ensures { option_map row_of_code result ≡ unsimulated32 word }
+    ensures { option_map row_view result ≡ unsimulated32 word }
 {
     find_row(rows32(), word).copied()
 }
 
 /// Returns the row of a halfword in the listings of instructions that are not simulated, or `None` if it has none there.
 pub(crate) fn unsimulated16(half: u32) -> Option<Row>
-    ensures { option_map row_of_code result ≡ unsimulated16 half }
+    ensures { option_map row_view result ≡ unsimulated16 half }
 {
     find_row(rows16(), half).copied()
 }
@@ -32,7 +32,7 @@ fn find_row<'a>(rows: &'a [Row], code: u32) -> Option<&'a Row>
 // Returns the rows of all 16-bit instructions that are not simulated.
 #[tactic(auto, unfolding(crate::specs::Unsimulated::rows16))]
 fn rows16() -> &'static [Row]
-    ensures { map row_of_code result.now ≡ rows16 }
+    ensures { map row_view result.now ≡ rows16 }
 {
     &ROWS16
 }
@@ -40,7 +40,7 @@ fn rows16() -> &'static [Row]
 // Returns the rows of all 32-bit instructions that are not simulated.
 #[tactic(auto, unfolding(crate::specs::Unsimulated::rows32))]
 fn rows32() -> &'static [Row]
-    ensures { map row_of_code result.now ≡ rows32 }
+    ensures { map row_view result.now ≡ rows32 }
 {
     &ROWS32
 }

@@ -15,11 +15,11 @@ use Rattle.rv_elf.specs.declared.image.Image.{Image}
 use Rattle.rv_elf.specs.declared.image.Segment.{Segment}
 use Rattle.rv_elf.specs.declared.symbol_search.LookupKind.TheVariants.{Code}
 use Rattle.rv_elf.specs.declared.symbols.Symbol.{Symbol}
-use Rattle.rv_elf.specs.CodeSymbols.{code_symbol, is_named_code, name_and_offset_of, named_in_segment, rank, symbol_count, symbol_of_index, AreCodeSymbols, AreNamed, FindSymbols, IsCodeSymbol, IsSymbolFor}
+use Rattle.rv_elf.specs.CodeSymbols.{code_symbol, is_named_code, name_and_offset_of, named_in_segment, rank, symbol_count, symbol_at_index, AreCodeSymbols, HaveNames, AgreeWithSymbolAt, IsCodeSymbol, IsSymbolFor}
 use Rattle.rv_elf.specs.Rows.{accepted}
 use Rattle.rv_elf.specs.Sections.{text_before_zero}
 use Rattle.rv_elf.specs.Symbols.{symbol_and_string_bytes, symbol_tables_check}
-use Rattle.rv_elf.specs.SymbolSearch.{are_in_one_segment, candidates, has_section, has_usable_name, is_candidate, is_function, is_nearer, is_object, is_source_name, may_be_code, name_and_offset, nearest_candidate, precedence, segment_holds_address, symbol_at, symbol_name}
+use Rattle.rv_elf.specs.SymbolSearch.{are_in_one_segment, candidates, has_section, has_usable_name, is_candidate, is_function, is_nearer, is_object, is_source_name, may_be_code, name_and_offset, nearest_candidate, precedence, segment_contains_address, symbol_at, symbol_name}
 use Rattle.rv_elf.proofs.Ranking.{below_three, is_ranked, nearest_below, nearest_more, rank_by_steps}
 use Rattle.rv_elf.proofs.CurrentVerdict.{by_nearest, no_tables}
 
@@ -171,15 +171,15 @@ five_from_parts true false c d e h i j = cc
 five_from_parts false b c d e h i j = cc
 
 holds_between : (segment : Segment) (low high addr : ℕ) → low ≤ high → high ≤ addr
-    → segment_holds_address low segment && segment_holds_address addr segment ≡ true
-    → segment_holds_address high segment && segment_holds_address addr segment ≡ true
+    → segment_contains_address low segment && segment_contains_address addr segment ≡ true
+    → segment_contains_address high segment && segment_contains_address addr segment ≡ true
 holds_between segment low high addr l m h =
-    let both = and_parts (segment_holds_address low segment) (segment_holds_address addr segment) h in
+    let both = and_parts (segment_contains_address low segment) (segment_contains_address addr segment) h in
     let of_low = and_parts (leb segment.vaddr low) (ltb low (segment.vaddr + segment.memsz)) both.0 in
     let of_addr = and_parts (leb segment.vaddr addr) (ltb addr (segment.vaddr + segment.memsz)) both.1 in
     let begin = leb-true segment.vaddr low of_low.0 in
     let end = ltb-true addr (segment.vaddr + segment.memsz) of_addr.1 in
-    and_from (segment_holds_address high segment) (segment_holds_address addr segment)
+    and_from (segment_contains_address high segment) (segment_contains_address addr segment)
     (and_from (leb segment.vaddr high) (ltb high (segment.vaddr + segment.memsz))
     (le-leb segment.vaddr high (omega (arith, l, begin)))
     (lt-ltb high (segment.vaddr + segment.memsz) (omega (arith, m, end)))) both.1
@@ -189,7 +189,7 @@ one_segment_between : (segments : List Segment) (low high addr : ℕ) → low �
     → are_in_one_segment segments low addr ≡ true → are_in_one_segment segments high addr ≡ true
 one_segment_between [] low high addr l m h = h
 one_segment_between (s ∷ ss) low high addr l m h =
-    let here : ℕ → Bool = λ a. segment_holds_address a s && segment_holds_address addr s in
+    let here : ℕ → Bool = λ a. segment_contains_address a s && segment_contains_address addr s in
     elim (or_cases (here low) (are_in_one_segment ss low addr) h) [
       | inl first ↦ or_left (here high) (are_in_one_segment ss high addr) (holds_between s low high addr l m first)
       | inr later ↦ or_right (here high) (are_in_one_segment ss high addr) (one_segment_between ss low high addr l m later)
@@ -216,10 +216,10 @@ module _ (table strings : List ℕ) where
 
   module _ (n : ℕ) (es : List CodeSymbol) (are : AreCodeSymbols table strings n es) where
     -- one more symbol that may stand for code
-    pub with_symbol : (s : Symbol) → s ≡ symbol_of_index table n → is_named_code strings s ≡ true
+    pub with_symbol : (s : Symbol) → s ≡ symbol_at_index table n → is_named_code strings s ≡ true
         → (longer : List CodeSymbol) → longer ≡ es ++ code_symbol n s ∷ [] → AreCodeSymbols table strings (n + 1) longer
     with_symbol s same named longer more =
-        let this : CodeSymbol = code_symbol n (symbol_of_index table n) in
+        let this : CodeSymbol = code_symbol n (symbol_at_index table n) in
         let code = sym (ap (is_named_code strings) same) ∙ named in
         let pushed : longer ≡ es ++ this ∷ [] = more ∙ ap (λ t. es ++ code_symbol n t ∷ []) same in
         subst (λ (l : List CodeSymbol). AreCodeSymbols table strings (n + 1) l) (sym pushed) (record {
@@ -227,21 +227,21 @@ module _ (table strings : List ℕ) where
               (All-weaker (IsCodeSymbol table strings n) (IsCodeSymbol table strings (n + 1)) (wider n) es are.sound)
               (record { index = n; within = omega arith; code = code; is = refl });
           complete = λ k within h. elim (cases_lt k n) [
-            | inl before ↦ Contains-append_left es (this ∷ []) (code_symbol k (symbol_of_index table k)) (are.complete k before h)
+            | inl before ↦ Contains-append_left es (this ∷ []) (code_symbol k (symbol_at_index table k)) (are.complete k before h)
             | inr behind ↦ let last : k ≡ n = omega (arith, within) in
-                subst (λ m. Contains (es ++ this ∷ []) (code_symbol m (symbol_of_index table m))) (sym last) (Contains-push es this)
+                subst (λ m. Contains (es ++ this ∷ []) (code_symbol m (symbol_at_index table m))) (sym last) (Contains-push es this)
           ];
         })
 
     -- one more that may not
-    pub without_symbol : (s : Symbol) → s ≡ symbol_of_index table n → is_named_code strings s ≡ false
+    pub without_symbol : (s : Symbol) → s ≡ symbol_at_index table n → is_named_code strings s ≡ false
         → AreCodeSymbols table strings (n + 1) es
     without_symbol s same other = record {
       sound = All-weaker (IsCodeSymbol table strings n) (IsCodeSymbol table strings (n + 1)) (wider n) es are.sound;
       complete = λ k within h. elim (cases_lt k n) [
         | inl before ↦ are.complete k before h
         | inr behind ↦ let last : k ≡ n = omega (arith, within) in
-            absurd (let fails = ap (λ m. is_named_code strings (symbol_of_index table m)) last
+            absurd (let fails = ap (λ m. is_named_code strings (symbol_at_index table m)) last
             ∙ sym (ap (is_named_code strings) same) ∙ other in cc)
       ];
     }
@@ -250,13 +250,13 @@ module _ (table strings : List ℕ) where
     pub in_order : (sorted : List CodeSymbol) → IsPermutation es sorted → AreCodeSymbols table strings n sorted
     in_order sorted moved = record {
       sound = All-permutation (IsCodeSymbol table strings n) es sorted moved are.sound;
-      complete = λ k within h. Contains-permutation es sorted (code_symbol k (symbol_of_index table k)) moved (are.complete k within h);
+      complete = λ k within h. Contains-permutation es sorted (code_symbol k (symbol_at_index table k)) moved (are.complete k within h);
     }
 
-    pub all_named : AreNamed strings es
+    pub all_named : HaveNames strings es
     all_named i d lt =
         let at = are.sound i d lt in
-        let s = symbol_of_index table at.index in
+        let s = symbol_at_index table at.index in
         let section = (and_parts (may_be_code s) (has_section s && has_usable_name strings s) at.code).1 in
         let usable = (and_parts (has_section s) (has_usable_name strings s) section).1 in
         ap (λ (e : CodeSymbol). is_some (text_before_zero (drop e.name strings))) at.is ∙ named_text (symbol_name strings s) usable
@@ -267,12 +267,12 @@ module _ (table strings : List ℕ) where
           let a = are.sound i d (omega (arith, le, lt)) in
           let b = are.sound j d lt in
           let ranks = carry_le (get_or es i d).rank (get_or es j d).rank
-          (rank a.index (symbol_of_index table a.index)) (rank b.index (symbol_of_index table b.index))
+          (rank a.index (symbol_at_index table a.index)) (rank b.index (symbol_at_index table b.index))
           (ap (λ (e : CodeSymbol). e.rank) a.is) (ap (λ (e : CodeSymbol). e.rank) b.is) (rising i j d le lt) in
-          carry_le (symbol_of_index table a.index).value (symbol_of_index table b.index).value
+          carry_le (symbol_at_index table a.index).value (symbol_at_index table b.index).value
           (get_or es i d).value (get_or es j d).value
           (sym (ap (λ (e : CodeSymbol). e.value) a.is)) (sym (ap (λ (e : CodeSymbol). e.value) b.is))
-          (rank_rises a.index b.index (symbol_of_index table a.index) (symbol_of_index table b.index) ranks)
+          (rank_rises a.index b.index (symbol_at_index table a.index) (symbol_at_index table b.index) ranks)
 
 -- ---- the last that is not above an address
 
@@ -286,14 +286,14 @@ module _ (segments : List Segment) (table strings : List ℕ) (addr : ℕ) (es :
   abbrev nearest : Option Symbol
   nearest = nearest_candidate (candidates Code segments strings addr table)
 
-  best : IsBest passes (symbol_of_index table) (symbol_count table) nearest
-  best = nearest_is_best passes (symbol_of_index table) (symbol_count table)
+  best : IsBest passes (symbol_at_index table) (symbol_count table) nearest
+  best = nearest_is_best passes (symbol_at_index table) (symbol_count table)
 
   -- a candidate is among those that are not above the address
-  candidate_at : (k : ℕ) → k < symbol_count table → passes (symbol_of_index table k) ≡ true
-      → (i : ℕ) × (i < above) × (get_or es i d ≡ code_symbol k (symbol_of_index table k))
+  candidate_at : (k : ℕ) → k < symbol_count table → passes (symbol_at_index table k) ≡ true
+      → (i : ℕ) × (i < above) × (get_or es i d ≡ code_symbol k (symbol_at_index table k))
   candidate_at k within h =
-      let s = symbol_of_index table k in
+      let s = symbol_at_index table k in
       let parts = parts_of_five (may_be_code s) (has_section s) (leb s.value addr) (has_usable_name strings s)
       (are_in_one_segment segments s.value addr) h in
       let at = are.complete k within parts.0 in
@@ -305,7 +305,7 @@ module _ (segments : List Segment) (table strings : List ℕ) (addr : ℕ) (es :
       ]
 
   none_below : above ≡ 0 → nearest ≡ None
-  none_below e = none_best passes (symbol_of_index table) (symbol_count table) nearest best
+  none_below e = none_best passes (symbol_at_index table) (symbol_count table) nearest best
       (λ k within h. let l = (candidate_at k within h).1 in omega (arith, l, e))
 
   module _ (some : 0 < above) where
@@ -316,17 +316,17 @@ module _ (segments : List Segment) (table strings : List ℕ) (addr : ℕ) (es :
     of_last = are.sound (above - 1) d (omega arith)
 
     abbrev symbol : Symbol
-    symbol = symbol_of_index table of_last.index
+    symbol = symbol_at_index table of_last.index
 
     last_is : last ≡ code_symbol of_last.index symbol
     last_is = of_last.is
 
-    none_ranks_above : (k : ℕ) → k < symbol_count table → passes (symbol_of_index table k) ≡ true
-        → rank k (symbol_of_index table k) ≤ rank of_last.index symbol
+    none_ranks_above : (k : ℕ) → k < symbol_count table → passes (symbol_at_index table k) ≡ true
+        → rank k (symbol_at_index table k) ≤ rank of_last.index symbol
     none_ranks_above k within h =
         let at = candidate_at k within h in
         let before = at.1 in
-        carry_le (get_or es at.0 d).rank last.rank (rank k (symbol_of_index table k)) (rank of_last.index symbol)
+        carry_le (get_or es at.0 d).rank last.rank (rank k (symbol_at_index table k)) (rank of_last.index symbol)
         (ap (λ (e : CodeSymbol). e.rank) at.2) (ap (λ (e : CodeSymbol). e.rank) last_is)
         (rising at.0 (above - 1) d (omega (arith, before)) (omega arith))
 
@@ -334,13 +334,13 @@ module _ (segments : List Segment) (table strings : List ℕ) (addr : ℕ) (es :
     not_above = sym (ap (λ (e : CodeSymbol). leb e.value addr) last_is) ∙ point.0 (above - 1) d (omega arith) (omega arith)
 
     in_segment : are_in_one_segment segments symbol.value addr ≡ true → nearest ≡ Some symbol
-    in_segment h = this_best passes (symbol_of_index table) (symbol_count table) few nearest best of_last.index of_last.within
+    in_segment h = this_best passes (symbol_at_index table) (symbol_count table) few nearest best of_last.index of_last.within
         (five_from_parts (may_be_code symbol) (has_section symbol) (leb symbol.value addr) (has_usable_name strings symbol)
         (are_in_one_segment segments symbol.value addr) of_last.code not_above h) none_ranks_above
 
     in_no_segment : are_in_one_segment segments symbol.value addr ≡ false → nearest ≡ None
-    in_no_segment apart = none_best passes (symbol_of_index table) (symbol_count table) nearest best (λ k within h.
-        let s = symbol_of_index table k in
+    in_no_segment apart = none_best passes (symbol_at_index table) (symbol_count table) nearest best (λ k within h.
+        let s = symbol_at_index table k in
         let parts = parts_of_five (may_be_code s) (has_section s) (leb s.value addr) (has_usable_name strings s)
         (are_in_one_segment segments s.value addr) h in
         let there = one_segment_between segments s.value symbol.value addr
@@ -370,7 +370,7 @@ module _ (segments : List Segment) (table strings : List ℕ) (addr : ℕ) (es :
 
 module _ (image : Image) (file strings : List ℕ) (es : List CodeSymbol) where
   -- where the tables are refused there are none
-  pub find_nothing : (w : ImageError) → symbol_tables_check file ≡ Err w → es ≡ [] → FindSymbols image file strings es
+  pub find_nothing : (w : ImageError) → symbol_tables_check file ≡ Err w → es ≡ [] → AgreeWithSymbolAt image file strings es
   find_nothing w e empty addr above d bound point =
       let long : length es ≡ 0 = ap length empty in
       let zero : above ≡ 0 = omega (arith, bound, long) in
@@ -379,7 +379,7 @@ module _ (image : Image) (file strings : List ℕ) (es : List CodeSymbol) where
 
   pub find_sorted : (table : List ℕ) → symbol_tables_check file ≡ accepted → symbol_and_string_bytes file ≡ Some (table, strings)
       → AreCodeSymbols table strings (symbol_count table) es → IsNonDecreasingBy (λ s. s.rank) es
-      → length table < 2 ^ 32 → FindSymbols image file strings es
+      → length table < 2 ^ 32 → AgreeWithSymbolAt image file strings es
   find_sorted table good there are rising long addr above d bound point =
       let few : symbol_count table ≤ 0x1000_0000 = omega (arith, long) in
       by_nearest Code image file addr table strings good there image.segments refl
@@ -388,7 +388,7 @@ module _ (image : Image) (file strings : List ℕ) (es : List CodeSymbol) where
 
 -- ---- one address
 
-module _ (image : Image) (file strings : List ℕ) (es : List CodeSymbol) (finds : FindSymbols image file strings es)
+module _ (image : Image) (file strings : List ℕ) (es : List CodeSymbol) (finds : AgreeWithSymbolAt image file strings es)
     (addr above : ℕ) (d : CodeSymbol) (bound : above ≤ length es)
     (point : IsPartitionPoint (λ s. leb s.value addr ≡ true) (λ s. leb s.value addr ≡ false) es above) where
   pub nothing_below : above ≡ 0 → symbol_at image file addr ≡ None
@@ -405,7 +405,7 @@ module _ (image : Image) (file strings : List ℕ) (es : List CodeSymbol) (finds
     pub in_other_segment : are_in_one_segment image.segments s.value addr ≡ false → symbol_at image file addr ≡ None
     in_other_segment e = by_this ∙ ap (λ b. cond b (name_and_offset_of strings addr s) None) e
 
-    pub in_this_segment : are_in_one_segment image.segments s.value addr ≡ true → AreNamed strings es
+    pub in_this_segment : are_in_one_segment image.segments s.value addr ≡ true → HaveNames strings es
         → IsSymbolFor (symbol_at image file addr) strings addr s
     in_this_segment e named = record {
       below = leb-true s.value addr (ap (λ (t : CodeSymbol). leb t.value addr) is ∙ point.0 (above - 1) d (omega arith) (omega (arith, bound)));

@@ -11,7 +11,7 @@ use Rattle.rv_elf.specs.declared.image.Segment.{Segment}
 use Rattle.rv_elf.specs.declared.symbols.Symbol.{Symbol}
 use Rattle.rv_elf.specs.declared.error.ImageError.{ImageError}
 use Rattle.rv_elf.specs.declared.image.Image.{Image}
-use Rattle.rv_elf.specs.Functions.{Named, code_of_symbol, function_of_symbol, functions, functions_in, has_code_of, is_code_segment_of, is_executable, is_in_file, is_sized_function, named_code}
+use Rattle.rv_elf.specs.Functions.{Named, code_of_symbol, function_of_symbol, functions, functions_in, has_bytes_of_symbol, is_code_segment_of, is_executable, is_in_file, is_sized_function, function_view}
 use Rattle.rv_elf.specs.Rows.{accepted}
 use Rattle.rv_elf.specs.Symbols.{symbol_and_string_bytes, symbol_tables_check}
 use Rattle.rv_elf.proofs.Reading.{in_file_bounds}
@@ -45,7 +45,7 @@ pub code_is_placed : (n : ℕ) (s : Symbol) (ss : List Segment) (g : Segment) �
     → list_all (is_in_file n) ss ≡ true → 0 < s.size → IsPlaced n s g
 code_is_placed n s ss g e h l =
     let found = found_passes (is_code_segment_of s) (is_in_file n) ss g e h in
-    let code = (and_parts (is_executable g) (has_code_of s g) found.0).1 in
+    let code = (and_parts (is_executable g) (has_bytes_of_symbol s g) found.0).1 in
     let bounds = and_parts (leb g.vaddr s.value) (leb (s.value + s.size) (g.vaddr + g.filesz)) code in
     let above = leb-true g.vaddr s.value bounds.0 in
     let ends = leb-true (s.value + s.size) (g.vaddr + g.filesz) bounds.1 in
@@ -75,7 +75,7 @@ module _ (segments : List Segment) (file strings : List ℕ) (symbol_at : ℕ �
   nothing : (s : Symbol) → is_sized_function strings s ≡ false
       → filter_map (function_of_symbol segments file strings) (s ∷ []) ≡ []
   nothing s e = ap (λ (o : Option Named). filter_map (λ (t : Symbol). o) (s ∷ []))
-      (ap (λ b. cond b (option_map (named_code strings s) (code_of_symbol segments file s)) None) e)
+      (ap (λ b. cond b (option_map (function_view strings s) (code_of_symbol segments file s)) None) e)
 
   -- another gives nothing
   pub without_function : (k : ℕ) (s : Symbol) → s ≡ symbol_at k → (found : List Named) → found ≡ functions_below k

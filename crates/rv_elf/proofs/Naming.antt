@@ -15,7 +15,7 @@ use Rattle.rv_elf.specs.Image.{image_of, IsImageOf}
 use Rattle.rv_elf.specs.ImageParts.{header_rows, image_after_header}
 use Rattle.rv_elf.specs.Rows.{accepted}
 use Rattle.rv_elf.specs.Sections.{e_shnum, e_shoff, e_shentsize, has_bad_section_table, symbol_table_section, string_table_section}
-use Rattle.rv_elf.specs.Sections.{is_bad_symbol_table, is_bad_string_table, section_bytes, symbol_named, HasSections}
+use Rattle.rv_elf.specs.Sections.{is_bad_symbol_table, is_bad_string_table, section_bytes, symbol_named, HasSectionHeaders}
 use Rattle.rv_elf.specs.Symbols.{has_bad_string_table, symbol_table_rows, symbol_tables_check, tables_of_section, symbol_and_string_bytes, symbol_of_name}
 use Rattle.rv_elf.specs.Symbols.{symbol_of}
 use Rattle.rv_elf.proofs.FirstRow.{none_refused, none_refuses, refusal_stays}
@@ -26,7 +26,7 @@ unfolding image_of image_after_header
 header_there file image e = ltb-false (length file) 52
     (or_parts (ltb (length file) 52) _ (none_refused (header_rows file) (image_after_header e.isa file) image e.is).0).0
 
-pub sections_there : (file : List ℕ) → 52 ≤ length file → has_bad_section_table file ≡ false → HasSections file
+pub sections_there : (file : List ℕ) → 52 ≤ length file → has_bad_section_table file ≡ false → HasSectionHeaders file
 sections_there file h e =
     let count = or_parts (e_shnum file == 0)
     (not (e_shentsize file == 40) || ltb (length file) (e_shoff file + 40 * e_shnum file)) e in

@@ -9,19 +9,19 @@ use Rattle.rv_isa.specs.Extensions.{has, RV32C}
 use Rattle.rv_elf.specs.declared.error.ImageError.{ImageError}
 use Rattle.rv_elf.specs.declared.error.ImageError.TheVariants.{EntryAlign}
 use Rattle.rv_elf.specs.declared.image.Image.{Image}
-use Rattle.rv_elf.specs.Rows.{RefusalRow, first_refusal}
+use Rattle.rv_elf.specs.Rows.{ErrorRow, first_error_of}
 use Rattle.rv_elf.specs.Image.{e_entry, refusals, unchecked_image, image_of}
 use Rattle.rv_elf.proofs.FirstRow.{none_refused}
 
 -- rows of which none applies leave what follows
-passes_all : {X : Type 0} (rows : List RefusalRow) (next : Result X ImageError) → list_any (λ r. r.0) rows ≡ false
-    → first_refusal rows next ≡ next
+passes_all : {X : Type 0} (rows : List ErrorRow) (next : Result X ImageError) → list_any (λ r. r.0) rows ≡ false
+    → first_error_of rows next ≡ next
 passes_all [] next h = refl
 passes_all (row ∷ rows) next h =
     let p = or_parts row.0 (list_any (λ r. r.0) rows) h in rw p.0 (passes_all rows next p.1)
 
 -- a last row that doesn't apply, in place of another one
-wider : (rows : List RefusalRow) (was now : RefusalRow) → now.0 ≡ false → list_any (λ r. r.0) (rows ++ was ∷ []) ≡ false
+wider : (rows : List ErrorRow) (was now : ErrorRow) → now.0 ≡ false → list_any (λ r. r.0) (rows ++ was ∷ []) ≡ false
     → list_any (λ r. r.0) (rows ++ now ∷ []) ≡ false
 wider [] was now passes h = ap (λ b. b || false) passes
 wider (row ∷ rows) was now passes h =
@@ -31,7 +31,7 @@ wider (row ∷ rows) was now passes h =
 refusals_wider : (isa : Isa) (file : List ℕ) → list_any (λ r. r.0) (refusals isa file) ≡ false
     → list_any (λ r. r.0) (refusals Imc file) ≡ false
 refusals_wider isa file h =
-    let last : Isa → RefusalRow = λ set. (not (has set RV32C) && not (e_entry file % 4 == 0), EntryAlign) in
+    let last : Isa → ErrorRow = λ set. (not (has set RV32C) && not (e_entry file % 4 == 0), EntryAlign) in
     wider (take 13 (refusals Imc file)) (last isa) (last Imc) refl h
 
 pub image_wider : (isa : Isa) (file : List ℕ) (image : Image) → image_of isa file ≡ Ok image

@@ -11,10 +11,10 @@ use Rattle.rv_elf.specs.declared.error.ImageError.TheVariants.{OutOfMemory}
 use Rattle.rv_elf.specs.declared.image.Image.{Image}
 use Rattle.rv_elf.specs.declared.image.Segment.{Segment}
 use Rattle.rv_elf.specs.declared.program_headers.ProgramHeader.{ProgramHeader}
-use Rattle.rv_elf.specs.Rows.{first_refusal, accepted}
-use Rattle.rv_elf.specs.Image.{program_entries, segments, loaded_segments, is_load, is_loaded_entry, is_entry_past_file, is_dynamic, has_bad_sizes}
+use Rattle.rv_elf.specs.Rows.{first_error_of, accepted}
+use Rattle.rv_elf.specs.Image.{program_header_table, segments, loaded_segments, is_load, is_loaded_header, is_segment_past_file, is_dynamic, has_bad_sizes}
 use Rattle.rv_elf.specs.Image.{e_entry, unchecked_image, image_of, IsImageOf}
-use Rattle.rv_elf.specs.ImageParts.{header_rows, entry_rows, image_rows, header_check, entry_check, segments_and_entry_check}
+use Rattle.rv_elf.specs.ImageParts.{header_rows, program_header_rows, image_rows, header_check, program_header_check, segments_and_entry_check}
 use Rattle.rv_elf.specs.ImageParts.{image_after_header}
 use Rattle.rv_elf.proofs.FirstRow.{none_refuses, refusal_stays, none_refused}
 
@@ -29,23 +29,23 @@ pub header_refused : (isa : Isa) (file : List ℕ) (w : ImageError) → Err w �
 unfolding image_of image_after_header header_check
 header_refused isa file w e = refusal_stays (header_rows file) (image_after_header isa file) w (sym e)
 
-pub entries_refused : (isa : Isa) (file : List ℕ) (w : ImageError) → Err w ≡ entry_check file
+pub entries_refused : (isa : Isa) (file : List ℕ) (w : ImageError) → Err w ≡ program_header_check file
     → image_after_header isa file ≡ Err w
-unfolding image_after_header entry_check
-entries_refused isa file w e = refusal_stays (entry_rows file) _ w (sym e)
+unfolding image_after_header program_header_check
+entries_refused isa file w e = refusal_stays (program_header_rows file) _ w (sym e)
 
-entries_passed : (isa : Isa) (file : List ℕ) → accepted ≡ entry_check file
-    → image_after_header isa file ≡ first_refusal (image_rows isa file) (Ok (unchecked_image file))
-unfolding image_after_header entry_check
-entries_passed isa file e = none_refuses (entry_rows file) _ (sym e)
+entries_passed : (isa : Isa) (file : List ℕ) → accepted ≡ program_header_check file
+    → image_after_header isa file ≡ first_error_of (image_rows isa file) (Ok (unchecked_image file))
+unfolding image_after_header program_header_check
+entries_passed isa file e = none_refuses (program_header_rows file) _ (sym e)
 
-pub image_refused : (isa : Isa) (file : List ℕ) (w : ImageError) → accepted ≡ entry_check file
+pub image_refused : (isa : Isa) (file : List ℕ) (w : ImageError) → accepted ≡ program_header_check file
     → Err w ≡ segments_and_entry_check isa file → image_after_header isa file ≡ Err w
 unfolding segments_and_entry_check
 image_refused isa file w p e = entries_passed isa file p ∙ refusal_stays (image_rows isa file) _ w (sym e)
 
 pub image_passed : (isa : Isa) (file : List ℕ) (image : Image) → image ≡ unchecked_image file
-    → accepted ≡ entry_check file → accepted ≡ segments_and_entry_check isa file → image_after_header isa file ≡ Ok image
+    → accepted ≡ program_header_check file → accepted ≡ segments_and_entry_check isa file → image_after_header isa file ≡ Ok image
 unfolding segments_and_entry_check
 image_passed isa file image there p e =
     entries_passed isa file p ∙ none_refuses (image_rows isa file) _ (sym e) ∙ ap (λ i. Ok i) (sym there)
@@ -56,10 +56,10 @@ module _ (isa : Isa) (file : List ℕ) (image : Image) (e : image_of isa file �
   unfolding image_of image_after_header
   after_header = (none_refused (header_rows file) (image_after_header isa file) image e).1
 
-  entries_good : (list_any (λ r. r.0) (entry_rows file) ≡ false)
-      × (first_refusal (image_rows isa file) (Ok (unchecked_image file)) ≡ Ok image)
+  entries_good : (list_any (λ r. r.0) (program_header_rows file) ≡ false)
+      × (first_error_of (image_rows isa file) (Ok (unchecked_image file)) ≡ Ok image)
   unfolding image_after_header
-  entries_good = none_refused (entry_rows file) (first_refusal (image_rows isa file) (Ok (unchecked_image file))) image
+  entries_good = none_refused (program_header_rows file) (first_error_of (image_rows isa file) (Ok (unchecked_image file))) image
       after_header
 
   pub entered : list_any (λ r. r.0) (image_rows isa file) ≡ false
@@ -74,14 +74,14 @@ module _ (isa : Isa) (file : List ℕ) (image : Image) (e : image_of isa file �
 abbrev pub in_file : ℕ → Segment → Bool
 in_file n s = not (ltb 0 s.filesz && ltb n (s.offset + s.filesz))
 
-kept_in_file : (n : ℕ) (found : List ProgramHeader) → list_any (is_entry_past_file n) found ≡ false
+kept_in_file : (n : ℕ) (found : List ProgramHeader) → list_any (is_segment_past_file n) found ≡ false
     → list_all (in_file n) (loaded_segments found) ≡ true
 kept_in_file n [] e = refl
 kept_in_file n (x ∷ xs) e =
-    let p = or_parts (is_entry_past_file n x) _ e in
+    let p = or_parts (is_segment_past_file n x) _ e in
     let rest = kept_in_file n xs p.1 in
-    elim (is_loaded_entry x) as (λ b. is_loaded_entry x ≡ b
-    → list_all (in_file n) (map (λ y. y.segment) (cond b (x ∷ filter is_loaded_entry xs) (filter is_loaded_entry xs))) ≡ true) [
+    elim (is_loaded_header x) as (λ b. is_loaded_header x ≡ b
+    → list_all (in_file n) (map (λ y. y.segment) (cond b (x ∷ filter is_loaded_header xs) (filter is_loaded_header xs))) ≡ true) [
       | true ↦ λ k. and_from (in_file n x.segment) _
           (not_from_false _
           (sym (ap (λ b. b && (ltb 0 x.segment.filesz && ltb n (x.segment.offset + x.segment.filesz)))
@@ -95,11 +95,11 @@ pub segments_in_file : (isa : Isa) (file : List ℕ) (image : Image) → image_o
 unfolding segments
 segments_in_file isa file image e =
     let n = length file in
-    let found = program_entries file in
+    let found = program_header_table file in
     let dynamic = or_parts (list_any is_dynamic found)
-    (list_any has_bad_sizes found || (list_any (is_entry_past_file n) found || false)) (entries_good isa file image e).0 in
-    let sizes = or_parts (list_any has_bad_sizes found) (list_any (is_entry_past_file n) found || false) dynamic.1 in
-    let past = or_parts (list_any (is_entry_past_file n) found) false sizes.1 in
+    (list_any has_bad_sizes found || (list_any (is_segment_past_file n) found || false)) (entries_good isa file image e).0 in
+    let sizes = or_parts (list_any has_bad_sizes found) (list_any (is_segment_past_file n) found || false) dynamic.1 in
+    let past = or_parts (list_any (is_segment_past_file n) found) false sizes.1 in
     ap (λ j. list_all (in_file n) j.segments) (sym (there_is isa file image e)) ∙ kept_in_file n found past.0
 
 -- what that means of one of them

@@ -7,7 +7,7 @@ use Rattle.rv_elf.specs.declared.code_symbols.CodeSymbol.{CodeSymbol}
 use Rattle.rv_elf.specs.declared.image.Image.{Image}
 use Rattle.rv_elf.specs.declared.image.Segment.{Segment}
 use Rattle.rv_elf.specs.declared.symbols.Symbol.{Symbol}
-use Rattle.rv_elf.specs.Sections.{symbol_entry, text_before_zero}
+use Rattle.rv_elf.specs.Sections.{symbol_at_offset, text_before_zero}
 use Rattle.rv_elf.specs.SymbolSearch.{are_in_one_segment, has_section, has_usable_name, may_be_code, precedence, symbol_at}
 
 -- whether the symbol `s` may name code: it is a function or has no type, it has a section, and its name is usable; `strings` is the string
@@ -29,21 +29,21 @@ abbrev pub symbol_count : List ℕ → ℕ
 symbol_count table = length table / 16
 
 -- the symbol at index `k` in the bytes of a symbol table
-abbrev pub symbol_of_index : List ℕ → ℕ → Symbol
-symbol_of_index table k = symbol_entry table (16 * k)
+abbrev pub symbol_at_index : List ℕ → ℕ → Symbol
+symbol_at_index table k = symbol_at_offset table (16 * k)
 
 -- `s` is the stored form of one of the first `n` symbols of the table, and this symbol may name code
 pub record IsCodeSymbol (table strings : List ℕ) (n : ℕ) (s : CodeSymbol) : Type 0 where
   pub index : ℕ
   pub within : index < n
-  pub code : is_named_code strings (symbol_of_index table index) ≡ true
-  pub is : s ≡ code_symbol index (symbol_of_index table index)
+  pub code : is_named_code strings (symbol_at_index table index) ≡ true
+  pub is : s ≡ code_symbol index (symbol_at_index table index)
 
 -- `symbols` has the stored form of each of the first `n` symbols of the table that may name code, and nothing else, in any order
 pub record AreCodeSymbols (table strings : List ℕ) (n : ℕ) (symbols : List CodeSymbol) : Type 0 where
   pub sound : All (IsCodeSymbol table strings n) symbols
-  pub complete : (k : ℕ) → k < n → is_named_code strings (symbol_of_index table k) ≡ true
-      → Contains symbols (code_symbol k (symbol_of_index table k))
+  pub complete : (k : ℕ) → k < n → is_named_code strings (symbol_at_index table k) ≡ true
+      → Contains symbols (code_symbol k (symbol_at_index table k))
 
 -- ---- symbols in the order of their values
 
@@ -52,8 +52,8 @@ abbrev pub name_and_offset_of : List ℕ → ℕ → CodeSymbol → Option (List
 name_and_offset_of strings addr s = option_map (λ name. (name, addr - s.value)) (text_before_zero (drop s.name strings))
 
 -- each symbol has a name in the string table
-abbrev pub AreNamed : List ℕ → List CodeSymbol → Type 0
-AreNamed strings symbols = All (λ s. is_some (text_before_zero (drop s.name strings)) ≡ true) symbols
+abbrev pub HaveNames : List ℕ → List CodeSymbol → Type 0
+HaveNames strings symbols = All (λ s. is_some (text_before_zero (drop s.name strings)) ≡ true) symbols
 
 -- the name of the symbol `s`, and the offset of the address `addr` from its value, if one segment has both; otherwise `None`
 abbrev pub named_in_segment : List Segment → List ℕ → ℕ → CodeSymbol → Option (List ℕ × ℕ)
@@ -62,8 +62,8 @@ named_in_segment segments strings addr s =
 
 -- in this list of symbols, sorted by value, an address belongs to the last symbol whose value is not above it, if one segment has both, and
 -- otherwise to none
-abbrev pub FindSymbols : Image → List ℕ → List ℕ → List CodeSymbol → Type 0
-FindSymbols image file strings symbols = (addr above : ℕ) (d : CodeSymbol) → above ≤ length symbols
+abbrev pub AgreeWithSymbolAt : Image → List ℕ → List ℕ → List CodeSymbol → Type 0
+AgreeWithSymbolAt image file strings symbols = (addr above : ℕ) (d : CodeSymbol) → above ≤ length symbols
     → IsPartitionPoint (λ s. nat_le s.value addr ≡ true) (λ s. nat_le s.value addr ≡ false) symbols above
     → symbol_at image file addr ≡ (if above == 0 then None
     else named_in_segment image.segments strings addr (slice_index_or symbols (above - 1) d))

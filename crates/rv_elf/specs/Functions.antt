@@ -19,12 +19,12 @@ abbrev pub is_in_file : ℕ → Segment → Bool
 is_in_file n segment = not (nat_lt 0 segment.filesz && nat_lt n (segment.offset + segment.filesz))
 
 -- whether all bytes of the symbol `s` are among the file bytes of a segment
-abbrev pub has_code_of : Symbol → Segment → Bool
-has_code_of s segment = nat_le segment.vaddr s.value && nat_le (s.value + s.size) (segment.vaddr + segment.filesz)
+abbrev pub has_bytes_of_symbol : Symbol → Segment → Bool
+has_bytes_of_symbol s segment = nat_le segment.vaddr s.value && nat_le (s.value + s.size) (segment.vaddr + segment.filesz)
 
 -- whether a segment is executable and has all bytes of the symbol `s` among its file bytes
 abbrev pub is_code_segment_of : Symbol → Segment → Bool
-is_code_segment_of s segment = is_executable segment && has_code_of s segment
+is_code_segment_of s segment = is_executable segment && has_bytes_of_symbol s segment
 
 -- the bytes of the symbol `s`, from the file bytes of a segment
 abbrev pub bytes_in_segment : List ℕ → Symbol → Segment → List ℕ
@@ -43,22 +43,22 @@ abbrev pub most_name : ℕ
 most_name = 1024
 
 -- the name at the start of these bytes: the bytes before the first zero byte, but at most `most_name`
-abbrev pub name_in : List ℕ → List ℕ
-name_in bytes = unwrap_or (text_before_zero (take most_name bytes)) (take most_name bytes)
+abbrev pub truncated_name : List ℕ → List ℕ
+truncated_name bytes = unwrap_or (text_before_zero (take most_name bytes)) (take most_name bytes)
 
 -- a function: its name, its address and its code
 abbrev pub Named : Type 0
 Named = List ℕ × (ℕ × List ℕ)
 
 -- the function that the symbol `s` names, with this code
-abbrev pub named_code : List ℕ → Symbol → List ℕ → Named
-named_code strings s code = (name_in (drop s.name strings), (s.value, code))
+abbrev pub function_view : List ℕ → Symbol → List ℕ → Named
+function_view strings s code = (truncated_name (drop s.name strings), (s.value, code))
 
 -- the function that the symbol `s` names, or `None` if it is not a function with a size and a usable name, or if no executable segment has
 -- its bytes
 abbrev pub function_of_symbol : List Segment → List ℕ → List ℕ → Symbol → Option Named
 function_of_symbol segments file strings s =
-    if is_sized_function strings s then option_map (named_code strings s) (code_of_symbol segments file s) else None
+    if is_sized_function strings s then option_map (function_view strings s) (code_of_symbol segments file s) else None
 
 -- the functions of a symbol table and its string table, in table order
 abbrev pub functions_in : List Segment → List ℕ → List ℕ → List ℕ → List Named

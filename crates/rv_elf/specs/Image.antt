@@ -16,7 +16,7 @@ use Rattle.rv_elf.specs.declared.image.Segment.{Segment}
 use Rattle.rv_elf.specs.declared.image.Image.{Image}
 use Rattle.rv_elf.specs.declared.program_headers.ProgramHeader.{ProgramHeader}
 use Rattle.rv_elf.specs.Fields.{byte_at, half_at, word_at}
-use Rattle.rv_elf.specs.Rows.{RefusalRow, first_refusal}
+use Rattle.rv_elf.specs.Rows.{ErrorRow, first_error_of}
 
 -- ---- the fields of the ELF header ("ELF Header")
 
@@ -90,12 +90,12 @@ segment_at file at = record {
 }
 
 -- the program header at the offset `at`
-unfoldable pub program_entry_at : List ℕ → ℕ → ProgramHeader
-program_entry_at file at = record { p_type = p_type file at; segment = segment_at file at }
+unfoldable pub program_header_at : List ℕ → ℕ → ProgramHeader
+program_header_at file at = record { p_type = p_type file at; segment = segment_at file at }
 
 -- the program header table: `e_phnum` program headers of 32 bytes, which begin at `e_phoff`
-unfoldable pub program_entries : List ℕ → List ProgramHeader
-program_entries file = map (λ k. program_entry_at file (e_phoff file + 32 * k)) (range_with_len 0 (e_phnum file))
+unfoldable pub program_header_table : List ℕ → List ProgramHeader
+program_header_table file = map (λ k. program_header_at file (e_phoff file + 32 * k)) (range_with_len 0 (e_phnum file))
 
 -- ---- when a file is refused
 
@@ -127,28 +127,28 @@ abbrev pub has_bad_sizes : ProgramHeader → Bool
 has_bad_sizes e = is_load e && nat_lt e.segment.memsz e.segment.filesz
 
 -- whether a program header is PT_LOAD and has file bytes that extend past the end of a file of `n` bytes
-abbrev pub is_entry_past_file : ℕ → ProgramHeader → Bool
-is_entry_past_file n e = is_load e
+abbrev pub is_segment_past_file : ℕ → ProgramHeader → Bool
+is_segment_past_file n e = is_load e
     && (nat_lt 0 e.segment.filesz && nat_lt n (e.segment.offset + e.segment.filesz))
 
 -- whether a program header is PT_LOAD and has bytes in memory
-abbrev pub is_loaded_entry : ProgramHeader → Bool
-is_loaded_entry e = is_load e && nat_lt 0 e.segment.memsz
+abbrev pub is_loaded_header : ProgramHeader → Bool
+is_loaded_header e = is_load e && nat_lt 0 e.segment.memsz
 
 -- the segments of the PT_LOAD program headers that have bytes in memory, in order
 abbrev pub loaded_segments : List ProgramHeader → List Segment
-loaded_segments found = map (λ e. e.segment) (filter is_loaded_entry found)
+loaded_segments found = map (λ e. e.segment) (filter is_loaded_header found)
 
 -- the segments of the file's PT_LOAD program headers that have bytes in memory, in table order
 unfoldable pub segments : List ℕ → List Segment
-segments file = loaded_segments (program_entries file)
+segments file = loaded_segments (program_header_table file)
 
 -- ---- the image, or the first reason to refuse the file
 
 -- the errors of an image, in order, each with its condition: errors of the ELF header, of the location of the program header table, of the
 -- program headers (each condition is checked for all headers before the next one), and of the entry; the entry must be a multiple of 4 only
 -- for instruction sets without compressed instructions
-abbrev pub refusals : Isa → List ℕ → List RefusalRow
+abbrev pub refusals : Isa → List ℕ → List ErrorRow
 refusals isa file = (nat_lt (length file) 52, ShortHeader)
     ∷ (not (has_magic file), BadMagic)
     ∷ (not (byte_at file 4 == 1), Not32Bit)
@@ -157,9 +157,9 @@ refusals isa file = (nat_lt (length file) 52, ShortHeader)
     ∷ (not (e_type file == 2), NotExecutable)
     ∷ (not (e_machine file == 243), NotRiscv)
     ∷ (has_bad_program_table file, ProgramTable)
-    ∷ (list_any is_dynamic (program_entries file), Dynamic)
-    ∷ (list_any has_bad_sizes (program_entries file), SegmentSizes)
-    ∷ (list_any (is_entry_past_file (length file)) (program_entries file), SegmentFile)
+    ∷ (list_any is_dynamic (program_header_table file), Dynamic)
+    ∷ (list_any has_bad_sizes (program_header_table file), SegmentSizes)
+    ∷ (list_any (is_segment_past_file (length file)) (program_header_table file), SegmentFile)
     ∷ (length (segments file) == 0, NoSegment)
     ∷ (not (e_entry file % 2 == 0), EntryOdd)
     ∷ (not (has isa RV32C) && not (e_entry file % 4 == 0), EntryAlign)
@@ -171,7 +171,7 @@ unchecked_image file = record { entry = e_entry file; segments = segments file }
 
 -- the image of a file for a hart with this instruction set, or the first error that applies
 unfoldable pub image_of : Isa → List ℕ → Result Image ImageError
-image_of isa file = first_refusal (refusals isa file) (Ok (unchecked_image file))
+image_of isa file = first_error_of (refusals isa file) (Ok (unchecked_image file))
 
 -- for some instruction set, the file is accepted and has this image
 pub record IsImageOf (file : List ℕ) (image : Image) : Type 0 where
@@ -179,7 +179,7 @@ pub record IsImageOf (file : List ℕ) (image : Image) : Type 0 where
   pub is : image_of isa file ≡ Ok image
 
 -- the file has the whole ELF header, and the whole program header table, with at most 64 program headers
-pub record HasTable (file : List ℕ) : Type 0 where
+pub record HasProgramHeaders (file : List ℕ) : Type 0 where
   pub header : 52 ≤ length file
   pub few : e_phnum file ≤ 64
   pub room : 0 < e_phnum file → e_phoff file + 32 * e_phnum file ≤ length file

@@ -4,34 +4,34 @@ use Rattle.rv_isa.specs.declared.sets.Isa.{Isa}
 use Rattle.rv_isa.specs.declared.sets.Isa.TheVariants.{Imc}
 use Rattle.rv_elf.specs.declared.error.ImageError.{ImageError}
 use Rattle.rv_elf.specs.declared.image.Image.{Image}
-use Rattle.rv_elf.specs.Rows.{RefusalRow, first_refusal, accepted}
+use Rattle.rv_elf.specs.Rows.{ErrorRow, first_error_of, accepted}
 use Rattle.rv_elf.specs.Image.{refusals, unchecked_image}
 
 -- the first eight errors, which concern the header and the location of the program header table; only the last of all errors depends on the
 -- instruction set, so any set will do here
-abbrev pub header_rows : List ℕ → List RefusalRow
+abbrev pub header_rows : List ℕ → List ErrorRow
 header_rows file = take 8 (refusals Imc file)
 
 -- the next three errors, which concern the program headers
-abbrev pub entry_rows : List ℕ → List RefusalRow
-entry_rows file = take 3 (drop 8 (refusals Imc file))
+abbrev pub program_header_rows : List ℕ → List ErrorRow
+program_header_rows file = take 3 (drop 8 (refusals Imc file))
 
 -- the last three errors, which concern the loaded segments and the entry
-abbrev pub image_rows : Isa → List ℕ → List RefusalRow
+abbrev pub image_rows : Isa → List ℕ → List ErrorRow
 image_rows isa file = drop 11 (refusals isa file)
 
 -- the first error of the header that applies, or `accepted` if none does
 unfoldable pub header_check : List ℕ → Result (Unit {0}) ImageError
-header_check file = first_refusal (header_rows file) accepted
+header_check file = first_error_of (header_rows file) accepted
 
 -- the first error of the program headers that applies, or `accepted` if none does
-unfoldable pub entry_check : List ℕ → Result (Unit {0}) ImageError
-entry_check file = first_refusal (entry_rows file) accepted
+unfoldable pub program_header_check : List ℕ → Result (Unit {0}) ImageError
+program_header_check file = first_error_of (program_header_rows file) accepted
 
 -- the first error of the loaded segments and the entry that applies, or `accepted` if none does
 unfoldable pub segments_and_entry_check : Isa → List ℕ → Result (Unit {0}) ImageError
-segments_and_entry_check isa file = first_refusal (image_rows isa file) accepted
+segments_and_entry_check isa file = first_error_of (image_rows isa file) accepted
 
 -- the image of a file whose header is accepted, or the first error that applies after the header
 unfoldable pub image_after_header : Isa → List ℕ → Result Image ImageError
-image_after_header isa file = first_refusal (drop 8 (refusals isa file)) (Ok (unchecked_image file))
+image_after_header isa file = first_error_of (drop 8 (refusals isa file)) (Ok (unchecked_image file))

@@ -12,7 +12,7 @@ use Rattle.rv_elf.specs.declared.error.ImageError.TheVariants.{SegmentMap, Segme
 use Rattle.rv_elf.specs.declared.image.Segment.{Segment}
 use Rattle.rv_elf.specs.declared.loading.LoadAt.{LoadAt}
 use Rattle.rv_elf.specs.declared.loading.LoadAt.TheVariants.{Physical, Virtual}
-use Rattle.rv_elf.specs.Rows.{RefusalRow, first_refusal, accepted}
+use Rattle.rv_elf.specs.Rows.{ErrorRow, first_error_of, accepted}
 
 -- the address at which the file bytes of the segment `s` are loaded: its physical or its virtual address
 abbrev pub load_address : LoadAt → Segment → ℕ
@@ -39,13 +39,13 @@ any_segments_overlap at [] = false
 any_segments_overlap at (s ∷ ss) = list_any (segments_overlap at s) ss || any_segments_overlap at ss
 
 -- the errors of loading these segments into a map, in order, each with its condition
-abbrev pub map_rows : List Segment → List Region → LoadAt → List RefusalRow
+abbrev pub map_rows : List Segment → List Region → LoadAt → List ErrorRow
 map_rows segments regions at = (not (list_all (segment_fits regions at) segments), SegmentMap)
     ∷ (any_segments_overlap at segments, SegmentOverlap) ∷ []
 
 -- the first error of loading these segments into a map that applies, or `accepted` if none does
 unfoldable pub map_check : List Segment → List Region → LoadAt → Result (Unit {0}) ImageError
-map_check segments regions at = first_refusal (map_rows segments regions at) accepted
+map_check segments regions at = first_error_of (map_rows segments regions at) accepted
 
 -- whether the segment `s` loads one of its file bytes at the address `a`
 abbrev pub segment_fills : LoadAt → ℕ → Segment → Bool

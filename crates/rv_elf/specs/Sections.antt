@@ -48,8 +48,8 @@ abbrev pub sh_entsize : List ℕ → ℕ → ℕ
 sh_entsize file at = word_at file (at + 36)
 
 -- the section header at the offset `at`
-unfoldable pub section_at : List ℕ → ℕ → Section
-section_at file at = record {
+unfoldable pub section_at_offset : List ℕ → ℕ → Section
+section_at_offset file at = record {
   sh_type = sh_type file at;
   offset = sh_offset file at;
   size = sh_size file at;
@@ -58,12 +58,12 @@ section_at file at = record {
 }
 
 -- the section header at an index of the table
-abbrev pub section_of_index : List ℕ → ℕ → Section
-section_of_index file index = section_at file (e_shoff file + 40 * index)
+abbrev pub section_at_index : List ℕ → ℕ → Section
+section_at_index file index = section_at_offset file (e_shoff file + 40 * index)
 
 -- the section header table: `e_shnum` section headers of 40 bytes, which begin at `e_shoff`
 abbrev pub sections : List ℕ → List Section
-sections file = map (section_of_index file) (range_with_len 0 (e_shnum file))
+sections file = map (section_at_index file) (range_with_len 0 (e_shnum file))
 
 -- whether there is no section header table, its entries are not 40 bytes long, or it extends past the end of the file
 abbrev pub has_bad_section_table : List ℕ → Bool
@@ -114,8 +114,8 @@ abbrev pub st_shndx : List ℕ → ℕ → ℕ
 st_shndx table at = half_at table (at + 14)
 
 -- the symbol at the offset `at` of a symbol table's bytes
-unfoldable pub symbol_entry : List ℕ → ℕ → Symbol
-symbol_entry table at = record {
+unfoldable pub symbol_at_offset : List ℕ → ℕ → Symbol
+symbol_at_offset table at = record {
   name = st_name table at;
   value = st_value table at;
   size = st_size table at;
@@ -125,14 +125,14 @@ symbol_entry table at = record {
 
 -- the symbols in the bytes of a symbol table, 16 bytes each
 abbrev pub symbols_of : List ℕ → List Symbol
-symbols_of table = map (λ k. symbol_entry table (16 * k)) (range_with_len 0 (length table / 16))
+symbols_of table = map (λ k. symbol_at_offset table (16 * k)) (range_with_len 0 (length table / 16))
 
 -- ---- the string table of a symbol table
 
 -- the string table section of a symbol table, whose index is the link of the symbol table, or `None` if no section has this index
 abbrev pub string_table_section : List ℕ → Section → Option Section
 string_table_section file symbols =
-    if nat_lt symbols.link (e_shnum file) then Some (section_of_index file symbols.link) else None
+    if nat_lt symbols.link (e_shnum file) then Some (section_at_index file symbols.link) else None
 
 -- whether the section `s` is not a string table (SHT_STRTAB), or extends past the end of a file of `n` bytes
 abbrev pub is_bad_string_table : ℕ → Section → Bool
@@ -156,6 +156,6 @@ unfoldable pub symbol_named : List ℕ → List ℕ → List ℕ → Option Symb
 symbol_named table strings text = find (is_named strings text) (symbols_of table)
 
 -- the file has the whole ELF header and the whole section header table
-pub record HasSections (file : List ℕ) : Type 0 where
+pub record HasSectionHeaders (file : List ℕ) : Type 0 where
   pub header : 52 ≤ length file
   pub room : e_shoff file + 40 * e_shnum file ≤ length file

@@ -43,24 +43,24 @@ abbrev pub has_usable_name : List ℕ → Symbol → Bool
 has_usable_name strings s = option_map_or is_source_name (symbol_name strings s) false
 
 -- whether the address `a` is in the memory of a segment
-abbrev pub segment_holds_address : ℕ → Segment → Bool
-segment_holds_address a segment = nat_le segment.vaddr a && nat_lt a (segment.vaddr + segment.memsz)
+abbrev pub segment_contains_address : ℕ → Segment → Bool
+segment_contains_address a segment = nat_le segment.vaddr a && nat_lt a (segment.vaddr + segment.memsz)
 
 -- whether one of the segments has both addresses in its memory
 abbrev pub are_in_one_segment : List Segment → ℕ → ℕ → Bool
-are_in_one_segment segments a b = list_any (λ segment. segment_holds_address a segment && segment_holds_address b segment) segments
+are_in_one_segment segments a b = list_any (λ segment. segment_contains_address a segment && segment_contains_address b segment) segments
 
 -- whether the symbol is an object (STT_OBJECT)
 abbrev pub is_object : Symbol → Bool
 is_object s = s.kind == 1
 
 -- whether the address is among the bytes that the symbol covers
-abbrev pub symbol_holds_address : ℕ → Symbol → Bool
-symbol_holds_address addr s = nat_le s.value addr && nat_lt addr (s.value + s.size)
+abbrev pub symbol_contains_address : ℕ → Symbol → Bool
+symbol_contains_address addr s = nat_le s.value addr && nat_lt addr (s.value + s.size)
 
 -- whether the address is the symbol's value, or the symbol is a function or an object and the address is among its bytes
 abbrev pub covers_address : ℕ → Symbol → Bool
-covers_address addr s = (s.value == addr) || ((is_function s || is_object s) && symbol_holds_address addr s)
+covers_address addr s = (s.value == addr) || ((is_function s || is_object s) && symbol_contains_address addr s)
 
 -- whether the symbol may name the address `addr`, and has a section and a usable name. To name code, it must be a function or have no type,
 -- must not be above the address, and must be in one segment with it. To name a value, it must be a function, an object or have no type, and

@@ -12,7 +12,7 @@ use Rattle.rv_elf.specs.declared.error.ImageError.TheVariants.{SectionTable, NoS
 use Rattle.rv_elf.specs.declared.error.ImageError.TheVariants.{StringTable, NoBegin, SignatureRange}
 use Rattle.rv_elf.specs.declared.sections.Section.{Section}
 use Rattle.rv_elf.specs.declared.symbols.Symbol.{Symbol}
-use Rattle.rv_elf.specs.Rows.{RefusalRow, first_refusal, accepted}
+use Rattle.rv_elf.specs.Rows.{ErrorRow, first_error_of, accepted}
 use Rattle.rv_elf.specs.Sections.{has_bad_section_table, symbol_table_section, string_table_section, is_bad_symbol_table}
 use Rattle.rv_elf.specs.Sections.{is_bad_string_table, section_bytes, symbol_named}
 
@@ -23,7 +23,7 @@ has_bad_string_table file symbols =
 
 -- the errors of the file's symbol and string tables, in order, each with its condition; the errors of a symbol table apply only if there is
 -- one
-abbrev pub symbol_table_rows : List ℕ → List RefusalRow
+abbrev pub symbol_table_rows : List ℕ → List ErrorRow
 symbol_table_rows file = (has_bad_section_table file, SectionTable)
     ∷ (is_none (symbol_table_section file), NoSymbols)
     ∷ (option_map_or (is_bad_symbol_table (length file)) (symbol_table_section file) false, SymbolTable)
@@ -32,7 +32,7 @@ symbol_table_rows file = (has_bad_section_table file, SectionTable)
 
 -- the first error of the file's symbol and string tables that applies, or `accepted` if none does
 unfoldable pub symbol_tables_check : List ℕ → Result (Unit {0}) ImageError
-symbol_tables_check file = first_refusal (symbol_table_rows file) accepted
+symbol_tables_check file = first_error_of (symbol_table_rows file) accepted
 
 -- the bytes of a symbol table and of its string table, or `None` if the string table does not exist
 abbrev pub tables_of_section : List ℕ → Section → Option (List ℕ × List ℕ)
@@ -49,13 +49,13 @@ abbrev pub symbol_of_name : List ℕ → List ℕ → Option Symbol
 symbol_of_name file name = option_and_then (λ t. symbol_named t.0 t.1 name) (symbol_and_string_bytes file)
 
 -- the errors of looking up a name in a file, in order, each with its condition
-abbrev pub symbol_rows : List ℕ → List ℕ → List RefusalRow
+abbrev pub symbol_rows : List ℕ → List ℕ → List ErrorRow
 symbol_rows file name = symbol_table_rows file ++ (is_none (symbol_of_name file name), NoBegin) ∷ []
 
 -- the value of the symbol with this name, or the first error that applies; if none does, the symbol exists, so the default 0 is never
 -- returned
 unfoldable pub symbol_of : List ℕ → List ℕ → Result ℕ ImageError
-symbol_of file name = first_refusal (symbol_rows file name)
+symbol_of file name = first_error_of (symbol_rows file name)
     (Ok (unwrap_or (option_map (λ s. s.value) (symbol_of_name file name)) 0))
 
 -- whether the words from `begin` up to `end` cannot be a signature: `begin` is above `end`, one of them is not a multiple of 4, or the
@@ -68,4 +68,4 @@ is_bad_signature_range begin end regions = nat_lt end begin || (not (begin % 4 =
 -- the error of a signature from `begin` up to `end` that is not in a valid range, or `accepted` if it is
 unfoldable pub signature_check : ℕ → ℕ → List Region → Result (Unit {0}) ImageError
 signature_check begin end regions =
-    first_refusal ((is_bad_signature_range begin end regions, SignatureRange) ∷ []) accepted
+    first_error_of ((is_bad_signature_range begin end regions, SignatureRange) ∷ []) accepted

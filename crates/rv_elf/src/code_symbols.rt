@@ -1,13 +1,13 @@
 //! The code symbols of an image, sorted by address for repeated lookups.
 ghost use Rattle.std.specs.Prelude.{◌≡◌, ◌-◌, ◌^◌, ◌<◌, Some, None, IfOk, MatchOption, length, option_map};
 ghost use Rattle.std.specs.List.Sorted.{IsNonDecreasingBy};
-ghost use Rattle.rv_elf.specs.CodeSymbols.{code_symbol, is_named_code, symbol_count, AreCodeSymbols, AreNamed, FindSymbols, IsSymbolFor};
+ghost use Rattle.rv_elf.specs.CodeSymbols.{code_symbol, is_named_code, symbol_count, AreCodeSymbols, HaveNames, AgreeWithSymbolAt, IsSymbolFor};
 ghost use Rattle.rv_elf.specs.Image.{IsImageOf};
 ghost use Rattle.rv_elf.specs.SymbolSearch.{symbol_at, IsNamesEnd};
 
 use crate::image::Image;
 use crate::symbol_search::{SymbolAt, are_in_one_segment, names_end, text_before_zero};
-use crate::symbols::{SYMBOL_SIZE, Symbol, bytes_from, symbol_and_string_bytes, symbol_entry};
+use crate::symbols::{SYMBOL_SIZE, Symbol, bytes_from, symbol_and_string_bytes, symbol_at_offset};
 use std::alloc::{AllocError, Global};
 
 // A symbol that may name code, in its stored form.
@@ -31,12 +31,12 @@ pub struct CodeSymbols<'a> {
     strings: &'a [u8],
     symbols: Vec<CodeSymbol>,
     ghost rising: { IsNonDecreasingBy (λ s. s.value) symbols.items },
-    ghost named: { AreNamed strings.now symbols.items },
-    ghost finds: { FindSymbols image.now bytes.now strings.now symbols.items },
+    ghost named: { HaveNames strings.now symbols.items },
+    ghost finds: { AgreeWithSymbolAt image.now bytes.now strings.now symbols.items },
 }
 
 // A table has fewer symbols than this, since its size has 32 bits.
-const MOST_SYMBOLS: u64 = 0x1000_0000;
+const MAX_SYMBOLS: u64 = 0x1000_0000;
 
 impl<'a> CodeSymbols<'a> {
     /// Returns the symbols of a file that [`symbol_at`](crate::symbol_at) can return, sorted; there are none if
@@ -132,7 +132,7 @@ fn code_symbols(alloc: Global, table: &[u8], strings: &[u8]) -> Result<Vec<CodeS
     let end = names_end(strings);
     let mut symbols = Vec::new(alloc);
     for k in 0..table.len() / SYMBOL_SIZE {
-        let symbol = symbol_entry(table, SYMBOL_SIZE * k);
+        let symbol = symbol_at_offset(table, SYMBOL_SIZE * k);
         if symbol.is_named_code(strings, end) {
             symbols.push(symbol.code_symbol(k))?;
         }
@@ -156,7 +156,7 @@ impl Symbol {
     {
         let kind = 3 * u64::from(self.value) + u64::from(self.precedence());
         CodeSymbol {
-            rank: MOST_SYMBOLS * kind + (MOST_SYMBOLS - 1 - index as u64),
+            rank: MAX_SYMBOLS * kind + (MAX_SYMBOLS - 1 - index as u64),
             value: self.value,
             name: self.name,
         }

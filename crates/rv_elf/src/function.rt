@@ -1,13 +1,13 @@
 //! The functions of an image, with their code.
 ghost use Rattle.std.specs.Prelude.{◌≡◌, ◌<◌, ◌++◌, ◌∷◌, [], IfOk, OnOk, find, length, map, option_map, take, true};
 ghost use Rattle.std.specs.List.{filter_map, list_all};
-ghost use Rattle.rv_elf.specs.Functions.{code_of_symbol, function_of_symbol, functions, functions_in, is_code_segment_of, is_in_file, is_sized_function, name_in};
+ghost use Rattle.rv_elf.specs.Functions.{code_of_symbol, function_of_symbol, functions, functions_in, is_code_segment_of, is_in_file, is_sized_function, truncated_name};
 ghost use Rattle.rv_elf.specs.Image.{IsImageOf};
 ghost use Rattle.rv_elf.specs.SymbolSearch.{IsNamesEnd};
 
 use crate::image::{Image, Segment};
 use crate::symbol_search::{names_end, text_before_zero};
-use crate::symbols::{SYMBOL_SIZE, Symbol, bytes_from, symbol_and_string_bytes, symbol_entry};
+use crate::symbols::{SYMBOL_SIZE, Symbol, bytes_from, symbol_and_string_bytes, symbol_at_offset};
 use std::alloc::{AllocError, Global};
 
 /// A function of an image.
@@ -56,7 +56,7 @@ fn functions_in<'a>(
     let end = names_end(strings);
     let mut found = Vec::new(alloc);
     for k in 0..table.len() / SYMBOL_SIZE {
-        let symbol = symbol_entry(table, SYMBOL_SIZE * k);
+        let symbol = symbol_at_offset(table, SYMBOL_SIZE * k);
         if symbol.is_sized_function(strings, end) {
             push_function(&mut found, &symbol, segments, file, strings)?;
         }
@@ -79,7 +79,7 @@ fn push_function<'a>(
         ++ filter_map (function_of_symbol segments.now file.now strings.now) (symbol.now ∷ [])) }
 {
     if let Some(code) = symbol.code(segments, file) {
-        let name = name_in(bytes_from(strings, symbol.name as usize));
+        let name = truncated_name(bytes_from(strings, symbol.name as usize));
         found.push(Function {
             name,
             address: symbol.value,
@@ -131,8 +131,8 @@ impl Symbol {
 }
 
 // Returns the name at the start of these bytes: the bytes before the first zero byte, but at most `MOST_NAME`.
-fn name_in(bytes: &[u8]) -> &[u8]
-    ensures { result.now ≡ name_in bytes.now }
+fn truncated_name(bytes: &[u8]) -> &[u8]
+    ensures { result.now ≡ truncated_name bytes.now }
 {
     let near = first_bytes(bytes);
     match text_before_zero(near) {

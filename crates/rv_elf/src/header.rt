@@ -1,6 +1,6 @@
 //! The checks of the ELF header, and of the location of the program header table.
 ghost use Rattle.std.specs.Prelude.{◌≡◌, ◌≤◌, OnOk, length};
-ghost use Rattle.rv_elf.specs.Image.{has_magic, has_bad_version, has_bad_program_table, HasTable};
+ghost use Rattle.rv_elf.specs.Image.{has_magic, has_bad_version, has_bad_program_table, HasProgramHeaders};
 ghost use Rattle.rv_elf.specs.ImageParts.{header_check};
 
 use crate::error::ImageError;
@@ -12,9 +12,9 @@ use crate::fields::{
 const HEADER_SIZE: usize = 52;
 
 /// The size of a program header.
-const ENTRY_SIZE: u16 = 32;
+const PROGRAM_HEADER_SIZE: u16 = 32;
 
-const MOST_ENTRIES: u16 = 64;
+const MAX_PROGRAM_HEADERS: u16 = 64;
 
 const ELFCLASS32: u8 = 1;
 
@@ -30,7 +30,7 @@ const EM_RISCV: u16 = 243;
 #[tactic(auto, unfolding(crate::specs::ImageParts::header_check))]
 pub(crate) fn check_header(file: &[u8]) -> Result<(), ImageError>
     ensures value { result ≡ header_check file.now }
-    ensures table { OnOk result (HasTable file.now) }
+    ensures table { OnOk result (HasProgramHeaders file.now) }
 {
     if file.len() < HEADER_SIZE {
         return Err(ImageError::ShortHeader);
@@ -82,9 +82,9 @@ fn has_bad_program_table(file: &[u8]) -> bool
     ensures { result ≡ has_bad_program_table file.now }
 {
     let count = half_field(file, E_PHNUM);
-    MOST_ENTRIES < count
+    MAX_PROGRAM_HEADERS < count
         || 0 < count
-            && (half_field(file, E_PHENTSIZE) != ENTRY_SIZE
+            && (half_field(file, E_PHENTSIZE) != PROGRAM_HEADER_SIZE
                 || file.len()
-                    < word_field(file, E_PHOFF) as usize + ENTRY_SIZE as usize * count as usize)
+                    < word_field(file, E_PHOFF) as usize + PROGRAM_HEADER_SIZE as usize * count as usize)
 }

@@ -1,7 +1,7 @@
 //! An executable as its entry and its segments, and how it is read from a file.
 ghost use Rattle.std.specs.Prelude.{◌≡◌, ◌≢◌, ◌≤◌, IfOk, MatchResult, Ok, Err, false, length, ◌%◌};
 ghost use Rattle.rv_isa.specs.Extensions.{has, RV32C};
-ghost use Rattle.rv_elf.specs.Image.{image_of, segments, HasTable, IsImageOf};
+ghost use Rattle.rv_elf.specs.Image.{image_of, segments, HasProgramHeaders, IsImageOf};
 ghost use Rattle.rv_elf.specs.Functions.{is_executable};
 ghost use Rattle.rv_elf.specs.ImageParts.{image_after_header, segments_and_entry_check};
 ghost use Rattle.rv_elf.specs.declared.error.ImageError.TheVariants.{OutOfMemory};
@@ -9,7 +9,7 @@ ghost use Rattle.rv_elf.specs.declared.error.ImageError.TheVariants.{OutOfMemory
 use crate::error::ImageError;
 use crate::fields::{E_ENTRY, word_field};
 use crate::header::check_header;
-use crate::program_headers::{check_entries, loaded_segments, program_entries};
+use crate::program_headers::{check_program_headers, loaded_segments, program_header_table};
 use rv_base::Sequence;
 use rv_isa::Isa;
 use std::alloc::Global;
@@ -68,12 +68,12 @@ pub fn read_image(alloc: Global, file: &[u8], isa: Isa) -> Result<Image, ImageEr
 
 // Returns the image of a file whose header is accepted, or the first error that applies after the header.
 fn read_image_after_header(alloc: Global, file: &[u8], isa: Isa) -> Result<Image, ImageError>
-    requires { HasTable file.now }
+    requires { HasProgramHeaders file.now }
     ensures { MatchResult result (λ image. image_after_header isa file.now ≡ Ok image)
         (λ e. e ≢ OutOfMemory → image_after_header isa file.now ≡ Err e) }
 {
-    let found = program_entries(alloc, file)?;
-    check_entries(found.as_slice(), file)?;
+    let found = program_header_table(alloc, file)?;
+    check_program_headers(found.as_slice(), file)?;
     let kept = loaded_segments(alloc, found.as_slice())?;
     check_segments_and_entry(file, kept.as_slice(), isa)?;
     Ok(Image {

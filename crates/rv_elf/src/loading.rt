@@ -47,7 +47,7 @@ pub fn load(image: &Image, file: &[u8], at: LoadAt, bus: &mut Bus)
     } }
 {
     for segment in image.segments.as_slice() {
-        place_segment(segment, file, at, bus);
+        write_segment(segment, file, at, bus);
     }
 }
 
@@ -126,7 +126,7 @@ pub fn segments_overlap(at: LoadAt, one: &Segment, other: &Segment) -> bool
 }
 
 // Writes the file bytes of a segment at its load address.
-fn place_segment(segment: &Segment, file: &[u8], at: LoadAt, bus: &mut Bus)
+fn write_segment(segment: &Segment, file: &[u8], at: LoadAt, bus: &mut Bus)
     requires inside { 0 < segment.now.filesz
         → segment.now.offset + segment.now.filesz ≤ length file.now }
     requires fits { IsTrue

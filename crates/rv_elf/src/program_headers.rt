@@ -1,9 +1,9 @@
 //! The program header table: its entries, their checks, and the loaded segments.
 ghost use Rattle.std.specs.Prelude.{◌≡◌, ◌+◌, ◌*◌, ◌<◌, ◌≤◌, IfOk, map, length};
 ghost use Rattle.std.specs.List.{list_any, range_with_len};
-ghost use Rattle.rv_elf.specs.Image.{segment_at, program_entry_at, program_entries, is_dynamic, has_bad_sizes, is_entry_past_file};
-ghost use Rattle.rv_elf.specs.Image.{loaded_segments, HasTable};
-ghost use Rattle.rv_elf.specs.ImageParts.{entry_check};
+ghost use Rattle.rv_elf.specs.Image.{segment_at, program_header_at, program_header_table, is_dynamic, has_bad_sizes, is_segment_past_file};
+ghost use Rattle.rv_elf.specs.Image.{loaded_segments, HasProgramHeaders};
+ghost use Rattle.rv_elf.specs.ImageParts.{program_header_check};
 
 use crate::error::ImageError;
 use crate::fields::{
@@ -27,12 +27,12 @@ const PT_DYNAMIC: u32 = 2;
 const PT_INTERP: u32 = 3;
 
 /// Returns the program headers of the file's table, in order.
-#[tactic(auto, unfolding(crate::specs::Image::program_entries))]
-pub(crate) fn program_entries(alloc: Global, file: &[u8]) -> Result<Vec<ProgramHeader>, AllocError>
-    requires { HasTable file.now }
-    ensures { IfOk result (λ v. v.items ≡ program_entries file.now) }
+#[tactic(auto, unfolding(crate::specs::Image::program_header_table))]
+pub(crate) fn program_header_table(alloc: Global, file: &[u8]) -> Result<Vec<ProgramHeader>, AllocError>
+    requires { HasProgramHeaders file.now }
+    ensures { IfOk result (λ v. v.items ≡ program_header_table file.now) }
 {
-    program_entries_at(
+    program_headers_at(
         alloc,
         file,
         word_field(file, E_PHOFF) as usize,
@@ -42,12 +42,12 @@ pub(crate) fn program_entries(alloc: Global, file: &[u8]) -> Result<Vec<ProgramH
 
 /// Checks the program headers, and returns the first error that applies. Each condition is checked for all headers before the next
 /// condition.
-#[tactic(auto, unfolding(crate::specs::ImageParts::entry_check))]
-pub(crate) fn check_entries(found: &[ProgramHeader], file: &[u8]) -> Result<(), ImageError>
-    requires { found.now ≡ program_entries file.now }
-    ensures { result ≡ entry_check file.now }
+#[tactic(auto, unfolding(crate::specs::ImageParts::program_header_check))]
+pub(crate) fn check_program_headers(found: &[ProgramHeader], file: &[u8]) -> Result<(), ImageError>
+    requires { found.now ≡ program_header_table file.now }
+    ensures { result ≡ program_header_check file.now }
 {
-    if any_dynamic_entry(found) {
+    if any_dynamic_header(found) {
         return Err(ImageError::Dynamic);
     }
     if any_bad_segment_sizes(found) {
@@ -76,7 +76,7 @@ pub(crate) fn loaded_segments(
 }
 
 // Returns the `count` program headers of the table at an offset, in order.
-fn program_entries_at(
+fn program_headers_at(
     alloc: Global,
     file: &[u8],
     offset: usize,
@@ -85,20 +85,20 @@ fn program_entries_at(
     requires room { 0 < count → offset + 32 * count ≤ length file.now }
     requires few { count ≤ 64 }
     ensures { IfOk result (λ v. v.items
-        ≡ map (λ k. program_entry_at file.now (offset + 32 * k)) (range_with_len 0 count)) }
+        ≡ map (λ k. program_header_at file.now (offset + 32 * k)) (range_with_len 0 count)) }
 {
     let mut found = Vec::new(alloc);
     for k in 0..count {
-        found.push(program_entry_at(file, offset + 32 * k))?;
+        found.push(program_header_at(file, offset + 32 * k))?;
     }
     Ok(found)
 }
 
 // Returns the program header at an offset.
-#[tactic(auto, unfolding(crate::specs::Image::program_entry_at))]
-fn program_entry_at(file: &[u8], at: usize) -> ProgramHeader
+#[tactic(auto, unfolding(crate::specs::Image::program_header_at))]
+fn program_header_at(file: &[u8], at: usize) -> ProgramHeader
     requires { at + 32 ≤ length file.now }
-    ensures { result ≡ program_entry_at file.now at }
+    ensures { result ≡ program_header_at file.now at }
 {
     ProgramHeader {
         p_type: word_field(file, at + P_TYPE),
@@ -123,7 +123,7 @@ fn segment_at(file: &[u8], at: usize) -> Segment
 }
 
 // Whether at least one program header is PT_DYNAMIC or PT_INTERP.
-fn any_dynamic_entry(found: &[ProgramHeader]) -> bool
+fn any_dynamic_header(found: &[ProgramHeader]) -> bool
     ensures { result ≡ list_any is_dynamic found.now }
 {
     found
@@ -140,7 +140,7 @@ fn any_bad_segment_sizes(found: &[ProgramHeader]) -> bool
 
 // Whether at least one PT_LOAD program header has file bytes that extend past the end of a file of `size` bytes.
 fn any_segment_past_file(found: &[ProgramHeader], size: usize) -> bool
-    ensures { result ≡ list_any (is_entry_past_file size) found.now }
+    ensures { result ≡ list_any (is_segment_past_file size) found.now }
 {
     found.iter().any(|e| {
         e.p_type == PT_LOAD

@@ -3,8 +3,8 @@ ghost use Rattle.std.specs.Prelude.{◌≡◌, ◌+◌, ◌*◌, ◌<◌, ◌≤
 ghost use Rattle.std.specs.Prelude.{length, MatchOption};
 ghost use Rattle.std.specs.List.{find, slice_get};
 ghost use Rattle.rv_elf.specs.Fields.{half_at, word_at};
-ghost use Rattle.rv_elf.specs.Sections.{section_at, section_of_index, has_bad_section_table, symbol_table_section, string_table_section, is_section_past_file};
-ghost use Rattle.rv_elf.specs.Sections.{is_bad_symbol_table, is_bad_string_table, section_bytes, is_symbol_section, e_shnum, HasSections};
+ghost use Rattle.rv_elf.specs.Sections.{section_at_offset, section_at_index, has_bad_section_table, symbol_table_section, string_table_section, is_section_past_file};
+ghost use Rattle.rv_elf.specs.Sections.{is_bad_symbol_table, is_bad_string_table, section_bytes, is_symbol_section, e_shnum, HasSectionHeaders};
 
 use crate::fields::{
     E_SHENTSIZE, E_SHNUM, E_SHOFF, SH_ENTSIZE, SH_LINK, SH_OFFSET, SH_SIZE, SH_TYPE, half_field,
@@ -78,11 +78,11 @@ pub(crate) fn has_bad_section_table(file: &[u8]) -> bool
 
 /// Returns the first symbol table of the file, or `None` if there is none.
 pub(crate) fn symbol_table_section(file: &[u8]) -> Option<Section>
-    requires { HasSections file.now }
+    requires { HasSectionHeaders file.now }
     ensures { result ≡ symbol_table_section file.now }
 {
     for index in 0..u32::from(half_field(file, E_SHNUM)) {
-        let section = section_of_index(file, index);
+        let section = section_at_index(file, index);
         if section.sh_type == SHT_SYMTAB {
             return Some(section);
         }
@@ -92,32 +92,32 @@ pub(crate) fn symbol_table_section(file: &[u8]) -> Option<Section>
 
 /// Returns the string table section of a symbol table, whose index is the link of the symbol table, or `None` if no section has this index.
 pub(crate) fn string_table_section(file: &[u8], symbols: &Section) -> Option<Section>
-    requires { HasSections file.now }
+    requires { HasSectionHeaders file.now }
     ensures { result ≡ string_table_section file.now symbols.now }
 {
     if symbols.link >= u32::from(half_field(file, E_SHNUM)) {
         return None;
     }
-    Some(section_of_index(file, symbols.link))
+    Some(section_at_index(file, symbols.link))
 }
 
 // Returns the section header at an index of the table.
-fn section_of_index(file: &[u8], index: u32) -> Section
-    requires table { HasSections file.now }
+fn section_at_index(file: &[u8], index: u32) -> Section
+    requires table { HasSectionHeaders file.now }
     requires within { index < e_shnum file.now }
-    ensures { result ≡ section_of_index file.now index }
+    ensures { result ≡ section_at_index file.now index }
 {
-    section_at(
+    section_at_offset(
         file,
         word_field(file, E_SHOFF) as usize + HEADER_SIZE as usize * index as usize,
     )
 }
 
 // Returns the section header at an offset of the file.
-#[tactic(auto, unfolding(crate::specs::Sections::section_at))]
-fn section_at(file: &[u8], at: usize) -> Section
+#[tactic(auto, unfolding(crate::specs::Sections::section_at_offset))]
+fn section_at_offset(file: &[u8], at: usize) -> Section
     requires { at + 40 ≤ length file.now }
-    ensures { result ≡ section_at file.now at }
+    ensures { result ≡ section_at_offset file.now at }
 {
     Section {
         sh_type: word_field(file, at + SH_TYPE),

@@ -5,12 +5,12 @@ ghost use Rattle.std.specs.Option.{option_map_or};
 ghost use Rattle.rv_elf.specs.Image.{IsImageOf};
 ghost use Rattle.rv_elf.specs.Sections.{text_before_zero};
 ghost use Rattle.rv_elf.specs.SymbolSearch.{symbol_at, symbol_of_value, nearest_symbol, nearest_candidate, candidates};
-ghost use Rattle.rv_elf.specs.SymbolSearch.{is_candidate, are_in_one_segment, segment_holds_address, is_nearer, precedence, covers_address};
+ghost use Rattle.rv_elf.specs.SymbolSearch.{is_candidate, are_in_one_segment, segment_contains_address, is_nearer, precedence, covers_address};
 ghost use Rattle.rv_elf.specs.SymbolSearch.{is_function, is_object, may_be_code, has_section, has_usable_name, IsNamesEnd};
 
 use crate::image::{Image, Segment};
 use crate::symbols::{
-    SHN_UNDEF, SYMBOL_SIZE, Symbol, bytes_from, symbol_and_string_bytes, symbol_entry,
+    SHN_UNDEF, SYMBOL_SIZE, Symbol, bytes_from, symbol_and_string_bytes, symbol_at_offset,
 };
 
 /// The symbol that an address belongs to, with the offset of the address.
@@ -106,7 +106,7 @@ fn nearest_candidate(
     let end = names_end(strings);
     let mut best = None;
     for k in 0..table.len() / SYMBOL_SIZE {
-        let symbol = symbol_entry(table, SYMBOL_SIZE * k);
+        let symbol = symbol_at_offset(table, SYMBOL_SIZE * k);
         if symbol.is_nearer_than_best(best)
             && symbol.is_candidate(strings, end, segments, addr, sought)
         {
@@ -245,13 +245,13 @@ impl Symbol {
 pub(crate) fn are_in_one_segment(segments: &[Segment], one: u32, other: u32) -> bool
     ensures { result ≡ are_in_one_segment segments.now one other }
 {
-    segments.iter().any(|segment| segment_holds_address(one, segment)
-        && segment_holds_address(other, segment))
+    segments.iter().any(|segment| segment_contains_address(one, segment)
+        && segment_contains_address(other, segment))
 }
 
 // Whether an address is in the memory of a segment.
-fn segment_holds_address(addr: u32, segment: &Segment) -> bool
-    ensures { result ≡ segment_holds_address addr segment.now }
+fn segment_contains_address(addr: u32, segment: &Segment) -> bool
+    ensures { result ≡ segment_contains_address addr segment.now }
 {
     segment.vaddr <= addr && u64::from(addr) < u64::from(segment.vaddr) + u64::from(segment.memsz)
 }

@@ -4,7 +4,7 @@ ghost use Rattle.std.specs.Prelude.{MatchResult, Some, length};
 ghost use Rattle.std.specs.Prelude.{option_map, drop};
 ghost use Rattle.rv_elf.specs.Rows.{accepted};
 ghost use Rattle.rv_elf.specs.Image.{IsImageOf};
-ghost use Rattle.rv_elf.specs.Sections.{symbol_entry, symbol_named, begins_with_name, is_named};
+ghost use Rattle.rv_elf.specs.Sections.{symbol_at_offset, symbol_named, begins_with_name, is_named};
 ghost use Rattle.rv_elf.specs.Symbols.{symbol_tables_check, symbol_and_string_bytes, symbol_of, signature_check, is_bad_signature_range};
 
 use crate::error::ImageError;
@@ -45,7 +45,7 @@ pub fn find_symbol(image: &Image, file: &[u8], name: &[u8]) -> Result<u32, Image
 {
     let _ = image;
     let (table, strings) = symbol_and_string_bytes(file)?;
-    match value_of_symbol_name(table, strings, name) {
+    match find_symbol_value(table, strings, name) {
         Some(value) => Ok(value),
         None => Err(ImageError::NoBegin),
     }
@@ -100,11 +100,11 @@ pub(crate) fn symbol_and_string_bytes(file: &[u8]) -> Result<(&[u8], &[u8]), Ima
 }
 
 // Returns the value of the first defined symbol with this name in a symbol table and its string table, or `None` if there is none.
-fn value_of_symbol_name(table: &[u8], strings: &[u8], name: &[u8]) -> Option<u32>
+fn find_symbol_value(table: &[u8], strings: &[u8], name: &[u8]) -> Option<u32>
     ensures { result ≡ option_map (λ s. s.value) (symbol_named table.now strings.now name.now) }
 {
     for k in 0..table.len() / SYMBOL_SIZE {
-        let symbol = symbol_entry(table, SYMBOL_SIZE * k);
+        let symbol = symbol_at_offset(table, SYMBOL_SIZE * k);
         if symbol.is_named(strings, name) {
             return Some(symbol.value);
         }
@@ -113,10 +113,10 @@ fn value_of_symbol_name(table: &[u8], strings: &[u8], name: &[u8]) -> Option<u32
 }
 
 /// Returns the symbol at an offset of a symbol table's bytes.
-#[tactic(auto, unfolding(crate::specs::Sections::symbol_entry))]
-pub(crate) fn symbol_entry(table: &[u8], at: usize) -> Symbol
+#[tactic(auto, unfolding(crate::specs::Sections::symbol_at_offset))]
+pub(crate) fn symbol_at_offset(table: &[u8], at: usize) -> Symbol
     requires { at + 16 ≤ length table.now }
-    ensures { result ≡ symbol_entry table.now at }
+    ensures { result ≡ symbol_at_offset table.now at }
 {
     Symbol {
         name: word_field(table, at + ST_NAME),

@@ -6,10 +6,10 @@ use Rattle.std.proofs.lemmas.List.{get_or_append_left, length-append}
 use Rattle.std.proofs.Math.Seq.{get_or-append_seam}
 use Rattle.std.specs.Prelude.{Option, Some, None}
 use Rattle.rv_engine.specs.declared.in_order.End.{End}
-use Rattle.rv_engine.specs.declared.in_order.End.TheVariants.{GaveUp, Stopped}
+use Rattle.rv_engine.specs.declared.in_order.End.TheVariants.{Failed, Stopped}
 use Rattle.rv_engine.specs.declared.listener.Flow.{Flow}
-use Rattle.rv_engine.specs.declared.listener.Flow.TheVariants.{GoOn, Stop}
-use Rattle.rv_engine.specs.Results.{AreComputed, HasReceived, HasReceivedSome, IsDelivered, HasReceivedUntil, IsChunk, chunk_count}
+use Rattle.rv_engine.specs.declared.listener.Flow.TheVariants.{Continue, Stop}
+use Rattle.rv_engine.specs.Results.{OutputsAreAllowed, HasReceived, HasReceivedSome, IsDelivered, HasReceivedUntil, IsChunk, chunk_count}
 
 module _ {H : Type 0} (is_result : ℕ → H → Type 0) (jobs : ℕ) where
   -- nothing yet
@@ -102,7 +102,7 @@ nothing_left (x ∷ xs) h = absurd (omega arith)
 
 -- a piece of what is made
 pub piece_made : {H : Type 0} (is_made is_result : ℕ → H → Type 0) (jobs group piece : ℕ) (results : List H)
-    → AreComputed is_made is_result → IsChunk is_made jobs group piece results → IsChunk is_result jobs group piece results
+    → OutputsAreAllowed is_made is_result → IsChunk is_made jobs group piece results → IsChunk is_result jobs group piece results
 piece_made is_made is_result jobs group piece results are made = record {
   each = λ k any low. are (piece * group + k) (get_or results k any) (made.each k any low);
   count = made.count;
@@ -111,8 +111,8 @@ piece_made is_made is_result jobs group piece results are made = record {
 -- after a pause, whatever it says
 pub heard_paused : {H : Type 0} (is_result : ℕ → H → Type 0) (jobs group : ℕ) (had has : List H → Type 0) (stops : Type 0) (next : ℕ)
     (flow : Flow) → HasReceived is_result jobs had (min (next * group) jobs) → ((results : List H) → had results → has results)
-    → (flow ≡ GoOn → stops → ⊥) → (flow ≡ Stop → stops) → IsDelivered is_result jobs group has stops next flow
-heard_paused is_result jobs group had has stops next GoOn hears kept goes ends =
+    → (flow ≡ Continue → stops → ⊥) → (flow ≡ Stop → stops) → IsDelivered is_result jobs group has stops next flow
+heard_paused is_result jobs group had has stops next Continue hears kept goes ends =
     (heard_still is_result jobs had has (min (next * group) jobs) kept hears, goes refl)
 heard_paused is_result jobs group had has stops next Stop hears kept goes ends = (
   heard_some is_result jobs has (min (next * group) jobs) (heard_still is_result jobs had has (min (next * group) jobs) kept hears),
@@ -132,4 +132,4 @@ pub until_some : {H : Type 0} (is_result : ℕ → H → Type 0) (jobs group : �
 until_some is_result jobs group has_received stops next None received =
     heard_some is_result jobs has_received (min (next * group) jobs) received.0
 until_some is_result jobs group has_received stops next (Some Stopped) received = received.0
-until_some is_result jobs group has_received stops next (Some GaveUp) received = received
+until_some is_result jobs group has_received stops next (Some Failed) received = received

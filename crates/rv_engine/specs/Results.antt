@@ -5,9 +5,9 @@ use Rattle.std.specs.Int.{div_ceil}
 use Rattle.std.specs.declared.alloc.Global.{Global}
 use Rattle.rv_engine.specs.declared.engine.RunError.{RunError}
 use Rattle.rv_engine.specs.declared.in_order.End.{End}
-use Rattle.rv_engine.specs.declared.in_order.End.TheVariants.{GaveUp, Stopped}
+use Rattle.rv_engine.specs.declared.in_order.End.TheVariants.{Failed, Stopped}
 use Rattle.rv_engine.specs.declared.listener.Flow.{Flow}
-use Rattle.rv_engine.specs.declared.listener.Flow.TheVariants.{GoOn, Stop}
+use Rattle.rv_engine.specs.declared.listener.Flow.TheVariants.{Continue, Stop}
 
 -- the list has one result for each of the first jobs, in order; `is_result` says which results the job at an index can have
 abbrev pub AreResults : {H : Type 0} → (ℕ → H → Type 0) → List H → Type 0
@@ -31,7 +31,7 @@ pub record HasReceivedSome {H : Type 0} (is_result : ℕ → H → Type 0) (jobs
 -- how many results the listener has received after a run: all of them; or, if it stopped the run, the results up to the job at which it
 -- did; or, after an error, the results of some number of first jobs
 abbrev pub IsRunDelivered : {H : Type 0} → (ℕ → H → Type 0) → ℕ → (List H → Type 0) → Type 0 → Result Flow RunError → Type 0
-IsRunDelivered is_result jobs has_received stops (Ok GoOn) = HasReceived is_result jobs has_received jobs × (stops → ⊥)
+IsRunDelivered is_result jobs has_received stops (Ok Continue) = HasReceived is_result jobs has_received jobs × (stops → ⊥)
 IsRunDelivered is_result jobs has_received stops (Ok Stop) = HasReceivedSome is_result jobs has_received × stops
 IsRunDelivered is_result jobs has_received stops (Err error) = HasReceivedSome is_result jobs has_received
 
@@ -60,7 +60,7 @@ HasReceivedUpTo is_result jobs group has_received stops piece = HasReceived is_r
 abbrev pub HasReceivedUntil : {H : Type 0} → (ℕ → H → Type 0) → ℕ → ℕ → (List H → Type 0) → Type 0 → ℕ → Option End → Type 0
 HasReceivedUntil is_result jobs group has_received stops next None = HasReceivedUpTo is_result jobs group has_received stops next
 HasReceivedUntil is_result jobs group has_received stops next (Some Stopped) = HasReceivedSome is_result jobs has_received × stops
-HasReceivedUntil is_result jobs group has_received stops next (Some GaveUp) = HasReceivedSome is_result jobs has_received
+HasReceivedUntil is_result jobs group has_received stops next (Some Failed) = HasReceivedSome is_result jobs has_received
 
 -- the invariant under the lock of a run: unless the run has ended, the listener has received the results of all chunks before `next`; and
 -- each pending entry has the results of the chunk with the number that is its index
@@ -69,12 +69,12 @@ pub record IsInOrder {H : Type 0} (is_result : ℕ → H → Type 0) (jobs group
   pub received : HasReceivedUntil is_result jobs group has_received stops next ended
   pub waiting : ArePending is_result jobs group pending
 
--- with `GoOn`, a listener has received the results of all chunks before `next`; with `Stop`, it has received the results of some number of
+-- with `Continue`, a listener has received the results of all chunks before `next`; with `Stop`, it has received the results of some number of
 -- first jobs and stopped the run
 abbrev pub IsDelivered : {H : Type 0} → (ℕ → H → Type 0) → ℕ → ℕ → (List H → Type 0) → Type 0 → ℕ → Flow → Type 0
-IsDelivered is_result jobs group has_received stops next GoOn = HasReceivedUpTo is_result jobs group has_received stops next
+IsDelivered is_result jobs group has_received stops next Continue = HasReceivedUpTo is_result jobs group has_received stops next
 IsDelivered is_result jobs group has_received stops next Stop = HasReceivedSome is_result jobs has_received × stops
 
 -- each result that the work can compute for a job is one of the results that the run allows for the job
-abbrev pub AreComputed : {H : Type 0} → (ℕ → H → Type 0) → (ℕ → H → Type 0) → Type 0
-AreComputed {H} is_made is_result = (number : ℕ) (made : H) → is_made number made → is_result number made
+abbrev pub OutputsAreAllowed : {H : Type 0} → (ℕ → H → Type 0) → (ℕ → H → Type 0) → Type 0
+OutputsAreAllowed {H} is_made is_result = (number : ℕ) (made : H) → is_made number made → is_result number made

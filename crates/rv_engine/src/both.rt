@@ -1,7 +1,7 @@
 //! Combines an observer with a listener, or with another observer.
 
 ghost use Rattle.std.specs.Prelude.{◌≡◌, ◌⊎◌};
-ghost use Rattle.rv_engine.specs.declared.listener.Flow.TheVariants.{GoOn, Stop};
+ghost use Rattle.rv_engine.specs.declared.listener.Flow.TheVariants.{Continue, Stop};
 
 use crate::listener::{Flow, Listener, Observer};
 
@@ -23,14 +23,14 @@ impl<H, A: Observer<H> + Drop, B: Listener<H> + Drop> Listener<H> for Both<A, B>
     fn receive(&mut self, made: H) -> Flow {
         let first = self.first.see(&made);
         let second = self.second.receive(made);
-        first_stop(first, second)
+        either_stop(first, second)
     }
 
     // Lets both listeners pause. Returns `Stop` if one of them does.
     fn pause(&mut self) -> Flow {
         let first = self.first.pause();
         let second = self.second.pause();
-        first_stop(first, second)
+        either_stop(first, second)
     }
 }
 
@@ -45,24 +45,24 @@ impl<H, A: Observer<H> + Drop, B: Observer<H> + Drop> Observer<H> for Both<A, B>
     fn see(&mut self, made: &H) -> Flow {
         let first = self.first.see(made);
         let second = self.second.see(made);
-        first_stop(first, second)
+        either_stop(first, second)
     }
 
     // Lets both observers pause. Returns `Stop` if one of them does.
     fn pause(&mut self) -> Flow {
         let first = self.first.pause();
         let second = self.second.pause();
-        first_stop(first, second)
+        either_stop(first, second)
     }
 }
 
-// Returns `Stop` if one of the two is `Stop`, and otherwise `GoOn`.
-fn first_stop(first: Flow, second: Flow) -> Flow
-    ensures goes { result ≡ GoOn → (first ≡ GoOn) × (second ≡ GoOn) }
+// Returns `Stop` if one of the two is `Stop`, and otherwise `Continue`.
+fn either_stop(first: Flow, second: Flow) -> Flow
+    ensures goes { result ≡ Continue → (first ≡ Continue) × (second ≡ Continue) }
     ensures stops { result ≡ Stop → (first ≡ Stop) ⊎ (second ≡ Stop) }
 {
     match first {
         Flow::Stop => Flow::Stop,
-        Flow::GoOn => second,
+        Flow::Continue => second,
     }
 }

@@ -1,12 +1,12 @@
 //! Runs jobs in threads.
 
 ghost use Rattle.std.specs.Prelude.{◌≡◌, [], IfOk};
-ghost use Rattle.rv_engine.specs.Results.{ArePending, AreComputed, IsRunDelivered, HasReceivedUpTo, IsInOrder, chunk_count};
+ghost use Rattle.rv_engine.specs.Results.{ArePending, OutputsAreAllowed, IsRunDelivered, HasReceivedUpTo, IsInOrder, chunk_count};
 ghost use Rattle.rv_engine.specs.declared.engine.RunError.TheVariants.{OutOfMemory};
 
 use crate::crew::Crew;
 use crate::in_order::{
-    End, InOrder, RunSpec, Undelivered, deliver_chunk, no_results, take_pending,
+    End, DeliveryState, RunSpec, Undelivered, deliver_chunk, empty_pending, take_pending,
 };
 use crate::listener::{Flow, Listener};
 use crate::piece::{chunk_count, compute_chunk};
@@ -40,7 +40,7 @@ impl From<AllocError> for RunError {
 
 /// Computes the result of each job on as many threads as the crew has, or one per chunk if there are fewer chunks, and delivers the results
 /// to the listener. The listener receives each result as soon as it has received those of all earlier jobs, and is returned at the end.
-/// With `GoOn` it has received the result of every job, once and in order; with `Stop`, those up to the job at which it stopped the run;
+/// With `Continue` it has received the result of every job, once and in order; with `Stop`, those up to the job at which it stopped the run;
 /// after an error, those of the first jobs. A free thread draws the next chunk; when the run ends, each thread finishes the chunk that it
 /// is computing. All threads are joined.
 ///
@@ -53,7 +53,7 @@ pub fn run_jobs<
     W: Work<H> + Sync,
     L: Listener<H> + Drop + Send,
 >(crew: &Crew<'_, R>, work: &W, listener: L) -> (L, Result<Flow, RunError>)
-    requires results { AreComputed (W.is_made work.now) J.is_result }
+    requires results { OutputsAreAllowed (W.is_made work.now) J.is_result }
     requires jobs { J.jobs ≡ W.jobs work.now }
     requires group { J.group ≡ crew.now.group }
     requires received { L.has_received listener [] }
@@ -61,7 +61,7 @@ pub fn run_jobs<
     ensures { IsRunDelivered J.is_result J.jobs (L.has_received result.0) (L.stops result.0) result.1 }
 {
     let pieces = chunk_count(work.jobs(), crew.group);
-    let pending = match no_results(crew.alloc, pieces) {
+    let pending = match empty_pending(crew.alloc, pieces) {
         Ok(pending) => pending,
         Err(error) => return (listener, Err(RunError::from(error))),
     };
@@ -70,25 +70,25 @@ pub fn run_jobs<
         alloc: crew.alloc,
         work,
         group: crew.group,
-        in_order: Mutex::new(InOrder::<J, H, L>::new(listener, pending)),
+        in_order: Mutex::new(DeliveryState::<J, H, L>::new(listener, pending)),
     };
     let ran = run_workers(crew, &shop, pieces);
     let (listener, rest) = shop.in_order.into_inner().into_parts();
     match ran {
-        Ok(()) => deliver_rest::<J, H, R, W, L>(crew, work, listener, rest),
+        Ok(()) => deliver_remaining::<J, H, R, W, L>(crew, work, listener, rest),
         Err(error) => (listener, Err(error)),
     }
 }
 
 // Delivers to the listener the results that no worker delivered, and returns the listener and the outcome of the run. After a run that ends
 // normally there are no such results.
-fn deliver_rest<J: RunSpec<H>, H: Drop, R, W: Work<H>, L: Listener<H>>(
+fn deliver_remaining<J: RunSpec<H>, H: Drop, R, W: Work<H>, L: Listener<H>>(
     crew: &Crew<'_, R>,
     work: &W,
     listener: L,
     rest: Undelivered<H>,
 ) -> (L, Result<Flow, RunError>)
-    requires results { AreComputed (W.is_made work.now) J.is_result }
+    requires results { OutputsAreAllowed (W.is_made work.now) J.is_result }
     requires jobs { J.jobs ≡ W.jobs work.now }
     requires group { J.group ≡ crew.now.group }
     requires rest { IsInOrder J.is_result J.jobs J.group (L.has_received listener) (L.stops listener) rest.next rest.ended rest.pending.items }
@@ -103,7 +103,7 @@ fn deliver_rest<J: RunSpec<H>, H: Drop, R, W: Work<H>, L: Listener<H>>(
     match ended {
         Some(End::Stopped) => (listener, Ok(Flow::Stop)),
         // Out of memory: a worker gives up for that, and a refused thread has been returned already.
-        Some(End::GaveUp) => (listener, Err(RunError::OutOfMemory)),
+        Some(End::Failed) => (listener, Err(RunError::OutOfMemory)),
         None => {
             let flow = deliver_from::<J, H, R, W, L>(crew, work, &mut listener, pending, next);
             (listener, flow)
@@ -120,7 +120,7 @@ fn deliver_from<J: RunSpec<H>, H: Drop, R, W: Work<H>, L: Listener<H>>(
     pending: Vec<Option<Vec<H>>>,
     next: usize,
 ) -> Result<Flow, RunError>
-    requires results { AreComputed (W.is_made work.now) J.is_result }
+    requires results { OutputsAreAllowed (W.is_made work.now) J.is_result }
     requires jobs { J.jobs ≡ W.jobs work.now }
     requires group { J.group ≡ crew.now.group }
     requires pending { ArePending J.is_result J.jobs J.group pending.items }
@@ -144,5 +144,5 @@ fn deliver_from<J: RunSpec<H>, H: Drop, R, W: Work<H>, L: Listener<H>>(
             return Ok(Flow::Stop);
         }
     }
-    Ok(Flow::GoOn)
+    Ok(Flow::Continue)
 }

@@ -32,12 +32,12 @@ pub(crate) enum End {
     /// The listener stopped the run.
     Stopped,
     /// An allocation or the start of a thread failed.
-    GaveUp,
+    Failed,
 }
 
 /// The state under the lock of a run: the listener, and the results of chunks that were computed before their turn.
 #[derive(Drop)]
-pub(crate) struct InOrder<J: RunSpec<H>, H: Drop, L: Listener<H> + Drop> {
+pub(crate) struct DeliveryState<J: RunSpec<H>, H: Drop, L: Listener<H> + Drop> {
     listener: L,
     // The next chunk to deliver.
     next: usize,
@@ -46,7 +46,7 @@ pub(crate) struct InOrder<J: RunSpec<H>, H: Drop, L: Listener<H> + Drop> {
     of: PhantomData<J>,
 }
 
-impl<J: RunSpec<H>, H: Drop, L: Listener<H> + Drop> Model for InOrder<J, H, L> {
+impl<J: RunSpec<H>, H: Drop, L: Listener<H> + Drop> Model for DeliveryState<J, H, L> {
     ghost use Rattle.rv_engine.specs.Results.{IsInOrder};
 
     ghost Value = { L };
@@ -56,14 +56,14 @@ impl<J: RunSpec<H>, H: Drop, L: Listener<H> + Drop> Model for InOrder<J, H, L> {
     ghost invariant = { λ s. IsInOrder J.is_result J.jobs J.group (L.has_received s.listener) (L.stops s.listener) s.next s.ended s.pending.items };
 }
 
-impl<J: RunSpec<H>, H: Drop, L: Listener<H> + Drop> InOrder<J, H, L> {
+impl<J: RunSpec<H>, H: Drop, L: Listener<H> + Drop> DeliveryState<J, H, L> {
     /// Returns the state of a run before its first result. `pending` has an empty entry for each chunk.
-    pub(crate) fn new(listener: L, pending: Vec<Option<Vec<H>>>) -> InOrder<J, H, L>
+    pub(crate) fn new(listener: L, pending: Vec<Option<Vec<H>>>) -> DeliveryState<J, H, L>
         requires received { L.has_received listener [] }
         requires goes { L.stops listener → ⊥ }
         requires none { (k : ℕ) → slice_index_or pending.items k None ≡ None }
     {
-        InOrder {
+        DeliveryState {
             listener,
             next: 0,
             pending,
@@ -82,7 +82,7 @@ impl<J: RunSpec<H>, H: Drop, L: Listener<H> + Drop> InOrder<J, H, L> {
         }
         let received = deliver_ready::<J, H, L>(&mut self.listener, &mut self.pending, self.next);
         match received.flow {
-            Flow::GoOn => self.next = received.next,
+            Flow::Continue => self.next = received.next,
             Flow::Stop => self.ended = Some(End::Stopped),
         }
         received.flow
@@ -91,7 +91,7 @@ impl<J: RunSpec<H>, H: Drop, L: Listener<H> + Drop> InOrder<J, H, L> {
     /// Ends the run, unless it has ended already. Called after an allocation failed or a thread could not be started.
     pub(crate) fn give_up(&mut self) {
         if self.ended.is_none() {
-            self.ended = Some(End::GaveUp);
+            self.ended = Some(End::Failed);
         }
     }
 
@@ -100,7 +100,7 @@ impl<J: RunSpec<H>, H: Drop, L: Listener<H> + Drop> InOrder<J, H, L> {
         ensures { IsInOrder J.is_result J.jobs J.group (L.has_received result.0) (L.stops result.0)
             result.1.next result.1.ended result.1.pending.items }
     {
-        let InOrder {
+        let DeliveryState {
             listener,
             next,
             pending,
@@ -165,7 +165,7 @@ fn deliver_ready<J: RunSpec<H>, H: Drop, L: Listener<H>>(
 {
     let received = deliver_chunks::<J, H, L>(listener, pending, from);
     match received.flow {
-        Flow::GoOn if received.next > from => DeliveredChunks {
+        Flow::Continue if received.next > from => DeliveredChunks {
             next: received.next,
             flow: listener.pause(),
         },
@@ -190,7 +190,7 @@ fn deliver_chunks<J: RunSpec<H>, H: Drop, L: Listener<H>>(
         let Some(results) = take_pending::<J, H>(pending, next) else {
             return DeliveredChunks {
                 next,
-                flow: Flow::GoOn,
+                flow: Flow::Continue,
             };
         };
         let flow = deliver_chunk::<J, H, L>(listener, next, results);
@@ -200,7 +200,7 @@ fn deliver_chunks<J: RunSpec<H>, H: Drop, L: Listener<H>>(
     }
     DeliveredChunks {
         next: from.max(end),
-        flow: Flow::GoOn,
+        flow: Flow::Continue,
     }
 }
 
@@ -219,7 +219,7 @@ pub(crate) fn deliver_chunk<J: RunSpec<H>, H: Drop, L: Listener<H>>(
             return Flow::Stop;
         }
     }
-    Flow::GoOn
+    Flow::Continue
 }
 
 /// Removes the results of a chunk from `pending` and returns them, or returns `None` if they are not there.
@@ -240,7 +240,7 @@ pub(crate) fn take_pending<J: RunSpec<H>, H: Drop>(
 }
 
 /// Returns a list with an empty entry for the results of each chunk.
-pub(crate) fn no_results<H: Drop>(
+pub(crate) fn empty_pending<H: Drop>(
     alloc: Global,
     pieces: u64,
 ) -> Result<Vec<Option<Vec<H>>>, AllocError>

@@ -3,14 +3,14 @@
 /// Whether a run continues.
 #[derive(Clone, Copy, Debug, PartialEq, Eq)]
 pub enum Flow {
-    GoOn,
+    Continue,
     Stop,
 }
 
 /// Receives the results of jobs one by one, in job order, under a lock of the run.
 pub trait Listener<H> {
     ghost use Rattle.std.specs.Prelude.{◌≡◌, ◌∷◌, ◌++◌, [], List};
-    ghost use Rattle.rv_engine.specs.declared.listener.Flow.TheVariants.{GoOn, Stop};
+    ghost use Rattle.rv_engine.specs.declared.listener.Flow.TheVariants.{Continue, Stop};
 
     // What is true of the listener once it has received these results.
     ghost has_received: { Self → List H → Type 0 };
@@ -22,21 +22,21 @@ pub trait Listener<H> {
     fn receive(&mut self, made: H) -> Flow
         requires goes { stops self.old → ⊥ }
         ensures received { (results : List H) → has_received self.old results → has_received self.new (results ++ made ∷ []) }
-        ensures goes { result ≡ GoOn → stops self.new → ⊥ }
+        ensures goes { result ≡ Continue → stops self.new → ⊥ }
         ensures stops { result ≡ Stop → stops self.new };
 
     /// Flushes the buffered output, since the next result is not ready yet. Returns whether the run continues.
     fn pause(&mut self) -> Flow
         requires goes { stops self.old → ⊥ }
         ensures received { (results : List H) → has_received self.old results → has_received self.new results }
-        ensures goes { result ≡ GoOn → stops self.new → ⊥ }
+        ensures goes { result ≡ Continue → stops self.new → ⊥ }
         ensures stops { result ≡ Stop → stops self.new };
 }
 
 /// Sees the results of jobs before a listener receives them.
 pub trait Observer<H> {
     ghost use Rattle.std.specs.Prelude.{◌≡◌, ◌∷◌, ◌++◌, [], List};
-    ghost use Rattle.rv_engine.specs.declared.listener.Flow.TheVariants.{GoOn, Stop};
+    ghost use Rattle.rv_engine.specs.declared.listener.Flow.TheVariants.{Continue, Stop};
 
     // What is true of the observer once it has seen these results.
     ghost has_seen: { Self → List H → Type 0 };
@@ -48,13 +48,13 @@ pub trait Observer<H> {
     fn see(&mut self, made: &H) -> Flow
         requires goes { stops self.old → ⊥ }
         ensures seen { (results : List H) → has_seen self.old results → has_seen self.new (results ++ made.now ∷ []) }
-        ensures goes { result ≡ GoOn → stops self.new → ⊥ }
+        ensures goes { result ≡ Continue → stops self.new → ⊥ }
         ensures stops { result ≡ Stop → stops self.new };
 
     /// Flushes the buffered output, since the next result is not ready yet. Returns whether the run continues.
     fn pause(&mut self) -> Flow
         requires goes { stops self.old → ⊥ }
         ensures seen { (results : List H) → has_seen self.old results → has_seen self.new results }
-        ensures goes { result ≡ GoOn → stops self.new → ⊥ }
+        ensures goes { result ≡ Continue → stops self.new → ⊥ }
         ensures stops { result ≡ Stop → stops self.new };
 }

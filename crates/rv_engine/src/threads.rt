@@ -2,7 +2,7 @@
 
 ghost use Rattle.std.specs.Prelude.{◌≡◌, ◌≤◌, IfOk};
 ghost use Rattle.std.specs.List.{All};
-ghost use Rattle.rv_claims.specs.Passes.{SharedDraw};
+ghost use Rattle.rv_claims.specs.Passes.{CounterView};
 
 use crate::crew::Crew;
 use crate::engine::RunError;
@@ -15,10 +15,10 @@ use std::thread::Threads;
 /// The work of each thread.
 pub(crate) trait Worker: Sync {
     ghost use Rattle.std.specs.Prelude.{◌≡◌};
-    ghost use Rattle.rv_claims.specs.Passes.{SharedDraw};
+    ghost use Rattle.rv_claims.specs.Passes.{CounterView};
 
     // The chunks of this shared counter are those that the worker can compute.
-    ghost draws: { Self → SharedDraw → Type 0 };
+    ghost draws: { Self → CounterView → Type 0 };
 
     /// Draws chunks and computes them until no chunk is left or the run ends.
     fn compute_chunks(&self, claims: &Claims, pass: Pass) -> Result<(), AllocError>
@@ -36,7 +36,7 @@ pub(crate) fn run_workers<R: Threads + Wait, S: Worker>(
     pieces: u64,
 ) -> Result<(), RunError>
     requires few { pieces ≤ 4096 }
-    requires draws { (draw : SharedDraw) → draw.pieces ≡ pieces → S.draws worker.now draw }
+    requires draws { (draw : CounterView) → draw.pieces ≡ pieces → S.draws worker.now draw }
 {
     let (rt, alloc) = (crew.rt, crew.alloc);
     let (claims, first) = Claims::new(alloc, pieces)?;

@@ -6,7 +6,7 @@ use std::alloc::{AllocError, Global};
 /// Computes a result for each job; jobs are numbered from 0.
 pub trait Work<H> {
     ghost use Rattle.std.specs.Prelude.{◌≡◌, ◌<◌, ◌≤◌, ℕ, IfOk, OnOk};
-    ghost use Rattle.rv_rows.specs.Limits.{most_jobs};
+    ghost use Rattle.rv_rows.specs.Limits.{max_jobs};
     ghost use Rattle.rv_engine.specs.declared.worker_state.WorkerState.{WorkerState};
 
     // The number of jobs.
@@ -21,7 +21,7 @@ pub trait Work<H> {
     /// Returns the number of jobs.
     fn jobs(&self) -> usize
         ensures value { result ≡ jobs self.now }
-        ensures few { result ≤ most_jobs };
+        ensures few { result ≤ max_jobs };
 
     /// Returns the state of a worker that has not run a job yet.
     fn new_worker_state(&self, alloc: Global) -> WorkerState

@@ -1,9 +1,9 @@
 //! The loop of a worker: draws chunks, computes their results and delivers them.
 
-ghost use Rattle.rv_rows.specs.Limits.{most_group};
+ghost use Rattle.rv_rows.specs.Limits.{max_group};
 ghost use Rattle.std.specs.Prelude.{◌≡◌, ◌<◌, ◌≤◌};
 
-use crate::in_order::{InOrder, RunSpec};
+use crate::in_order::{DeliveryState, RunSpec};
 use crate::listener::{Flow, Listener};
 use crate::piece::compute_chunk;
 use crate::threads::Worker;
@@ -19,8 +19,8 @@ pub(crate) struct WorkerContext<'a, J: RunSpec<H>, H: Drop, R, W: Work<H>, L: Li
     pub(crate) alloc: Global,
     pub(crate) work: &'a W,
     pub(crate) group: u32,
-    pub(crate) in_order: Mutex<InOrder<J, H, L>>,
-    pub(crate) ghost group_few: { (0 < group) × (group ≤ most_group) },
+    pub(crate) in_order: Mutex<DeliveryState<J, H, L>>,
+    pub(crate) ghost group_few: { (0 < group) × (group ≤ max_group) },
     pub(crate) ghost jobs: { J.jobs ≡ W.jobs work.now },
     pub(crate) ghost pieces: { J.group ≡ group },
 }
@@ -34,9 +34,9 @@ impl<
     L: Listener<H> + Drop + Send,
 > Worker for WorkerContext<'a, J, H, R, W, L> {
     ghost use Rattle.std.specs.Prelude.{◌≡◌};
-    ghost use Rattle.rv_engine.specs.Results.{AreComputed, chunk_count};
+    ghost use Rattle.rv_engine.specs.Results.{OutputsAreAllowed, chunk_count};
 
-    ghost draws = { λ s draw. (draw.pieces ≡ chunk_count (W.jobs s.work.now) s.group) × AreComputed (W.is_made s.work.now) J.is_result };
+    ghost draws = { λ s draw. (draw.pieces ≡ chunk_count (W.jobs s.work.now) s.group) × OutputsAreAllowed (W.is_made s.work.now) J.is_result };
 
     // Draws chunks, computes them and delivers their results until no chunk is left or the run ends.
     fn compute_chunks(&self, claims: &Claims, pass: Pass) -> Result<(), AllocError> {

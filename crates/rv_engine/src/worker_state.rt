@@ -1,7 +1,7 @@
 //! What a worker carries over from one job to the next.
 
 ghost use Rattle.rv_rows.specs.Plans.{Planned};
-ghost use Rattle.rv_rows.specs.Recent.{AreOutcomes};
+ghost use Rattle.rv_rows.specs.Recent.{AreOutcomesOfPlan};
 
 use rv_rows::{Recent, Spare};
 use std::alloc::Global;
@@ -16,7 +16,7 @@ pub struct WorkerState {
 impl WorkerState {
     /// Returns the state of a worker that has not run a job. Does not allocate.
     pub fn new(alloc: Global) -> WorkerState
-        ensures { (plan : Planned) → AreOutcomes plan result.recent }
+        ensures { (plan : Planned) → AreOutcomesOfPlan plan result.recent }
     {
         WorkerState {
             spare: Spare::new(),

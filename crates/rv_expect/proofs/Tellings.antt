@@ -18,21 +18,21 @@ use Rattle.rv_rows.specs.declared_row.Verdict.{Verdict}
 use Rattle.rv_rows.specs.declared_row.Verdict.TheVariants as verdict
 use Rattle.rv_rows.specs.Report.{word_line}
 use Rattle.rv_rows.specs.Verdict.{are_alike_endings, are_same_outcomes, exits_with, meets_all_expectations, has_expected_console, has_expected_end, has_expected_exit}
-use Rattle.rv_rows.specs.Verdict.{has_expected_signature, is_same_as_named, expects_anything, did_run, lines_of_signature, are_same_signatures}
+use Rattle.rv_rows.specs.Verdict.{has_expected_signature, matches_same_as, has_expectations, did_run, lines_of_signature, are_same_signatures}
 use Rattle.rv_rows.specs.Verdict.{verdict_of}
-use Rattle.rv_expect.specs.declared.difference.SameDifference.TheVariants as same
+use Rattle.rv_expect.specs.declared.difference.SameAsDifference.TheVariants as same
 use Rattle.rv_expect.specs.declared.reference.Reference.{Reference}
 use Rattle.rv_expect.specs.declared.reference.Reference.TheVariants.{Words, BadLine}
 use Rattle.rv_expect.specs.declared.unmet.Unmet.{Unmet}
 use Rattle.rv_expect.specs.declared.unmet.Unmet.TheVariants.{Exit, End, Console, Signature, Same, Nothing}
 use Rattle.rv_expect.specs.Comparisons.{Sides}
-use Rattle.rv_expect.specs.Difference.{console_difference, difference_of_runs, difference_of_texts, first_difference}
+use Rattle.rv_expect.specs.Difference.{console_difference, difference_of_runs, difference_of_outputs, first_difference}
 use Rattle.rv_expect.specs.Difference.{same_as_difference, signatures_difference}
 use Rattle.rv_expect.specs.Reference.{IsWord, difference_from_reference, read_reference}
 use Rattle.rv_expect.specs.Reference.{signature_difference, word_difference, signature_words_or_empty}
-use Rattle.rv_expect.specs.UnmetExpectations.{HasItsVerdict, ReportsUnmet, is_console, is_end, is_exit, is_nothing}
+use Rattle.rv_expect.specs.UnmetExpectations.{HasRequiredVerdict, ReportsUnmetExpectations, is_console, is_end, is_exit, is_nothing}
 use Rattle.rv_expect.specs.UnmetExpectations.{is_same, is_signature, named_outcome, outcome_in_row, passes}
-use Rattle.rv_expect.specs.Unmet.{unmet_of, unmet_of_expecting_job}
+use Rattle.rv_expect.specs.Unmet.{unmet_expectations_of, unmet_of_expecting_job}
 use Rattle.rv_expect.proofs.Differences.{is_some-first_difference}
 use Rattle.rv_expect.proofs.References.{reads, written}
 
@@ -123,7 +123,7 @@ not_both : (a b : Bool) → (not a || not b) ≡ not (a && b)
 not_both true b = refl
 not_both false b = refl
 
-texts_told : (row other : Row) → is_some (difference_of_texts row other)
+texts_told : (row other : Row) → is_some (difference_of_outputs row other)
     ≡ not (bytes_eq row.console other.console && are_same_signatures row.signature other.signature)
 texts_told row other =
     let signatures = signatures_difference row.signature other.signature in
@@ -139,15 +139,15 @@ runs_told : (row other : Row)
     → is_some (difference_of_runs row other) ≡ not (are_same_outcomes (outcome_in_row row) (outcome_in_row other))
 runs_told row other = go (are_alike_endings row.ending other.ending) (texts_told row other)
   where
-    go : (alike : Bool) → is_some (difference_of_texts row other)
+    go : (alike : Bool) → is_some (difference_of_outputs row other)
         ≡ not (bytes_eq row.console other.console && are_same_signatures row.signature other.signature)
-        → is_some (cond alike (difference_of_texts row other) (Some same.Ending))
+        → is_some (cond alike (difference_of_outputs row other) (Some same.Ending))
         ≡ not (alike && (bytes_eq row.console other.console && are_same_signatures row.signature other.signature))
     go true h = h
     go false h = refl
 
 pub same_told : (named : Option ℕ) (other : Option Row) (row : Row)
-    → is_some (same_as_difference named other row) ≡ not (is_same_as_named named (named_outcome other) (outcome_in_row row))
+    → is_some (same_as_difference named other row) ≡ not (matches_same_as named (named_outcome other) (outcome_in_row row))
 same_told None other row = refl
 same_told (Some place) None row = refl
 same_told (Some place) (Some other) row = runs_told row other
@@ -216,8 +216,8 @@ parts_of p sides a b c d e ha hb hc hd he =
     any_of_five p _ _ _ _ _ a b c d e ha hb hc hd he
 
 asked : (sides : Sides)
-    → did_run sides.row.ending ≡ true → expects_anything sides.job ≡ true → AllByRecursion IsWord (signature_words_or_empty sides.row.signature)
-    → ReportsUnmet (unmet_of_expecting_job sides) sides.job (outcome_in_row sides.row) sides.console sides.reference
+    → did_run sides.row.ending ≡ true → has_expectations sides.job ≡ true → AllByRecursion IsWord (signature_words_or_empty sides.row.signature)
+    → ReportsUnmetExpectations (unmet_of_expecting_job sides) sides.job (outcome_in_row sides.row) sides.console sides.reference
     (named_outcome sides.other)
 asked sides runs asks fit =
     let outcome = outcome_in_row sides.row in
@@ -279,13 +279,13 @@ no_reference None file outcome none = refl
 no_reference (Some path) file outcome none = cc
 
 no_same : (named : Option ℕ) (other : Option Outcome) (outcome : Outcome) → is_some named ≡ false
-    → is_same_as_named named other outcome ≡ true
+    → matches_same_as named other outcome ≡ true
 no_same None other outcome none = refl
 no_same (Some place) other outcome none = cc
 
 unasked : (sides : Sides)
-    → expects_anything sides.job ≡ false
-    → ReportsUnmet (option_to_list (cond (has_expected_exit (Some 0) sides.row.ending) None (Some Nothing))) sides.job
+    → has_expectations sides.job ≡ false
+    → ReportsUnmetExpectations (option_to_list (cond (has_expected_exit (Some 0) sides.row.ending) None (Some Nothing))) sides.job
     (outcome_in_row sides.row) sides.console sides.reference (named_outcome sides.other)
 unasked sides none =
     let outcome = outcome_in_row sides.row in
@@ -310,8 +310,8 @@ unasked sides none =
 -- ---- the laws
 
 by_asked : (sides : Sides) (asks : Bool)
-    → expects_anything sides.job ≡ asks → did_run sides.row.ending ≡ true → AllByRecursion IsWord (signature_words_or_empty sides.row.signature)
-    → ReportsUnmet (cond asks (unmet_of_expecting_job sides)
+    → has_expectations sides.job ≡ asks → did_run sides.row.ending ≡ true → AllByRecursion IsWord (signature_words_or_empty sides.row.signature)
+    → ReportsUnmetExpectations (cond asks (unmet_of_expecting_job sides)
     (option_to_list (cond (has_expected_exit (Some 0) sides.row.ending) None (Some Nothing)))) sides.job (outcome_in_row sides.row) sides.console
     sides.reference (named_outcome sides.other)
 by_asked sides true asks runs fit = asked sides runs asks fit
@@ -319,11 +319,11 @@ by_asked sides false none runs fit = unasked sides none
 
 pub tells : (sides : Sides)
     → did_run sides.row.ending ≡ true → AllByRecursion IsWord (signature_words_or_empty sides.row.signature)
-    → ReportsUnmet (unmet_of sides) sides.job (outcome_in_row sides.row) sides.console sides.reference
+    → ReportsUnmetExpectations (unmet_expectations_of sides) sides.job (outcome_in_row sides.row) sides.console sides.reference
     (named_outcome sides.other)
-unfolding unmet_of
+unfolding unmet_expectations_of
 tells sides runs fit =
-    rw runs (by_asked sides (expects_anything sides.job) refl runs fit)
+    rw runs (by_asked sides (has_expectations sides.job) refl runs fit)
 
 -- ---- nothing is told where a job passes
 
@@ -375,7 +375,7 @@ asked_passes sides runs fit =
     let end = has_expected_end sides.job.expect_end sides.row.ending in
     let c = has_expected_console sides.job.expect_console sides.console outcome in
     let g = has_expected_signature sides.job.expect_signature sides.reference outcome in
-    let s = is_same_as_named sides.job.same_as (named_outcome sides.other) outcome in
+    let s = matches_same_as sides.job.same_as (named_outcome sides.other) outcome in
     no_length_of_five _ _ _ _ _ exit end c g s (empty_if Exit exit) (empty_if End end)
     (empty_map Console _ c (console_told sides.job.expect_console sides.console outcome runs))
     (empty_map Signature _ g (signature_told sides.job.expect_signature sides.reference outcome runs fit))
@@ -387,7 +387,7 @@ passes_if true end = refl
 passes_if false end = refl
 
 by_verdict : (sides : Sides) (asks : Bool)
-    → expects_anything sides.job ≡ asks → did_run sides.row.ending ≡ true → AllByRecursion IsWord (signature_words_or_empty sides.row.signature)
+    → has_expectations sides.job ≡ asks → did_run sides.row.ending ≡ true → AllByRecursion IsWord (signature_words_or_empty sides.row.signature)
     → (length (cond asks (unmet_of_expecting_job sides)
     (option_to_list (cond (has_expected_exit (Some 0) sides.row.ending) None (Some Nothing)))) == 0)
     ≡ passes (cond (not asks) verdict.Unasked
@@ -400,12 +400,12 @@ by_verdict sides false asks runs fit =
 
 pub passes_where_empty : (sides : Sides)
     → did_run sides.row.ending ≡ true → AllByRecursion IsWord (signature_words_or_empty sides.row.signature)
-    → HasItsVerdict sides
-    → (length (unmet_of sides) == 0) ≡ passes sides.row.verdict sides.row.ending
-unfolding unmet_of verdict_of
+    → HasRequiredVerdict sides
+    → (length (unmet_expectations_of sides) == 0) ≡ passes sides.row.verdict sides.row.ending
+unfolding unmet_expectations_of verdict_of
 passes_where_empty sides runs fit has =
-    let told = cond (expects_anything sides.job) (unmet_of_expecting_job sides)
+    let told = cond (has_expectations sides.job) (unmet_of_expecting_job sides)
     (option_to_list (cond (has_expected_exit (Some 0) sides.row.ending) None (Some Nothing))) in
     ap (λ (t : Bool). length (cond t told []) == 0) runs
-    ∙ by_verdict sides (expects_anything sides.job) refl runs fit
+    ∙ by_verdict sides (has_expectations sides.job) refl runs fit
     ∙ sym (ap (λ (v : Verdict). passes v sides.row.ending) has)

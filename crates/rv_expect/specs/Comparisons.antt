@@ -16,8 +16,8 @@ pub record Sides : Type 0 where
   pub other : Option Row
 
 -- a comparison of the code as contracts see it, with the values in place of references
-abbrev pub sides_of : Comparison → Sides
-sides_of comparison = record {
+abbrev pub comparison_view : Comparison → Sides
+comparison_view comparison = record {
   job = comparison.job.now;
   row = comparison.row.now;
   console = option_map (λ bytes. bytes.now) comparison.console;

@@ -9,8 +9,8 @@ use Rattle.rv_rows.specs.declared_row.Row.{Row}
 use Rattle.rv_rows.specs.Verdict.{are_alike_endings}
 use Rattle.rv_expect.specs.declared.difference.Difference.{Difference}
 use Rattle.rv_expect.specs.declared.difference.Difference.TheVariants.{At, Lengths, Absent}
-use Rattle.rv_expect.specs.declared.difference.SameDifference.{SameDifference}
-use Rattle.rv_expect.specs.declared.difference.SameDifference.TheVariants as same
+use Rattle.rv_expect.specs.declared.difference.SameAsDifference.{SameAsDifference}
+use Rattle.rv_expect.specs.declared.difference.SameAsDifference.TheVariants as same
 
 -- ---- two lists
 
@@ -66,19 +66,19 @@ signatures_difference (Some words) None = Some Absent
 signatures_difference None (Some others) = Some Absent
 
 -- the first difference between the consoles of two rows, or else between their signatures, or `None` if they agree in both
-abbrev pub difference_of_texts : Row → Row → Option SameDifference
-difference_of_texts row other =
+abbrev pub difference_of_outputs : Row → Row → Option SameAsDifference
+difference_of_outputs row other =
     option_or (option_map same.Console (first_difference row.console other.console))
     (option_map same.Signature (signatures_difference row.signature other.signature))
 
 -- the first difference between two rows: in how they ended, in their consoles, or in their signatures, or `None` if they agree
-abbrev pub difference_of_runs : Row → Row → Option SameDifference
+abbrev pub difference_of_runs : Row → Row → Option SameAsDifference
 difference_of_runs row other =
-    if are_alike_endings row.ending other.ending then difference_of_texts row other
+    if are_alike_endings row.ending other.ending then difference_of_outputs row other
     else Some same.Ending
 
 -- the first difference between a row and the row `other` of the job that `same_as` names, or `None` if they agree or there is no `same_as`
-abbrev pub same_as_difference : Option ℕ → Option Row → Row → Option SameDifference
+abbrev pub same_as_difference : Option ℕ → Option Row → Row → Option SameAsDifference
 same_as_difference None other row = None
 same_as_difference (Some place) None row = Some same.Absent
 same_as_difference (Some place) (Some other) row = difference_of_runs row other

@@ -15,8 +15,8 @@ use Rattle.rv_expect.specs.declared.failure_kind.FailureKind.{FailureKind}
 use Rattle.rv_expect.specs.declared.failure_kind.FailureKind.TheVariants as failure
 use Rattle.rv_expect.specs.Comparisons.{Sides}
 use Rattle.rv_expect.specs.Judgement.{Judging, fails, is_unknown_failure, judgement}
-use Rattle.rv_expect.specs.Unmet.{unmet_of}
-use Rattle.rv_expect.specs.UnmetInPlan.{sides_in}
+use Rattle.rv_expect.specs.Unmet.{unmet_expectations_of}
+use Rattle.rv_expect.specs.UnmetInPlan.{comparison_in}
 use Rattle.rv_expect.specs.declared.unmet.Unmet.{Unmet}
 use Rattle.rv_expect.specs.declared.unmet.Unmet.TheVariants as unmet
 
@@ -27,21 +27,21 @@ abbrev pub failure_kind_count : ℕ
 failure_kind_count = length fault_kinds + 6
 
 -- the kind of failure at an index, counted from `Refused`, which follows the kinds of faults
-abbrev pub kind_after_faults : ℕ → FailureKind
-kind_after_faults index = if index == 0 then failure.Refused
+abbrev pub failure_kind_after_faults : ℕ → FailureKind
+failure_kind_after_faults index = if index == 0 then failure.Refused
     else (if index == 1 then failure.Console else (if index == 2 then failure.Signature else failure.SameAs))
 
 -- the kind of failure at an index, counted from the first kind of fault, which follows `Budget`; the first argument is the kind of fault at
 -- this index, if there is one
-abbrev pub kind_after_budget : Option FaultKind → ℕ → FailureKind
-kind_after_budget (Some kind) index = failure.Fault kind
-kind_after_budget None index = kind_after_faults (index - length fault_kinds)
+abbrev pub failure_kind_after_budget : Option FaultKind → ℕ → FailureKind
+failure_kind_after_budget (Some kind) index = failure.Fault kind
+failure_kind_after_budget None index = failure_kind_after_faults (index - length fault_kinds)
 
 -- the kind of failure at an index: exit, budget, each kind of fault, refused, console, signature, `same_as`
 abbrev pub failure_kind_at : ℕ → FailureKind
 failure_kind_at index =
     if index == 0 then failure.Exit
-    else (if index == 1 then failure.Budget else kind_after_budget (slice_get fault_kinds (index - 2)) (index - 2))
+    else (if index == 1 then failure.Budget else failure_kind_after_budget (slice_get fault_kinds (index - 2)) (index - 2))
 
 -- whether two kinds of failures are equal; two faults must be of one kind
 abbrev pub is_same_failure_kind : FailureKind → FailureKind → Bool
@@ -88,15 +88,15 @@ failures_by_end judging rows = flat_map (λ row. option_to_list (failure_by_end 
 
 -- a row of a plan with the data that it is compared with, as if the job that `same_as` names had not run; so if a job meets all other
 -- expectations and fails, `same_as` is the unmet one
-abbrev pub sides_without_named_job : Planned → Job → Row → Sides
-sides_without_named_job plan job row = record (sides_in plan job row) { other = None }
+abbrev pub comparison_without_same_as : Planned → Job → Row → Sides
+comparison_without_same_as plan job row = record (comparison_in plan job row) { other = None }
 
 -- the kind of failure of a row, given its job in a plan, if there is one: the first unmet expectation decides, or the ending for a job that
 -- passes although it is known to fail
 abbrev pub failure_kind_in_plan : Judging → Planned → Option Job → Row → FailureKind
 failure_kind_in_plan judging plan None row = failure_kind_of_end row.ending
 failure_kind_in_plan judging plan (Some job) row = if is_unknown_failure (judgement judging row)
-    then failure_kind_of_unmet row.ending (unmet_of (sides_without_named_job plan job row))
+    then failure_kind_of_unmet row.ending (unmet_expectations_of (comparison_without_same_as plan job row))
     else failure_kind_of_end row.ending
 
 -- the kind of failure of a row, or `None` if the row does not count as a failure; `place` is the index of its job in the plan

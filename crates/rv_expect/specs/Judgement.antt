@@ -15,12 +15,12 @@ pub record Judging : Type 0 where
   pub known : Option KnownJobs
 
 -- a `Judge` of the code as contracts see it
-abbrev pub judging_of : Judge → Judging
-judging_of judge = record { rule = judge.rule; known = option_map (λ known. known.now) judge.known }
+abbrev pub judge_view : Judge → Judging
+judge_view judge = record { rule = judge.rule; known = option_map (λ known. known.now) judge.known }
 
 -- counting rows by a rule alone, without known failures
-abbrev pub judging_by_rule : Rule → Judging
-judging_by_rule rule = record { rule = rule; known = None }
+abbrev pub judge_by_rule : Rule → Judging
+judge_by_rule rule = record { rule = rule; known = None }
 
 -- how a row counts: it passed or failed; it is a known failure, with a reason; or it passed although the file at a path lists it as a known
 -- failure
@@ -31,11 +31,11 @@ pub data Judged : Type 0 where
   now_passes : List ℕ → Judged
 
 -- a `Judgement` of the code as contracts see it
-abbrev pub judged_of : Judgement → Judged
-judged_of counted.Passed = passed
-judged_of counted.Failed = failed
-judged_of (counted.Known reason) = known reason.now
-judged_of (counted.NowPasses path) = now_passes path.now
+abbrev pub judgement_view : Judgement → Judged
+judgement_view counted.Passed = passed
+judgement_view counted.Failed = failed
+judgement_view (counted.Known reason) = known reason.now
+judgement_view (counted.NowPasses path) = now_passes path.now
 
 -- the judgement of a row whose job is not listed as a known failure, given whether the row passed
 abbrev pub judged_unknown : Bool → Judged
@@ -50,13 +50,13 @@ judged_in_file path true (Some reason) = now_passes path
 judged_in_file path false (Some reason) = known reason
 
 -- the judgement of the row of the job with this name, given the known failures, if a file lists them, and whether the row passed
-abbrev pub judged_by_known : Option KnownJobs → Bool → List ℕ → Judged
-judged_by_known None has_passed name = judged_unknown has_passed
-judged_by_known (Some file) has_passed name = judged_in_file file.path has_passed (reason_of file.jobs name)
+abbrev pub judgement_by_known : Option KnownJobs → Bool → List ℕ → Judged
+judgement_by_known None has_passed name = judged_unknown has_passed
+judgement_by_known (Some file) has_passed name = judged_in_file file.path has_passed (reason_of file.jobs name)
 
 -- the judgement of a row: whether it passed or failed, and whether its job is a known failure
 abbrev pub judgement : Judging → Row → Judged
-judgement judging row = judged_by_known judging.known (has_passed judging.rule row) row.name
+judgement judging row = judgement_by_known judging.known (has_passed judging.rule row) row.name
 
 -- whether a row with this judgement counts as a failure: it failed and is not a known failure, or it passed although it is listed as one
 abbrev pub is_failing : Judged → Bool

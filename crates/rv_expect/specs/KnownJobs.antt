@@ -47,8 +47,8 @@ has_job_named jobs name = list_any (λ job. bytes_eq job name) jobs
 abbrev pub fault_kind : List (List ℕ) → List KnownJob → List ℕ → Option KnownFaultKind
 fault_kind jobs known name = if is_name name
     then (if is_known known name then Some kind.Twice
-    else if has_job_named jobs name then None else Some kind.NoJob)
-    else Some kind.NoName
+    else if has_job_named jobs name then None else Some kind.UnknownJob)
+    else Some kind.InvalidName
 
 -- the error in a line that follows the `earlier` lines, or `None` if it is valid; lines are counted from 1
 abbrev pub fault_of_line : List (List ℕ) → List (List ℕ) → List ℕ → Option KnownFault

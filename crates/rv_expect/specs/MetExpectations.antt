@@ -6,7 +6,7 @@ use Rattle.rv_expect.specs.declared.met_expectations.Expectation.TheVariants as 
 use Rattle.rv_expect.specs.declared.unmet.Unmet.{Unmet}
 use Rattle.rv_expect.specs.declared.unmet.Unmet.TheVariants as unmet
 use Rattle.rv_rows.specs.declared_job.Job.{Job}
-use Rattle.rv_rows.specs.Verdict.{expects_anything}
+use Rattle.rv_rows.specs.Verdict.{has_expectations}
 
 -- whether a job has an expectation of this kind; a job without any other has the default one, exit code 0
 unfoldable pub job_expects : Job → Expectation → Bool
@@ -15,7 +15,7 @@ job_expects job expectation.End = is_some job.expect_end
 job_expects job expectation.Console = is_some job.expect_console
 job_expects job expectation.Signature = is_some job.expect_signature
 job_expects job expectation.Same = is_some job.same_as
-job_expects job expectation.Nothing = not (expects_anything job)
+job_expects job expectation.Nothing = not (has_expectations job)
 
 -- whether an unmet expectation is of this kind
 unfoldable pub is_unmet_of_kind : Expectation → Unmet → Bool

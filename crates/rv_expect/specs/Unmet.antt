@@ -4,7 +4,7 @@ use Rattle.std.specs.Prelude.{if◌then◌else◌}
 use Rattle.rv_rows.specs.declared_job.Job.{Job}
 use Rattle.rv_rows.specs.declared_row.Row.{Row}
 use Rattle.rv_rows.specs.declared_row.RowEnd.{RowEnd}
-use Rattle.rv_rows.specs.Verdict.{has_expected_end, has_expected_exit, expects_anything, did_run}
+use Rattle.rv_rows.specs.Verdict.{has_expected_end, has_expected_exit, has_expectations, did_run}
 use Rattle.rv_expect.specs.Comparisons.{Sides}
 use Rattle.rv_expect.specs.Difference.{console_difference, same_as_difference}
 use Rattle.rv_expect.specs.Reference.{signature_difference}
@@ -51,9 +51,9 @@ unmet_of_expecting_job sides =
     ++ option_to_list (unmet_same_as sides.job sides.other sides.row)
 
 -- the unmet expectations of a row, with the data that it is compared with; a row of a refused job has none
-unfoldable pub unmet_of : Sides → List Unmet
-unmet_of sides =
+unfoldable pub unmet_expectations_of : Sides → List Unmet
+unmet_expectations_of sides =
     if did_run sides.row.ending then
-    (if expects_anything sides.job then unmet_of_expecting_job sides
+    (if has_expectations sides.job then unmet_of_expecting_job sides
     else option_to_list (unmet_default_exit sides.row.ending))
     else []

@@ -9,7 +9,7 @@ use Rattle.rv_rows.specs.declared_row.RowEnd.{RowEnd}
 use Rattle.rv_rows.specs.declared_row.Verdict.{Verdict}
 use Rattle.rv_rows.specs.declared_row.Verdict.TheVariants as verdict
 use Rattle.rv_rows.specs.Verdict.{exits_with, has_expected_console, has_expected_end, has_expected_exit, has_expected_signature}
-use Rattle.rv_rows.specs.Verdict.{is_same_as_named, expects_anything, verdict_of}
+use Rattle.rv_rows.specs.Verdict.{matches_same_as, has_expectations, verdict_of}
 use Rattle.rv_expect.specs.Comparisons.{Sides}
 use Rattle.rv_expect.specs.declared.unmet.Unmet.{Unmet}
 use Rattle.rv_expect.specs.declared.unmet.Unmet.TheVariants.{Exit, End, Console, Signature}
@@ -64,16 +64,16 @@ named_outcome other = option_map outcome_in_row other
 
 -- `told` has each expectation of the job if and only if the outcome does not meet it, and the default one if and only if the job has no
 -- expectations and did not end with exit code 0
-pub record ReportsUnmet (told : List Unmet) (job : Job) (outcome : Outcome)
+pub record ReportsUnmetExpectations (told : List Unmet) (job : Job) (outcome : Outcome)
     (file reference : Option (List ℕ)) (other : Option Outcome) : Type 0 where
   pub exit : list_any is_exit told ≡ not (has_expected_exit job.expect_exit outcome.ending)
   pub end : list_any is_end told ≡ not (has_expected_end job.expect_end outcome.ending)
   pub console : list_any is_console told ≡ not (has_expected_console job.expect_console file outcome)
   pub signature : list_any is_signature told
       ≡ not (has_expected_signature job.expect_signature reference outcome)
-  pub same : list_any is_same told ≡ not (is_same_as_named job.same_as other outcome)
+  pub same : list_any is_same told ≡ not (matches_same_as job.same_as other outcome)
   pub nothing : list_any is_nothing told
-      ≡ (not (expects_anything job) && not (exits_with 0 outcome.ending))
+      ≡ (not (has_expectations job) && not (exits_with 0 outcome.ending))
 
 -- whether a job passes: its verdict is `pass`, or it has no expectations and ended with exit code 0
 abbrev pub passes : Verdict → RowEnd → Bool
@@ -82,7 +82,7 @@ passes verdict.Fail end = false
 passes verdict.Unasked end = exits_with 0 end
 
 -- the row has the verdict that its outcome requires
-abbrev pub HasItsVerdict : Sides → Type 0
-HasItsVerdict sides =
+abbrev pub HasRequiredVerdict : Sides → Type 0
+HasRequiredVerdict sides =
     sides.row.verdict ≡ verdict_of sides.job (outcome_in_row sides.row) sides.reference
     sides.console (named_outcome sides.other)

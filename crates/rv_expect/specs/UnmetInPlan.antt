@@ -6,7 +6,7 @@ use Rattle.rv_rows.specs.declared_row.Row.{Row}
 use Rattle.rv_rows.specs.Rows.{expected_console_bytes, signature_reference_bytes, row_of}
 use Rattle.rv_expect.specs.Comparisons.{Sides}
 use Rattle.rv_expect.specs.declared.unmet.Unmet.{Unmet}
-use Rattle.rv_expect.specs.Unmet.{unmet_of}
+use Rattle.rv_expect.specs.Unmet.{unmet_expectations_of}
 
 -- the row of the job that a job's `same_as` names, or `None` if it names none
 abbrev pub row_of_same_as_job : Planned → Job → Option Row
@@ -15,8 +15,8 @@ row_of_same_as_job plan job =
 
 -- the row of a plan's job with the data that it is compared with: the contents of the job's files, and the row of the job that its
 -- `same_as` names
-abbrev pub sides_in : Planned → Job → Row → Sides
-sides_in plan job row = record {
+abbrev pub comparison_in : Planned → Job → Row → Sides
+comparison_in plan job row = record {
   job = job;
   row = row;
   console = expected_console_bytes plan.answers job;
@@ -25,5 +25,5 @@ sides_in plan job row = record {
 }
 
 -- the unmet expectations of this row of a plan's job
-abbrev pub unmet_in : Planned → Job → Row → List Unmet
-unmet_in plan job row = unmet_of (sides_in plan job row)
+abbrev pub unmet_expectations_in : Planned → Job → Row → List Unmet
+unmet_expectations_in plan job row = unmet_expectations_of (comparison_in plan job row)

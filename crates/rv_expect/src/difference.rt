@@ -33,7 +33,7 @@ pub enum SignatureDifference {
 
 /// The first difference between a row and the row of the job that `same_as` names.
 #[derive(Clone, Copy)]
-pub enum SameDifference {
+pub enum SameAsDifference {
     /// The ends of the runs.
     Ending,
     /// The bytes of the consoles.
@@ -106,31 +106,31 @@ pub(crate) fn same_as_difference(
     named: Option<usize>,
     other: Option<&Row>,
     row: &Row,
-) -> Option<SameDifference>
+) -> Option<SameAsDifference>
     ensures { result ≡ same_as_difference named (option_map (λ row. row.now) other.entry) row.now }
 {
     match (named, other) {
         (None, _) => None,
-        (Some(_), None) => Some(SameDifference::Absent),
+        (Some(_), None) => Some(SameAsDifference::Absent),
         (Some(_), Some(other)) => difference_of_runs(row, other),
     }
 }
 
 // Returns the first difference between two rows: in how they ended, in their consoles, or in their signatures, or `None` if they agree.
-fn difference_of_runs(row: &Row, other: &Row) -> Option<SameDifference>
+fn difference_of_runs(row: &Row, other: &Row) -> Option<SameAsDifference>
     ensures { result ≡ difference_of_runs row.now other.now }
 {
     if !are_alike_endings(row.ending, other.ending) {
-        return Some(SameDifference::Ending);
+        return Some(SameAsDifference::Ending);
     }
     if let Some(difference) = first_byte_difference(
         row.console.as_slice(),
         other.console.as_slice(),
     ) {
-        return Some(SameDifference::Console(difference));
+        return Some(SameAsDifference::Console(difference));
     }
     match signatures_difference(&row.signature, &other.signature) {
-        Some(difference) => Some(SameDifference::Signature(difference)),
+        Some(difference) => Some(SameAsDifference::Signature(difference)),
         None => None,
     }
 }

@@ -3,7 +3,7 @@
 ghost use Rattle.std.specs.Prelude.{◌≡◌, slice_get};
 ghost use Rattle.rv_rows.specs.Faults.{fault_kinds};
 ghost use Rattle.rv_expect.specs.FailureKinds.{failure_kind_at, failure_kind_of_end, failure_kind_of_first, failure_kind_of_unmet, is_same_failure_kind};
-ghost use Rattle.rv_expect.specs.FailureKinds.{kind_after_budget, kind_after_faults};
+ghost use Rattle.rv_expect.specs.FailureKinds.{failure_kind_after_budget, failure_kind_after_faults};
 
 use crate::unmet::Unmet;
 use rv_rows::{FaultKind, RowEnd};
@@ -42,7 +42,7 @@ impl FailureKind {
         } else if index == 1 {
             FailureKind::Budget
         } else {
-            kind_after_budget(index - 2)
+            failure_kind_after_budget(index - 2)
         }
     }
 
@@ -60,7 +60,7 @@ impl FailureKind {
 
     /// Returns the kind of a failure, given how the job ended and its unmet expectations: the first one decides, or the ending if there are
     /// none.
-    pub fn of_unmet(ending: RowEnd, unmet: &[Unmet]) -> FailureKind
+    pub fn of_expectations(ending: RowEnd, unmet: &[Unmet]) -> FailureKind
         ensures { result ≡ failure_kind_of_unmet ending unmet.now }
     {
         match unmet.first() {
@@ -87,18 +87,18 @@ impl FailureKind {
 }
 
 // Returns the kind of failure at an index, counted from the first kind of fault, which follows `Budget`.
-fn kind_after_budget(index: usize) -> FailureKind
-    ensures { result ≡ kind_after_budget (slice_get fault_kinds index) index }
+fn failure_kind_after_budget(index: usize) -> FailureKind
+    ensures { result ≡ failure_kind_after_budget (slice_get fault_kinds index) index }
 {
     match FaultKind::ALL.get(index) {
         Some(kind) => FailureKind::Fault(*kind),
-        None => kind_after_faults(index.saturating_sub(FaultKind::ALL.len())),
+        None => failure_kind_after_faults(index.saturating_sub(FaultKind::ALL.len())),
     }
 }
 
 // Returns the kind of failure at an index, counted from `Refused`, which follows the kinds of faults.
-fn kind_after_faults(index: usize) -> FailureKind
-    ensures { result ≡ kind_after_faults index }
+fn failure_kind_after_faults(index: usize) -> FailureKind
+    ensures { result ≡ failure_kind_after_faults index }
 {
     match index {
         0 => FailureKind::Refused,

@@ -3,9 +3,9 @@
 ghost use Rattle.std.specs.Prelude.{◌≡◌, ◌++◌, ◌<◌, ◌≤◌, IfOk, OnOk, length, option_to_list, slice_index_or};
 ghost use Rattle.rv_rows.specs.declared_job.Job.{Job as AJob};
 ghost use Rattle.rv_expect.specs.FailureKinds.{failure_by_end, failure_in_plan, failure_kind_of_unmet, failures_by_end, failures_in_plan};
-ghost use Rattle.rv_expect.specs.FailureKinds.{sides_without_named_job};
-ghost use Rattle.rv_expect.specs.Judgement.{judging_of};
-ghost use Rattle.rv_expect.specs.Unmet.{unmet_of};
+ghost use Rattle.rv_expect.specs.FailureKinds.{comparison_without_same_as};
+ghost use Rattle.rv_expect.specs.Judgement.{judge_view};
+ghost use Rattle.rv_expect.specs.Unmet.{unmet_expectations_of};
 
 use crate::comparison::Comparison;
 use crate::failure_kind::FailureKind;
@@ -21,7 +21,7 @@ pub fn failures_by_end(
     judge: &Judge<'_>,
     rows: &[Row],
 ) -> Result<Vec<FailureKind>, AllocError>
-    ensures { IfOk result (λ failures. failures.items ≡ failures_by_end (judging_of judge.now) rows.now) }
+    ensures { IfOk result (λ failures. failures.items ≡ failures_by_end (judge_view judge.now) rows.now) }
 {
     let mut failures = Vec::new(alloc);
     for row in rows {
@@ -40,7 +40,7 @@ pub fn failures_in_plan(
 ) -> Result<Vec<FailureKind>, AllocError>
     requires { length rows.now ≤ length places.now }
     ensures { IfOk result (λ failures. failures.items
-        ≡ failures_in_plan (judging_of judge.now) plan.now places.now rows.now) }
+        ≡ failures_in_plan (judge_view judge.now) plan.now places.now rows.now) }
 {
     let mut failures = Vec::new(alloc);
     for i in 0..rows.len() {
@@ -65,7 +65,7 @@ fn push_if_failed(
 
 // Returns the kind of failure of a row, by how its job ended, or `None` if the row does not count as a failure.
 fn failure_by_end(judge: &Judge<'_>, row: &Row) -> Option<FailureKind>
-    ensures { result ≡ failure_by_end (judging_of judge.now) row.now }
+    ensures { result ≡ failure_by_end (judge_view judge.now) row.now }
 {
     if judge.fails(row) {
         Some(FailureKind::of_end(row.ending))
@@ -82,7 +82,7 @@ fn failure_in_plan(
     place: usize,
     row: &Row,
 ) -> Result<Option<FailureKind>, AllocError>
-    ensures { IfOk result (λ failure. failure ≡ failure_in_plan (judging_of judge.now) plan.now place row.now) }
+    ensures { IfOk result (λ failure. failure ≡ failure_in_plan (judge_view judge.now) plan.now place row.now) }
 {
     if !judge.fails(row) {
         return Ok(None);
@@ -90,13 +90,13 @@ fn failure_in_plan(
     if !judge.judgement(row).is_unknown_failure() || place >= plan.jobs() {
         return Ok(Some(FailureKind::of_end(row.ending)));
     }
-    let kind = kind_of_job(alloc, plan, place, row)?;
+    let kind = failure_kind_of_job(alloc, plan, place, row)?;
     Ok(Some(kind))
 }
 
 // Returns the kind of failure of a row, by the first unmet expectation of its job, which is at the index `place` of the plan. The job that
 // `same_as` names is not run again: `same_as` counts as unmet.
-fn kind_of_job(
+fn failure_kind_of_job(
     alloc: Global,
     plan: &Plan,
     place: usize,
@@ -105,7 +105,7 @@ fn kind_of_job(
     requires { place < length plan.now.jobs }
     ensures { IfOk result (λ kind. (d : AJob)
         → kind ≡ failure_kind_of_unmet row.now.ending
-        (unmet_of (sides_without_named_job plan.now (slice_index_or plan.now.jobs place d) row.now))) }
+        (unmet_expectations_of (comparison_without_same_as plan.now (slice_index_or plan.now.jobs place d) row.now))) }
 {
     let comparison = Comparison {
         job: plan.job(place),
@@ -115,5 +115,5 @@ fn kind_of_job(
         other: None,
     };
     let unmet = unmet_expectations(alloc, &comparison)?;
-    Ok(FailureKind::of_unmet(row.ending, unmet.as_slice()))
+    Ok(FailureKind::of_expectations(row.ending, unmet.as_slice()))
 }

@@ -2,8 +2,8 @@
 
 ghost use Rattle.std.specs.Prelude.{◌≡◌};
 ghost use Rattle.std.specs.List.{list_any};
-ghost use Rattle.rv_expect.specs.Judgement.{fails, is_failing, is_known_failure, is_passed, is_unknown_failure, judged_in_file, judged_of, judged_unknown};
-ghost use Rattle.rv_expect.specs.Judgement.{judgement, judging_by_rule, judging_of};
+ghost use Rattle.rv_expect.specs.Judgement.{fails, is_failing, is_known_failure, is_passed, is_unknown_failure, judged_in_file, judgement_view, judged_unknown};
+ghost use Rattle.rv_expect.specs.Judgement.{judgement, judge_by_rule, judge_view};
 ghost use Rattle.rv_expect.specs.KnownJobs.{reason_of};
 
 use crate::known_jobs::KnownJobs;
@@ -32,14 +32,14 @@ pub enum Judgement<'k> {
 impl<'k> Judge<'k> {
     /// Returns a judge that applies only this rule, without known failures.
     pub fn by_rule(rule: Rule) -> Judge<'k>
-        ensures { judging_of result ≡ judging_by_rule rule }
+        ensures { judge_view result ≡ judge_by_rule rule }
     {
         Judge { rule, known: None }
     }
 
     /// Returns the judgement of a row: whether it passed or failed, and whether its job is a known failure.
     pub fn judgement(&self, row: &Row) -> Judgement<'k>
-        ensures { judged_of result ≡ judgement (judging_of self.now) row.now }
+        ensures { judgement_view result ≡ judgement (judge_view self.now) row.now }
     {
         let passed = has_passed(self.rule, row);
         match self.known {
@@ -50,14 +50,14 @@ impl<'k> Judge<'k> {
 
     /// Whether a row counts as a failure: its job failed and is not a known failure, or it passed although it is listed as one.
     pub fn fails(&self, row: &Row) -> bool
-        ensures { result ≡ fails (judging_of self.now) row.now }
+        ensures { result ≡ fails (judge_view self.now) row.now }
     {
         self.judgement(row).is_failing()
     }
 
     /// Whether at least one of the rows counts as a failure.
-    pub fn fail_some(&self, rows: &[Row]) -> bool
-        ensures { result ≡ list_any (fails (judging_of self.now)) rows.now }
+    pub fn any_counts_as_failure(&self, rows: &[Row]) -> bool
+        ensures { result ≡ list_any (fails (judge_view self.now)) rows.now }
     {
         rows.iter().any(|row| self.fails(row))
     }
@@ -67,7 +67,7 @@ impl<'k> Judgement<'k> {
     /// Whether a row with this judgement counts as a failure: it failed and is not a known failure, or it passed although it is listed as
     /// one.
     pub fn is_failing(self) -> bool
-        ensures { result ≡ is_failing (judged_of self.entry) }
+        ensures { result ≡ is_failing (judgement_view self.entry) }
     {
         match self {
             Judgement::Failed | Judgement::NowPasses(_) => true,
@@ -77,7 +77,7 @@ impl<'k> Judgement<'k> {
 
     /// Whether a row with this judgement passed and is not listed as a known failure.
     pub fn is_passed(self) -> bool
-        ensures { result ≡ is_passed (judged_of self.entry) }
+        ensures { result ≡ is_passed (judgement_view self.entry) }
     {
         match self {
             Judgement::Passed => true,
@@ -87,7 +87,7 @@ impl<'k> Judgement<'k> {
 
     /// Whether a row with this judgement failed and is not listed as a known failure.
     pub fn is_unknown_failure(self) -> bool
-        ensures { result ≡ is_unknown_failure (judged_of self.entry) }
+        ensures { result ≡ is_unknown_failure (judgement_view self.entry) }
     {
         match self {
             Judgement::Failed => true,
@@ -97,7 +97,7 @@ impl<'k> Judgement<'k> {
 
     /// Whether a row with this judgement failed and is listed as a known failure.
     pub fn is_known(self) -> bool
-        ensures { result ≡ is_known_failure (judged_of self.entry) }
+        ensures { result ≡ is_known_failure (judgement_view self.entry) }
     {
         match self {
             Judgement::Known(_) => true,
@@ -108,7 +108,7 @@ impl<'k> Judgement<'k> {
 
 // Returns the judgement of a row whose job is not listed as a known failure, given whether the row passed.
 fn judgement_of_unknown<'k>(passed: bool) -> Judgement<'k>
-    ensures { judged_of result ≡ judged_unknown passed }
+    ensures { judgement_view result ≡ judged_unknown passed }
 {
     if passed {
         Judgement::Passed
@@ -119,7 +119,7 @@ fn judgement_of_unknown<'k>(passed: bool) -> Judgement<'k>
 
 // Returns the judgement of a row, given the file of known failures and whether the row passed.
 fn judgement_in_file<'k>(known: &'k KnownJobs, passed: bool, row: &Row) -> Judgement<'k>
-    ensures { judged_of result ≡ judged_in_file known.now.path passed (reason_of known.now.jobs row.now.name) }
+    ensures { judgement_view result ≡ judged_in_file known.now.path passed (reason_of known.now.jobs row.now.name) }
 {
     match (passed, known.reason_of(row.name.as_str().as_bytes())) {
         (_, None) => judgement_of_unknown(passed),

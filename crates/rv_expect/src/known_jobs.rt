@@ -46,11 +46,11 @@ pub(crate) fn known_job_of<'a>(jobs: &'a [KnownJob], name: &[u8]) -> Option<&'a 
 #[derive(Clone, Copy, Debug, PartialEq, Eq)]
 pub enum KnownFaultKind {
     /// The part before the reason is not a valid job name.
-    NoName,
+    InvalidName,
     /// An earlier line has the same name.
     Twice,
     /// The list has no job of this name.
-    NoJob,
+    UnknownJob,
 }
 
 /// An error in a line of a text.

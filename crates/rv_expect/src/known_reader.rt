@@ -78,11 +78,11 @@ fn fault_kind(jobs: &[&str], known: &[KnownJob], name: &[u8]) -> Option<KnownFau
     ensures { result ≡ fault_kind (job_names jobs.now) known.now name.now }
 {
     if !is_name(name) {
-        Some(KnownFaultKind::NoName)
+        Some(KnownFaultKind::InvalidName)
     } else if is_known(known, name) {
         Some(KnownFaultKind::Twice)
     } else if !has_job_named(jobs, name) {
-        Some(KnownFaultKind::NoJob)
+        Some(KnownFaultKind::UnknownJob)
     } else {
         None
     }

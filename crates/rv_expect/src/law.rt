@@ -5,15 +5,15 @@ ghost use Rattle.std.specs.List.{AllByRecursion, flat_map};
 ghost use Rattle.rv_rows.specs.declared_job.Job.{Job};
 ghost use Rattle.rv_rows.specs.Plans.{Planned};
 ghost use Rattle.rv_rows.specs.Report.{word_line};
-ghost use Rattle.rv_rows.specs.Rows.{expected_console_bytes, named_job_outcome, outcome_in, signature_reference_bytes, row_of};
+ghost use Rattle.rv_rows.specs.Rows.{expected_console_bytes, same_as_outcome, outcome_in, signature_reference_bytes, row_of};
 ghost use Rattle.rv_rows.specs.Verdict.{did_run};
 ghost use Rattle.rv_expect.specs.declared.reference.Reference.TheVariants.{Words};
 ghost use Rattle.rv_expect.specs.Comparisons.{Sides};
 ghost use Rattle.rv_expect.specs.Difference.{IsDifference, first_difference};
-ghost use Rattle.rv_expect.specs.UnmetInPlan.{unmet_in};
+ghost use Rattle.rv_expect.specs.UnmetInPlan.{unmet_expectations_in};
 ghost use Rattle.rv_expect.specs.Reference.{IsReferenceOf, IsWord, read_reference, signature_words_or_empty};
-ghost use Rattle.rv_expect.specs.UnmetExpectations.{HasItsVerdict, ReportsUnmet, named_outcome, outcome_in_row, passes};
-ghost use Rattle.rv_expect.specs.Unmet.{unmet_of};
+ghost use Rattle.rv_expect.specs.UnmetExpectations.{HasRequiredVerdict, ReportsUnmetExpectations, named_outcome, outcome_in_row, passes};
+ghost use Rattle.rv_expect.specs.Unmet.{unmet_expectations_of};
 
 /// Proves that `first_difference` is right: the two lists differ as it says, and are equal before that; if it is `None`, they are equal.
 pub fn differences_are_first()
@@ -36,7 +36,7 @@ pub fn unmet_is_what_does_not_hold()
     ensures { (sides : Sides)
         → IsTrue (did_run sides.row.ending)
         → AllByRecursion IsWord (signature_words_or_empty sides.row.signature)
-        → ReportsUnmet (unmet_of sides) sides.job (outcome_in_row sides.row)
+        → ReportsUnmetExpectations (unmet_expectations_of sides) sides.job (outcome_in_row sides.row)
         sides.console sides.reference (named_outcome sides.other) }
 {}
 
@@ -47,8 +47,8 @@ pub fn nothing_is_unmet_where_a_job_passes()
     ensures { (sides : Sides)
         → IsTrue (did_run sides.row.ending)
         → AllByRecursion IsWord (signature_words_or_empty sides.row.signature)
-        → HasItsVerdict sides
-        → (length (unmet_of sides) == 0) ≡ passes sides.row.verdict sides.row.ending }
+        → HasRequiredVerdict sides
+        → (length (unmet_expectations_of sides) == 0) ≡ passes sides.row.verdict sides.row.ending }
 {}
 
 /// Proves that for a job of a plan which ran, and whose signature has 32-bit words, an expectation is reported as unmet if and only if it
@@ -58,11 +58,11 @@ pub fn unmet_of_a_plan_is_what_does_not_hold()
     ensures told { (plan : Planned) (job : Job)
         → IsTrue (did_run (row_of plan job).ending)
         → AllByRecursion IsWord (signature_words_or_empty (row_of plan job).signature)
-        → ReportsUnmet (unmet_in plan job (row_of plan job)) job
-        (outcome_in plan.answers job) (expected_console_bytes plan.answers job) (signature_reference_bytes plan.answers job) (named_job_outcome plan job) }
+        → ReportsUnmetExpectations (unmet_expectations_in plan job (row_of plan job)) job
+        (outcome_in plan.answers job) (expected_console_bytes plan.answers job) (signature_reference_bytes plan.answers job) (same_as_outcome plan job) }
     ensures passes { (plan : Planned) (job : Job)
         → IsTrue (did_run (row_of plan job).ending)
         → AllByRecursion IsWord (signature_words_or_empty (row_of plan job).signature)
-        → (length (unmet_in plan job (row_of plan job)) == 0)
+        → (length (unmet_expectations_in plan job (row_of plan job)) == 0)
         ≡ passes (row_of plan job).verdict (row_of plan job).ending }
 {}

@@ -29,7 +29,7 @@ mod two_ends;
 mod unmet;
 
 pub use comparison::Comparison;
-pub use difference::{Difference, SameDifference, SignatureDifference};
+pub use difference::{Difference, SameAsDifference, SignatureDifference};
 pub use failure_kind::FailureKind;
 pub use failures::{failures_by_end, failures_in_plan};
 pub use judgement::{Judge, Judgement};

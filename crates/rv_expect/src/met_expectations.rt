@@ -5,7 +5,7 @@ ghost use Rattle.std.specs.List.{list_any};
 ghost use Rattle.rv_expect.specs.MetExpectations.{job_expects, is_expectation_met, is_unmet_of_kind};
 
 use crate::unmet::Unmet;
-use rv_rows::{Job, expects_anything};
+use rv_rows::{Job, has_expectations};
 
 /// The kinds of expectations that a job can have.
 #[derive(Clone, Copy)]
@@ -44,7 +44,7 @@ fn job_expects(job: &Job, one: Expectation) -> bool
         Expectation::Console => job.expect_console.is_some(),
         Expectation::Signature => job.expect_signature.is_some(),
         Expectation::Same => job.same_as.is_some(),
-        Expectation::Nothing => !expects_anything(job),
+        Expectation::Nothing => !has_expectations(job),
     }
 }
 

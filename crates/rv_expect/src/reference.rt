@@ -5,7 +5,7 @@ ghost use Rattle.rv_expect.specs.Reference.{difference_from_reference, read_refe
 ghost use Rattle.rv_expect.specs.Reference.{word_of_line, signature_words_or_empty};
 
 use crate::difference::{Difference, SignatureDifference, first_word_difference};
-use rv_rows::{LINE, Text, Words, word_line};
+use rv_rows::{WORD_LINE_LEN, Text, Words, word_line};
 use std::alloc::{AllocError, Global};
 
 /// The text of an expected signature, as it was read.
@@ -72,12 +72,12 @@ fn read_reference(alloc: Global, text: &[u8]) -> Result<Reference, AllocError>
 {
     let mut words = Vec::new(alloc);
     let mut rest = text;
-    while LINE <= rest.len() {
-        match word_of_line(&rest[..LINE]) {
+    while WORD_LINE_LEN <= rest.len() {
+        match word_of_line(&rest[..WORD_LINE_LEN]) {
             Some(word) => words.push(word)?,
             None => return Ok(Reference::BadLine(words.len() + 1)),
         }
-        rest = &rest[LINE..];
+        rest = &rest[WORD_LINE_LEN..];
     }
     if rest.is_empty() {
         Ok(Reference::Words(Words::new(words)))
@@ -89,11 +89,11 @@ fn read_reference(alloc: Global, text: &[u8]) -> Result<Reference, AllocError>
 // Returns the word in a line, or `None` if the line is not eight lower-case hexadecimal digits and a line feed. Digits are decoded in
 // either case, so the word is written again and compared.
 fn word_of_line(line: &[u8]) -> Option<u32>
-    requires { length line.now ≡ LINE }
+    requires { length line.now ≡ WORD_LINE_LEN }
     ensures { result ≡ word_of_line line.now }
 {
     let mut bytes = [0u8; 4];
-    if hex::decode_to_slice(&line[..LINE - 1], &mut bytes).is_err() {
+    if hex::decode_to_slice(&line[..WORD_LINE_LEN - 1], &mut bytes).is_err() {
         return None;
     }
     let word = u32::from_be_bytes(bytes);

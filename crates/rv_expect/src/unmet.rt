@@ -1,16 +1,16 @@
 //! The expectations that a run does not meet.
 
 ghost use Rattle.std.specs.Prelude.{◌≡◌, ◌++◌, IfOk, OnOk, option_map, option_to_list};
-ghost use Rattle.rv_expect.specs.Unmet.{unmet_console, unmet_end, unmet_exit, unmet_default_exit, unmet_of, unmet_same_as};
+ghost use Rattle.rv_expect.specs.Unmet.{unmet_console, unmet_end, unmet_exit, unmet_default_exit, unmet_expectations_of, unmet_same_as};
 ghost use Rattle.rv_expect.specs.Unmet.{unmet_signature};
-ghost use Rattle.rv_expect.specs.Comparisons.{sides_of};
+ghost use Rattle.rv_expect.specs.Comparisons.{comparison_view};
 
 use crate::comparison::Comparison;
 use crate::difference::{
-    Difference, SameDifference, SignatureDifference, console_difference, same_as_difference,
+    Difference, SameAsDifference, SignatureDifference, console_difference, same_as_difference,
 };
 use crate::reference::signature_difference;
-use rv_rows::{Job, Row, RowEnd, did_run, expects_anything, has_expected_end, has_expected_exit};
+use rv_rows::{Job, Row, RowEnd, did_run, has_expectations, has_expected_end, has_expected_exit};
 use std::alloc::{AllocError, Global};
 
 /// An expectation of a job that its run does not meet, with the first difference.
@@ -23,26 +23,26 @@ pub enum Unmet {
     Console(Difference),
     Signature(SignatureDifference),
     /// The result of the job that `same_as` names.
-    Same(SameDifference),
+    Same(SameAsDifference),
     /// Exit code 0, for a job without any other expectation.
     Nothing,
 }
 
 /// Returns the expectations of a job that its run does not meet, in the order exit, end, console, signature, `same_as`. A refused job has
 /// none: its refusal explains why nothing ran.
-#[tactic(auto, unfolding(crate::specs::Unmet::unmet_of))]
+#[tactic(auto, unfolding(crate::specs::Unmet::unmet_expectations_of))]
 pub fn unmet_expectations(
     alloc: Global,
     comparison: &Comparison<'_, '_>,
 ) -> Result<Vec<Unmet>, AllocError>
-    ensures { IfOk result (λ found. found.items ≡ unmet_of (sides_of comparison.now)) }
+    ensures { IfOk result (λ found. found.items ≡ unmet_expectations_of (comparison_view comparison.now)) }
 {
     let (job, row) = (comparison.job, comparison.row);
     let mut found = Vec::new(alloc);
     if !did_run(row.ending) {
         return Ok(found);
     }
-    if !expects_anything(job) {
+    if !has_expectations(job) {
         push_if_unmet(&mut found, unmet_default_exit(row.ending))?;
         return Ok(found);
     }

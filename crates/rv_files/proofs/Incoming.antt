@@ -5,7 +5,7 @@ use Rattle.std.proofs.lemmas.List.{take_all}
 use Rattle.std.proofs.Math.Seq.{take-append_seam}
 use Rattle.std.specs.Io.KnownBytes.{Consumes}
 use Rattle.std.proofs.KnownBytes.{Consumes-trans, Consumes-all}
-use Rattle.rv_files.specs.Input.{GrowsByRead}
+use Rattle.rv_files.specs.Input.{AppendsRead}
 
 short : (most : ℕ) (known : Option (List ℕ)) (bytes : List ℕ) → length bytes ≤ most
     → IfSome known (λ all. bytes ≡ [] ++ all) → IfSome known (λ all. bytes ≡ take most all)
@@ -16,7 +16,7 @@ short most (Some all) bytes within same =
 
 -- a read that takes none ends the input
 pub all_read : (most : ℕ) (a b c : Option (List ℕ)) (old new : List ℕ) (count : ℕ) → Consumes a b old
-    → GrowsByRead most b c old new count → count ≡ 0 → IfSome a (λ all. new ≡ take most all)
+    → AppendsRead most b c old new count → count ≡ 0 → IfSome a (λ all. new ≡ take most all)
 all_read most a b c old new count before grows none =
     let within : length new ≤ most = rw grows.grown
     (omega (arith, length-append old grows.more, grows.counted, grows.room)) in

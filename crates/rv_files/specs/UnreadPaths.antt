@@ -3,8 +3,8 @@ use Rattle.std.specs.Prelude.{◌≡◌, ℕ, List, [], ◌∷◌, IfSome, Optio
 use Rattle.std.specs.declared.io.ErrorKind.{ErrorKind}
 use Rattle.std.specs.Path.{path_join}
 use Rattle.rv_base.specs.Files.{FileContents}
-use Rattle.rv_files.specs.declared.file_store.WholeError.{WholeError}
-use Rattle.rv_files.specs.declared.file_store.WholeError.TheVariants as whole
+use Rattle.rv_files.specs.declared.file_store.ReadWholeError.{ReadWholeError}
+use Rattle.rv_files.specs.declared.file_store.ReadWholeError.TheVariants as whole
 use Rattle.rv_files.specs.declared.recording_store.UnreadablePath.{UnreadablePath}
 
 -- the path joined to the directory `folder` if the path is relative and there is a directory; otherwise the path itself
@@ -17,20 +17,20 @@ abbrev pub contents_below : Option (List ℕ) → Option FileContents → Option
 contents_below folder known = option_map (λ files path. files (resolved_path folder path)) known
 
 -- if the system failed to read a path, and the contents of files are known, then no file has this path
-abbrev pub HasNoContentsIfUnreadable : Option FileContents → List ℕ → WholeError → Type 0
+abbrev pub HasNoContentsIfUnreadable : Option FileContents → List ℕ → ReadWholeError → Type 0
 HasNoContentsIfUnreadable known path (whole.Failed reason) = IfSome known (λ files. files path ≡ None)
 HasNoContentsIfUnreadable known path whole.TooLong = Unit {0}
 HasNoContentsIfUnreadable known path whole.OutOfMemory = Unit {0}
 
 -- the record that a path could not be read for this reason
-abbrev pub unread_entry : List ℕ → ErrorKind → UnreadablePath
-unread_entry path reason = record {
+abbrev pub unreadable_path : List ℕ → ErrorKind → UnreadablePath
+unreadable_path path reason = record {
   path = path;
   reason = reason;
 }
 
 -- a record of the path if the system failed to open or read it, or else none
-abbrev pub unread_entries : List ℕ → WholeError → List UnreadablePath
-unread_entries path (whole.Failed reason) = unread_entry path reason ∷ []
-unread_entries path whole.TooLong = []
-unread_entries path whole.OutOfMemory = []
+abbrev pub unreadable_paths_after : List ℕ → ReadWholeError → List UnreadablePath
+unreadable_paths_after path (whole.Failed reason) = unreadable_path path reason ∷ []
+unreadable_paths_after path whole.TooLong = []
+unreadable_paths_after path whole.OutOfMemory = []

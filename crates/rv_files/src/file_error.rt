@@ -13,7 +13,7 @@ pub enum FileError {
     /// The system failed to open the file, to sync it to disk or to move it to its path, for this reason.
     Failed(ErrorKind),
     /// The path denotes a file that was already written.
-    SamePlace,
+    SameFile,
 }
 
 impl From<AllocError> for FileError {

@@ -15,7 +15,7 @@ use std::rt::Files;
 
 /// Why a file could not be read whole.
 #[derive(Clone, Copy, Debug, PartialEq, Eq)]
-pub enum WholeError {
+pub enum ReadWholeError {
     /// The file could not be opened, or a read failed, for this reason.
     Failed(ErrorKind),
     /// There are more than 16,777,216 bytes.
@@ -24,42 +24,42 @@ pub enum WholeError {
     OutOfMemory,
 }
 
-impl From<InputError> for WholeError {
-    ghost use Rattle.rv_files.specs.Input.{input_failure};
+impl From<InputError> for ReadWholeError {
+    ghost use Rattle.rv_files.specs.Input.{read_whole_error};
 
-    ghost from_gives = { λ input error. error ≡ input_failure input };
+    ghost from_gives = { λ input error. error ≡ read_whole_error input };
 
     // Returns why a file could not be read whole, given why a limited read of it failed.
-    fn from(error: InputError) -> WholeError {
+    fn from(error: InputError) -> ReadWholeError {
         match error {
-            InputError::OutOfMemory => WholeError::OutOfMemory,
-            InputError::Failed(reason) => WholeError::Failed(reason),
+            InputError::OutOfMemory => ReadWholeError::OutOfMemory,
+            InputError::Failed(reason) => ReadWholeError::Failed(reason),
         }
     }
 }
 
-impl From<AllocError> for WholeError {
-    ghost use Rattle.rv_files.specs.declared.file_store.WholeError.TheVariants.{OutOfMemory};
+impl From<AllocError> for ReadWholeError {
+    ghost use Rattle.rv_files.specs.declared.file_store.ReadWholeError.TheVariants.{OutOfMemory};
 
     ghost from_gives = { λ _ error. error ≡ OutOfMemory };
 
     // Returns the error for a failed allocation: out of memory.
-    fn from(_: AllocError) -> WholeError {
-        WholeError::OutOfMemory
+    fn from(_: AllocError) -> ReadWholeError {
+        ReadWholeError::OutOfMemory
     }
 }
 
-impl From<WholeError> for ReadError {
-    ghost use Rattle.rv_files.specs.Input.{read_failure};
+impl From<ReadWholeError> for ReadError {
+    ghost use Rattle.rv_files.specs.Input.{store_error};
 
-    ghost from_gives = { λ whole error. error ≡ read_failure whole };
+    ghost from_gives = { λ whole error. error ≡ store_error whole };
 
     // Returns the error of a store, given why a file could not be read whole.
-    fn from(error: WholeError) -> ReadError {
+    fn from(error: ReadWholeError) -> ReadError {
         match error {
-            WholeError::Failed(_) => ReadError::Unreadable,
-            WholeError::TooLong => ReadError::TooLong,
-            WholeError::OutOfMemory => ReadError::OutOfMemory,
+            ReadWholeError::Failed(_) => ReadError::Unreadable,
+            ReadWholeError::TooLong => ReadError::TooLong,
+            ReadWholeError::OutOfMemory => ReadError::OutOfMemory,
         }
     }
 }
@@ -89,7 +89,7 @@ impl<'a, R: Files> FileStore<'a, R> {
             (λ error. self.new.faults ≡ faults_after error self.old.faults) }
     {
         match read_file(self.files, alloc, path) {
-            Err(WholeError::Failed(_)) => Err(self.count_fault()),
+            Err(ReadWholeError::Failed(_)) => Err(self.count_fault()),
             answer => Ok(answer?),
         }
     }
@@ -125,31 +125,31 @@ pub(crate) fn read_file<R: Files>(
     files: &R,
     alloc: Global,
     path: &str,
-) -> Result<Vec<u8>, WholeError>
+) -> Result<Vec<u8>, ReadWholeError>
     ensures opened { IfOk result (λ bytes. (file : R.File)
         × IfSome (R.File.remaining file) (λ known. bytes.items ≡ known)) }
     ensures within { IfOk result (λ bytes. length bytes.items ≤ most_bytes) }
-    ensures long { IfErr result (λ error. error ≡ WholeError.TooLong → (file : R.File)
+    ensures long { IfErr result (λ error. error ≡ ReadWholeError.TooLong → (file : R.File)
         × IfSome (R.File.remaining file) (λ known. most_bytes < length known)) }
 {
     match fs::open(files, path) {
         Ok(mut file) => read_whole(alloc, &mut file),
-        Err(error) => Err(WholeError::Failed(error.kind())),
+        Err(error) => Err(ReadWholeError::Failed(error.kind())),
     }
 }
 
 /// Returns the remaining bytes of a reader, or an error if there are more than 16,777,216. At most one byte more than that is read.
-pub fn read_whole<R: Read>(alloc: Global, file: &mut R) -> Result<Vec<u8>, WholeError>
+pub fn read_whole<R: Read>(alloc: Global, file: &mut R) -> Result<Vec<u8>, ReadWholeError>
     ensures whole { IfOk result (λ bytes. IfSome (R.remaining file.old)
         (λ known. bytes.items ≡ known)) }
     ensures within { IfOk result (λ bytes. length bytes.items ≤ most_bytes) }
     ensures long { IfErr result
-        (λ error. error ≡ WholeError.TooLong → IfSome (R.remaining file.old)
+        (λ error. error ≡ ReadWholeError.TooLong → IfSome (R.remaining file.old)
         (λ known. most_bytes < length known)) }
 {
     let bytes = read_at_most(alloc, file, MOST_BYTES + 1)?;
     if bytes.len() > MOST_BYTES {
-        return Err(WholeError::TooLong);
+        return Err(ReadWholeError::TooLong);
     }
     Ok(bytes)
 }

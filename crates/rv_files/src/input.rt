@@ -2,7 +2,7 @@
 
 ghost use Rattle.std.specs.Prelude.{◌≡◌, ◌≤◌, ◌<◌, IfOk, IfSome, length, take, vec_len};
 ghost use Rattle.std.specs.Io.KnownBytes.{Consumes};
-ghost use Rattle.rv_files.specs.Input.{GrowsByRead};
+ghost use Rattle.rv_files.specs.Input.{AppendsRead};
 
 use std::alloc::{AllocError, Global};
 use std::io::{ErrorKind, Read};
@@ -61,7 +61,7 @@ fn read_chunk<R: Read>(
     most: usize,
 ) -> Result<usize, InputError>
     requires { vec_len bytes.old < most }
-    ensures { IfOk result (GrowsByRead most (R.remaining input.old) (R.remaining input.new)
+    ensures { IfOk result (AppendsRead most (R.remaining input.old) (R.remaining input.new)
         bytes.old.items bytes.new.items) }
 {
     let room = (most - bytes.len()).min(CHUNK);

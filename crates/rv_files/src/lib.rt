@@ -30,7 +30,7 @@ mod tests;
 
 pub use file_error::FileError;
 pub use file_lock::FileLock;
-pub use file_store::{FileStore, WholeError, read_whole};
+pub use file_store::{FileStore, ReadWholeError, read_whole};
 pub use input::{InputError, read_at_most};
 pub use inputs::{Inputs, SystemInputs, read_whole_up_to};
 pub use io_errors::{io_error_text, write_error_text};

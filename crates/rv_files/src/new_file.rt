@@ -16,7 +16,7 @@ where
     let old = replaceable_file(files, places.whole.as_str())?;
     let file = create_locked_file(files, places.new.as_str())?;
     if let Some(old) = old {
-        keep_attributes(files, places.new.as_str(), &file, &old)?;
+        copy_attributes(files, places.new.as_str(), &file, &old)?;
     }
     Ok(file)
 }
@@ -38,7 +38,7 @@ fn create_locked_file<R: Files>(files: &R, path: &str) -> io::Result<R::File>
 where
     R::File: FileLock,
 {
-    let _left = lock_left_file(files, path)?;
+    let _left = lock_leftover_file(files, path)?;
     match files.remove_file(path) {
         Ok(()) => {}
         Err(error) if error.kind() == ErrorKind::NotFound => {}
@@ -57,7 +57,7 @@ where
 
 // Locks the file that an earlier run left at a path, and returns it, or returns `None` if no regular file is there. If another process has
 // locked it, this is an error.
-fn lock_left_file<R: Files>(files: &R, path: &str) -> io::Result<Option<R::File>>
+fn lock_leftover_file<R: Files>(files: &R, path: &str) -> io::Result<Option<R::File>>
 where
     R::File: FileLock,
 {
@@ -81,7 +81,7 @@ fn is_still_at<R: Files>(files: &R, file: &R::File, path: &str) -> bool {
 }
 
 // Gives a new file the mode of the file with the metadata `old`, and its owner and group if the system allows it.
-fn keep_attributes<R: Files>(
+fn copy_attributes<R: Files>(
     files: &R,
     path: &str,
     file: &R::File,
@@ -103,7 +103,7 @@ pub(crate) fn sync_directory<R: Files>(files: &R, path: &str) {
 
 /// Returns an error if the file cannot be placed at its final path: its directory does not exist, or a read-only file is there. This is
 /// checked before the file is created.
-pub(crate) fn check_distinct_files<R: Files>(files: &R, places: &FilePaths) -> io::Result<()> {
+pub(crate) fn check_destination<R: Files>(files: &R, places: &FilePaths) -> io::Result<()> {
     replaceable_file(files, places.whole.as_str())?;
     files.metadata(directory_of(places.whole.as_str()).as_str())?;
     Ok(())

@@ -59,14 +59,14 @@ pub trait Outputs {
         requires { Self.File.failed file ≡ 0 }
         ensures same { placed self.new ≡ placed self.old }
         ensures synced { IfOk result (λ synced. synced_bytes synced ≡ Self.File.taken file) }
-        ensures another_error { IfErr result (λ error. error ≢ FileError.SamePlace) };
+        ensures another_error { IfErr result (λ error. error ≢ FileError.SameFile) };
 
     /// Places a file at its path.
     fn place(&mut self, place: Self::Place, file: Self::Synced) -> Result<(), FileError>
         ensures placed { OnOk result
             (IsCommittedFileAdded (placed self.old) (placed self.new) (pending_path place) (synced_bytes file)) }
         ensures same { OnErr result (placed self.new ≡ placed self.old) }
-        ensures another_error { IfErr result (λ error. error ≢ FileError.SamePlace) };
+        ensures another_error { IfErr result (λ error. error ≢ FileError.SameFile) };
 
     /// Removes a file that was not placed. Any file at its path remains.
     fn abandon(&mut self, place: Self::Place)

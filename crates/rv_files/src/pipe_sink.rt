@@ -2,7 +2,7 @@
 
 ghost use Rattle.std.specs.Prelude.{◌≡◌, ◌≤◌, ◌||◌, Bool, None, IfOk, IfErr, OnErr, false, length, take};
 ghost use Rattle.std.specs.Io.KnownBytes.{Appends};
-ghost use Rattle.rv_base.specs.Sinks.{AppendsBeginning};
+ghost use Rattle.rv_base.specs.Sinks.{AppendsPrefix};
 ghost use Rattle.rv_base.specs.Counts.{one_more};
 ghost use Rattle.rv_files.specs.IoErrors.{is_broken_pipe};
 
@@ -72,7 +72,7 @@ impl<W: Write + Drop> Sink for PipeSink<W> {
         ensures written { IfOk result (λ count. Appends (W.contents self.old.stream)
             (W.contents self.new.stream) (take count bytes.now)) }
         ensures part { OnErr result
-            (AppendsBeginning (W.contents self.old.stream) (W.contents self.new.stream) bytes.now) }
+            (AppendsPrefix (W.contents self.old.stream) (W.contents self.new.stream) bytes.now) }
         ensures counted { IfOk result (λ _. self.new.failures ≡ self.old.failures) }
         ensures failure { IfErr result (λ _. self.new.failures ≡ one_more self.old.failures) }
         ensures open { IfOk result (λ _. self.new.is_closed ≡ self.old.is_closed) }
@@ -103,7 +103,7 @@ impl<W: Write + Drop> Closable for PipeSink<W> {
 fn write_and_flush<W: Write>(stream: &mut W, bytes: &[u8]) -> Result<usize, ErrorKind>
     ensures within { IfOk result (λ count. (1 ≤ count) × (count ≤ length bytes.now)) }
     ensures written { IfOk result (λ count. Appends (W.contents stream.old) (W.contents stream.new) (take count bytes.now)) }
-    ensures part { OnErr result (AppendsBeginning (W.contents stream.old) (W.contents stream.new) bytes.now) }
+    ensures part { OnErr result (AppendsPrefix (W.contents stream.old) (W.contents stream.new) bytes.now) }
 {
     let count = match stream.write(bytes) {
         Ok(0) => return Err(ErrorKind::WriteZero),

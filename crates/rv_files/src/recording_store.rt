@@ -4,9 +4,9 @@ ghost use Rattle.std.specs.Prelude.{◌≡◌, ◌≤◌, ◌<◌, ◌++◌, ◌
 ghost use Rattle.std.specs.Prelude.{IfErr, IfOk, IfSome, IsSomeAnd, MatchResult, OnErr, OnOk};
 ghost use Rattle.std.specs.Option.{option_copied};
 ghost use Rattle.rv_base.specs.Limits.{most_bytes};
-ghost use Rattle.rv_files.specs.UnreadPaths.{HasNoContentsIfUnreadable, contents_below, unread_entry, unread_entries};
+ghost use Rattle.rv_files.specs.UnreadPaths.{HasNoContentsIfUnreadable, contents_below, unreadable_path, unreadable_paths_after};
 
-use crate::file_store::WholeError;
+use crate::file_store::ReadWholeError;
 use crate::inputs::{Inputs, read_whole_up_to};
 use crate::roots::resolved_path;
 use rv_base::limits::MOST_BYTES;
@@ -61,35 +61,35 @@ impl<'a, D: Inputs> RecordingStore<'a, D> {
     }
 
     // Reads the file at a path, which is relative to the store's directory, and records the path if it is unreadable.
-    fn read_noting_failure(&mut self, alloc: Global, path: &str) -> Result<Vec<u8>, WholeError>
+    fn read_and_record(&mut self, alloc: Global, path: &str) -> Result<Vec<u8>, ReadWholeError>
         ensures same { (self.new.inputs ≡ self.old.inputs) × (self.new.folder ≡ self.old.folder) }
         ensures known { IfOk result (λ bytes.
             IfSome (contents_below (option_copied self.old.folder) (D.contents self.old.inputs.now))
             (λ files. files path.now ≡ Some bytes.items)) }
         ensures within { IfOk result (λ bytes. length bytes.items ≤ most_bytes) }
-        ensures long { IfErr result (λ error. error ≡ WholeError.TooLong →
+        ensures long { IfErr result (λ error. error ≡ ReadWholeError.TooLong →
             IfSome (contents_below (option_copied self.old.folder) (D.contents self.old.inputs.now))
             (λ files. IsSomeAnd (files path.now) (λ bytes. most_bytes < length bytes))) }
         ensures missing { IfErr result (HasNoContentsIfUnreadable
             (contents_below (option_copied self.old.folder) (D.contents self.old.inputs.now)) path.now) }
         ensures noted { MatchResult result (λ _. self.new.unread.items ≡ self.old.unread.items)
             (λ error. self.new.unread.items
-            ≡ self.old.unread.items ++ unread_entries path.now error) }
+            ≡ self.old.unread.items ++ unreadable_paths_after path.now error) }
     {
         let answer = self.read_resolved_path(alloc, path);
-        if let Err(WholeError::Failed(reason)) = answer {
+        if let Err(ReadWholeError::Failed(reason)) = answer {
             self.record_unreadable(alloc, path, reason)?;
         }
         answer
     }
 
     // Reads the file at a path, which is relative to the store's directory.
-    fn read_resolved_path(&self, alloc: Global, path: &str) -> Result<Vec<u8>, WholeError>
+    fn read_resolved_path(&self, alloc: Global, path: &str) -> Result<Vec<u8>, ReadWholeError>
         ensures known { IfOk result (λ bytes.
             IfSome (contents_below (option_copied self.now.folder) (D.contents self.now.inputs.now))
             (λ files. files path.now ≡ Some bytes.items)) }
         ensures within { IfOk result (λ bytes. length bytes.items ≤ most_bytes) }
-        ensures long { IfErr result (λ error. error ≡ WholeError.TooLong →
+        ensures long { IfErr result (λ error. error ≡ ReadWholeError.TooLong →
             IfSome (contents_below (option_copied self.now.folder) (D.contents self.now.inputs.now))
             (λ files. IsSomeAnd (files path.now) (λ bytes. most_bytes < length bytes))) }
         ensures missing { IfErr result (HasNoContentsIfUnreadable
@@ -98,7 +98,7 @@ impl<'a, D: Inputs> RecordingStore<'a, D> {
         let place = resolved_path(alloc, self.folder, path)?;
         match read_whole_up_to(self.inputs, alloc, place.as_str(), MOST_BYTES)? {
             Some(bytes) => Ok(bytes),
-            None => Err(WholeError::TooLong),
+            None => Err(ReadWholeError::TooLong),
         }
     }
 
@@ -111,7 +111,7 @@ impl<'a, D: Inputs> RecordingStore<'a, D> {
     ) -> Result<(), AllocError>
         ensures inputs { (self.new.inputs ≡ self.old.inputs) × (self.new.folder ≡ self.old.folder) }
         ensures noted { OnOk result
-            (self.new.unread.items ≡ self.old.unread.items ++ unread_entry path.now reason ∷ []) }
+            (self.new.unread.items ≡ self.old.unread.items ++ unreadable_path path.now reason ∷ []) }
         ensures same { OnErr result (self.new.unread.items ≡ self.old.unread.items) }
     {
         let path = Text::new(String::from_str(alloc, path)?);
@@ -127,7 +127,7 @@ impl<'a, D: Inputs> Store for RecordingStore<'a, D> {
 
     // Reads the file at a path, and records the path if it is unreadable.
     fn read(&mut self, alloc: Global, path: &str) -> Result<Vec<u8>, ReadError> {
-        Ok(self.read_noting_failure(alloc, path)?)
+        Ok(self.read_and_record(alloc, path)?)
     }
 
     // Returns the number of unreadable paths.

@@ -42,7 +42,7 @@ pub(crate) fn temporary_and_final_path<R: Files>(
     alloc: Global,
     path: &str,
 ) -> Result<Option<FilePaths>, FileError>
-    ensures { IfErr result (λ error. error ≢ FileError.SamePlace) }
+    ensures { IfErr result (λ error. error ≢ FileError.SameFile) }
 {
     if !is_replaceable(files, path)? {
         return Ok(None);
@@ -69,7 +69,7 @@ fn may_be_replaced(met: &Metadata) -> bool
 }
 
 // The maximum number of links followed in a chain, as on Linux.
-const MOST_LINKS: u32 = 40;
+const MAX_LINKS: u32 = 40;
 
 /// Returns the path at the end of the chain of symbolic links that begins at a path, or the path itself if it is not a link.
 pub(crate) fn follow_links<R: Files>(
@@ -77,10 +77,10 @@ pub(crate) fn follow_links<R: Files>(
     alloc: Global,
     path: &str,
 ) -> Result<PathBuf, FileError>
-    ensures { IfErr result (λ error. error ≢ FileError.SamePlace) }
+    ensures { IfErr result (λ error. error ≢ FileError.SameFile) }
 {
     let mut place = PathBuf::from_str(alloc, path)?;
-    for _ in 0..=MOST_LINKS {
+    for _ in 0..=MAX_LINKS {
         if !is_link(files, place.as_str()) {
             return Ok(place);
         }

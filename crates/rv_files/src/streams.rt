@@ -2,7 +2,7 @@
 
 ghost use Rattle.std.specs.Prelude.{◌≡◌, ◌≤◌, None, IfOk, IfErr, OnErr, length, take};
 ghost use Rattle.std.specs.Io.KnownBytes.{Appends};
-ghost use Rattle.rv_base.specs.Sinks.{AppendsBeginning};
+ghost use Rattle.rv_base.specs.Sinks.{AppendsPrefix};
 ghost use Rattle.rv_base.specs.Counts.{one_more};
 
 use crate::last_error::LastError;
@@ -61,7 +61,7 @@ impl<W: Write + Drop> Sink for StreamSink<W> {
         ensures written { IfOk result (λ count. Appends (W.contents self.old.stream)
             (W.contents self.new.stream) (take count bytes.now)) }
         ensures part { OnErr result
-            (AppendsBeginning (W.contents self.old.stream) (W.contents self.new.stream) bytes.now) }
+            (AppendsPrefix (W.contents self.old.stream) (W.contents self.new.stream) bytes.now) }
         ensures counted { IfOk result (λ _. self.new.failures ≡ self.old.failures) }
         ensures failure { IfErr result (λ _. self.new.failures ≡ one_more self.old.failures) }
     {

@@ -6,7 +6,7 @@ use crate::file_error::FileError;
 use crate::file_identity::{canonical_path, file_identity};
 use crate::file_lock::FileLock;
 use crate::file_sink::FileSink;
-use crate::new_file::{check_distinct_files, create_new_file, sync_directory};
+use crate::new_file::{check_destination, create_new_file, sync_directory};
 use crate::outputs::Outputs;
 use crate::sink_paths::{
     FilePaths, follow_links, is_same_file, temporary_and_final_path, with_new_suffix,
@@ -70,7 +70,7 @@ where
         path: &str,
         places: Option<&FilePaths>,
     ) -> Result<R::File, FileError>
-        ensures first { IfErr result (λ error. error ≡ FileError.SamePlace → 0 < vec_len self.old.unplaced) }
+        ensures first { IfErr result (λ error. error ≡ FileError.SameFile → 0 < vec_len self.old.unplaced) }
     {
         let _streams = (
             open_null_device(self.files),
@@ -89,7 +89,7 @@ where
         alloc: Global,
         places: &FilePaths,
     ) -> Result<R::File, FileError>
-        ensures first { IfErr result (λ error. error ≡ FileError.SamePlace → 0 < vec_len self.old.unplaced) }
+        ensures first { IfErr result (λ error. error ≡ FileError.SameFile → 0 < vec_len self.old.unplaced) }
     {
         self.check_not_same_file(alloc, places)?;
         self.record_uncommitted(alloc, places.new.as_str())?;
@@ -105,14 +105,14 @@ where
     // Returns an error if the final or temporary path of a file belongs to another file that is not yet placed: neither would end up
     // complete.
     fn check_not_same_file(&self, alloc: Global, places: &FilePaths) -> Result<(), FileError>
-        ensures first { IfErr result (λ error. error ≡ FileError.SamePlace → 0 < vec_len self.now.unplaced) }
+        ensures first { IfErr result (λ error. error ≡ FileError.SameFile → 0 < vec_len self.now.unplaced) }
     {
         // If the other file's final path is this one's temporary path, this is the other's temporary path.
         let newer = with_new_suffix(alloc, places.new.as_str())?;
         for other in &self.unplaced {
             for path in [&places.new, &places.whole, &newer] {
                 if is_same_file(self.files, alloc, path.as_str(), other.as_str())? {
-                    return Err(FileError::SamePlace);
+                    return Err(FileError::SameFile);
                 }
             }
         }
@@ -202,7 +202,7 @@ where
     fn replaced_files(&self, alloc: Global, path: &str) -> Result<Vec<Text>, FileError> {
         match temporary_and_final_path(self.files, alloc, path)? {
             Some(places) => {
-                check_distinct_files(self.files, &places)?;
+                check_destination(self.files, &places)?;
                 Ok(places.identities(self.files, alloc)?)
             }
             None => Ok(Vec::new(alloc)),
@@ -217,7 +217,7 @@ where
     ) -> Result<(PendingFile, FileSink<R::File>), FileError>
         ensures path { IfOk result (λ made. made.0.given ≡ path.now) }
         ensures unfailed { IfOk result (λ made. made.1.stream.failures ≡ 0) }
-        ensures first { IfErr result (λ error. error ≡ FileError.SamePlace → 0 < vec_len self.old.unplaced) }
+        ensures first { IfErr result (λ error. error ≡ FileError.SameFile → 0 < vec_len self.old.unplaced) }
     {
         let given = Text::copy(alloc, path)?;
         let places = temporary_and_final_path(self.files, alloc, path)?;

@@ -39,7 +39,7 @@ fn write_file<F: Outputs>(
 fn answer_text(answer: Result<(), FileError>) -> &'static str {
     match answer {
         Ok(()) => "placed",
-        Err(FileError::SamePlace) => "the same place",
+        Err(FileError::SameFile) => "the same place",
         Err(FileError::Failed(_)) => "failed",
         Err(FileError::OutOfMemory) => "out of memory",
     }

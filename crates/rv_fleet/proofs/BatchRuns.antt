@@ -4,7 +4,7 @@ use Rattle.std.proofs.lemmas.Bool.{false_from_ne_true}
 use Rattle.std.proofs.lemmas.List.{length-map, get_or-map, ext_get_or}
 use Rattle.rv_engine.specs.declared.engine.RunError.{RunError}
 use Rattle.rv_engine.specs.declared.listener.Flow.{Flow}
-use Rattle.rv_engine.specs.declared.listener.Flow.TheVariants.{GoOn}
+use Rattle.rv_engine.specs.declared.listener.Flow.TheVariants.{Continue}
 use Rattle.rv_engine.specs.Results.{IsRunDelivered}
 use Rattle.rv_fleet.specs.declared.batch.Batch.{Batch}
 use Rattle.rv_fleet.specs.Batches.{batch_rows, row_of_number}
@@ -24,7 +24,7 @@ heard_rows batch rows count each =
     (λ i inside. each i e inside ∙ sym (get_or-map row places i 0 e (omega (arith, inside, count))))
 
 -- a run that was not stopped heard all of them, and its rows are kept
-pub all_heard : (batch : Batch) (refused : Bool) (kept : List Row) (ran : Result Flow RunError) → ran ≡ Ok GoOn
+pub all_heard : (batch : Batch) (refused : Bool) (kept : List Row) (ran : Result Flow RunError) → ran ≡ Ok Continue
     → IsRunDelivered (λ (k : ℕ) (row : Row). row ≡ row_of_number batch k) (length batch.places.now)
     (λ (rows : List Row). refused ≡ false → kept ≡ rows) (refused ≡ true) ran
     → kept ≡ batch_rows batch

@@ -4,18 +4,18 @@ use Rattle.std.specs.Prelude.{slice_index_or}
 use Rattle.rv_fleet.specs.declared.piece.Piece.{Piece}
 use Rattle.rv_fleet.specs.declared.pieces.Pieces.{Pieces}
 use Rattle.rv_rows.specs.declared_row.Row.{Row}
-use Rattle.rv_fleet.specs.Pieces.{count_of_pieces, numbered_piece, piece_rows}
+use Rattle.rv_fleet.specs.Pieces.{piece_count, numbered_piece, piece_rows}
 
 -- the chunk has the number and the rows of one of the batch's chunks
-abbrev pub IsPiece : Pieces → Piece → Type 0
-IsPiece pieces piece =
-    (piece.number < count_of_pieces pieces) × (piece ≡ numbered_piece pieces piece.number)
+abbrev pub IsIndexRange : Pieces → Piece → Type 0
+IsIndexRange pieces piece =
+    (piece.number < piece_count pieces) × (piece ≡ numbered_piece pieces piece.number)
 
 -- each chunk in the list has the number and the rows of one of the batch's chunks
-abbrev pub ArePieces : Pieces → List Piece → Type 0
-ArePieces pieces made = All (IsPiece pieces) made
+abbrev pub AreIndexRanges : Pieces → List Piece → Type 0
+AreIndexRanges pieces made = All (IsIndexRange pieces) made
 
 -- there is one slot for each chunk, in order, and each slot is empty or has the rows of its chunk
-abbrev pub IsFilled : Pieces → List (Option (List Row)) → Type 0
-IsFilled pieces slots = (length slots ≡ count_of_pieces pieces)
+abbrev pub AreChunkSlots : Pieces → List (Option (List Row)) → Type 0
+AreChunkSlots pieces slots = (length slots ≡ piece_count pieces)
     × ((k : ℕ) → IfSome (slice_index_or slots k None) (λ part. part ≡ piece_rows pieces k))

@@ -30,8 +30,8 @@ piece_at plan group k = piece_for (rows_of plan) group k
 -- ---- the chunks of a batch
 
 -- the number of chunks that a batch is divided into
-abbrev pub count_of_pieces : Pieces → ℕ
-count_of_pieces pieces = piece_count_of_rows (batch_rows pieces.batch) pieces.group
+abbrev pub piece_count : Pieces → ℕ
+piece_count pieces = piece_count_of_rows (batch_rows pieces.batch) pieces.group
 
 -- the rows of the chunk with the number `k` of a batch
 abbrev pub piece_rows : Pieces → ℕ → List Row

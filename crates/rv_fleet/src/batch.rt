@@ -2,7 +2,7 @@
 
 ghost use Rattle.std.specs.Prelude.{◌≡◌, ◌≤◌, length};
 ghost use Rattle.std.specs.List.Sorted.{IsStrictlyIncreasing};
-ghost use Rattle.rv_rows.specs.Limits.{most_jobs};
+ghost use Rattle.rv_rows.specs.Limits.{max_jobs};
 ghost use Rattle.rv_fleet.specs.Choices.{AreJobIndices};
 
 use rv_rows::Plan;
@@ -14,7 +14,7 @@ pub struct Batch<'a> {
     pub places: &'a [usize],
     pub ghost within: { AreJobIndices plan.now places.now },
     pub ghost rising: { IsStrictlyIncreasing places.now },
-    pub ghost few: { length places.now ≤ most_jobs },
+    pub ghost few: { length places.now ≤ max_jobs },
 }
 
 impl<'a> Batch<'a> {

@@ -19,14 +19,14 @@ pub(crate) struct BatchRows<'a> {
 
 impl Work<Row> for BatchRows<'_> {
     ghost use Rattle.std.specs.Prelude.{◌≡◌, length};
-    ghost use Rattle.rv_rows.specs.Recent.{AreOutcomes};
+    ghost use Rattle.rv_rows.specs.Recent.{AreOutcomesOfPlan};
     ghost use Rattle.rv_fleet.specs.Batches.{row_of_number};
 
     ghost jobs = { λ s. length s.batch.now.places.now };
 
     ghost is_made = { λ s number row. row ≡ row_of_number s.batch.now number };
 
-    ghost is_worker_state = { λ s worker_state. AreOutcomes s.batch.now.plan.now worker_state.recent };
+    ghost is_worker_state = { λ s worker_state. AreOutcomesOfPlan s.batch.now.plan.now worker_state.recent };
 
     // Returns the number of jobs in the batch.
     fn jobs(&self) -> usize {
@@ -82,7 +82,7 @@ impl Listener<Row> for CollectedRows {
     // Keeps the next row. Stops if an allocation fails.
     fn receive(&mut self, made: Row) -> Flow {
         match self.rows.push(made) {
-            Ok(()) => Flow::GoOn,
+            Ok(()) => Flow::Continue,
             Err(_) => {
                 self.refused = true;
                 Flow::Stop
@@ -92,7 +92,7 @@ impl Listener<Row> for CollectedRows {
 
     // Lets the run continue: collecting rows needs no pause.
     fn pause(&mut self) -> Flow {
-        Flow::GoOn
+        Flow::Continue
     }
 }
 
@@ -107,7 +107,7 @@ pub fn run_batch<R: Threads + Wait + Sync>(
     let kept = CollectedRows::new(crew.alloc);
     let (kept, ran) = run_jobs::<Brand, Row, R, BatchRows<'_>, CollectedRows>(crew, &work, kept);
     match ran? {
-        Flow::GoOn => Ok(Rows::new(kept.rows)),
+        Flow::Continue => Ok(Rows::new(kept.rows)),
         // Out of memory: the rows stop a run for that alone.
         Flow::Stop => Err(RunError::OutOfMemory),
     }

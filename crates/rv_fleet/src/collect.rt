@@ -2,9 +2,9 @@
 
 ghost use Rattle.std.specs.Prelude.{◌≡◌, ◌<◌, IfOk, IfSome};
 ghost use Rattle.rv_fleet.specs.Batches.{batch_rows};
-ghost use Rattle.rv_fleet.specs.Collected.{ArePieces, IsPiece, IsFilled};
-ghost use Rattle.rv_fleet.specs.Pieces.{count_of_pieces, piece_rows};
-ghost use Rattle.rv_fleet.specs.Promised.{HaveWorked};
+ghost use Rattle.rv_fleet.specs.Collected.{AreIndexRanges, IsIndexRange, AreChunkSlots};
+ghost use Rattle.rv_fleet.specs.Pieces.{piece_count, piece_rows};
+ghost use Rattle.rv_fleet.specs.Promised.{AllKeepPromise};
 
 use crate::gate::Gate;
 use crate::piece::{Piece, compute_chunk};
@@ -31,10 +31,10 @@ pub(crate) fn collect_chunks(
     worked: Vec<WorkerResult>,
     pieces: &Pieces<'_>,
 ) -> Result<Collected, AllocError>
-    requires pieces { claims.now.pieces ≡ count_of_pieces pieces.now }
-    requires worked { HaveWorked
+    requires pieces { claims.now.pieces ≡ piece_count pieces.now }
+    requires worked { AllKeepPromise
         (batch_rows pieces.now.batch) pieces.now.group claims.now worked.items }
-    ensures slots { IfOk result (λ all. IsFilled pieces.now all.slots.items) }
+    ensures slots { IfOk result (λ all. AreChunkSlots pieces.now all.slots.items) }
     ensures pass { IfOk result (λ all. IfSome all.pass (λ pass. pass.draw ≡ claims.now)) }
 {
     let mut slots = empty_slots(alloc, pieces)?;
@@ -48,7 +48,7 @@ pub(crate) fn collect_chunks(
 
 /// Returns an empty slot for each chunk.
 fn empty_slots(alloc: Global, pieces: &Pieces<'_>) -> Result<Vec<Option<Rows>>, AllocError>
-    ensures { IfOk result (λ slots. IsFilled pieces.now slots.items) }
+    ensures { IfOk result (λ slots. AreChunkSlots pieces.now slots.items) }
 {
     let mut slots = Vec::new(alloc);
     for _ in 0..pieces.count() {
@@ -59,9 +59,9 @@ fn empty_slots(alloc: Global, pieces: &Pieces<'_>) -> Result<Vec<Option<Rows>>, 
 
 // Stores the rows of each of these chunks in the slot of the chunk, if the slot is empty.
 fn store_chunks(slots: &mut Vec<Option<Rows>>, pieces: &Pieces<'_>, made: Vec<Piece>)
-    requires slots { IsFilled pieces.now slots.old.items }
-    requires made { ArePieces pieces.now made.items }
-    ensures { IsFilled pieces.now slots.new.items }
+    requires slots { AreChunkSlots pieces.now slots.old.items }
+    requires made { AreIndexRanges pieces.now made.items }
+    ensures { AreChunkSlots pieces.now slots.new.items }
 {
     for piece in made {
         store_chunk(slots, pieces, piece);
@@ -70,9 +70,9 @@ fn store_chunks(slots: &mut Vec<Option<Rows>>, pieces: &Pieces<'_>, made: Vec<Pi
 
 /// Stores the rows of a chunk in the slot of the chunk, if the slot is empty.
 fn store_chunk(slots: &mut Vec<Option<Rows>>, pieces: &Pieces<'_>, piece: Piece)
-    requires slots { IsFilled pieces.now slots.old.items }
-    requires piece { IsPiece pieces.now piece }
-    ensures { IsFilled pieces.now slots.new.items }
+    requires slots { AreChunkSlots pieces.now slots.old.items }
+    requires piece { IsIndexRange pieces.now piece }
+    ensures { AreChunkSlots pieces.now slots.new.items }
 {
     let at = piece.number as usize;
     if slots[at].is_none() {
@@ -99,7 +99,7 @@ pub(crate) fn rows_of_all_chunks<G: Gate>(
     pieces: &Pieces<'_>,
     gate: &G,
 ) -> Result<Rows, AllocError>
-    requires slots { IsFilled pieces.now slots.items }
+    requires slots { AreChunkSlots pieces.now slots.items }
     ensures { IfOk result (λ rows. rows ≡ batch_rows pieces.now.batch) }
 {
     let mut rows: Vec<Row> = Vec::with_capacity(alloc, pieces.batch.places.len())?;
@@ -120,7 +120,7 @@ fn rows_in_slot<G: Gate>(
     gate: &G,
     number: u64,
 ) -> Result<Rows, AllocError>
-    requires number { number < count_of_pieces pieces.now }
+    requires number { number < piece_count pieces.now }
     requires slot { IfSome slot (λ rows. rows ≡ piece_rows pieces.now number) }
     ensures { IfOk result (λ rows. rows ≡ piece_rows pieces.now number) }
 {

@@ -1,6 +1,6 @@
 //! A fleet: the rows of a plan, computed by threads that draw its chunks.
 
-ghost use Rattle.rv_rows.specs.Limits.{most_group, most_workers};
+ghost use Rattle.rv_rows.specs.Limits.{max_group, max_workers};
 ghost use Rattle.std.specs.Prelude.{◌≡◌, ◌<◌, ◌≤◌, IfOk};
 ghost use Rattle.rv_rows.specs.Rows.{rows_of};
 ghost use Rattle.rv_fleet.specs.declared.fleet.FleetError.TheVariants.{OutOfMemory};
@@ -51,8 +51,8 @@ pub fn run_fleet<R: Threads + Wait, G: Gate>(
     group: u32,
     gate: &G,
 ) -> Result<Report, FleetError>
-    requires workers { (0 < workers) × (workers ≤ most_workers) }
-    requires group { (0 < group) × (group ≤ most_group) }
+    requires workers { (0 < workers) × (workers ≤ max_workers) }
+    requires group { (0 < group) × (group ≤ max_group) }
     ensures { IfOk result (λ report. report.rows ≡ rows_of plan.now) }
 {
     let places = all_indices(alloc, plan)?;

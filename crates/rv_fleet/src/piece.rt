@@ -1,8 +1,8 @@
 //! One chunk of a batch.
 
 ghost use Rattle.std.specs.Prelude.{◌≡◌, ◌<◌, IfOk, OnOk};
-ghost use Rattle.rv_rows.specs.Recent.{AreOutcomes};
-ghost use Rattle.rv_fleet.specs.Pieces.{count_of_pieces, numbered_piece, piece_rows};
+ghost use Rattle.rv_rows.specs.Recent.{AreOutcomesOfPlan};
+ghost use Rattle.rv_fleet.specs.Pieces.{piece_count, numbered_piece, piece_rows};
 
 use crate::gate::Gate;
 use crate::pieces::Pieces;
@@ -26,10 +26,10 @@ pub(crate) fn compute_chunk<G: Gate>(
     number: u64,
     worker_state: &mut WorkerState,
 ) -> Result<Piece, AllocError>
-    requires number { number < count_of_pieces pieces.now }
-    requires recent { AreOutcomes pieces.now.batch.plan.now worker_state.old.recent }
+    requires number { number < piece_count pieces.now }
+    requires recent { AreOutcomesOfPlan pieces.now.batch.plan.now worker_state.old.recent }
     ensures piece { IfOk result (λ piece. piece ≡ numbered_piece pieces.now number) }
-    ensures recent { OnOk result (AreOutcomes pieces.now.batch.plan.now worker_state.new.recent) }
+    ensures recent { OnOk result (AreOutcomesOfPlan pieces.now.batch.plan.now worker_state.new.recent) }
 {
     gate.enter(number);
     let rows = rows_of_chunk(alloc, pieces, number, worker_state)?;
@@ -43,10 +43,10 @@ fn rows_of_chunk(
     number: u64,
     worker_state: &mut WorkerState,
 ) -> Result<Rows, AllocError>
-    requires number { number < count_of_pieces pieces.now }
-    requires recent { AreOutcomes pieces.now.batch.plan.now worker_state.old.recent }
+    requires number { number < piece_count pieces.now }
+    requires recent { AreOutcomesOfPlan pieces.now.batch.plan.now worker_state.old.recent }
     ensures rows { IfOk result (λ rows. rows ≡ piece_rows pieces.now number) }
-    ensures recent { OnOk result (AreOutcomes pieces.now.batch.plan.now worker_state.new.recent) }
+    ensures recent { OnOk result (AreOutcomesOfPlan pieces.now.batch.plan.now worker_state.new.recent) }
 {
     let (plan, places) = (pieces.batch.plan, pieces.batch.places);
     let jobs = places.len();

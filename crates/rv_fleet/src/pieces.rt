@@ -1,6 +1,6 @@
 //! A batch divided into chunks.
 
-ghost use Rattle.rv_rows.specs.Limits.{most_group, most_jobs};
+ghost use Rattle.rv_rows.specs.Limits.{max_group, max_jobs};
 ghost use Rattle.std.specs.Prelude.{◌≡◌, ◌<◌, ◌≤◌};
 
 use crate::batch::Batch;
@@ -11,17 +11,17 @@ pub(crate) struct Pieces<'a> {
     pub(crate) batch: Batch<'a>,
     /// The number of jobs in a chunk.
     pub(crate) group: u32,
-    pub(crate) ghost group_few: { (0 < group) × (group ≤ most_group) },
+    pub(crate) ghost group_few: { (0 < group) × (group ≤ max_group) },
 }
 
 impl<'a> Pieces<'a> {
-    ghost use Rattle.rv_fleet.specs.Pieces.{count_of_pieces};
+    ghost use Rattle.rv_fleet.specs.Pieces.{piece_count};
 
     /// Returns the number of chunks that the batch is divided into.
     #[tactic(auto, using(crate::proofs::Collects::rows_count))]
     pub(crate) fn count(&self) -> u64
-        ensures value { result ≡ count_of_pieces self.now }
-        ensures few { result ≤ most_jobs }
+        ensures value { result ≡ piece_count self.now }
+        ensures few { result ≤ max_jobs }
     {
         self.batch.places.len().div_ceil(self.group as usize) as u64
     }

@@ -3,17 +3,17 @@
 ghost use Rattle.std.specs.Prelude.{◌≡◌, [], IfOk};
 ghost use Rattle.rv_rows.specs.Rows.{rows_at};
 ghost use Rattle.rv_fleet.specs.Batches.{batch_rows};
-ghost use Rattle.rv_fleet.specs.Collected.{IsFilled};
-ghost use Rattle.rv_fleet.specs.Pieces.{count_of_pieces};
-ghost use Rattle.rv_fleet.specs.Promised.{AreFresh, KeepsPromise, HaveWorked};
-ghost use Rattle.rv_fleet.specs.Started.{CanWork};
+ghost use Rattle.rv_fleet.specs.Collected.{AreChunkSlots};
+ghost use Rattle.rv_fleet.specs.Pieces.{piece_count};
+ghost use Rattle.rv_fleet.specs.Promised.{AreFresh, KeepsPromise, AllKeepPromise};
+ghost use Rattle.rv_fleet.specs.Started.{CanStart};
 
 use crate::batch::Batch;
 use crate::collect::{Collected, collect_chunks};
 use crate::fleet::FleetError;
 use crate::gate::Gate;
 use crate::pieces::Pieces;
-use crate::worker::work_with_own_pass;
+use crate::worker::run_worker;
 use crate::worker_promise::{WorkerPromise, WorkerResult};
 use rv_engine::{Claims, Crew, Pass, SplitError};
 use rv_rows::Rows;
@@ -29,7 +29,7 @@ pub(crate) fn compute_chunks<R: Threads + Wait, G: Gate>(
     pieces: &Pieces<'_>,
     gate: &G,
 ) -> Result<Vec<Option<Rows>>, FleetError>
-    ensures { IfOk result (λ slots. IsFilled pieces.now slots.items) }
+    ensures { IfOk result (λ slots. AreChunkSlots pieces.now slots.items) }
 {
     let alloc = crew.alloc;
     let count = pieces.count();
@@ -83,9 +83,9 @@ fn run_workers<R: Threads + Wait, G: Gate>(
     pieces: &Pieces<'_>,
     gate: &G,
 ) -> Result<Vec<WorkerResult>, FleetError>
-    requires pieces { claims.now.pieces ≡ count_of_pieces pieces.now }
+    requires pieces { claims.now.pieces ≡ piece_count pieces.now }
     requires passes { AreFresh claims.now passes.items }
-    ensures { IfOk result (λ worked. HaveWorked
+    ensures { IfOk result (λ worked. AllKeepPromise
         (batch_rows pieces.now.batch) pieces.now.group claims.now worked.items) }
 {
     let (rt, alloc) = (crew.rt, crew.alloc);
@@ -95,9 +95,9 @@ fn run_workers<R: Threads + Wait, G: Gate>(
         thread::scope_env(),
         rt,
         |scope| -> Result<Vec<WorkerResult>, FleetError>
-            requires { CanWork plan.now places.now group claims.now
+            requires { CanStart plan.now places.now group claims.now
                 × AreFresh claims.now passes.items }
-            ensures { IfOk result (λ worked. HaveWorked
+            ensures { IfOk result (λ worked. AllKeepPromise
                 (rows_at plan.entry.now places.entry.now) group claims.entry.now worked.items) }
         {
             let mut handles = Vec::with_capacity(alloc, passes.len())?;
@@ -111,13 +111,13 @@ fn run_workers<R: Threads + Wait, G: Gate>(
                 let Ok(handle) = scope.spawn_with(
                     promise,
                     move || -> WorkerResult
-                        requires { CanWork plan.now places.now group claims.now
+                        requires { CanStart plan.now places.now group claims.now
                             × (pass.draw ≡ claims.now) × (pass.draws ≡ []) }
                         ensures { KeepsPromise (rows_at plan.entry.now places.entry.now) group
                             claims.entry.now result }
                     {
                         let batch = Batch { plan, places };
-                        work_with_own_pass(alloc, claims, pass, &Pieces { batch, group }, gate)
+                        run_worker(alloc, claims, pass, &Pieces { batch, group }, gate)
                     },
                 ) else {
                     // No worker: `spawn_with` fails where the start of a thread was refused.

@@ -1,11 +1,11 @@
 //! The loop of a worker: draws chunks and computes them.
 
-ghost use Rattle.rv_rows.specs.Limits.{most_group};
+ghost use Rattle.rv_rows.specs.Limits.{max_group};
 ghost use Rattle.std.specs.Prelude.{◌≡◌, ◌<◌, ◌≤◌, [], true, map, IfOk};
 ghost use Rattle.rv_engine.specs.NewPieces.{HasDrawnMore, new_pieces};
 ghost use Rattle.rv_engine.specs.Passes.{has_ended};
 ghost use Rattle.rv_fleet.specs.Batches.{batch_rows};
-ghost use Rattle.rv_fleet.specs.Pieces.{count_of_pieces, piece_at, numbered_piece, pieces_of};
+ghost use Rattle.rv_fleet.specs.Pieces.{piece_count, piece_at, numbered_piece, pieces_of};
 ghost use Rattle.rv_fleet.specs.Promised.{KeepsPromise};
 
 use crate::batch::Batch;
@@ -28,7 +28,7 @@ pub fn work<G: Gate>(
     group: u32,
     gate: &G,
 ) -> Result<Vec<Piece>, AllocError>
-    requires group { (0 < group) × (group ≤ most_group) }
+    requires group { (0 < group) × (group ≤ max_group) }
     requires pieces { claims.now.pieces ≡ pieces_of plan.now group }
     requires pass { pass.old.draw ≡ claims.now }
     ensures pass { HasDrawnMore pass.old pass.new }
@@ -51,7 +51,7 @@ pub(crate) fn compute_drawn_chunks<G: Gate>(
     pieces: &Pieces<'_>,
     gate: &G,
 ) -> Result<Vec<Piece>, AllocError>
-    requires pieces { claims.now.pieces ≡ count_of_pieces pieces.now }
+    requires pieces { claims.now.pieces ≡ piece_count pieces.now }
     requires pass { pass.old.draw ≡ claims.now }
     ensures pass { HasDrawnMore pass.old pass.new }
     ensures ended { IfOk result (λ _. has_ended pass.new ≡ true) }
@@ -68,14 +68,14 @@ pub(crate) fn compute_drawn_chunks<G: Gate>(
 }
 
 /// Draws chunks of a batch with this pass until none is left, and computes each. Returns the chunks, and the pass with its draws.
-pub(crate) fn work_with_own_pass<G: Gate>(
+pub(crate) fn run_worker<G: Gate>(
     alloc: Global,
     claims: &Claims,
     mut pass: Pass,
     pieces: &Pieces<'_>,
     gate: &G,
 ) -> WorkerResult
-    requires pieces { claims.now.pieces ≡ count_of_pieces pieces.now }
+    requires pieces { claims.now.pieces ≡ piece_count pieces.now }
     requires pass { (pass.draw ≡ claims.now) × (pass.draws ≡ []) }
     ensures { KeepsPromise (batch_rows pieces.now.batch) pieces.now.group claims.now result }
 {

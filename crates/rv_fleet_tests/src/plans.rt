@@ -88,9 +88,9 @@ fn plan_of(alloc: Global, list: &str, choice: &str, store: &mut Files) -> Result
 
 // Appends the result that a plan has for a path: `none`, the reason why there are no bytes, the only byte, or the number of bytes and the
 // last one.
-fn tell_kept(text: &mut String, kept: Option<&Kept>) -> Result<(), AllocError> {
+fn push_contents(text: &mut String, kept: Option<&Kept>) -> Result<(), AllocError> {
     match kept {
-        Some(Kept::Content(bytes)) => tell_bytes(text, bytes.as_slice()),
+        Some(Kept::Content(bytes)) => push_bytes(text, bytes.as_slice()),
         Some(Kept::Unreadable) => text.push_str(" unreadable"),
         Some(Kept::TooLong) => text.push_str(" long"),
         None => text.push_str(" none"),
@@ -98,7 +98,7 @@ fn tell_kept(text: &mut String, kept: Option<&Kept>) -> Result<(), AllocError> {
 }
 
 // Appends the only byte of a file, or the number of its bytes and the last one.
-fn tell_bytes(text: &mut String, bytes: &[u8]) -> Result<(), AllocError> {
+fn push_bytes(text: &mut String, bytes: &[u8]) -> Result<(), AllocError> {
     let (length, last) = (bytes.len(), bytes.last().copied().unwrap_or(0) as char);
     if length == 1 {
         write!(text, " {last}")
@@ -108,15 +108,15 @@ fn tell_bytes(text: &mut String, bytes: &[u8]) -> Result<(), AllocError> {
 }
 
 // Appends a job's name, and the results that the plan has for its image, its reference and its console.
-fn tell_job(text: &mut String, plan: &Plan, place: usize) -> Result<(), AllocError>
+fn push_job(text: &mut String, plan: &Plan, place: usize) -> Result<(), AllocError>
     requires { place < length plan.now.jobs }
 {
     let mark = if place == 0 { ':' } else { ',' };
     let name = plan.job(place).name.as_str();
     write!(text, "{mark} {name}")?;
-    tell_kept(text, Some(plan.image(place)))?;
-    tell_kept(text, plan.reference(place))?;
-    tell_kept(text, plan.console_reference(place))
+    push_contents(text, Some(plan.image(place)))?;
+    push_contents(text, plan.reference(place))?;
+    push_contents(text, plan.console_reference(place))
 }
 
 // Returns the paths that were read, the number of unreadable files, and the results that the plan has for each job.
@@ -124,13 +124,13 @@ fn told(alloc: Global, plan: &Plan, store: &Files) -> Result<String, AllocError>
     let (log, faults) = (store.log.as_str(), store.faults());
     let mut text = format!(in alloc; "'{log}' {faults} faults")?;
     for place in 0..plan.jobs() {
-        tell_job(&mut text, plan, place)?;
+        push_job(&mut text, plan, place)?;
     }
     Ok(text)
 }
 
 // Returns as text the plan for all jobs of a list (`all`), or for the jobs that `choice` selects with `x`.
-fn told_of(alloc: Global, list: &str, choice: &str) -> Result<String, Fail> {
+fn plan_text(alloc: Global, list: &str, choice: &str) -> Result<String, Fail> {
     let mut store = Files {
         log: String::new(alloc),
         faults: 5,
@@ -143,7 +143,7 @@ fn told_of(alloc: Global, list: &str, choice: &str) -> Result<String, Fail> {
 fn check(alloc: Global, list: &str, table: &str, lines: usize) -> Result<(), Fail> {
     has_lines(table, lines)?;
     for row in table.lines() {
-        let told = told_of(alloc, list, cell_of(row, 0))?;
+        let told = plan_text(alloc, list, cell_of(row, 0))?;
         agree(row, told.as_str(), cell_of(row, 1))?;
     }
     Ok(())

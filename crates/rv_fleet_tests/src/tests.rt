@@ -169,7 +169,7 @@ fn hold<R: Threads + Wait + Sync>(
 
 // The lines of all tables have the results in their last cells.
 #[test]
-fn lines_hold(rt: HostRuntime) -> Result<(), Fail> {
+fn tables_have_the_expected_results(rt: HostRuntime) -> Result<(), Fail> {
     let alloc = rt.alloc();
     hold(&rt, alloc, Table::Draws, draws::DRAWS, 6)?;
     hold(&rt, alloc, Table::FourThreads, draws::FOUR_THREADS, 1)?;
@@ -177,5 +177,5 @@ fn lines_hold(rt: HostRuntime) -> Result<(), Fail> {
     hold(&rt, alloc, Table::Named, recent::NAMED, 2)?;
     hold(&rt, alloc, Table::Runs, fleets::RUNS, 9)?;
     hold(&rt, alloc, Table::Puts, streams::PUTS, 9)?;
-    hold(&rt, alloc, Table::Workers, workers::WORKERS, 2)
+    hold(&rt, alloc, Table::Workers, workers::WORKERS_RANGE, 2)
 }

@@ -9,8 +9,8 @@ use Rattle.rv_session.specs.Incoming.{IsReceived, is_interrupted, no_bytes}
 use Rattle.rv_session.specs.Sessions.{IsOpenIfRequested}
 use Rattle.rv_session.specs.declared.session.Session.{Session}
 use Rattle.rv_session.proofs.Public.{fed_both, fed_byte, fed_move, worked_more, worked_unasked}
-use Rattle.rv_gdb.specs.Chunks.{IsByteAnswered, IsByteReplyWritten, IsChunkAnswered, IsMoveReplyWritten}
-use Rattle.rv_gdb.specs.Conversing.{IsChunkRead, IsConversed, IsReadWhileOpen}
+use Rattle.rv_gdb.specs.Chunks.{IsByteHandled, IsByteReplyWritten, IsChunkHandled, IsMoveReplyWritten}
+use Rattle.rv_gdb.specs.Conversing.{IsChunkRead, IsServed, IsReadWhileOpen}
 
 -- ---- within a chunk
 
@@ -78,7 +78,7 @@ heard_move end_text session standing next chunk i d a b c within at move = recor
 
 -- a byte was answered, and no move waits
 pub heard_byte_on : (end_text : List ℕ) (session standing next : Session) (chunk : List ℕ) (i : ℕ) (a b c : Option (List ℕ))
-    → i < length chunk → IsHeardIn end_text session chunk i a b standing → IsByteAnswered end_text standing chunk i false b c next
+    → i < length chunk → IsHeardIn end_text session chunk i a b standing → IsByteHandled end_text standing chunk i false b c next
     → IsHeardIn end_text session chunk (i + 1) a c next
 heard_byte_on end_text session standing next chunk i a b c within first (inl (one, none)) =
     heard_on end_text session next chunk i a c (heard_byte end_text session standing next chunk i 0 a b c within first one) none
@@ -108,7 +108,7 @@ heard_whole end_text session next chunk i a b may is received =
     (drop_all i chunk (omega arith)) (received.fed may))
 
 pub chunk_over : (end_text : List ℕ) (session next : Session) (chunk : List ℕ) (i : ℕ) (x y a b : Option (List ℕ)) → i ≡ length chunk
-    → IsHeardIn end_text session chunk i a b next → y ≡ x → next.is_over ≡ true → IsChunkAnswered end_text session chunk x y a b None next
+    → IsHeardIn end_text session chunk i a b next → y ≡ x → next.is_over ≡ true → IsChunkHandled end_text session chunk x y a b None next
 chunk_over end_text session next chunk i x y a b is received same over = record {
   replies = received.replies;
   fed = heard_whole end_text session next chunk i a b false is received;
@@ -119,7 +119,7 @@ chunk_over end_text session next chunk i x y a b is received same over = record 
 
 pub chunk_read : (end_text : List ℕ) (session next : Session) (chunk bytes : List ℕ) (i : ℕ) (x y a b : Option (List ℕ))
     → i ≡ length chunk → IsHeardIn end_text session chunk i a b next → next.is_over ≡ false → IsChunkRead x y bytes
-    → IsChunkAnswered end_text session chunk x y a b (Some bytes) next
+    → IsChunkHandled end_text session chunk x y a b (Some bytes) next
 chunk_read end_text session next chunk bytes i x y a b is received going read =
     let fed = heard_whole end_text session next chunk i a b (is_interrupted bytes true) is received in record {
       replies = received.replies;
@@ -132,7 +132,7 @@ chunk_read end_text session next chunk bytes i x y a b is received going read =
 pub chunk_moved : (end_text : List ℕ) (session standing next : Session) (chunk bytes : List ℕ) (i : ℕ) (x y a b c : Option (List ℕ))
     → i + 1 ≡ length chunk → IsHeardAt end_text session chunk i a b standing → standing.is_over ≡ false
     → IsMoveReplyWritten end_text (is_interrupted bytes true) standing b c next → IsChunkRead x y bytes
-    → IsChunkAnswered end_text session chunk x y a c (Some bytes) next
+    → IsChunkHandled end_text session chunk x y a c (Some bytes) next
 chunk_moved end_text session standing next chunk bytes i x y a b c is at going move read =
     let may = is_interrupted bytes true in
     let first = at_end end_text may session standing chunk at.replies (i + 1) is (at.fed may) in record {
@@ -167,7 +167,7 @@ pub record IsHeardUpTo (end_text : List ℕ) (session : Session) (before after o
   pub put : Appends old new replies
 
 pub silent : (end_text : List ℕ) (session : Session) (input out : Option (List ℕ)) → session.requested ≡ None
-    → IsConversed end_text session input input out out session
+    → IsServed end_text session input input out out session
 silent end_text session input out none = record {
   received = [];
   replies = [];
@@ -217,7 +217,7 @@ heard_both end_text may session between next chunk more a b x y some first secon
     (subst (λ (m : Bool). IsReceived end_text m session first.front first.replies between) (same_next chunk true may some) first.fed) second
 
 pub heard_more : (end_text : List ℕ) (session between next : Session) (chunk bytes : List ℕ) (a b c x y z : Option (List ℕ)) → chunk ≢ []
-    → IsHeardUpTo end_text session a b x y chunk between → IsChunkAnswered end_text between chunk b c y z (Some bytes) next
+    → IsHeardUpTo end_text session a b x y chunk between → IsChunkHandled end_text between chunk b c y z (Some bytes) next
     → IsHeardUpTo end_text session a c x z bytes next
 heard_more end_text session between next chunk bytes a b c x y z some first second = record {
   front = first.front ++ chunk;
@@ -242,8 +242,8 @@ heard_more end_text session between next chunk bytes a b c x y z some first seco
 
 -- the session is over behind the chunk
 pub heard_over : (end_text : List ℕ) (session between next : Session) (chunk : List ℕ) (a b c x y z : Option (List ℕ)) → chunk ≢ []
-    → IsHeardUpTo end_text session a b x y chunk between → IsChunkAnswered end_text between chunk b c y z None next
-    → IsConversed end_text session a c x z next × (next.is_over ≡ true)
+    → IsHeardUpTo end_text session a b x y chunk between → IsChunkHandled end_text between chunk b c y z None next
+    → IsServed end_text session a c x z next × (next.is_over ≡ true)
 heard_over end_text session between next chunk a b c x y z some first second = (
   record {
     received = first.front ++ chunk;
@@ -261,7 +261,7 @@ heard_over end_text session between next chunk a b c x y z some first second = (
 
 -- no byte is left
 pub heard_all : (end_text : List ℕ) (session next : Session) (chunk : List ℕ) (a b x y : Option (List ℕ)) → chunk ≡ []
-    → IsHeardUpTo end_text session a b x y chunk next → IsConversed end_text session a b x y next × IsAtEnd b
+    → IsHeardUpTo end_text session a b x y chunk next → IsServed end_text session a b x y next × IsAtEnd b
 heard_all end_text session next chunk a b x y none up_to = (
   record {
     received = up_to.front ++ chunk;

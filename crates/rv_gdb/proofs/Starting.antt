@@ -10,20 +10,20 @@ use Rattle.rv_trace.specs.Loading.{map_check}
 use Rattle.rv_trace.specs.Extensions.{has, RV32C}
 use Rattle.rv_trace.specs.declared_sets.Isa.{Isa}
 use Rattle.rv_trace.specs.Jobs.{console_path}
-use Rattle.rv_trace.specs.Plans.{result_for_path}
+use Rattle.rv_trace.specs.Plans.{result_or_unreadable}
 use Rattle.rv_trace.specs.Reading.{◌>>=◌}
 use Rattle.rv_trace.specs.declared_answers.Answer.{Answer}
 use Rattle.rv_trace.specs.declared_kept.Kept.{Kept}
 use Rattle.rv_trace.specs.declared_kept.Kept.TheVariants as kept
 use Rattle.rv_trace.specs.declared_job.Job.{Job}
-use Rattle.rv_trace.specs.State.{State, at_reset, is_misaligned}
+use Rattle.rv_trace.specs.State.{State, reset_state, is_misaligned}
 use Rattle.rv_trace.specs.Bus.{Contents}
 use Rattle.rv_trace.specs.declared_outcome.Loadable.{Loadable}
 use Rattle.rv_trace.specs.declared_row.Refusal.{Refusal}
-use Rattle.rv_trace.specs.Outcome.{image_file_or_refusal, loadable_image, loaded_contents, loaded_state, range_if_asked, reference_or_refusal, start_if_loadable, start_if_readable, start_of}
+use Rattle.rv_trace.specs.Outcome.{image_file_or_refusal, loadable_image, loaded_contents, loaded_state, range_if_requested, reference_or_refusal, start_if_loadable, start_if_readable, start_of}
 use Rattle.rv_trace.specs.Rows.{content_if_read, image_if_read, image_in, start_in}
 use Rattle.rv_session.specs.declared_start.Start.{Start}
-use Rattle.rv_session.specs.Sessions.{at_first}
+use Rattle.rv_session.specs.Sessions.{at_start}
 use Rattle.rv_session.specs.declared.session.Session.{Session}
 use Rattle.rv_gdb.specs.JobSessions.{IsSessionOf}
 use Rattle.rv_trace.specs.Trace.{image_bytes}
@@ -61,7 +61,7 @@ module _ (job : Job) (s : State) where
   image_read file l e =
       let image = stepped (image_of job.isa file) _ l e in
       let fits = stepped (map_check image.0.segments job.regions job.load) _ l image.2 in
-      let range = stepped (range_if_asked file job.regions job.signature) _ l fits.2 in
+      let range = stepped (range_if_requested file job.regions job.signature) _ l fits.2 in
       let made : Loadable = record { image = image.0; range = range.0 } in
       let same : made ≡ l = cc (range.2) in
       image.1 ∙ ap (λ (x : Loadable). Ok x.image) same
@@ -83,21 +83,21 @@ module _ (job : Job) (s : State) where
   with_file file (Ok lines) (Err why) e = cc
   with_file file (Err why) bytes e = cc
 
-  begun_of : (image : Kept) (reference console : Option Kept) → start_of job image reference console ≡ Ok s
+  executed_of : (image : Kept) (reference console : Option Kept) → start_of job image reference console ≡ Ok s
       → IsBegun job (content_if_read (Some image)) s
   unfolding start_of image_file_or_refusal
-  begun_of (kept.Content file) reference console e =
+  executed_of (kept.Content file) reference console e =
       with_file file (reference_or_refusal reference) (reference_or_refusal console) e
-  begun_of kept.Unreadable reference console e = cc
-  begun_of kept.TooLong reference console e = cc
+  executed_of kept.Unreadable reference console e = cc
+  executed_of kept.TooLong reference console e = cc
 
   pub begun : (answers : List Answer) → start_in answers job ≡ Ok s → IsBegun job (image_bytes answers job) s
-  begun answers e = begun_of (result_for_path answers job.image) (option_map (result_for_path answers) job.expect_signature)
-      (option_map (result_for_path answers) (console_path job.expect_console)) e
+  begun answers e = executed_of (result_or_unreadable answers job.image) (option_map (result_or_unreadable answers) job.expect_signature)
+      (option_map (result_or_unreadable answers) (console_path job.expect_console)) e
 
   -- it begins at the entry of the image that was read
   pub begun_at : (answers : List Answer) (image : Image) → start_in answers job ≡ Ok s → image_in answers job ≡ Some image
-      → s ≡ at_reset s.bus image.entry job.isa
+      → s ≡ reset_state s.bus image.entry job.isa
   begun_at answers image e there =
       let b = begun answers e in
       let found : image_if_read job.isa (Some b.file) ≡ Some image =
@@ -106,7 +106,7 @@ module _ (job : Job) (s : State) where
       let same : b.image ≡ image = cc in
       let loaded : s ≡ loaded_state job b.file image = b.state ∙ ap (λ (i : Image). loaded_state job b.file i) same in
       let bus : loaded_contents job b.file image ≡ s.bus = sym (ap (λ (t : State). t.bus) loaded) in
-      loaded ∙ ap (λ (held : Contents). at_reset held image.entry job.isa) bus
+      loaded ∙ ap (λ (held : Contents). reset_state held image.entry job.isa) bus
 
 -- an answer that is no state
 not_ok : {A E : Type 0} (r : Result A E) → ((x : A) → r ≡ Ok x → ⊥) → is_ok r ≡ false
@@ -152,12 +152,12 @@ aligned_of answers job image file bytes there =
 pub opened : (answers : List Answer) (job : Job) (image : Image) (s : State) (start : Start) (budget : ℕ) (path bytes : List ℕ)
     (session : Session) → start_in answers job ≡ Ok s → image_in answers job ≡ Some image → image_bytes answers job ≡ Some bytes
     → start.bus ≡ s.bus → start.entry ≡ image.entry → start.isa ≡ job.isa → budget ≡ job.budget
-    → session ≡ at_first start budget (record { path = path; image = bytes }) → IsSessionOf answers job path session
+    → session ≡ at_start start budget (record { path = path; image = bytes }) → IsSessionOf answers job path session
 opened answers job image s start budget path bytes session begins there read bus entry isa same is = record {
   start = start;
   starts = begins ∙ ap (λ (t : State). Ok t) (begun_at job s answers image begins there
-      ∙ (λ i. at_reset (sym bus i) (sym entry i) (sym isa i)));
+      ∙ (λ i. reset_state (sym bus i) (sym entry i) (sym isa i)));
   image = bytes;
   read = read;
-  session_is = is ∙ ap (λ (n : ℕ). at_first start n (record { path = path; image = bytes })) same;
+  session_is = is ∙ ap (λ (n : ℕ). at_start start n (record { path = path; image = bytes })) same;
 }

@@ -31,10 +31,10 @@ pub record IsMoveMade (end_text : List ℕ) (session : Session) (chunk : List �
   pub moved : IsMoveReplyWritten end_text (slice_index_or chunk (index + 1) 0 == 3) between middle new next
 
 -- the byte at this index of a chunk was handled; if the Bool is true, it is the last byte and requested a move, which is still pending
-abbrev pub IsByteAnswered : List ℕ → Session → List ℕ → ℕ → Bool → Option (List ℕ) → Option (List ℕ) → Session → Type 0
-IsByteAnswered end_text session chunk index true old new next =
+abbrev pub IsByteHandled : List ℕ → Session → List ℕ → ℕ → Bool → Option (List ℕ) → Option (List ℕ) → Session → Type 0
+IsByteHandled end_text session chunk index true old new next =
     (index + 1 ≡ length chunk) × (IsByteReplyWritten session (slice_index_or chunk index 0) old new next × (is_some next.requested ≡ true))
-IsByteAnswered end_text session chunk index false old new next =
+IsByteHandled end_text session chunk index false old new next =
     (IsByteReplyWritten session (slice_index_or chunk index 0) old new next × (next.requested ≡ None))
     ⊎ IsMoveMade end_text session chunk index old new next
 
@@ -59,7 +59,7 @@ IsNextRead end_text session chunk before after (Some bytes) next =
     IsChunkRead before after bytes × IsOpenAfter end_text session chunk bytes
 
 -- the bytes of a chunk were handled, and the next chunk `coming` was read unless the session was over
-pub record IsChunkAnswered (end_text : List ℕ) (session : Session) (chunk : List ℕ) (before after old new coming : Option (List ℕ))
+pub record IsChunkHandled (end_text : List ℕ) (session : Session) (chunk : List ℕ) (before after old new coming : Option (List ℕ))
     (next : Session) : Type 0 where
   -- the replies to the chunk
   pub replies : List ℕ

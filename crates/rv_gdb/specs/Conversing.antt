@@ -5,13 +5,13 @@ use Rattle.rv_session.specs.Incoming.{IsReceived, is_interrupted}
 use Rattle.rv_session.specs.declared.session.Session.{Session}
 
 -- the maximum number of bytes in a read
-abbrev pub most_read : ℕ
-most_read = 16384
+abbrev pub max_read : ℕ
+max_read = 16384
 
--- one read returned this chunk: it has at most `most_read` bytes, and is empty only at the end of the input
+-- one read returned this chunk: it has at most `max_read` bytes, and is empty only at the end of the input
 pub record IsChunkRead (before after : Option (List ℕ)) (chunk : List ℕ) : Type 0 where
   pub read : Consumes before after chunk
-  pub short : length chunk ≤ most_read
+  pub short : length chunk ≤ max_read
   pub ended : chunk ≡ [] → IsAtEnd after
 
 -- the last of these bytes come from one read, which began while the session was open
@@ -19,7 +19,7 @@ pub record IsLastReadOpen (end_text : List ℕ) (session : Session) (received : 
   pub front : List ℕ
   pub last : List ℕ
   pub heard_is : received ≡ front ++ last
-  pub short : length last ≤ most_read
+  pub short : length last ≤ max_read
   -- the replies to the earlier bytes
   pub replies : List ℕ
   pub standing : Session
@@ -31,7 +31,7 @@ abbrev pub IsReadWhileOpen : List ℕ → Session → List ℕ → Type 0
 IsReadWhileOpen end_text session received = (received ≡ []) ⊎ IsLastReadOpen end_text session received
 
 -- bytes were read and fed to the session, which became `next`, and its replies were written
-pub record IsConversed (end_text : List ℕ) (session : Session) (before after old new : Option (List ℕ)) (next : Session)
+pub record IsServed (end_text : List ℕ) (session : Session) (before after old new : Option (List ℕ)) (next : Session)
     : Type 0 where
   -- the bytes that were read
   pub received : List ℕ

@@ -5,7 +5,7 @@ use Rattle.rv_session.specs.declared_start.Start.{Start}
 use Rattle.rv_trace.specs.declared_answers.Answer.{Answer}
 use Rattle.rv_trace.specs.declared_job.Job.{Job}
 use Rattle.rv_trace.specs.Rows.{start_in}
-use Rattle.rv_session.specs.Sessions.{at_first}
+use Rattle.rv_session.specs.Sessions.{at_start}
 use Rattle.rv_session.specs.declared.session.Session.{Session}
 use Rattle.rv_trace.specs.Trace.{image_bytes}
 
@@ -16,4 +16,4 @@ pub record IsSessionOf (answers : List Answer) (job : Job) (path : List ℕ) (se
   pub starts : start_in answers job ≡ Ok (start_of start)
   pub image : List ℕ
   pub read : image_bytes answers job ≡ Some image
-  pub session_is : session ≡ at_first start job.budget (record { path = path; image = image })
+  pub session_is : session ≡ at_start start job.budget (record { path = path; image = image })

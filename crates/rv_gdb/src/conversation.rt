@@ -3,13 +3,13 @@
 ghost use Rattle.std.specs.Prelude.{◌≡◌, ◌≢◌, ◌<◌, ◌==◌, IfErr, IfOk, None, OnOk, is_some, length, option_map, true};
 ghost use Rattle.std.specs.Io.KnownBytes.{Appends};
 ghost use Rattle.rv_trace.specs.Counts.{one_more};
-ghost use Rattle.rv_gdb.specs.Conversing.{IsChunkRead, IsConversed, IsEnded};
-ghost use Rattle.rv_gdb.specs.Chunks.{IsByteAnswered, IsByteReplyWritten, IsChunkAnswered, IsMoveReplyWritten};
+ghost use Rattle.rv_gdb.specs.Conversing.{IsChunkRead, IsServed, IsEnded};
+ghost use Rattle.rv_gdb.specs.Chunks.{IsByteHandled, IsByteReplyWritten, IsChunkHandled, IsMoveReplyWritten};
 ghost use Rattle.rv_session.specs.Incoming.{is_interrupted};
 ghost use Rattle.rv_session.specs.Sessions.{IsSameRun, IsOpenIfRequested};
 
 use crate::ctrl_c::{CTRL_C, Raised, SharedInterrupt, Unraised};
-use crate::reads::{check_raised, read_ahead, read_chunk};
+use crate::reads::{check_interrupt, read_ahead, read_chunk};
 use rv_session::{EndText, Interrupt, Session};
 use rv_trace::{Sink, put_all};
 use std::alloc::{AllocError, Global};
@@ -23,7 +23,7 @@ pub enum SessionError {
     /// An allocation failed.
     OutOfMemory,
     /// A read failed, for this reason.
-    UnreadPath(ErrorKind),
+    ReadFailed(ErrorKind),
     /// A write failed.
     ReplyWriteFailed,
 }
@@ -62,7 +62,7 @@ pub fn serve<R: Threads, E: EndText, I: Read + Send, O: Sink>(
 ) -> Result<(), SessionError>
     requires requested { session.old.requested ≡ None }
     requires of_run { E.start context.now.end.now ≡ session.old.history.start }
-    ensures heard { OnOk result (IsConversed (E.end_text context.now.end.now) session.old (I.remaining input.old)
+    ensures heard { OnOk result (IsServed (E.end_text context.now.end.now) session.old (I.remaining input.old)
         (I.remaining input.new) (O.taken out.old) (O.taken out.new) session.new) }
     ensures ended { OnOk result (IsEnded session.new (I.remaining input.new)) }
     ensures failed { IfErr result (λ broken. broken ≡ SessionError.ReplyWriteFailed → O.failed out.new ≡ one_more (O.failed out.old)) }
@@ -77,17 +77,17 @@ pub fn serve<R: Threads, E: EndText, I: Read + Send, O: Sink>(
         if chunk.is_empty() {
             return Ok(());
         }
-        match answer_chunk(context, session, chunk.as_slice(), input, out)? {
+        match respond_to_chunk(context, session, chunk.as_slice(), input, out)? {
             Some(next) => chunk = next,
             None => return Ok(()),
         }
     }
     // No program performs this many reads.
-    Err(SessionError::UnreadPath(ErrorKind::TimedOut))
+    Err(SessionError::ReadFailed(ErrorKind::TimedOut))
 }
 
 // Feeds a chunk of bytes to the session, and writes the replies. Returns the next chunk, or `None` if the session is over.
-fn answer_chunk<R: Threads, E: EndText, I: Read + Send, O: Sink>(
+fn respond_to_chunk<R: Threads, E: EndText, I: Read + Send, O: Sink>(
     context: &SessionContext<'_, R, E>,
     session: &mut Session,
     chunk: &[u8],
@@ -96,7 +96,7 @@ fn answer_chunk<R: Threads, E: EndText, I: Read + Send, O: Sink>(
 ) -> Result<Option<Vec<u8>>, SessionError>
     requires requested { session.old.requested ≡ None }
     requires of_run { E.start context.now.end.now ≡ session.old.history.start }
-    ensures answered { IfOk result (λ next. IsChunkAnswered (E.end_text context.now.end.now) session.old chunk.now
+    ensures answered { IfOk result (λ next. IsChunkHandled (E.end_text context.now.end.now) session.old chunk.now
         (I.remaining input.old) (I.remaining input.new) (O.taken out.old) (O.taken out.new)
         (option_map (λ bytes. bytes.items) next) session.new) }
     ensures run { OnOk result (IsSameRun session.old session.new) }
@@ -127,7 +127,7 @@ fn answer_byte<R, E: EndText, O: Sink>(
     requires within { index < length chunk.now }
     requires requested { session.old.requested ≡ None }
     requires of_run { E.start context.now.end.now ≡ session.old.history.start }
-    ensures answered { IfOk result (λ waits. IsByteAnswered (E.end_text context.now.end.now) session.old chunk.now index waits
+    ensures answered { IfOk result (λ waits. IsByteHandled (E.end_text context.now.end.now) session.old chunk.now index waits
         (O.taken out.old) (O.taken out.new) session.new) }
     ensures not_over { OnOk result (IsOpenIfRequested session.new) }
     ensures run { OnOk result (IsSameRun session.old session.new) }
@@ -279,6 +279,6 @@ fn move_while_reading_into<R: Threads, E: EndText, I: Read + Send, O: Sink>(
     );
     put?;
     let chunk = read?;
-    check_raised(coming.was_seen, chunk.as_slice())?;
+    check_interrupt(coming.was_seen, chunk.as_slice())?;
     Ok(chunk)
 }

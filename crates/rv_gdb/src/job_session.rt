@@ -32,11 +32,11 @@ pub fn session_at(
     };
     let copy = Bytes::new(Vec::from_slice(alloc, bytes)?);
     let program = Program { path, image: copy };
-    session_over_image(alloc, plan, place, &image, program)
+    session_of_image(alloc, plan, place, &image, program)
 }
 
 // Returns a session at the start of the run of a job that has this image, or `None` if the job is refused.
-fn session_over_image(
+fn session_of_image(
     alloc: Global,
     plan: &Plan,
     place: usize,

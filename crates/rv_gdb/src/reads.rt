@@ -22,18 +22,18 @@ pub(crate) fn read_chunk<I: Read>(alloc: Global, input: &mut I) -> Result<Vec<u8
     let mut buffer = [0u8; CHUNK];
     match input.read(&mut buffer) {
         Ok(count) => Ok(Vec::from_slice(alloc, &buffer[..count])?),
-        Err(error) => Err(SessionError::UnreadPath(error.kind())),
+        Err(error) => Err(SessionError::ReadFailed(error.kind())),
     }
 }
 
 /// Returns an error if a move was interrupted although the bytes that were read do not interrupt it. The reading thread never raises such
 /// an interrupt, but no contract says what another thread stores, so this is checked at run time.
-pub(crate) fn check_raised(was_seen: bool, chunk: &[u8]) -> Result<(), SessionError>
+pub(crate) fn check_interrupt(was_seen: bool, chunk: &[u8]) -> Result<(), SessionError>
     ensures raised { OnOk result (was_seen ≡ true → is_interrupted chunk.now true ≡ true) }
     ensures failed { IfErr result (λ broken. broken ≢ SessionError.ReplyWriteFailed) }
 {
     if was_seen && !is_interrupted(chunk) {
-        return Err(SessionError::UnreadPath(ErrorKind::Interrupted));
+        return Err(SessionError::ReadFailed(ErrorKind::Interrupted));
     }
     Ok(())
 }

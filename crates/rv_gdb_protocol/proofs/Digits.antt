@@ -3,7 +3,7 @@ use Rattle.std.proofs.Common.{◌≡◌, ◌+◌, ◌*◌, ◌^◌, ◌<◌, ℕ
 use Rattle.std.specs.Option.{IfSome}
 use Rattle.std.proofs.Math.Nat.{pow-suc}
 use Rattle.hex.specs.Hex.{hex_digit_value}
-use Rattle.rv_gdb_protocol.specs.Numbers.{digit_on, with_digit}
+use Rattle.rv_gdb_protocol.specs.Numbers.{with_hex_digit, with_digit}
 
 -- there is room for one digit more in 32 bits
 room_for : (at value : ℕ) → at < 8 → value < 16 ^ at → value < 2 ^ 28
@@ -34,5 +34,5 @@ with_digit_small (Some value) None at small digits = tt
 with_digit_small None digit at small digits = tt
 
 pub digit_on_small : (value : Option ℕ) (byte at : ℕ) → IfSome value (λ v. v < 16 ^ at)
-    → IfSome (digit_on value byte) (λ v. v < 16 ^ (at + 1))
+    → IfSome (with_hex_digit value byte) (λ v. v < 16 ^ (at + 1))
 digit_on_small value byte at small = with_digit_small value (hex_digit_value byte) at small (digit_small byte)

@@ -3,18 +3,18 @@ use Rattle.std.proofs.Common.{◌≡◌, ◌++◌, ◌∷◌, ◌+◌, ◌<◌, 
 use Rattle.std.proofs.lemmas.List.{take_more}
 use Rattle.rv_gdb_protocol.proofs.Folds.{fold-take}
 use Rattle.rv_gdb_protocol.specs.declared.frame.Incoming.{Incoming}
-use Rattle.rv_gdb_protocol.specs.Frames.{Frame, frame_after, incoming_at, incoming_in, option_list}
+use Rattle.rv_gdb_protocol.specs.Frames.{Frame, state_after_byte, incoming_at, incoming_in, option_list}
 
 pub incoming_in-append : (frame : Frame) (front rest : List ℕ) → incoming_in frame (front ++ rest)
-    ≡ incoming_in frame front ++ incoming_in (fold frame_after frame front) rest
+    ≡ incoming_in frame front ++ incoming_in (fold state_after_byte frame front) rest
 unfolding incoming_in
 incoming_in-append frame [] rest = refl
 incoming_in-append frame (byte ∷ front) rest =
-    let next : Frame = frame_after frame byte in
+    let next : Frame = state_after_byte frame byte in
     cc (
       ap (λ more. option_list (incoming_at frame byte) ++ more) (incoming_in-append next front rest),
       append_assoc (option_list (incoming_at frame byte)) (incoming_in next front)
-          (incoming_in (fold frame_after next front) rest),
+          (incoming_in (fold state_after_byte next front) rest),
     )
 
 pub incoming_in-empty : (frame : Frame) → incoming_in frame [] ≡ []
@@ -23,31 +23,31 @@ incoming_in-empty frame = refl
 
 -- a byte more
 pub incoming_in-one : (frame : Frame) (front : List ℕ) (byte : ℕ) → incoming_in frame (front ++ byte ∷ [])
-    ≡ incoming_in frame front ++ option_list (incoming_at (fold frame_after frame front) byte)
+    ≡ incoming_in frame front ++ option_list (incoming_at (fold state_after_byte frame front) byte)
 unfolding incoming_in
 incoming_in-one frame front byte =
-    let last : Frame = fold frame_after frame front in
+    let last : Frame = fold state_after_byte frame front in
     cc (incoming_in-append frame front (byte ∷ []), append-nil (option_list (incoming_at last byte)))
 
 pub incoming_in-take : (frame : Frame) (bytes : List ℕ) (at : ℕ) → at < length bytes → incoming_in frame (take (at + 1) bytes)
-    ≡ incoming_in frame (take at bytes) ++ option_list (incoming_at (fold frame_after frame (take at bytes)) (get_or bytes at 0))
+    ≡ incoming_in frame (take at bytes) ++ option_list (incoming_at (fold state_after_byte frame (take at bytes)) (get_or bytes at 0))
 incoming_in-take frame bytes at within =
     ap (λ front. incoming_in frame front) (take_more bytes at 0 within) ∙ incoming_in-one frame (take at bytes) (get_or bytes at 0)
 
 -- nothing was heard before the last byte of a beginning: what is heard there is heard in all of it
 pub heard_at_last : (frame now : Frame) (bytes : List ℕ) (at : ℕ) (heard : Option Incoming) → at < length bytes
-    → incoming_in frame (take at bytes) ≡ [] → now ≡ fold frame_after frame (take at bytes)
+    → incoming_in frame (take at bytes) ≡ [] → now ≡ fold state_after_byte frame (take at bytes)
     → heard ≡ incoming_at now (get_or bytes at 0) → incoming_in frame (take (at + 1) bytes) ≡ option_list heard
 heard_at_last frame now bytes at heard within quiet here told =
     let byte : ℕ = get_or bytes at 0 in
-    let before : Frame = fold frame_after frame (take at bytes) in
+    let before : Frame = fold state_after_byte frame (take at bytes) in
     incoming_in-take frame bytes at within
     ∙ ap (λ more. more ++ option_list (incoming_at before byte)) quiet
     ∙ ap (λ place. option_list (incoming_at place byte)) (sym here)
     ∙ ap option_list (sym told)
 
 pub frame_at_last : (frame now next : Frame) (bytes : List ℕ) (at : ℕ) → at < length bytes
-    → now ≡ fold frame_after frame (take at bytes) → next ≡ frame_after now (get_or bytes at 0)
-    → next ≡ fold frame_after frame (take (at + 1) bytes)
+    → now ≡ fold state_after_byte frame (take at bytes) → next ≡ state_after_byte now (get_or bytes at 0)
+    → next ≡ fold state_after_byte frame (take (at + 1) bytes)
 frame_at_last frame now next bytes at within here behind =
-    behind ∙ ap (λ place. frame_after place (get_or bytes at 0)) here ∙ sym (fold-take frame_after frame bytes at 0 within)
+    behind ∙ ap (λ place. state_after_byte place (get_or bytes at 0)) here ∙ sym (fold-take state_after_byte frame bytes at 0 within)

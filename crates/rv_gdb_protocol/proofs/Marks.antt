@@ -6,7 +6,7 @@ use Rattle.std.proofs.lemmas.List.Folds.{list_all-append}
 use Rattle.std.specs.List.{list_all, prefix_len}
 use Rattle.hex.specs.Hex.{hex_digit_value}
 use Rattle.rv_gdb_protocol.specs.Grammar.{AreTwoNumbers, joined_by}
-use Rattle.rv_gdb_protocol.specs.Numbers.{digit_on, number_of, numbers_at, place_of, until, with_digit}
+use Rattle.rv_gdb_protocol.specs.Numbers.{with_hex_digit, number_of, parse_two_numbers, place_of, until, with_digit}
 use Rattle.rv_gdb_protocol.specs.Requests.{comma}
 
 -- a byte that is not a mark
@@ -41,29 +41,29 @@ behind_mark mark first second = drop-append-add first (mark ∷ second) 1
 
 -- ---- digits
 
-nothing_on : (text : List ℕ) → fold digit_on None text ≡ None
+nothing_on : (text : List ℕ) → fold with_hex_digit None text ≡ None
 nothing_on [] = refl
 nothing_on (byte ∷ text) = nothing_on text
 
-digit_or_none : (value : Option ℕ) (byte mark : ℕ) → hex_digit_value mark ≡ None → byte ≡ mark → digit_on value byte ≡ None
+digit_or_none : (value : Option ℕ) (byte mark : ℕ) → hex_digit_value mark ≡ None → byte ≡ mark → with_hex_digit value byte ≡ None
 digit_or_none (Some value) byte mark none same = ap (with_digit (Some value)) (ap hex_digit_value same ∙ none)
 digit_or_none None byte mark none same = refl
 
 -- a mark is no digit, so there is none in digits
 digits_lack : (mark : ℕ) → hex_digit_value mark ≡ None → (value : Option ℕ) (text : List ℕ) (number : ℕ)
-    → fold digit_on value text ≡ Some number → list_all (is_other mark) text ≡ true
+    → fold with_hex_digit value text ≡ Some number → list_all (is_other mark) text ≡ true
 digits_lack mark none value [] number told = refl
 digits_lack mark none value (byte ∷ text) number told =
     and_from (is_other mark byte) (list_all (is_other mark) text)
     (elim (cases_eq byte mark) [
       | inl same ↦
-          let lost = ap (λ (v : Option ℕ). fold digit_on v text) (digit_or_none value byte mark none same) ∙ nothing_on text in
+          let lost = ap (λ (v : Option ℕ). fold with_hex_digit v text) (digit_or_none value byte mark none same) ∙ nothing_on text in
           absurd (cc (sym lost, told))
       | inr other ↦ not_from_false (byte == mark) (ne_eqb byte mark other)
     ])
-    (digits_lack mark none (digit_on value byte) text number told)
+    (digits_lack mark none (with_hex_digit value byte) text number told)
 
-folded : (text : List ℕ) (number : ℕ) → number_of text ≡ Some number → fold digit_on (Some 0) text ≡ Some number
+folded : (text : List ℕ) (number : ℕ) → number_of text ≡ Some number → fold with_hex_digit (Some 0) text ≡ Some number
 unfolding number_of
 folded text number told = grind arith
 
@@ -73,8 +73,8 @@ number_lacks mark none text number told = digits_lack mark none (Some 0) text nu
 
 -- ---- two numbers
 
-pub two_numbers : (text : List ℕ) (first second : ℕ) → AreTwoNumbers text first second → numbers_at comma text ≡ Some (first, second)
-unfolding numbers_at
+pub two_numbers : (text : List ℕ) (first second : ℕ) → AreTwoNumbers text first second → parse_two_numbers comma text ≡ Some (first, second)
+unfolding parse_two_numbers
 two_numbers text first second tells =
     let place = place_between comma tells.front tells.second_digits (number_lacks comma refl tells.front first tells.front_tells) in
     rw (

@@ -2,8 +2,8 @@
 use Rattle.std.proofs.Common.{◌≡◌, ◌∷◌, ◌+◌, ◌*◌, ◌≤◌, [], ℕ, List, arith, length, length-append, length-take, min, drop}
 use Rattle.std.proofs.lemmas.Bool.{cond_both}
 use Rattle.rv_gdb_protocol.specs.Escapes.{changed, escape, escaped, escaped_byte, is_special}
-use Rattle.rv_gdb_protocol.specs.Frames.{most_body}
-use Rattle.rv_gdb_protocol.specs.Replies.{most_part, part_of_rest, part_text}
+use Rattle.rv_gdb_protocol.specs.Frames.{max_body}
+use Rattle.rv_gdb_protocol.specs.Replies.{max_part, part_of_rest, part_text}
 use Rattle.rv_gdb_protocol.specs.declared.request.Part.{Part}
 
 byte_twice : (byte : ℕ) → length (escaped_byte byte) ≤ 2
@@ -21,9 +21,9 @@ escaped_twice (byte ∷ text) =
 rest_short : (rest : List ℕ) (count : ℕ) → length (part_of_rest rest count) ≤ 1 + count
 rest_short rest count = grind (arith, length-take)
 
-pub part_fits : (text : List ℕ) (part : Part) → length (escaped (part_text text part)) ≤ most_body
+pub part_fits : (text : List ℕ) (part : Part) → length (escaped (part_text text part)) ≤ max_body
 unfolding part_text
 part_fits text part =
     let twice = escaped_twice (part_text text part) in
-    let short = rest_short (drop part.offset text) (min part.count most_part) in
+    let short = rest_short (drop part.offset text) (min part.count max_part) in
     omega arith

@@ -6,10 +6,10 @@ use Rattle.std.proofs.lemmas.List.Folds.{list_all-append}
 use Rattle.hex.specs.Hex.{encode_with, hex_digit_value, lower_digits}
 use Rattle.hex.proofs.HexLemmas.{IsDigits-lower_digits}
 use Rattle.rv_gdb_protocol.proofs.Hearing.{incoming_in-append, incoming_in-empty}
-use Rattle.rv_gdb_protocol.specs.Escapes.{begin_mark, changed, data_of, end_mark, escape, escaped, escaped_byte, is_special, is_escape}
-use Rattle.rv_gdb_protocol.specs.Frames.{Frame, between, frame_after, incoming_in, most_body}
+use Rattle.rv_gdb_protocol.specs.Escapes.{packet_start, changed, data_of, end_mark, escape, escaped, escaped_byte, is_special, is_escape}
+use Rattle.rv_gdb_protocol.specs.Frames.{Frame, between, state_after_byte, incoming_in, max_body}
 use Rattle.rv_gdb_protocol.specs.Readback.{CanBeSent, IsReceivedAlone, IsReadBack, incoming_in_pieces, is_plain, joined, sent, verdict_of}
-use Rattle.rv_gdb_protocol.specs.Sums.{framed, checksum_verdict, sum_digits, sum_of, sum_of_digits}
+use Rattle.rv_gdb_protocol.specs.Sums.{framed, checksum_verdict, checksum_digits, sum_of, parse_checksum}
 use Rattle.rv_gdb_protocol.specs.declared.frame.Incoming.TheVariants.{Packet}
 use Rattle.rv_gdb_protocol.specs.declared.frame.Place.TheVariants as place
 use Rattle.rv_gdb_protocol.specs.declared.frame.Checksum.TheVariants as verdict
@@ -20,13 +20,13 @@ in_body body = record { place = place.Body; body = body }
 -- ---- a text in its frame
 
 -- a plain byte makes a body longer that has room for it
-body_longer : (front : List ℕ) (byte : ℕ) → is_plain byte ≡ true → length front < most_body
-    → frame_after (in_body front) byte ≡ in_body (front ++ byte ∷ [])
+body_longer : (front : List ℕ) (byte : ℕ) → is_plain byte ≡ true → length front < max_body
+    → state_after_byte (in_body front) byte ≡ in_body (front ++ byte ∷ [])
 body_longer front byte plain room =
-    let neither = or_parts (byte == begin_mark) (byte == end_mark) (not-true (byte == begin_mark || byte == end_mark) plain) in
-    rw (neither.0, neither.1, lt-ltb (length front) most_body room) refl
+    let neither = or_parts (byte == packet_start) (byte == end_mark) (not-true (byte == packet_start || byte == end_mark) plain) in
+    rw (neither.0, neither.1, lt-ltb (length front) max_body room) refl
 
-body_heard : (front text rest : List ℕ) → list_all is_plain text ≡ true → length front + length text ≤ most_body
+body_heard : (front text rest : List ℕ) → list_all is_plain text ≡ true → length front + length text ≤ max_body
     → incoming_in (in_body front) (text ++ rest) ≡ incoming_in (in_body (front ++ text)) rest
 unfolding incoming_in
 body_heard front [] rest plain fits = ap (λ (body : List ℕ). incoming_in (in_body body) rest) (sym (append-nil front))
@@ -37,22 +37,22 @@ body_heard front (byte ∷ text) rest plain fits =
     ∙ body_heard (front ++ byte ∷ []) text rest parts.1 (omega arith)
     ∙ ap (λ (body : List ℕ). incoming_in (in_body body) rest) (append_assoc front (byte ∷ []) text)
 
-body_behind : (front text rest : List ℕ) → list_all is_plain text ≡ true → length front + length text ≤ most_body
-    → fold frame_after (in_body front) (text ++ rest) ≡ fold frame_after (in_body (front ++ text)) rest
-body_behind front [] rest plain fits = ap (λ (body : List ℕ). fold frame_after (in_body body) rest) (sym (append-nil front))
+body_behind : (front text rest : List ℕ) → list_all is_plain text ≡ true → length front + length text ≤ max_body
+    → fold state_after_byte (in_body front) (text ++ rest) ≡ fold state_after_byte (in_body (front ++ text)) rest
+body_behind front [] rest plain fits = ap (λ (body : List ℕ). fold state_after_byte (in_body body) rest) (sym (append-nil front))
 body_behind front (byte ∷ text) rest plain fits =
     let parts = and_parts (is_plain byte) (list_all is_plain text) plain in
     let grown : length (front ++ byte ∷ []) ≡ length front + 1 = length-append front (byte ∷ []) in
-    ap (λ (frame : Frame). fold frame_after frame (text ++ rest)) (body_longer front byte parts.0 (omega arith))
+    ap (λ (frame : Frame). fold state_after_byte frame (text ++ rest)) (body_longer front byte parts.0 (omega arith))
     ∙ body_behind (front ++ byte ∷ []) text rest parts.1 (omega arith)
-    ∙ ap (λ (body : List ℕ). fold frame_after (in_body body) rest) (append_assoc front (byte ∷ []) text)
+    ∙ ap (λ (body : List ℕ). fold state_after_byte (in_body body) rest) (append_assoc front (byte ∷ []) text)
 
 sent_heard : (text : List ℕ) (high low : ℕ) → CanBeSent text
     → incoming_in between (sent text high low) ≡ Packet text (verdict_of text high low) ∷ []
 unfolding incoming_in
 sent_heard text high low can = body_heard [] text (end_mark ∷ high ∷ low ∷ []) can.plain (omega arith)
 
-sent_behind : (text : List ℕ) (high low : ℕ) → CanBeSent text → fold frame_after between (sent text high low) ≡ between
+sent_behind : (text : List ℕ) (high low : ℕ) → CanBeSent text → fold state_after_byte between (sent text high low) ≡ between
 sent_behind text high low can = body_behind [] text (end_mark ∷ high ∷ low ∷ []) can.plain (omega arith)
 
 -- ---- pieces
@@ -61,7 +61,7 @@ pieces_heard : (frame : Frame) (pieces : List (List ℕ)) → incoming_in_pieces
 unfolding incoming_in_pieces
 pieces_heard frame [] = sym (incoming_in-empty frame)
 pieces_heard frame (piece ∷ rest) =
-    ap (λ more. incoming_in frame piece ++ more) (pieces_heard (fold frame_after frame piece) rest)
+    ap (λ more. incoming_in frame piece ++ more) (pieces_heard (fold state_after_byte frame piece) rest)
     ∙ sym (incoming_in-append frame piece (joined rest))
 
 pub sent_alone : (text : List ℕ) (high low : ℕ) → CanBeSent text
@@ -145,13 +145,13 @@ sum_right text =
     let small : s < 256 = sum_small text in
     let high : ℕ = s / 16 in
     let low : ℕ = s % 16 in
-    ap (λ (told : Option ℕ). checksum_verdict s (sum_of_digits told (hex_digit_value (slice_index lower_digits low))))
+    ap (λ (told : Option ℕ). checksum_verdict s (parse_checksum told (hex_digit_value (slice_index lower_digits low))))
     (IsDigits-lower_digits high (omega arith))
-    ∙ ap (λ (told : Option ℕ). checksum_verdict s (sum_of_digits (Some high) told)) (IsDigits-lower_digits low (omega arith))
+    ∙ ap (λ (told : Option ℕ). checksum_verdict s (parse_checksum (Some high) told)) (IsDigits-lower_digits low (omega arith))
     ∙ cond-true (high * 16 + low == s) verdict.Right verdict.Wrong (eq-eqb (high * 16 + low) s (omega arith))
 
-framed_alone : (body : List ℕ) → length (escaped body) ≤ most_body → IsReceivedAlone (framed body) (escaped body) verdict.Right
-unfolding framed sum_digits encode_with
+framed_alone : (body : List ℕ) → length (escaped body) ≤ max_body → IsReceivedAlone (framed body) (escaped body) verdict.Right
+unfolding framed checksum_digits encode_with
 framed_alone body fits =
     let text : List ℕ = escaped body in
     let high : ℕ = slice_index lower_digits (sum_of text / 16) in
@@ -159,7 +159,7 @@ framed_alone body fits =
     let can : CanBeSent text = record { plain = escaped_plain body; fits = fits } in
     rw (← sum_right text) (sent_alone text high low can)
 
-pub framed_read_back : (body : List ℕ) → length (escaped body) ≤ most_body → IsReadBack body
+pub framed_read_back : (body : List ℕ) → length (escaped body) ≤ max_body → IsReadBack body
 framed_read_back body fits = record {
   alone = framed_alone body fits;
   data_is = escaped_data body;

@@ -3,9 +3,9 @@ use Rattle.std.proofs.Common.{◌≡◌, ◌++◌, ◌∷◌, ◌+◌, ◌<◌, 
 use Rattle.std.specs.List.{list_all}
 use Rattle.std.proofs.lemmas.Bool.{and_from, cond_both, eqb-true, ltb-true, not_from_false, or_from}
 use Rattle.std.proofs.lemmas.List.Folds.{list_all-append}
-use Rattle.rv_gdb_protocol.specs.Escapes.{begin_mark, end_mark}
-use Rattle.rv_gdb_protocol.specs.Frames.{Frame, frame_after_in, between, frame_after, incoming_at, received_in_state, longer_body, most_body, opened, too_long, signal}
-use Rattle.rv_gdb_protocol.specs.Readback.{CanBeSent, EndsWithSent, is_plain, sent, verdict_of}
+use Rattle.rv_gdb_protocol.specs.Escapes.{packet_start, end_mark}
+use Rattle.rv_gdb_protocol.specs.Frames.{Frame, state_after_byte_at, between, state_after_byte, incoming_at, item_in_state, longer_body, max_body, opened, too_long, signal}
+use Rattle.rv_gdb_protocol.specs.Readback.{CanBeSent, EndsWithPacket, is_plain, sent, verdict_of}
 use Rattle.rv_gdb_protocol.specs.declared.frame.Incoming.TheVariants as heard
 use Rattle.rv_gdb_protocol.specs.declared.frame.Place.{Place}
 use Rattle.rv_gdb_protocol.specs.declared.frame.Place.TheVariants as place
@@ -14,7 +14,7 @@ use Rattle.rv_gdb_protocol.specs.declared.frame.Checksum.{Checksum}
 -- bytes end with `$`, a text and what has come behind the text
 pub record EndsOpen (bytes text behind : List ℕ) : Type 0 where
   pub front : List ℕ
-  pub bytes_are : bytes ≡ front ++ begin_mark ∷ (text ++ behind)
+  pub bytes_are : bytes ≡ front ++ packet_start ∷ (text ++ behind)
   pub can : CanBeSent text
 
 -- what a frame tells of the bytes that led to it
@@ -37,19 +37,19 @@ one_more bytes text behind byte open_ = record {
   front = open_.front;
   bytes_are =
       ap (λ (all : List ℕ). all ++ byte ∷ []) open_.bytes_are
-      ∙ append_assoc open_.front (begin_mark ∷ (text ++ behind)) (byte ∷ [])
-      ∙ ap (λ (rest : List ℕ). open_.front ++ begin_mark ∷ rest) (append_assoc text behind (byte ∷ []));
+      ∙ append_assoc open_.front (packet_start ∷ (text ++ behind)) (byte ∷ [])
+      ∙ ap (λ (rest : List ℕ). open_.front ++ packet_start ∷ rest) (append_assoc text behind (byte ∷ []));
   can = open_.can;
 }
 
 -- one byte more in the text
-longer : (bytes text : List ℕ) (byte : ℕ) → EndsOpen bytes text [] → is_plain byte ≡ true → length text < most_body
+longer : (bytes text : List ℕ) (byte : ℕ) → EndsOpen bytes text [] → is_plain byte ≡ true → length text < max_body
     → EndsOpen (bytes ++ byte ∷ []) (text ++ byte ∷ []) []
 longer bytes text byte open_ plain room =
     let more = one_more bytes text [] byte open_ in
     let grown : length (text ++ byte ∷ []) ≡ length text + 1 = length-append text (byte ∷ []) in record {
       front = more.front;
-      bytes_are = more.bytes_are ∙ ap (λ (rest : List ℕ). more.front ++ begin_mark ∷ rest) (sym (append-nil (text ++ byte ∷ [])));
+      bytes_are = more.bytes_are ∙ ap (λ (rest : List ℕ). more.front ++ packet_start ∷ rest) (sym (append-nil (text ++ byte ∷ [])));
       can = record {
         plain = list_all-append is_plain text (byte ∷ [])
             ∙ and_from (list_all is_plain text) (list_all is_plain (byte ∷ [])) open_.can.plain
@@ -58,29 +58,29 @@ longer bytes text byte open_ plain room =
       };
     }
 
-opens : (bytes : List ℕ) (byte : ℕ) → (byte == begin_mark) ≡ true → FrameTells (bytes ++ byte ∷ []) opened
+opens : (bytes : List ℕ) (byte : ℕ) → (byte == packet_start) ≡ true → FrameTells (bytes ++ byte ∷ []) opened
 opens bytes byte is = record {
   front = bytes;
-  bytes_are = ap (λ (last : ℕ). bytes ++ last ∷ []) (eqb-true byte begin_mark is);
+  bytes_are = ap (λ (last : ℕ). bytes ++ last ∷ []) (eqb-true byte packet_start is);
   can = record { plain = refl; fits = omega arith };
 }
 
-goes_longer : (bytes text : List ℕ) (byte : ℕ) → EndsOpen bytes text [] → (byte == begin_mark) ≡ false → (byte == end_mark) ≡ false
+goes_longer : (bytes text : List ℕ) (byte : ℕ) → EndsOpen bytes text [] → (byte == packet_start) ≡ false → (byte == end_mark) ≡ false
     → FrameTells (bytes ++ byte ∷ []) (longer_body text byte)
 goes_longer bytes text byte open_ no_begin no_end =
-    cond_both (ltb (length text) most_body) (record { place = place.Body; body = text ++ byte ∷ [] }) too_long
+    cond_both (ltb (length text) max_body) (record { place = place.Body; body = text ++ byte ∷ [] }) too_long
     (FrameTells (bytes ++ byte ∷ []))
-    (λ room. longer bytes text byte open_ (not_from_false _ (or_from (byte == begin_mark) (byte == end_mark) no_begin no_end))
-    (ltb-true (length text) most_body room))
+    (λ room. longer bytes text byte open_ (not_from_false _ (or_from (byte == packet_start) (byte == end_mark) no_begin no_end))
+    (ltb-true (length text) max_body room))
     (λ full. tt)
 
 one_byte : (stands : Place) (text bytes : List ℕ) (byte : ℕ) → Tells stands text bytes
-    → FrameTells (bytes ++ byte ∷ []) (frame_after_in stands (record { place = stands; body = text }) byte)
+    → FrameTells (bytes ++ byte ∷ []) (state_after_byte_at stands (record { place = stands; body = text }) byte)
 one_byte place.Between text bytes byte told =
-    cond_both (byte == begin_mark) opened (record { place = place.Between; body = text }) (FrameTells (bytes ++ byte ∷ []))
+    cond_both (byte == packet_start) opened (record { place = place.Between; body = text }) (FrameTells (bytes ++ byte ∷ []))
     (opens bytes byte) (λ no. tt)
 one_byte place.Body text bytes byte told =
-    cond_both (byte == begin_mark) opened
+    cond_both (byte == packet_start) opened
     (cond (byte == end_mark) (record { place = place.FirstDigit; body = text }) (longer_body text byte))
     (FrameTells (bytes ++ byte ∷ [])) (opens bytes byte)
     (λ no_begin. cond_both (byte == end_mark) (record { place = place.FirstDigit; body = text }) (longer_body text byte)
@@ -90,7 +90,7 @@ one_byte place.Body text bytes byte told =
 one_byte place.FirstDigit text bytes byte told = one_more bytes text (end_mark ∷ []) byte told
 one_byte (place.SecondDigit high) text bytes byte told = tt
 one_byte place.LongBody text bytes byte told =
-    cond_both (byte == begin_mark) opened
+    cond_both (byte == packet_start) opened
     (cond (byte == end_mark) (record { place = place.LongFirstDigit; body = text }) (record { place = place.LongBody; body = text }))
     (FrameTells (bytes ++ byte ∷ [])) (opens bytes byte)
     (λ no_begin. cond_both (byte == end_mark) (record { place = place.LongFirstDigit; body = text })
@@ -99,17 +99,17 @@ one_byte place.LongFirstDigit text bytes byte told = tt
 one_byte place.LongSecondDigit text bytes byte told = tt
 
 frames_tell : (front rest : List ℕ) (frame : Frame) → FrameTells front frame
-    → FrameTells (front ++ rest) (fold frame_after frame rest)
+    → FrameTells (front ++ rest) (fold state_after_byte frame rest)
 frames_tell front [] frame told = rw (append-nil front) told
 frames_tell front (byte ∷ rest) frame told =
     rw (← append_assoc front (byte ∷ []) rest)
-    (frames_tell (front ++ byte ∷ []) rest (frame_after frame byte) (one_byte frame.place frame.body front byte told))
+    (frames_tell (front ++ byte ∷ []) rest (state_after_byte frame byte) (one_byte frame.place frame.body front byte told))
 
 no_signal : (byte : ℕ) (text : List ℕ) (sum : Checksum) → signal byte ≡ Some (heard.Packet text sum) → ⊥
 no_signal byte text sum is = grind arith
 
 was_sent : (stands : Place) (body bytes text : List ℕ) (byte : ℕ) (sum : Checksum) → Tells stands body bytes
-    → received_in_state stands body byte ≡ Some (heard.Packet text sum) → EndsWithSent (bytes ++ byte ∷ []) text sum
+    → item_in_state stands body byte ≡ Some (heard.Packet text sum) → EndsWithPacket (bytes ++ byte ∷ []) text sum
 was_sent place.Between body bytes text byte sum told is = absurd (no_signal byte text sum is)
 was_sent place.Body body bytes text byte sum told is = absurd (cc is)
 was_sent place.FirstDigit body bytes text byte sum told is = absurd (cc is)
@@ -128,8 +128,8 @@ was_sent place.LongFirstDigit body bytes text byte sum told is = absurd (cc is)
 was_sent place.LongSecondDigit body bytes text byte sum told is = absurd (cc is)
 
 pub heard_was_sent : (bytes text : List ℕ) (byte : ℕ) (sum : Checksum)
-    → incoming_at (fold frame_after between bytes) byte ≡ Some (heard.Packet text sum)
-    → EndsWithSent (bytes ++ byte ∷ []) text sum
+    → incoming_at (fold state_after_byte between bytes) byte ≡ Some (heard.Packet text sum)
+    → EndsWithPacket (bytes ++ byte ∷ []) text sum
 heard_was_sent bytes text byte sum is =
-    let last : Frame = fold frame_after between bytes in
+    let last : Frame = fold state_after_byte between bytes in
     was_sent last.place last.body bytes text byte sum (frames_tell [] bytes between tt) is

@@ -3,8 +3,8 @@ use Rattle.std.specs.Prelude.{ℕ, List, [], ◌∷◌, ◌++◌, ◌==◌, ◌|
 use Rattle.std.specs.List.{flat_map}
 
 -- `$`, which begins a packet
-abbrev pub begin_mark : ℕ
-begin_mark = 36
+abbrev pub packet_start : ℕ
+packet_start = 36
 
 -- `#`, which ends the body of a packet
 abbrev pub end_mark : ℕ
@@ -20,7 +20,7 @@ repeat_mark = 42
 
 -- whether a byte has a special meaning in a packet, so that it must be escaped
 abbrev pub is_special : ℕ → Bool
-is_special byte = byte == begin_mark || byte == end_mark || byte == escape || byte == repeat_mark
+is_special byte = byte == packet_start || byte == end_mark || byte == escape || byte == repeat_mark
 
 -- a byte with bit 5 inverted, as it is written after `}`
 abbrev pub changed : ℕ → ℕ

@@ -18,8 +18,8 @@ abbrev pub joined_by : ℕ → List ℕ → List ℕ → List ℕ
 joined_by mark first second = first ++ mark ∷ second
 
 -- the text does not contain the delimiter
-abbrev pub HasNo : ℕ → List ℕ → Type 0
-HasNo mark text = list_all (λ byte. not (byte == mark)) text ≡ true
+abbrev pub HasNoDelimiter : ℕ → List ℕ → Type 0
+HasNoDelimiter mark text = list_all (λ byte. not (byte == mark)) text ≡ true
 
 -- the text consists of the digits of two numbers, separated by a comma
 pub record AreTwoNumbers (text : List ℕ) (first second : ℕ) : Type 0 where
@@ -31,18 +31,18 @@ pub record AreTwoNumbers (text : List ℕ) (first second : ℕ) : Type 0 where
   pub behind_tells : number_of second_digits ≡ Some second
 
 -- the text is the arguments of `Z` and `z` for this stoppoint: 0 and 1 are breakpoints, 2 to 4 are watchpoints for writes, reads and both
-pub data IsTrap : List ℕ → Stoppoint → Type 0 where
-  software : (fields : List ℕ) (address kind : ℕ) → AreTwoNumbers fields address kind → IsTrap (codes "0," ++ fields) (trap.Break address)
-  hardware : (fields : List ℕ) (address kind : ℕ) → AreTwoNumbers fields address kind → IsTrap (codes "1," ++ fields) (trap.Break address)
+pub data IsStoppointText : List ℕ → Stoppoint → Type 0 where
+  software : (fields : List ℕ) (address kind : ℕ) → AreTwoNumbers fields address kind → IsStoppointText (codes "0," ++ fields) (trap.Break address)
+  hardware : (fields : List ℕ) (address kind : ℕ) → AreTwoNumbers fields address kind → IsStoppointText (codes "1," ++ fields) (trap.Break address)
   writes : (fields : List ℕ) (address count : ℕ) → AreTwoNumbers fields address count → 1 ≤ count → count ≤ 65536
       → address + count ≤ 4294967296
-      → IsTrap (codes "2," ++ fields) (trap.Watch watch.Writes (record { address = address; count = count }))
+      → IsStoppointText (codes "2," ++ fields) (trap.Watch watch.Writes (record { address = address; count = count }))
   reads : (fields : List ℕ) (address count : ℕ) → AreTwoNumbers fields address count → 1 ≤ count → count ≤ 65536
       → address + count ≤ 4294967296
-      → IsTrap (codes "3," ++ fields) (trap.Watch watch.Reads (record { address = address; count = count }))
+      → IsStoppointText (codes "3," ++ fields) (trap.Watch watch.Reads (record { address = address; count = count }))
   accesses : (fields : List ℕ) (address count : ℕ) → AreTwoNumbers fields address count → 1 ≤ count → count ≤ 65536
       → address + count ≤ 4294967296
-      → IsTrap (codes "4," ++ fields) (trap.Watch watch.Accesses (record { address = address; count = count }))
+      → IsStoppointText (codes "4," ++ fields) (trap.Watch watch.Accesses (record { address = address; count = count }))
 
 -- the text `c` requests to continue, and `s` to step
 pub data IsMove : List ℕ → Move → Type 0 where
@@ -52,9 +52,9 @@ pub data IsMove : List ℕ → Move → Type 0 where
 -- the text is an action of `vCont;` that requests this move: a signal is ignored, and `r` steps while the pc is in a range of addresses
 pub data IsAction : List ℕ → Move → Type 0 where
   moves : (text : List ℕ) (step : Move) → IsMove text step → IsAction text step
-  goes_on_signalled : (signal : List ℕ) (number : ℕ) → number_of signal ≡ Some number
+  continues_with_signal : (signal : List ℕ) (number : ℕ) → number_of signal ≡ Some number
       → IsAction (codes "C" ++ signal) move.Continue
-  steps_signalled : (signal : List ℕ) (number : ℕ) → number_of signal ≡ Some number → IsAction (codes "S" ++ signal) move.Step
+  steps_with_signal : (signal : List ℕ) (number : ℕ) → number_of signal ≡ Some number → IsAction (codes "S" ++ signal) move.Step
   steps_within : (range : List ℕ) (low high : ℕ) → AreTwoNumbers range low high
       → IsAction (codes "r" ++ range) (move.StepWithin low high)
 
@@ -80,11 +80,11 @@ pub data IsRequest : List ℕ → Request → Type 0 where
   write_data : (range data_text bytes : List ℕ) (address count : ℕ) → AreTwoNumbers range address count
       → whole_data data_text ≡ Some bytes → length bytes ≡ count
       → IsRequest (codes "X" ++ joined_by colon range data_text) (ask.WriteMemory address bytes)
-  set_stoppoint : (text : List ℕ) (place : Stoppoint) → IsTrap text place → IsRequest (codes "Z" ++ text) (ask.Set place)
-  clear_stoppoint : (text : List ℕ) (place : Stoppoint) → IsTrap text place → IsRequest (codes "z" ++ text) (ask.Clear place)
+  set_stoppoint : (text : List ℕ) (place : Stoppoint) → IsStoppointText text place → IsRequest (codes "Z" ++ text) (ask.Set place)
+  clear_stoppoint : (text : List ℕ) (place : Stoppoint) → IsStoppointText text place → IsRequest (codes "z" ++ text) (ask.Clear place)
   actions : IsRequest (codes "vCont?") ask.Actions
   plain_move : (text : List ℕ) (step : Move) → IsMove text step → IsRequest text (ask.Move step)
-  on_with_signal : (signal : List ℕ) (number : ℕ) → number_of signal ≡ Some number
+  continue_with_signal : (signal : List ℕ) (number : ℕ) → number_of signal ≡ Some number
       → IsRequest (codes "C" ++ signal) (ask.Move move.Continue)
   step_with_signal : (signal : List ℕ) (number : ℕ) → number_of signal ≡ Some number
       → IsRequest (codes "S" ++ signal) (ask.Move move.Step)
@@ -93,7 +93,7 @@ pub data IsRequest : List ℕ → Request → Type 0 where
       → IsRequest (codes "vCont;" ++ joined_by semicolon text rest) (ask.Move step)
   action_of_thread : (text rest : List ℕ) (step : Move) → IsAction text step
       → IsRequest (codes "vCont;" ++ joined_by colon text rest) (ask.Move step)
-  goes_back : IsRequest (codes "bc") (ask.Move move.ContinueBack)
+  continues_back : IsRequest (codes "bc") (ask.Move move.ContinueBack)
   steps_back : IsRequest (codes "bs") (ask.Move move.StepBack)
   command : (digits text : List ℕ) → bytes_of digits ≡ Some text → IsRequest (codes "qRcmd," ++ digits) (ask.Command text)
   detach : IsRequest (codes "D") ask.Detach
@@ -108,11 +108,11 @@ pub data IsRequest : List ℕ → Request → Type 0 where
   this_thread : IsRequest (codes "qC") ask.Thread
   first_threads : IsRequest (codes "qfThreadInfo") ask.FirstThreads
   more_threads : IsRequest (codes "qsThreadInfo") ask.MoreThreads
-  image_path : (process part : List ℕ) (offset count : ℕ) → HasNo colon process → AreTwoNumbers part offset count
+  image_path : (process part : List ℕ) (offset count : ℕ) → HasNoDelimiter colon process → AreTwoNumbers part offset count
       → IsRequest (codes "qXfer:exec-file:read:" ++ joined_by colon process part)
       (ask.ImagePath (record { offset = offset; count = count }))
   file_system : IsRequest (codes "vFile:setfs:0") ask.FileSystem
-  open_file : (digits path modes : List ℕ) (mode : ℕ) → HasNo comma digits → bytes_of digits ≡ Some path → AreTwoNumbers modes 0 mode
+  open_file : (digits path modes : List ℕ) (mode : ℕ) → HasNoDelimiter comma digits → bytes_of digits ≡ Some path → AreTwoNumbers modes 0 mode
       → IsRequest (codes "vFile:open:" ++ joined_by comma digits modes) (ask.OpenFile path)
   file_size : IsRequest (codes "vFile:fstat:5") ask.FileSize
   read_file : (part : List ℕ) (count offset : ℕ) → AreTwoNumbers part count offset

@@ -18,12 +18,12 @@ with_digit (Some value) None = None
 with_digit None digit = None
 
 -- the number with the byte as one more hexadecimal digit, or `None` if there is no number or the byte is not a digit
-abbrev pub digit_on : Option ℕ → ℕ → Option ℕ
-digit_on value byte = with_digit value (hex_digit_value byte)
+abbrev pub with_hex_digit : Option ℕ → ℕ → Option ℕ
+with_hex_digit value byte = with_digit value (hex_digit_value byte)
 
 -- the number that 1 to 8 hexadecimal digits represent, in either case, or `None` for any other text
 unfoldable pub number_of : List ℕ → Option ℕ
-number_of text = if nat_le 1 (length text) && nat_le (length text) 8 then fold digit_on (Some 0) text else None
+number_of text = if nat_le 1 (length text) && nat_le (length text) 8 then fold with_hex_digit (Some 0) text else None
 
 -- the decoded bytes, or `None` if decoding failed
 abbrev pub bytes_if_decoded : Result (List ℕ) FromHexError → Option (List ℕ)
@@ -48,8 +48,8 @@ abbrev pub place_of : ℕ → List ℕ → Option ℕ
 place_of mark text = position (λ byte. byte == mark) text
 
 -- the two numbers before and after the first occurrence of a delimiter, or `None` if either is not a number
-unfoldable pub numbers_at : ℕ → List ℕ → Option (ℕ × ℕ)
-numbers_at mark text = do
+unfoldable pub parse_two_numbers : ℕ → List ℕ → Option (ℕ × ℕ)
+parse_two_numbers mark text = do
   place ← place_of mark text
   first ← number_of (take place text)
   second ← number_of (drop (place + 1) text)

@@ -4,7 +4,7 @@ use Rattle.std.specs.List.{starts_with}
 use Rattle.std.specs.Option.{option_or}
 use Rattle.std.specs.Str.{bytes_eq}
 use Rattle.rv_gdb_protocol.specs.Numbers.{text_after, bytes_of, until, ◌>>=◌}
-use Rattle.rv_gdb_protocol.specs.Requests.{colon, description, image_path, move_within, open_file, or_refused, plain_move, read_file, read_memory, read_register, semicolon, signal_move, move_with_signal, stoppoint_change, write_data, write_digits, write_register, write_registers}
+use Rattle.rv_gdb_protocol.specs.Requests.{colon, description, image_path, move_within, open_file, or_refusal, plain_move, read_file, read_memory, read_register, semicolon, signal_move, move_with_signal, stoppoint_change, write_data, write_digits, write_register, write_registers}
 use Rattle.rv_gdb_protocol.specs.declared.request.Move.{Move}
 use Rattle.rv_gdb_protocol.specs.declared.request.Move.TheVariants as move
 use Rattle.rv_gdb_protocol.specs.declared.request.Refusal.TheVariants as refusal
@@ -96,7 +96,7 @@ action_of text = bare_action text <|> signal_action (codes "C") move.Continue te
 
 -- the request of `vCont;` with these arguments, or a refusal if they are malformed; only the first action counts, since there is one thread
 unfoldable pub first_action : List ℕ → Request
-first_action args = or_refused refusal.Malformed (option_map ask.Move (action_of (until colon (until semicolon args))))
+first_action args = or_refusal refusal.Malformed (option_map ask.Move (action_of (until colon (until semicolon args))))
 
 -- the request of a packet that moves forwards in the run, or `None` for any other packet
 unfoldable pub move_request : List ℕ → Option Request
@@ -134,12 +134,12 @@ abbrev pub file_reading : List ℕ → Option Request
 file_reading body = named (codes "vFile:pread:5,") read_file body
 
 -- the refusal of a call on a file descriptor other than 5, or `None` for any other packet
-abbrev pub other_file : List ℕ → Option Request
-other_file body = if is_file_call body then Some (ask.Refused refusal.OtherFile) else None
+abbrev pub other_descriptor_request : List ℕ → Option Request
+other_descriptor_request body = if is_file_call body then Some (ask.Refused refusal.OtherFile) else None
 
 -- the request to execute a `monitor` command, which is given in hexadecimal digits, or a refusal for other arguments
 unfoldable pub command : List ℕ → Request
-command args = or_refused refusal.Failed (option_map ask.Command (bytes_of args))
+command args = or_refusal refusal.Failed (option_map ask.Command (bytes_of args))
 
 -- the request of a packet whose arguments contain data bytes, or `None` for any other packet
 unfoldable pub request_with_bytes : List ℕ → Option Request
@@ -154,7 +154,7 @@ request_with_bytes body =
 unfoldable pub request_without_bytes : List ℕ → Option Request
 request_without_bytes body =
     bare_query body <|> bare_command body <|> query body <|> description_request body <|> image_path_request body <|> register_or_memory_request body <|> stoppoint_request body
-    <|> move_request body <|> accepted_request body <|> detach_request body <|> file_reading body <|> other_file body
+    <|> move_request body <|> accepted_request body <|> detach_request body <|> file_reading body <|> other_descriptor_request body
 
 -- the request that the body of a packet makes; a packet that makes none is refused as unknown
 unfoldable pub request_of : List ℕ → Request

@@ -2,9 +2,9 @@
 use Rattle.std.specs.Prelude.{ℕ, List, [], ◌∷◌, ◌++◌, ◌≡◌, ◌≤◌, ◌==◌, ◌||◌, Bool, true, false, fold, length, not}
 use Rattle.std.specs.List.{flat_map, list_all}
 use Rattle.hex.specs.Hex.{hex_digit_value}
-use Rattle.rv_gdb_protocol.specs.Escapes.{begin_mark, data_of, end_mark, escaped, is_whole}
-use Rattle.rv_gdb_protocol.specs.Frames.{Frame, between, frame_after, incoming_in, most_body}
-use Rattle.rv_gdb_protocol.specs.Sums.{framed, checksum_verdict, sum_of, sum_of_digits}
+use Rattle.rv_gdb_protocol.specs.Escapes.{packet_start, data_of, end_mark, escaped, is_whole}
+use Rattle.rv_gdb_protocol.specs.Frames.{Frame, between, state_after_byte, incoming_in, max_body}
+use Rattle.rv_gdb_protocol.specs.Sums.{framed, checksum_verdict, sum_of, parse_checksum}
 use Rattle.rv_gdb_protocol.specs.declared.frame.Incoming.{Incoming}
 use Rattle.rv_gdb_protocol.specs.declared.frame.Incoming.TheVariants.{Packet}
 use Rattle.rv_gdb_protocol.specs.declared.frame.Checksum.{Checksum}
@@ -12,26 +12,26 @@ use Rattle.rv_gdb_protocol.specs.declared.frame.Checksum.TheVariants as verdict
 
 -- whether a byte is neither `$` nor `#`
 abbrev pub is_plain : ℕ → Bool
-is_plain byte = not (byte == begin_mark || byte == end_mark)
+is_plain byte = not (byte == packet_start || byte == end_mark)
 
 -- the text can be sent in a packet and is short enough to be stored: it has neither `$` nor `#`
 pub record CanBeSent (text : List ℕ) : Type 0 where
   pub plain : list_all is_plain text ≡ true
-  pub fits : length text ≤ most_body
+  pub fits : length text ≤ max_body
 
 -- a packet with this text and the digits `high` and `low` as its checksum
 abbrev pub sent : List ℕ → ℕ → ℕ → List ℕ
-sent text high low = begin_mark ∷ (text ++ end_mark ∷ high ∷ low ∷ [])
+sent text high low = packet_start ∷ (text ++ end_mark ∷ high ∷ low ∷ [])
 
 -- `Right` if the digits `high` and `low` are the checksum of the text, or else `Wrong`
 abbrev pub verdict_of : List ℕ → ℕ → ℕ → Checksum
-verdict_of text high low = checksum_verdict (sum_of text) (sum_of_digits (hex_digit_value high) (hex_digit_value low))
+verdict_of text high low = checksum_verdict (sum_of text) (parse_checksum (hex_digit_value high) (hex_digit_value low))
 
 -- the items that the parser receives, in order, if the bytes arrive in these pieces
 unfoldable pub incoming_in_pieces : Frame → List (List ℕ) → List Incoming
 incoming_in_pieces frame [] = []
 incoming_in_pieces frame (piece ∷ rest) =
-    incoming_in frame piece ++ incoming_in_pieces (fold frame_after frame piece) rest
+    incoming_in frame piece ++ incoming_in_pieces (fold state_after_byte frame piece) rest
 
 -- the bytes of all pieces, one piece after another
 abbrev pub joined : List (List ℕ) → List ℕ
@@ -42,7 +42,7 @@ pub record IsReceivedAlone (bytes text : List ℕ) (sum : Checksum) : Type 0 whe
   -- in whatever pieces the bytes arrive, this packet is the only item received
   pub received : (pieces : List (List ℕ)) → joined pieces ≡ bytes → incoming_in_pieces between pieces ≡ Packet text sum ∷ []
   -- afterwards the parser is between packets
-  pub state_after : fold frame_after between bytes ≡ between
+  pub state_after : fold state_after_byte between bytes ≡ between
 
 -- a framed body is received as one packet with a correct checksum, and its data is the body
 pub record IsReadBack (body : List ℕ) : Type 0 where
@@ -51,7 +51,7 @@ pub record IsReadBack (body : List ℕ) : Type 0 where
   pub whole : is_whole (escaped body) ≡ true
 
 -- the bytes end with a packet that contains this text; `sum` says whether its checksum is correct
-pub record EndsWithSent (bytes text : List ℕ) (sum : Checksum) : Type 0 where
+pub record EndsWithPacket (bytes text : List ℕ) (sum : Checksum) : Type 0 where
   pub front : List ℕ
   pub high : ℕ
   pub low : ℕ

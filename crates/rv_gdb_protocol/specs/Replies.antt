@@ -15,7 +15,7 @@ refusal_text refusal.OtherFile = codes "F-1,2"
 refusal_text refusal.Malformed = codes "E.malformed"
 refusal_text refusal.WouldChange = codes "E.the run is read-only: the debugger cannot change it"
 refusal_text refusal.NotReached = codes "E.the run does not reach that point"
-refusal_text refusal.TooManyTraps = codes "E.too many breakpoints"
+refusal_text refusal.TooManyStoppoints = codes "E.too many breakpoints"
 refusal_text refusal.TooLong = codes "E.packet too long"
 
 -- the features that the stub reports to gdb; a packet can have 0x4000 bytes
@@ -40,8 +40,8 @@ fixed_reply (ask.Refused refusal) = Some (refusal_text refusal)
 fixed_reply request = None
 
 -- the maximum number of bytes of a text in one reply
-abbrev pub most_part : ℕ
-most_part = 8184
+abbrev pub max_part : ℕ
+max_part = 8184
 
 -- `l` and the rest of a text if it has at most `count` bytes, or `m` and its first `count` bytes if more follow
 abbrev pub part_of_rest : List ℕ → ℕ → List ℕ
@@ -49,4 +49,4 @@ part_of_rest rest count = if nat_le (length rest) count then 108 ∷ rest else 1
 
 -- the body of the reply with a part of a text
 unfoldable pub part_text : List ℕ → Part → List ℕ
-part_text text part = part_of_rest (drop part.offset text) (min part.count most_part)
+part_text text part = part_of_rest (drop part.offset text) (min part.count max_part)

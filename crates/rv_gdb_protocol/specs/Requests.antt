@@ -2,7 +2,7 @@
 use Rattle.std.specs.Prelude.{ℕ, List, ◌+◌, ◌==◌, ◌&&◌, Bool, false, Option, Some, None, codes, if◌then◌else◌, length, nat_le, take, drop, option_map, unwrap_or, is_some}
 use Rattle.std.specs.Option.{option_or}
 use Rattle.rv_gdb_protocol.specs.Escapes.{data_of, is_whole}
-use Rattle.rv_gdb_protocol.specs.Numbers.{text_after, bytes_of, number_of, numbers_at, place_of, value_of, ◌>>=◌}
+use Rattle.rv_gdb_protocol.specs.Numbers.{text_after, bytes_of, number_of, parse_two_numbers, place_of, value_of, ◌>>=◌}
 use Rattle.rv_gdb_protocol.specs.declared.request.Move.{Move}
 use Rattle.rv_gdb_protocol.specs.declared.request.Move.TheVariants as move
 use Rattle.rv_gdb_protocol.specs.declared.request.Part.{Part}
@@ -35,8 +35,8 @@ abbrev pub equals : ℕ
 equals = 61
 
 -- the request, or the refusal if there is none
-abbrev pub or_refused : Refusal → Option Request → Request
-or_refused refusal asked = unwrap_or asked (ask.Refused refusal)
+abbrev pub or_refusal : Refusal → Option Request → Request
+or_refusal refusal asked = unwrap_or asked (ask.Refused refusal)
 
 -- ---- parts of texts, and files
 
@@ -46,38 +46,38 @@ part_of pair = record { offset = pair.0; count = pair.1 }
 
 -- the part that the arguments `OFFSET,COUNT` specify, or `None` for other arguments
 abbrev pub part_at : List ℕ → Option Part
-part_at text = option_map part_of (numbers_at comma text)
+part_at text = option_map part_of (parse_two_numbers comma text)
 
 -- the request for a part of the target description, from the arguments `target.xml:OFFSET,COUNT`, or a refusal for other arguments
 unfoldable pub description : List ℕ → Request
 description args = unwrap_or
-    (option_map (λ part. or_refused refusal.Failed (option_map ask.Description (part_at part))) (text_after (codes "target.xml:") args))
+    (option_map (λ part. or_refusal refusal.Failed (option_map ask.Description (part_at part))) (text_after (codes "target.xml:") args))
     (ask.Refused refusal.OtherAnnex)
 
 -- the request for a part of the image's path, from the arguments `PROCESS:OFFSET,COUNT`, of which the process is ignored, or a refusal for
 -- other arguments
 unfoldable pub image_path : List ℕ → Request
-image_path args = or_refused refusal.Failed do
+image_path args = or_refusal refusal.Failed do
   place ← place_of colon args
   part ← part_at (drop (place + 1) args)
   Some (ask.ImagePath part)
 
 -- the path in the arguments `PATH,FLAGS,MODE`, which is in hexadecimal digits, or `None` if they are malformed or the flags are not 0,
 -- which means reading
-unfoldable pub opened_file : List ℕ → Option (List ℕ)
-opened_file args = do
+unfoldable pub path_to_open : List ℕ → Option (List ℕ)
+path_to_open args = do
   place ← place_of comma args
-  flags ← numbers_at comma (drop (place + 1) args)
+  flags ← parse_two_numbers comma (drop (place + 1) args)
   if flags.0 == 0 then bytes_of (take place args) else None
 
 -- the request to open the file that the arguments `PATH,FLAGS,MODE` name; a refusal for other arguments
 abbrev pub open_file : List ℕ → Request
-open_file args = or_refused refusal.OtherFile (option_map ask.OpenFile (opened_file args))
+open_file args = or_refusal refusal.OtherFile (option_map ask.OpenFile (path_to_open args))
 
 -- the request to read a part of the image file, from the arguments `COUNT,OFFSET`, or a refusal for other arguments
 unfoldable pub read_file : List ℕ → Request
-read_file args = or_refused refusal.OtherFile do
-  pair ← numbers_at comma args
+read_file args = or_refusal refusal.OtherFile do
+  pair ← parse_two_numbers comma args
   Some (ask.ReadFile (record { offset = pair.1; count = pair.0 }))
 
 -- ---- registers
@@ -91,36 +91,36 @@ register_of number =
     else if number == 35 then Some register.Taken else None
 
 -- the register whose number the text is, or `None` if it is not the number of a register
-abbrev pub register_at : List ℕ → Option Register
-register_at text = do
+abbrev pub parse_register : List ℕ → Option Register
+parse_register text = do
   number ← number_of text
   register_of number
 
 -- the request to read the register with this number, or a refusal if the arguments are not the number of a register
 abbrev pub read_register : List ℕ → Request
-read_register args = or_refused refusal.Failed (option_map ask.Register (register_at args))
+read_register args = or_refusal refusal.Failed (option_map ask.Register (parse_register args))
 
 -- the request to write a register, from the arguments `NUMBER=VALUE`, or `None` for other arguments
 abbrev pub register_write : List ℕ → Option Request
 register_write args = do
   place ← place_of equals args
-  register ← register_at (take place args)
+  register ← parse_register (take place args)
   value ← value_of (drop (place + 1) args)
   Some (ask.WriteRegister register value)
 
 -- the request to write a register, from the arguments `NUMBER=VALUE`, or a refusal for other arguments
 unfoldable pub write_register : List ℕ → Request
-write_register args = or_refused refusal.Malformed (register_write args)
+write_register args = or_refusal refusal.Malformed (register_write args)
 
 -- the request to write all registers, or `None` if the bytes are not 33 values of four bytes
-abbrev pub all_registers : List ℕ → Option Request
-all_registers bytes = if length bytes == 132 then Some (ask.WriteRegisters bytes) else None
+abbrev pub all_registers_write : List ℕ → Option Request
+all_registers_write bytes = if length bytes == 132 then Some (ask.WriteRegisters bytes) else None
 
 -- the request to write all registers, from 33 values of four bytes, or a refusal for other arguments
 unfoldable pub write_registers : List ℕ → Request
-write_registers args = or_refused refusal.Malformed do
+write_registers args = or_refusal refusal.Malformed do
   bytes ← bytes_of args
-  all_registers bytes
+  all_registers_write bytes
 
 -- ---- memory
 
@@ -130,11 +130,11 @@ range_of pair = record { address = pair.0; count = pair.1 }
 
 -- the range that the arguments `ADDRESS,COUNT` specify, or `None` for other arguments
 abbrev pub range_at : List ℕ → Option Range
-range_at text = option_map range_of (numbers_at comma text)
+range_at text = option_map range_of (parse_two_numbers comma text)
 
 -- the request to read a range of memory, from the arguments `ADDRESS,COUNT`, or a refusal for other arguments
 abbrev pub read_memory : List ℕ → Request
-read_memory args = or_refused refusal.Failed (option_map ask.ReadMemory (range_at args))
+read_memory args = or_refusal refusal.Failed (option_map ask.ReadMemory (range_at args))
 
 -- the request to write these bytes, or `None` if there are not as many as the range has
 abbrev pub written : Range → List ℕ → Option Request
@@ -146,7 +146,7 @@ whole_data text = if is_whole text then Some (data_of false text) else None
 
 -- the request to write these bytes, or a refusal if there are none or not as many as the range has
 abbrev pub write_of : Range → Option (List ℕ) → Request
-write_of range bytes = or_refused refusal.Malformed (bytes >>= written range)
+write_of range bytes = or_refusal refusal.Malformed (bytes >>= written range)
 
 -- the request to write memory, from the arguments `ADDRESS,COUNT:BYTES`, where `read` parses the bytes, or `None` if the range is malformed
 abbrev pub write_memory : (List ℕ → Option (List ℕ)) → List ℕ → Option Request
@@ -158,12 +158,12 @@ write_memory read args = do
 -- the request to write memory, from the arguments `ADDRESS,COUNT:BYTES` with the bytes in hexadecimal digits, or a refusal for other
 -- arguments
 unfoldable pub write_digits : List ℕ → Request
-write_digits args = or_refused refusal.Malformed (write_memory bytes_of args)
+write_digits args = or_refusal refusal.Malformed (write_memory bytes_of args)
 
 -- the request to write memory, from the arguments `ADDRESS,COUNT:BYTES` with the bytes as data with escapes, or a refusal for other
 -- arguments
 unfoldable pub write_data : List ℕ → Request
-write_data args = or_refused refusal.Malformed (write_memory whole_data args)
+write_data args = or_refusal refusal.Malformed (write_memory whole_data args)
 
 -- ---- breakpoints and watchpoints
 
@@ -179,36 +179,36 @@ watched kind range = if (nat_le 1 range.count && nat_le range.count 65536) && na
     then Some (trap.Watch kind range) else None
 
 -- the breakpoint that the arguments `,ADDRESS,KIND` specify, or `None` for other arguments
-abbrev pub break_at : List ℕ → Option Stoppoint
-break_at text = option_map (λ (range : Range). trap.Break range.address) (stoppoint_range text)
+abbrev pub parse_breakpoint : List ℕ → Option Stoppoint
+parse_breakpoint text = option_map (λ (range : Range). trap.Break range.address) (stoppoint_range text)
 
 -- the watchpoint of this kind that the arguments `,ADDRESS,COUNT` specify, or `None` for other arguments and for an invalid range
-unfoldable pub watch_at : Watched → List ℕ → Option Stoppoint
-watch_at kind text = do
+unfoldable pub parse_watch_range : Watched → List ℕ → Option Stoppoint
+parse_watch_range kind text = do
   range ← stoppoint_range text
   watched kind range
 
 -- the watchpoint that the arguments specify, if their kind is 2 (writes), 3 (reads) or 4 (both), or else `None`; the inner option is `None`
 -- if they are malformed
 abbrev pub kind_at : List ℕ → Option (Option Stoppoint)
-kind_at args = option_or (option_map (watch_at watch.Writes) (text_after (codes "2") args))
-    (option_or (option_map (watch_at watch.Reads) (text_after (codes "3") args))
-    (option_map (watch_at watch.Accesses) (text_after (codes "4") args)))
+kind_at args = option_or (option_map (parse_watch_range watch.Writes) (text_after (codes "2") args))
+    (option_or (option_map (parse_watch_range watch.Reads) (text_after (codes "3") args))
+    (option_map (parse_watch_range watch.Accesses) (text_after (codes "4") args)))
 
 -- the stoppoint that the arguments specify, if their kind is 0 to 4, where 0 and 1 are breakpoints, or else `None`; the inner option is
 -- `None` if they are malformed
-abbrev pub stoppoint_at : List ℕ → Option (Option Stoppoint)
-stoppoint_at args = option_or (option_map break_at (text_after (codes "0") args))
-    (option_or (option_map break_at (text_after (codes "1") args)) (kind_at args))
+abbrev pub parse_stoppoint : List ℕ → Option (Option Stoppoint)
+parse_stoppoint args = option_or (option_map parse_breakpoint (text_after (codes "0") args))
+    (option_or (option_map parse_breakpoint (text_after (codes "1") args)) (kind_at args))
 
 -- the refusal of arguments that begin with no known kind: malformed if they are empty, and otherwise unknown
-abbrev pub other_kind : List ℕ → Request
-other_kind args = if length args == 0 then ask.Refused refusal.Malformed else ask.Refused refusal.Unknown
+abbrev pub unknown_kind_request : List ℕ → Request
+unknown_kind_request args = if length args == 0 then ask.Refused refusal.Malformed else ask.Refused refusal.Unknown
 
 -- the request `change` for the stoppoint that the arguments specify, or a refusal for other arguments
 unfoldable pub stoppoint_change : (Stoppoint → Request) → List ℕ → Request
-stoppoint_change change args = unwrap_or (option_map (λ found. or_refused refusal.Malformed (option_map change found)) (stoppoint_at args))
-    (other_kind args)
+stoppoint_change change args = unwrap_or (option_map (λ found. or_refusal refusal.Malformed (option_map change found)) (parse_stoppoint args))
+    (unknown_kind_request args)
 
 -- ---- moves
 
@@ -223,11 +223,11 @@ plain_move move args = if length args == 0 then ask.Move move else ask.Refused (
 -- the move if the arguments of `C` or `S` are only a signal, which is ignored, and otherwise a refusal
 unfoldable pub signal_move : Move → List ℕ → Request
 signal_move move args = if is_some (number_of args) then ask.Move move
-    else ask.Refused (refusal_of_address (is_some (numbers_at semicolon args)))
+    else ask.Refused (refusal_of_address (is_some (parse_two_numbers semicolon args)))
 
 -- the move that steps while the pc is in the range `LOW,HIGH` of addresses, or `None` for other arguments
 abbrev pub move_within : List ℕ → Option Move
-move_within text = option_map (λ pair. move.StepWithin pair.0 pair.1) (numbers_at comma text)
+move_within text = option_map (λ pair. move.StepWithin pair.0 pair.1) (parse_two_numbers comma text)
 
 -- the move if the text is the number of a signal, which is ignored, or else `None`
 abbrev pub move_with_signal : Move → List ℕ → Option Move

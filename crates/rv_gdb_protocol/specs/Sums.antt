@@ -1,7 +1,7 @@
 -- A body in its frame, and the checksum that follows it.
 use Rattle.std.specs.Prelude.{ℕ, List, [], ◌∷◌, ◌++◌, ◌==◌, ◌+◌, ◌*◌, ◌%◌, Option, Some, None, if◌then◌else◌, sum}
 use Rattle.hex.specs.Hex.{encode_lower}
-use Rattle.rv_gdb_protocol.specs.Escapes.{begin_mark, end_mark, escaped}
+use Rattle.rv_gdb_protocol.specs.Escapes.{packet_start, end_mark, escaped}
 use Rattle.rv_gdb_protocol.specs.declared.frame.Checksum.{Checksum}
 use Rattle.rv_gdb_protocol.specs.declared.frame.Checksum.TheVariants as verdict
 
@@ -10,22 +10,22 @@ unfoldable pub sum_of : List ℕ → ℕ
 sum_of text = sum text % 256
 
 -- the checksum of a text as two hexadecimal digits
-unfoldable pub sum_digits : List ℕ → List ℕ
-sum_digits text = encode_lower (sum_of text ∷ [])
+unfoldable pub checksum_digits : List ℕ → List ℕ
+checksum_digits text = encode_lower (sum_of text ∷ [])
 
 -- the packet with a text: `$`, the text, `#` and its checksum
 abbrev pub in_frame : List ℕ → List ℕ
-in_frame text = begin_mark ∷ (text ++ end_mark ∷ sum_digits text)
+in_frame text = packet_start ∷ (text ++ end_mark ∷ checksum_digits text)
 
 -- the packet with a body, which is escaped
 unfoldable pub framed : List ℕ → List ℕ
 framed body = in_frame (escaped body)
 
 -- the checksum that two hexadecimal digits represent, given their values, or `None` if one is not a digit
-abbrev pub sum_of_digits : Option ℕ → Option ℕ → Option ℕ
-sum_of_digits (Some high) (Some low) = Some (high * 16 + low)
-sum_of_digits (Some high) None = None
-sum_of_digits None low = None
+abbrev pub parse_checksum : Option ℕ → Option ℕ → Option ℕ
+parse_checksum (Some high) (Some low) = Some (high * 16 + low)
+parse_checksum (Some high) None = None
+parse_checksum None low = None
 
 -- `Right` if the received checksum equals the correct one, or else `Wrong`
 abbrev pub checksum_verdict : ℕ → Option ℕ → Checksum

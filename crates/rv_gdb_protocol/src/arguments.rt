@@ -1,9 +1,9 @@
 //! Parsers for the arguments of packets.
 
 ghost use Rattle.std.specs.Prelude.{◌≡◌};
-ghost use Rattle.rv_gdb_protocol.specs.Requests.{all_registers, break_at, description, refusal_of_address, image_path, kind_at, move_within, other_kind, part_at, plain_move, range_at, read_file, read_memory, read_register, register_at, register_of, register_write, signal_move, move_with_signal, stoppoint_at, stoppoint_range, watch_at, watched, write_register, written};
+ghost use Rattle.rv_gdb_protocol.specs.Requests.{all_registers_write, parse_breakpoint, description, refusal_of_address, image_path, kind_at, move_within, unknown_kind_request, part_at, plain_move, range_at, read_file, read_memory, read_register, parse_register, register_of, register_write, signal_move, move_with_signal, parse_stoppoint, stoppoint_range, parse_watch_range, watched, write_register, written};
 
-use crate::number::{number_of, numbers_at, place_of, text_after, value_of};
+use crate::number::{number_of, parse_two_numbers, place_of, text_after, value_of};
 use crate::request::{Move, Part, Range, Refusal, Register, Request, Stoppoint, Watched};
 use rv_base::Bytes;
 
@@ -26,7 +26,7 @@ pub(crate) fn description(args: &[u8]) -> Request
 fn part_at(text: &[u8]) -> Option<Part>
     ensures { result ≡ part_at text.now }
 {
-    let (offset, count) = numbers_at(b',', text)?;
+    let (offset, count) = parse_two_numbers(b',', text)?;
     Some(Part { offset, count })
 }
 
@@ -50,7 +50,7 @@ pub(crate) fn image_path(args: &[u8]) -> Request
 pub(crate) fn read_file(args: &[u8]) -> Request
     ensures { result ≡ read_file args.now }
 {
-    match numbers_at(b',', args) {
+    match parse_two_numbers(b',', args) {
         Some((count, offset)) => Request::ReadFile(Part { offset, count }),
         None => Request::Refused(Refusal::OtherFile),
     }
@@ -60,15 +60,15 @@ pub(crate) fn read_file(args: &[u8]) -> Request
 pub(crate) fn read_register(args: &[u8]) -> Request
     ensures { result ≡ read_register args.now }
 {
-    match register_at(args) {
+    match parse_register(args) {
         Some(register) => Request::Register(register),
         None => Request::Refused(Refusal::Failed),
     }
 }
 
 // Returns the register whose number the text is, or `None` if it is not the number of a register.
-fn register_at(text: &[u8]) -> Option<Register>
-    ensures { result ≡ register_at text.now }
+fn parse_register(text: &[u8]) -> Option<Register>
+    ensures { result ≡ parse_register text.now }
 {
     register_of(number_of(text)?)
 }
@@ -100,14 +100,14 @@ fn register_write(args: &[u8]) -> Option<Request>
     ensures { result ≡ register_write args.now }
 {
     let place = place_of(b'=', args)?;
-    let register = register_at(&args[..place])?;
+    let register = parse_register(&args[..place])?;
     let value = value_of(&args[place + 1..])?;
     Some(Request::WriteRegister(register, value))
 }
 
 /// Returns the request to write all registers, or `None` if the bytes are not 33 values of four bytes.
-pub(crate) fn all_registers(bytes: Vec<u8>) -> Option<Request>
-    ensures { result ≡ all_registers bytes.items }
+pub(crate) fn all_registers_write(bytes: Vec<u8>) -> Option<Request>
+    ensures { result ≡ all_registers_write bytes.items }
 {
     if bytes.len() == 132 {
         Some(Request::WriteRegisters(Bytes::new(bytes)))
@@ -130,7 +130,7 @@ pub(crate) fn read_memory(args: &[u8]) -> Request
 pub(crate) fn range_at(text: &[u8]) -> Option<Range>
     ensures { result ≡ range_at text.now }
 {
-    let (address, count) = numbers_at(b',', text)?;
+    let (address, count) = parse_two_numbers(b',', text)?;
     Some(Range { address, count })
 }
 
@@ -147,14 +147,14 @@ pub(crate) fn written(range: Range, bytes: Vec<u8>) -> Option<Request>
 
 /// Parses a kind and `,ADDRESS,COUNT`: a breakpoint (0 or 1), or a watchpoint for writes (2), reads (3) or both (4). Returns `None` for
 /// another kind, and `Some(None)` for a known kind with malformed arguments.
-pub(crate) fn stoppoint_at(args: &[u8]) -> Option<Option<Stoppoint>>
-    ensures { result ≡ stoppoint_at args.now }
+pub(crate) fn parse_stoppoint(args: &[u8]) -> Option<Option<Stoppoint>>
+    ensures { result ≡ parse_stoppoint args.now }
 {
     if let Some(fields) = text_after(b"0", args) {
-        return Some(break_at(fields));
+        return Some(parse_breakpoint(fields));
     }
     if let Some(fields) = text_after(b"1", args) {
-        return Some(break_at(fields));
+        return Some(parse_breakpoint(fields));
     }
     kind_at(args)
 }
@@ -165,27 +165,27 @@ fn kind_at(args: &[u8]) -> Option<Option<Stoppoint>>
     ensures { result ≡ kind_at args.now }
 {
     if let Some(fields) = text_after(b"2", args) {
-        return Some(watch_at(Watched::Writes, fields));
+        return Some(parse_watch_range(Watched::Writes, fields));
     }
     if let Some(fields) = text_after(b"3", args) {
-        return Some(watch_at(Watched::Reads, fields));
+        return Some(parse_watch_range(Watched::Reads, fields));
     }
     let fields = text_after(b"4", args)?;
-    Some(watch_at(Watched::Accesses, fields))
+    Some(parse_watch_range(Watched::Accesses, fields))
 }
 
 // Parses `,ADDRESS,KIND` as a breakpoint. Returns `None` for any other text.
-fn break_at(text: &[u8]) -> Option<Stoppoint>
-    ensures { result ≡ break_at text.now }
+fn parse_breakpoint(text: &[u8]) -> Option<Stoppoint>
+    ensures { result ≡ parse_breakpoint text.now }
 {
     let range = stoppoint_range(text)?;
     Some(Stoppoint::Break(range.address))
 }
 
 // Parses `,ADDRESS,COUNT` as a watchpoint of this kind. Returns `None` for any other text, and for an invalid range.
-#[tactic(auto, unfolding(crate::specs::Requests::watch_at))]
-fn watch_at(kind: Watched, text: &[u8]) -> Option<Stoppoint>
-    ensures { result ≡ watch_at kind text.now }
+#[tactic(auto, unfolding(crate::specs::Requests::parse_watch_range))]
+fn parse_watch_range(kind: Watched, text: &[u8]) -> Option<Stoppoint>
+    ensures { result ≡ parse_watch_range kind text.now }
 {
     watched(kind, stoppoint_range(text)?)
 }
@@ -210,8 +210,8 @@ fn watched(kind: Watched, range: Range) -> Option<Stoppoint>
 }
 
 /// Returns the refusal of arguments that begin with no known kind: malformed if they are empty, and otherwise unknown.
-pub(crate) fn other_kind(args: &[u8]) -> Request
-    ensures { result ≡ other_kind args.now }
+pub(crate) fn unknown_kind_request(args: &[u8]) -> Request
+    ensures { result ≡ unknown_kind_request args.now }
 {
     if args.is_empty() {
         Request::Refused(Refusal::Malformed)
@@ -239,7 +239,7 @@ pub(crate) fn signal_move(step: Move, args: &[u8]) -> Request
     if number_of(args).is_some() {
         return Request::Move(step);
     }
-    Request::Refused(refusal_of_address(numbers_at(b';', args).is_some()))
+    Request::Refused(refusal_of_address(parse_two_numbers(b';', args).is_some()))
 }
 
 // Returns the refusal of a move with arguments: an address would make it start elsewhere, and anything else is malformed.
@@ -257,7 +257,7 @@ fn refusal_of_address(is_address: bool) -> Refusal
 pub(crate) fn move_within(text: &[u8]) -> Option<Move>
     ensures { result ≡ move_within text.now }
 {
-    let (low, high) = numbers_at(b',', text)?;
+    let (low, high) = parse_two_numbers(b',', text)?;
     Some(Move::StepWithin(low, high))
 }
 

@@ -9,7 +9,7 @@ use std::alloc::AllocError;
 const ESCAPE: u8 = b'}';
 
 /// The bit that is inverted in an escaped byte.
-const CHANGE: u8 = 0x20;
+const INVERTED_BIT: u8 = 0x20;
 
 /// Appends a body with escapes, so that none of its bytes has a special meaning in a packet.
 pub fn push_escaped(out: &mut Vec<u8>, body: &[u8]) -> Result<(), AllocError>
@@ -27,7 +27,7 @@ fn push_escaped_byte(out: &mut Vec<u8>, byte: u8) -> Result<(), AllocError>
 {
     if is_special(byte) {
         out.push(ESCAPE)?;
-        out.push(byte ^ CHANGE)?;
+        out.push(byte ^ INVERTED_BIT)?;
     } else {
         out.push(byte)?;
     }
@@ -60,7 +60,7 @@ fn push_data_byte(out: &mut Vec<u8>, behind_escape: bool, byte: u8) -> Result<bo
     ensures escape { IfOk result (λ is. is ≡ is_escape behind_escape byte) }
 {
     if behind_escape {
-        out.push(byte ^ CHANGE)?;
+        out.push(byte ^ INVERTED_BIT)?;
         return Ok(false);
     }
     if byte == ESCAPE {

@@ -2,7 +2,7 @@
 
 ghost use Rattle.std.specs.Prelude.{◌≡◌, ◌++◌, OnOk};
 ghost use Rattle.rv_gdb_protocol.specs.Escapes.{escaped};
-ghost use Rattle.rv_gdb_protocol.specs.Sums.{framed, sum_digits};
+ghost use Rattle.rv_gdb_protocol.specs.Sums.{framed, checksum_digits};
 
 use crate::escapes::push_escaped;
 use crate::sum::sum_of;
@@ -60,13 +60,13 @@ pub fn push_frame(alloc: Global, out: &mut Vec<u8>, body: &[u8]) -> Result<(), A
     out.push(b'$')?;
     out.extend_from_slice(text.as_slice())?;
     out.push(b'#')?;
-    push_sum(out, text.as_slice())
+    push_checksum(out, text.as_slice())
 }
 
 // Appends the checksum of a text as two digits.
-#[tactic(auto, unfolding(crate::specs::Sums::sum_digits))]
-fn push_sum(out: &mut Vec<u8>, text: &[u8]) -> Result<(), AllocError>
-    ensures { OnOk result (out.new.items ≡ out.old.items ++ sum_digits text.now) }
+#[tactic(auto, unfolding(crate::specs::Sums::checksum_digits))]
+fn push_checksum(out: &mut Vec<u8>, text: &[u8]) -> Result<(), AllocError>
+    ensures { OnOk result (out.new.items ≡ out.old.items ++ checksum_digits text.now) }
 {
     let mut digits = [0u8; 2];
     hex::encode_to_slice([sum_of(text)].as_slice(), &mut digits).unwrap();

@@ -2,8 +2,8 @@
 
 ghost use Rattle.std.specs.Prelude.{◌≡◌, ◌≤◌, ◌++◌, ◌∷◌, [], ℕ, List, fold, length};
 ghost use Rattle.rv_gdb_protocol.specs.Escapes.{escaped};
-ghost use Rattle.rv_gdb_protocol.specs.Frames.{Frame, between, frame_after, incoming_at, incoming_in, most_body};
-ghost use Rattle.rv_gdb_protocol.specs.Readback.{CanBeSent, EndsWithSent, IsReceivedAlone, IsReadBack, sent, verdict_of};
+ghost use Rattle.rv_gdb_protocol.specs.Frames.{Frame, between, state_after_byte, incoming_at, incoming_in, max_body};
+ghost use Rattle.rv_gdb_protocol.specs.Readback.{CanBeSent, EndsWithPacket, IsReceivedAlone, IsReadBack, sent, verdict_of};
 ghost use Rattle.rv_gdb_protocol.specs.Grammar.{IsRequest};
 ghost use Rattle.rv_gdb_protocol.specs.Packets.{request_of};
 ghost use Rattle.rv_gdb_protocol.specs.Replies.{part_text};
@@ -17,25 +17,25 @@ ghost use Rattle.rv_gdb_protocol.specs.declared.frame.Incoming.TheVariants.{Pack
 /// Proves that what the parser receives does not depend on how the bytes are split.
 pub fn bytes_can_be_split()
     ensures { (frame : Frame) (front rest : List ℕ) → incoming_in frame (front ++ rest)
-        ≡ incoming_in frame front ++ incoming_in (fold frame_after frame front) rest }
+        ≡ incoming_in frame front ++ incoming_in (fold state_after_byte frame front) rest }
 {}
 
 /// Proves that a framed body is received as one packet with a correct checksum, whose data is the body.
 pub fn framed_bodies_are_read_back()
-    ensures { (body : List ℕ) → length (escaped body) ≤ most_body → IsReadBack body }
+    ensures { (body : List ℕ) → length (escaped body) ≤ max_body → IsReadBack body }
 {}
 
 /// Proves that a text without `$` and `#`, followed by any two digits as its checksum, is received as one packet.
-pub fn sent_texts_are_received()
+pub fn packets_are_received()
     ensures { (text : List ℕ) (high low : ℕ) → CanBeSent text
         → IsReceivedAlone (sent text high low) text (verdict_of text high low) }
 {}
 
 /// Proves that if the parser receives a packet, the bytes so far end with this packet.
-pub fn received_texts_were_sent()
+pub fn received_packets_were_sent()
     ensures { (bytes text : List ℕ) (byte : ℕ) (sum : Checksum)
-        → incoming_at (fold frame_after between bytes) byte ≡ Some (Packet text sum)
-        → EndsWithSent (bytes ++ byte ∷ []) text sum }
+        → incoming_at (fold state_after_byte between bytes) byte ≡ Some (Packet text sum)
+        → EndsWithPacket (bytes ++ byte ∷ []) text sum }
 {}
 
 /// Proves that the stop reply tells how the run ended: stops with equal replies report equal ends, and a stop before the end and a stop at
@@ -46,10 +46,10 @@ pub fn stop_replies_show_the_ending()
 
 /// Proves that the reply with a part of a text fits in a packet, however many of its bytes must be escaped.
 pub fn parts_fit()
-    ensures { (text : List ℕ) (part : Part) → length (escaped (part_text text part)) ≤ most_body }
+    ensures { (text : List ℕ) (part : Part) → length (escaped (part_text text part)) ≤ max_body }
 {}
 
 /// Proves that each packet of the protocol's grammar is parsed as the request that the grammar gives it.
-pub fn packets_are_read()
+pub fn packets_are_parsed()
     ensures { (body : List ℕ) (request : Request) → IsRequest body request → request_of body ≡ request }
 {}

@@ -2,34 +2,34 @@
 
 ghost use Rattle.std.specs.Prelude.{◌≡◌, ◌<◌, ◌^◌, IfOk, IfSome, length, option_copied, option_map};
 ghost use Rattle.hex.specs.Hex.{hex_digit_value};
-ghost use Rattle.rv_gdb_protocol.specs.Numbers.{text_after, bytes_of, digit_on, number_of, numbers_at, place_of, until, value_of};
+ghost use Rattle.rv_gdb_protocol.specs.Numbers.{text_after, bytes_of, with_hex_digit, number_of, parse_two_numbers, place_of, until, value_of};
 
 use crate::sum::digit_value;
 use hex::FromHexError;
 use std::alloc::{AllocError, Global};
 
 /// The maximum number of digits in a number.
-const MOST_DIGITS: usize = 8;
+const MAX_DIGITS: usize = 8;
 
 /// Returns the number that 1 to 8 hexadecimal digits represent, in either case, or `None` for any other text.
 #[tactic(auto, unfolding(crate::specs::Numbers::number_of))]
 pub(crate) fn number_of(text: &[u8]) -> Option<u32>
     ensures { result ≡ number_of text.now }
 {
-    if text.is_empty() || MOST_DIGITS < text.len() {
+    if text.is_empty() || MAX_DIGITS < text.len() {
         return None;
     }
     let mut value = Some(0);
     for byte in text {
-        value = digit_on(value, *byte);
+        value = with_hex_digit(value, *byte);
     }
     value
 }
 
 // Returns the number with the byte as one more hexadecimal digit, or `None` if there is no number or the byte is not a digit.
-fn digit_on(value: Option<u32>, byte: u8) -> Option<u32>
+fn with_hex_digit(value: Option<u32>, byte: u8) -> Option<u32>
     requires { IfSome value (λ value. value < 2 ^ 28) }
-    ensures { result ≡ digit_on value byte }
+    ensures { result ≡ with_hex_digit value byte }
 {
     match (value, digit_value(byte)) {
         (Some(value), Some(digit)) => Some(value * 16 + u32::from(digit)),
@@ -38,9 +38,9 @@ fn digit_on(value: Option<u32>, byte: u8) -> Option<u32>
 }
 
 /// Returns two numbers that a delimiter separates, as in `80000000,4`, or `None` for any other text.
-#[tactic(auto, unfolding(crate::specs::Numbers::numbers_at))]
-pub(crate) fn numbers_at(mark: u8, text: &[u8]) -> Option<(u32, u32)>
-    ensures { result ≡ numbers_at mark text.now }
+#[tactic(auto, unfolding(crate::specs::Numbers::parse_two_numbers))]
+pub(crate) fn parse_two_numbers(mark: u8, text: &[u8]) -> Option<(u32, u32)>
+    ensures { result ≡ parse_two_numbers mark text.now }
 {
     let place = place_of(mark, text)?;
     let first = number_of(&text[..place])?;

@@ -4,11 +4,11 @@ ghost use Rattle.std.specs.Prelude.{◌≡◌};
 ghost use Rattle.std.specs.Str.{bytes_eq};
 ghost use Rattle.rv_gdb_protocol.specs.Requests.{stoppoint_change};
 ghost use Rattle.rv_gdb_protocol.specs.declared.request.Request.TheVariants as ask;
-ghost use Rattle.rv_gdb_protocol.specs.Packets.{action_of, bare_action, bare_command, bare_query, description_request, detach, detach_request, file_reading, first_action, accepted_request, image_path_request, is_file_call, request_without_bytes, move_request, other_file, query, range_action, register_or_memory_request, signal_action, stoppoint_request};
+ghost use Rattle.rv_gdb_protocol.specs.Packets.{action_of, bare_action, bare_command, bare_query, description_request, detach, detach_request, file_reading, first_action, accepted_request, image_path_request, is_file_call, request_without_bytes, move_request, other_descriptor_request, query, range_action, register_or_memory_request, signal_action, stoppoint_request};
 
 use crate::arguments::{
-    description, image_path, move_with_signal, move_within, other_kind, plain_move, read_file,
-    read_memory, read_register, signal_move, stoppoint_at, write_register,
+    description, image_path, move_with_signal, move_within, unknown_kind_request, plain_move, read_file,
+    read_memory, read_register, signal_move, parse_stoppoint, write_register,
 };
 use crate::number::{text_after, until};
 use crate::request::{Move, Refusal, Request};
@@ -29,7 +29,7 @@ pub(crate) fn request_without_bytes(body: &[u8]) -> Option<Request>
         .or(accepted_request(body))
         .or(detach_request(body))
         .or(file_reading(body))
-        .or(other_file(body))
+        .or(other_descriptor_request(body))
 }
 
 // Whether the body of a packet is exactly this name.
@@ -150,10 +150,10 @@ fn stoppoint_request(body: &[u8]) -> Option<Request>
 fn set_stoppoint(args: &[u8]) -> Request
     ensures { result ≡ stoppoint_change ask.Set args.now }
 {
-    match stoppoint_at(args) {
+    match parse_stoppoint(args) {
         Some(Some(trap)) => Request::Set(trap),
         Some(None) => Request::Refused(Refusal::Malformed),
-        None => other_kind(args),
+        None => unknown_kind_request(args),
     }
 }
 
@@ -162,10 +162,10 @@ fn set_stoppoint(args: &[u8]) -> Request
 fn clear_stoppoint(args: &[u8]) -> Request
     ensures { result ≡ stoppoint_change ask.Clear args.now }
 {
-    match stoppoint_at(args) {
+    match parse_stoppoint(args) {
         Some(Some(trap)) => Request::Clear(trap),
         Some(None) => Request::Refused(Refusal::Malformed),
-        None => other_kind(args),
+        None => unknown_kind_request(args),
     }
 }
 
@@ -285,8 +285,8 @@ fn file_reading(body: &[u8]) -> Option<Request>
 }
 
 // Returns the refusal of a call on a file descriptor other than 5, or `None` for any other packet.
-fn other_file(body: &[u8]) -> Option<Request>
-    ensures { result ≡ other_file body.now }
+fn other_descriptor_request(body: &[u8]) -> Option<Request>
+    ensures { result ≡ other_descriptor_request body.now }
 {
     if is_file_call(body) {
         Some(Request::Refused(Refusal::OtherFile))

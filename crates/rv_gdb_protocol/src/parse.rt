@@ -3,11 +3,11 @@
 ghost use Rattle.std.specs.Prelude.{◌≡◌, IfOk, option_map};
 ghost use Rattle.rv_gdb_protocol.specs.Numbers.{bytes_of};
 ghost use Rattle.rv_gdb_protocol.specs.Packets.{request_with_bytes, command, request_of};
-ghost use Rattle.rv_gdb_protocol.specs.Requests.{open_file, opened_file, whole_data, write_data, write_digits, write_of, write_registers};
+ghost use Rattle.rv_gdb_protocol.specs.Requests.{open_file, path_to_open, whole_data, write_data, write_digits, write_of, write_registers};
 
-use crate::arguments::{all_registers, range_at, written};
+use crate::arguments::{all_registers_write, range_at, written};
 use crate::escapes::push_data;
-use crate::number::{bytes_of, numbers_at, place_of, text_after};
+use crate::number::{bytes_of, parse_two_numbers, place_of, text_after};
 use crate::packets::request_without_bytes;
 use crate::request::{Range, Refusal, Request};
 use rv_base::Bytes;
@@ -56,7 +56,7 @@ fn write_registers(alloc: Global, args: &[u8]) -> Result<Request, AllocError>
     ensures { IfOk result (λ request. request ≡ write_registers args.now) }
 {
     match bytes_of(alloc, args)? {
-        Some(bytes) => { Ok(all_registers(bytes).unwrap_or(Request::Refused(Refusal::Malformed))) }
+        Some(bytes) => { Ok(all_registers_write(bytes).unwrap_or(Request::Refused(Refusal::Malformed))) }
         None => Ok(Request::Refused(Refusal::Malformed)),
     }
 }
@@ -124,21 +124,21 @@ fn whole_data(alloc: Global, text: &[u8]) -> Result<Option<Vec<u8>>, AllocError>
 fn open_file(alloc: Global, args: &[u8]) -> Result<Request, AllocError>
     ensures { IfOk result (λ request. request ≡ open_file args.now) }
 {
-    match opened_file(alloc, args)? {
+    match path_to_open(alloc, args)? {
         Some(path) => Ok(Request::OpenFile(Bytes::new(path))),
         None => Ok(Request::Refused(Refusal::OtherFile)),
     }
 }
 
 // Returns the path of the file to open, or `None` if the arguments are malformed or the flags are not 0, which means reading.
-#[tactic(auto, unfolding(crate::specs::Requests::opened_file))]
-fn opened_file(alloc: Global, args: &[u8]) -> Result<Option<Vec<u8>>, AllocError>
-    ensures { IfOk result (λ path. option_map (λ bytes. bytes.items) path ≡ opened_file args.now) }
+#[tactic(auto, unfolding(crate::specs::Requests::path_to_open))]
+fn path_to_open(alloc: Global, args: &[u8]) -> Result<Option<Vec<u8>>, AllocError>
+    ensures { IfOk result (λ path. option_map (λ bytes. bytes.items) path ≡ path_to_open args.now) }
 {
     let Some(place) = place_of(b',', args) else {
         return Ok(None);
     };
-    match numbers_at(b',', &args[place + 1..]) {
+    match parse_two_numbers(b',', &args[place + 1..]) {
         Some((flags, _)) if flags == 0 => bytes_of(alloc, &args[..place]),
         _ => Ok(None),
     }

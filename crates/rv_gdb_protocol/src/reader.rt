@@ -10,7 +10,7 @@ use std::marker::Model;
 use std::mem;
 
 /// The maximum length of a body that is kept.
-const MOST_BODY: usize = 16384;
+const MAX_BODY: usize = 16384;
 
 /// A parser for packets from gdb, which arrive in pieces. It keeps the body that is not complete yet: at most 16,384 bytes.
 #[derive(Drop)]
@@ -31,7 +31,7 @@ impl Model for Reader {
 }
 
 impl Reader {
-    ghost use Rattle.rv_gdb_protocol.specs.Frames.{between, frame_after, incoming_at, incoming_in, opened, option_list};
+    ghost use Rattle.rv_gdb_protocol.specs.Frames.{between, state_after_byte, incoming_at, incoming_in, opened, option_list};
     ghost use Rattle.rv_gdb_protocol.specs.declared.frame.Place.TheVariants as place;
 
     /// Returns a parser that is between packets.
@@ -53,7 +53,7 @@ impl Reader {
     ) -> Result<(usize, Option<Incoming>), AllocError>
         ensures within { IfOk result (λ heard. heard.0 ≤ length bytes.now) }
         ensures heard { IfOk result (λ heard. incoming_in self.old (take heard.0 bytes.now) ≡ option_list heard.1) }
-        ensures frame { IfOk result (λ heard. self.new ≡ fold frame_after self.old (take heard.0 bytes.now)) }
+        ensures frame { IfOk result (λ heard. self.new ≡ fold state_after_byte self.old (take heard.0 bytes.now)) }
     {
         for (at, byte) in bytes.iter().enumerate() {
             if let Some(heard) = self.take(alloc, *byte)? {
@@ -66,13 +66,13 @@ impl Reader {
     /// Consumes a byte. Returns the item that it completes, or `None` if it completes none.
     pub fn take(&mut self, alloc: Global, byte: u8) -> Result<Option<Incoming>, AllocError>
         ensures heard { IfOk result (λ heard. heard ≡ incoming_at self.old byte) }
-        ensures frame { OnOk result (self.new ≡ frame_after self.old byte) }
+        ensures frame { OnOk result (self.new ≡ state_after_byte self.old byte) }
         ensures same { OnErr result (self.new ≡ self.old) }
     {
         match self.place {
-            Place::Between => Ok(self.take_between(byte)),
+            Place::Between => Ok(self.receive_between_packets(byte)),
             Place::Body => {
-                self.take_of_body(byte)?;
+                self.receive_body_byte(byte)?;
                 Ok(None)
             }
             Place::FirstDigit => {
@@ -96,10 +96,10 @@ impl Reader {
     }
 
     // Consumes a byte between packets. Returns the item that it completes, or `None`; bytes without a meaning are ignored.
-    fn take_between(&mut self, byte: u8) -> Option<Incoming>
+    fn receive_between_packets(&mut self, byte: u8) -> Option<Incoming>
         requires { self.old.place ≡ place.Between }
         ensures heard { result ≡ incoming_at self.old byte }
-        ensures frame { self.new ≡ frame_after self.old byte }
+        ensures frame { self.new ≡ state_after_byte self.old byte }
     {
         match byte {
             b'$' => {
@@ -114,15 +114,15 @@ impl Reader {
     }
 
     // Consumes a byte of a body, which becomes too long if the byte does not fit.
-    fn take_of_body(&mut self, byte: u8) -> Result<(), AllocError>
+    fn receive_body_byte(&mut self, byte: u8) -> Result<(), AllocError>
         requires { self.old.place ≡ place.Body }
-        ensures frame { OnOk result (self.new ≡ frame_after self.old byte) }
+        ensures frame { OnOk result (self.new ≡ state_after_byte self.old byte) }
         ensures same { OnErr result (self.new ≡ self.old) }
     {
         match byte {
             b'$' => self.open(),
             b'#' => self.place = Place::FirstDigit,
-            _ if self.body.len() < MOST_BODY => self.body.push(byte)?,
+            _ if self.body.len() < MAX_BODY => self.body.push(byte)?,
             _ => {
                 self.place = Place::LongBody;
                 self.body.clear();
@@ -134,7 +134,7 @@ impl Reader {
     // Consumes a byte of a body that is too long to be stored.
     fn skip_byte(&mut self, byte: u8)
         requires { self.old.place ≡ place.LongBody }
-        ensures { self.new ≡ frame_after self.old byte }
+        ensures { self.new ≡ state_after_byte self.old byte }
     {
         match byte {
             b'$' => self.open(),
@@ -155,7 +155,7 @@ impl Reader {
     fn finish(&mut self, alloc: Global, high: u8, low: u8) -> Incoming
         requires { self.old.place ≡ place.SecondDigit high }
         ensures heard { Some result ≡ incoming_at self.old low }
-        ensures frame { self.new ≡ frame_after self.old low }
+        ensures frame { self.new ≡ state_after_byte self.old low }
     {
         self.place = Place::Between;
         let body = mem::replace(&mut self.body, Vec::new(alloc));

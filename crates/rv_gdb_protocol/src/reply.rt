@@ -7,7 +7,7 @@ use crate::request::{Part, Refusal, Request};
 use std::alloc::AllocError;
 
 /// The maximum number of bytes in a part of a text. The reply fits in a packet even if each byte must be escaped.
-const MOST_PART: usize = 8184;
+const MAX_PART: usize = 8184;
 
 /// Returns the body of the reply to a request that has an equal reply in every session, or `None` if the reply depends on the session.
 pub fn fixed_reply(request: &Request) -> Option<&'static str>
@@ -41,7 +41,7 @@ pub fn refusal_text(refusal: Refusal) -> &'static str
         Refusal::Malformed => "E.malformed",
         Refusal::WouldChange => "E.the run is read-only: the debugger cannot change it",
         Refusal::NotReached => "E.the run does not reach that point",
-        Refusal::TooManyTraps => "E.too many breakpoints",
+        Refusal::TooManyStoppoints => "E.too many breakpoints",
         Refusal::TooLong => "E.packet too long",
     }
 }
@@ -52,7 +52,7 @@ pub fn push_part(out: &mut Vec<u8>, text: &[u8], part: Part) -> Result<(), Alloc
     ensures { OnOk result (out.new.items ≡ out.old.items ++ part_text text.now part) }
 {
     let rest = &text[text.len().min(part.offset as usize)..];
-    let count = MOST_PART.min(part.count as usize);
+    let count = MAX_PART.min(part.count as usize);
     if rest.len() <= count {
         out.push(b'l')?;
         out.extend_from_slice(rest)

@@ -145,7 +145,7 @@ pub enum Refusal {
     /// A seek to a point that the run does not reach: `E.the run does not reach that point`.
     NotReached,
     /// More breakpoints and watchpoints than can be kept: `E.too many breakpoints`.
-    TooManyTraps,
+    TooManyStoppoints,
     /// A packet that is too long to be kept: `E.packet too long`.
     TooLong,
 }

@@ -2,7 +2,7 @@
 
 ghost use Rattle.std.specs.Prelude.{◌≡◌, ◌<◌, IfSome};
 ghost use Rattle.hex.specs.Hex.{hex_digit_value};
-ghost use Rattle.rv_gdb_protocol.specs.Sums.{checksum_verdict, sum_of, sum_of_digits};
+ghost use Rattle.rv_gdb_protocol.specs.Sums.{checksum_verdict, sum_of, parse_checksum};
 
 use crate::frame::Checksum;
 
@@ -20,7 +20,7 @@ pub(crate) fn sum_of(text: &[u8]) -> u8
 
 /// Returns `Right` if the digits `high` and `low` are the checksum of a text, and otherwise `Wrong`.
 pub(crate) fn checksum_verdict(text: &[u8], high: u8, low: u8) -> Checksum
-    ensures { result ≡ checksum_verdict (sum_of text.now) (sum_of_digits (hex_digit_value high) (hex_digit_value low)) }
+    ensures { result ≡ checksum_verdict (sum_of text.now) (parse_checksum (hex_digit_value high) (hex_digit_value low)) }
 {
     match received_sum(high, low) {
         Some(told) if told == sum_of(text) => Checksum::Right,
@@ -30,7 +30,7 @@ pub(crate) fn checksum_verdict(text: &[u8], high: u8, low: u8) -> Checksum
 
 // Returns the checksum that two hexadecimal digits represent, or `None` if one is not a digit.
 fn received_sum(high: u8, low: u8) -> Option<u8>
-    ensures { result ≡ sum_of_digits (hex_digit_value high) (hex_digit_value low) }
+    ensures { result ≡ parse_checksum (hex_digit_value high) (hex_digit_value low) }
 {
     match (digit_value(high), digit_value(low)) {
         (Some(high), Some(low)) => Some(high * 16 + low),

@@ -72,7 +72,7 @@ fn told_in_pieces(alloc: Global, bytes: &[u8], length: usize) -> Result<String, 
 }
 
 // Checks that the bytes of a line are received as the items of the line, however they are divided into pieces.
-fn check_heard(alloc: Global, line: &str) -> Result<(), Fail> {
+fn check_received(alloc: Global, line: &str) -> Result<(), Fail> {
     let mut bytes = Vec::new(alloc);
     for byte in cell_of(line, 1).as_bytes() {
         bytes.push(if *byte == b'~' { 3 } else { *byte })?;
@@ -92,7 +92,7 @@ fn check_heard(alloc: Global, line: &str) -> Result<(), Fail> {
 fn packets_are_heard(rt: HostRuntime) -> Result<(), Fail> {
     has_lines(HEARD, 13)?;
     for line in HEARD.lines() {
-        check_heard(rt.alloc(), line)?;
+        check_received(rt.alloc(), line)?;
     }
     Ok(())
 }

@@ -6,12 +6,12 @@ use Rattle.std.proofs.lemmas.Slice.Eq.{bytes_eq-Decides}
 use Rattle.std.specs.Str.{bytes_eq}
 use Rattle.rv_trace.specs.declared_ending.Ending.{Ending}
 use Rattle.rv_trace.specs.declared_ending.Ending.TheVariants.{Budget}
-use Rattle.rv_trace.specs.Run.{run_rest, run_of, step_of}
+use Rattle.rv_trace.specs.Run.{run_after_step, run_of, step_of}
 use Rattle.rv_trace.specs.State.{State}
 use Rattle.rv_trace.specs.Trace.{state_after}
 use Rattle.rv_trace.proofs.Public.{after_more, completes, each_completes, steps_more}
 use Rattle.rv_hang.specs.Quiet.{is_step_quiet}
-use Rattle.rv_hang.specs.Repetition.{AreQuiet, IsLastAgain, IsRepetition, again_after, first_again, has_values}
+use Rattle.rv_hang.specs.Repetition.{HaveNoStops, RepeatsAtEnd, IsRepetition, matching_steps_after, first_matching, has_values}
 use Rattle.rv_hang.specs.declared.hart.HartValues.{HartValues}
 use Rattle.rv_hang.specs.declared.repetition.Again.{Again}
 use Rattle.rv_hang.specs.declared.repetition.Repetition.{Repetition}
@@ -27,7 +27,7 @@ order (suc m) (suc n) = elim (order m n) [ inl l ↦ inl (omega arith) | inr l �
 
 used_rest : (n : ℕ) (s : State) (r : Result State Ending)
     → ((t : State) → (run_of n t).steps ≡ n → (run_of n t).ending ≡ Budget)
-    → (run_rest r s (λ t. run_of n t)).steps ≡ suc n → (run_rest r s (λ t. run_of n t)).ending ≡ Budget
+    → (run_after_step r s (λ t. run_of n t)).steps ≡ suc n → (run_after_step r s (λ t. run_of n t)).ending ≡ Budget
 used_rest n s (Ok t) rest h = rest t (omega arith)
 used_rest n s (Err e) rest h = absurd (omega arith)
 
@@ -73,7 +73,7 @@ both_same s t u p q = (q.0 ∙ p.0, q.1 ∙ p.1)
 
 -- between two places
 quiet_same : (steps place n : ℕ) (s : State) → (run_of steps s).steps ≡ steps → place + n ≤ steps
-    → AreQuiet place (place + n) s → Same (state_after place s) (state_after (place + n) s)
+    → HaveNoStops place (place + n) s → Same (state_after place s) (state_after (place + n) s)
 quiet_same steps place zero s complete h quiet =
     let none : place ≡ place + zero = omega arith in
     (ap (λ k. (state_after k s).bus) (sym none), ap (λ k. (state_after k s).isa) (sym none))
@@ -99,7 +99,7 @@ same_state s t pc registers same =
 pub record IsBefore (values : HartValues) (p place : ℕ) (s : State) : Type 0 where
   pub before : p < place
   pub has : has_values values (state_after p s) ≡ true
-  pub quiet : AreQuiet p place s
+  pub quiet : HaveNoStops p place s
 
 pub record Known (values : HartValues) (begin place : ℕ) (s : State) (again : Option Again) : Type 0 where
   pub some : IfSome again (λ a. IsBefore values a.first place s × IsBefore values a.last place s × (a.first ≤ a.last)
@@ -113,10 +113,10 @@ known_first values begin s = record {
 }
 
 module _ (values : HartValues) (begin place : ℕ) (s t : State) (here : t ≡ state_after place s) where
-  quiet_here : AreQuiet place (place + 1) s → is_step_quiet t ≡ true
+  quiet_here : HaveNoStops place (place + 1) s → is_step_quiet t ≡ true
   quiet_here q = ap is_step_quiet here ∙ q place (omega arith) (omega arith)
 
-  quiet_more : (p : ℕ) → is_step_quiet t ≡ true → AreQuiet p place s → AreQuiet p (place + 1) s
+  quiet_more : (p : ℕ) → is_step_quiet t ≡ true → HaveNoStops p place s → HaveNoStops p (place + 1) s
   quiet_more p q old k l m = elim (order k place) [
     | inl less ↦ old k l less
     | inr most ↦ let same : k ≡ place = omega arith in
@@ -150,7 +150,7 @@ module _ (values : HartValues) (begin place : ℕ) (s t : State) (here : t ≡ s
 
   with_values : (again : Option Again) → begin ≤ place → is_step_quiet t ≡ true → has_values values t ≡ true
       → Known values begin place s again
-      → Known values begin (place + 1) s (Some (record { first = first_again again place; last = place }))
+      → Known values begin (place + 1) s (Some (record { first = first_matching again place; last = place }))
   with_values None l q h known = record {
     some = (here_now q h, here_now q h, omega arith, l);
     found = λ p l b. refl;
@@ -186,12 +186,12 @@ module _ (values : HartValues) (begin place : ℕ) (s t : State) (here : t ≡ s
       some (Some a) k = (later a.first q k.0, later a.last q k.1, k.2, k.3)
 
   pub known_more : (again : Option Again) → begin ≤ place → Known values begin place s again
-      → Known values begin (place + 1) s (again_after again place values t)
+      → Known values begin (place + 1) s (matching_steps_after again place values t)
   known_more again l known = by (is_step_quiet t) (has_values values t) refl refl
     where
       by : (q h : Bool) → is_step_quiet t ≡ q → has_values values t ≡ h
           → Known values begin (place + 1) s (cond q (cond h
-          (Some (record { first = first_again again place; last = place })) again) None)
+          (Some (record { first = first_matching again place; last = place })) again) None)
       by false h e f = none_quiet e
       by true true e f = with_values again l e f known
       by true false e f = without_values again e f known
@@ -235,7 +235,7 @@ repetition_of values begin steps s a waits complete end known =
 -- such a place is known
 pub is_known : (values : HartValues) (begin steps p : ℕ) (s : State) (again : Option Again)
     → has_values values (state_after steps s) ≡ true → Known values begin steps s again → begin ≤ p
-    → IsLastAgain steps p s → is_some again ≡ true
+    → RepeatsAtEnd steps p s → is_some again ≡ true
 is_known values begin steps p s again end known l last =
     let u = state_after p s in let v = state_after steps s in
     let there = and_parts (v.pc == values.pc) (bytes_eq v.registers values.registers) end in

@@ -12,15 +12,15 @@ use Rattle.rv_trace.specs.declared_access.Width.TheVariants.{Byte, Half, Word}
 use Rattle.rv_trace.specs.declared_faults.BusFault.{BusFault}
 use Rattle.rv_trace.specs.declared_faults.BusFault.TheVariants as bus
 use Rattle.rv_trace.specs.declared_ending.Ending.{Ending}
-use Rattle.rv_trace.specs.Effect.{address, after_branch, after_store, at_target, effect, effect_of, from_pc}
+use Rattle.rv_trace.specs.Effect.{address, after_branch, after_store, jump_to, effect, effect_of, pc_plus_immediate}
 use Rattle.rv_trace.specs.Effect.{next_pc, rs2_value, store}
 use Rattle.rv_trace.specs.Fetch.{Fetched, fetch}
 use Rattle.rv_trace.specs.Run.{after_fetch, step_of}
-use Rattle.rv_trace.specs.State.{State, at_pc, is_misaligned, with_bus, with_register}
+use Rattle.rv_trace.specs.State.{State, with_pc, is_misaligned, with_bus, with_register}
 use Rattle.rv_trace.proofs.Public.{byte_loaded, half_loaded, ok_is, word_loaded}
 use Rattle.rv_trace.proofs.Public.{code_is_fetched}
 use Rattle.rv_trace.specs.Steps.{instr_at}
-use Rattle.rv_hang.specs.Quiet.{is_found_quiet, is_instr_quiet, is_step_quiet, is_store_again, takes_script}
+use Rattle.rv_hang.specs.Quiet.{is_quiet_if_found, is_instr_quiet, is_step_quiet, is_store_redundant, consumes_script}
 use Rattle.rv_hang.proofs.StoredAgain.{store_again}
 
 -- the bus and the set stay
@@ -43,18 +43,18 @@ by_target : (misaligned : Bool) (s t : State) (e : Ending) → Same s t → Leav
 by_target true s t e h = tt
 by_target false s t e h = h
 
-gone : (s : State) (target : ℕ) (after : State) → Same s after → Leaves s (at_target s target after)
-gone s target after h = by_target (is_misaligned s.isa target) s (at_pc after target) _ h
+gone : (s : State) (target : ℕ) (after : State) → Same s after → Leaves s (jump_to s target after)
+gone s target after h = by_target (is_misaligned s.isa target) s (with_pc after target) _ h
 
 branch : (holds : Bool) (s : State) (i : Instr) (next : ℕ) → Leaves s (after_branch holds s i next)
-branch true s i next = gone s (from_pc s i) s (refl, refl)
+branch true s i next = gone s (pc_plus_immediate s i) s (refl, refl)
 branch false s i next = (refl, refl)
 
 -- ---- loads
 
 -- where a load takes no byte of the script, it leaves the bus
 abbrev TakesNothing : Contents → ℕ → Width → Type 0
-TakesNothing c a Word = takes_script c a ≡ false
+TakesNothing c a Word = consumes_script c a ≡ false
 TakesNothing c a w = Unit {0}
 
 nothing_left : (script : List ℕ) → not (length script == 0) ≡ false → drop 1 script ≡ script
@@ -97,13 +97,13 @@ load_same c a w p h e = by_place (refuses c.misaligned a w) (touches_console a (
 
 -- what a load leaves, whatever value it gives the register
 loaded : (w : Width) (i : Instr) (next : ℕ) (s : State) → TakesNothing s.bus (address s i) w → (p : ℕ × Contents)
-    → load_from s.bus (address s i) w ≡ Ok p → (v : ℕ) → Same s (at_pc (with_register (with_bus s p.1) i.rd v) next)
+    → load_from s.bus (address s i) w ≡ Ok p → (v : ℕ) → Same s (with_pc (with_register (with_bus s p.1) i.rd v) next)
 loaded w i next s h p e v = let u = written (with_bus s p.1) i.rd v in
     (u.0 ∙ load_same s.bus (address s i) w p h e, u.1)
 
 -- ---- stores
 
-store_leaves : (w : Width) (i : Instr) (next : ℕ) (s : State) → is_store_again s.bus (address s i) w (rs2_value s i) ≡ true
+store_leaves : (w : Width) (i : Instr) (next : ℕ) (s : State) → is_store_redundant s.bus (address s i) w (rs2_value s i) ≡ true
     → Leaves s (store w s i next)
 store_leaves w i next s h = go (store_to s.bus (address s i) w (rs2_value s i)) refl
   where
@@ -145,7 +145,7 @@ effect_leaves op.Ebreak i next s h = tt
 effect_leaves _ i next s h = written s i.rd _
 
 found_quiet : (s : State) (i : Instr) → is_step_quiet s ≡ true → instr_at s ≡ Some i → is_instr_quiet i.op i s ≡ true
-found_quiet s i h e = sym (ap (λ o. is_found_quiet o s) e) ∙ h
+found_quiet s i h e = sym (ap (λ o. is_quiet_if_found o s) e) ∙ h
 
 -- a step that completes
 pub step_same : (s t : State) → is_step_quiet s ≡ true → step_of s ≡ Ok t → Same s t

@@ -13,7 +13,7 @@ use Rattle.rv_trace.specs.declared_access.Width.{Width}
 use Rattle.rv_trace.specs.declared_access.Width.TheVariants.{Byte, Half, Word}
 use Rattle.rv_trace.specs.declared_faults.BusFault.{BusFault}
 use Rattle.rv_trace.specs.declared_faults.BusFault.TheVariants as bus
-use Rattle.rv_hang.specs.Quiet.{are_bytes_apart, is_byte_again, is_store_again, is_there, is_value_again}
+use Rattle.rv_hang.specs.Quiet.{are_outside_console, has_byte_stored, is_store_redundant, is_there, has_value_stored}
 
 -- ---- maps and sets
 
@@ -39,24 +39,24 @@ there_is : (o : Option ℕ) (b : ℕ) → is_there o b ≡ true → o ≡ Some b
 there_is None b h = cc
 there_is (Some v) b h = ap (λ x. Some x) (eqb-true v b h)
 
-byte_again : (c : Contents) (a b : ℕ) → is_byte_again c a b ≡ true → with_stored_byte c a b ≡ c
+byte_again : (c : Contents) (a b : ℕ) → has_byte_stored c a b ≡ true → with_stored_byte c a b ≡ c
 byte_again c a b h =
     let p = and_parts (is_there (fin.get c.memory a) b) (set.contains c.stored a) h in
     let memory = insert_again c.memory a b (there_is (fin.get c.memory a) b p.0) in
     let stored = add_again c.stored a p.1 in
     λ i. record c { memory = memory i; stored = stored i }
 
-value_again : (c : Contents) (a : ℕ) (w : Width) (v : ℕ) → is_value_again c a w v ≡ true → put c a w v ≡ c
+value_again : (c : Contents) (a : ℕ) (w : Width) (v : ℕ) → has_value_stored c a w v ≡ true → put c a w v ≡ c
 value_again c a Byte v h = byte_again c a (v % 0x100) h
 value_again c a Half v h =
-    let p = and_parts (is_byte_again c a (v % 0x100)) (is_byte_again c (a + 1) (v / 0x100 % 0x100)) h in
+    let p = and_parts (has_byte_stored c a (v % 0x100)) (has_byte_stored c (a + 1) (v / 0x100 % 0x100)) h in
     ap (λ d. with_stored_byte d (a + 1) (v / 0x100 % 0x100)) (byte_again c a (v % 0x100) p.0)
     ∙ byte_again c (a + 1) (v / 0x100 % 0x100) p.1
 value_again c a Word v h =
-    let b0 = is_byte_again c a (v % 0x100) in
-    let b1 = is_byte_again c (a + 1) (v / 0x100 % 0x100) in
-    let b2 = is_byte_again c (a + 2) (v / 0x1_0000 % 0x100) in
-    let b3 = is_byte_again c (a + 3) (v / 0x100_0000 % 0x100) in
+    let b0 = has_byte_stored c a (v % 0x100) in
+    let b1 = has_byte_stored c (a + 1) (v / 0x100 % 0x100) in
+    let b2 = has_byte_stored c (a + 2) (v / 0x1_0000 % 0x100) in
+    let b3 = has_byte_stored c (a + 3) (v / 0x100_0000 % 0x100) in
     let p = and_parts b0 (b1 && (b2 && b3)) h in
     let q = and_parts b1 (b2 && b3) p.1 in
     let r = and_parts b2 b3 q.1 in
@@ -69,7 +69,7 @@ value_again c a Word v h =
 
 -- ---- stores
 
-apart_touches : (a n : ℕ) → are_bytes_apart a n ≡ true → touches_console a n ≡ false
+apart_touches : (a n : ℕ) → are_outside_console a n ≡ true → touches_console a n ≡ false
 apart_touches a n h = false_from_ne_true _ (λ e.
     let p = and_parts _ _ e in
     let above = ltb-true 0x1000_0000 (a + n) p.0 in
@@ -87,10 +87,10 @@ by_tests false true within other stored d h e = cc
 by_tests false false true other stored d h e = cc
 by_tests false false false other stored d h e = cc
 
-pub store_again : (c d : Contents) (a : ℕ) (w : Width) (v : ℕ) → is_store_again c a w v ≡ true
+pub store_again : (c d : Contents) (a : ℕ) (w : Width) (v : ℕ) → is_store_redundant c a w v ≡ true
     → store_to c a w v ≡ Ok d → d ≡ c
 store_again c d a w v h e =
-    let p = and_parts (are_bytes_apart a (size_of w)) (is_value_again c a w v) h in
+    let p = and_parts (are_outside_console a (size_of w)) (has_value_stored c a w v) h in
     by_tests (refuses c.misaligned a w) (touches_console a (size_of w)) (is_in_writable_region c.regions a (size_of w))
     (console_store c a w v) (put c a w v) d (apart_touches a (size_of w) p.0) e
     ∙ value_again c a w v p.1

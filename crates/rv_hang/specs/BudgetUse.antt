@@ -5,7 +5,7 @@ use Rattle.rv_trace.specs.declared_job.Job.{Job}
 use Rattle.rv_trace.specs.Run.{run_of}
 use Rattle.rv_trace.specs.State.{State}
 use Rattle.rv_trace.specs.Rows.{start_in}
-use Rattle.rv_hang.specs.Repetition.{IsLastAgain, IsRepetition, IsWaitReported}
+use Rattle.rv_hang.specs.Repetition.{RepeatsAtEnd, IsRepetition, IsWaitReported}
 use Rattle.rv_hang.specs.declared.budget_use.BudgetUse.{BudgetUse}
 use Rattle.rv_hang.specs.declared.budget_use.BudgetUse.TheVariants.{Changes, Repeats}
 
@@ -18,7 +18,7 @@ searched_steps steps = min steps 100_000
 abbrev pub IsBudgetUse : ℕ → State → BudgetUse → Type 0
 IsBudgetUse steps s (Repeats r) = IsRepetition steps s r × IsWaitReported steps s r
 IsBudgetUse steps s (Changes within) = (within ≡ searched_steps steps)
-    × ((place : ℕ) → steps - within ≤ place → IsLastAgain steps place s → ⊥)
+    × ((place : ℕ) → steps - within ≤ place → RepeatsAtEnd steps place s → ⊥)
 
 -- how the run of a plan's job used up a budget of `steps` steps, as `IsBudgetUse` says; `None` only if the job is refused or its run does
 -- not complete `steps` steps

@@ -20,16 +20,16 @@ pub record IsRepetition (steps : ℕ) (s : State) (r : Repetition) : Type 0 wher
   pub again : state_after (r.begin + r.period) s ≡ state_after r.begin s
 
 -- no step of the run from the state `s`, from step `place` up to step `end`, can change the bus
-abbrev pub AreQuiet : ℕ → ℕ → State → Type 0
-AreQuiet place end s = (k : ℕ) → place ≤ k → k < end → is_step_quiet (state_after k s) ≡ true
+abbrev pub HaveNoStops : ℕ → ℕ → State → Type 0
+HaveNoStops place end s = (k : ℕ) → place ≤ k → k < end → is_step_quiet (state_after k s) ≡ true
 
 -- before step `place`, the run from the state `s` has the pc and the registers that it has after `steps` steps, and no step in between can
 -- change the bus
-pub record IsLastAgain (steps place : ℕ) (s : State) : Type 0 where
+pub record RepeatsAtEnd (steps place : ℕ) (s : State) : Type 0 where
   pub before : place < steps
   pub pc : (state_after place s).pc ≡ (state_after steps s).pc
   pub registers : (state_after place s).registers ≡ (state_after steps s).registers
-  pub quiet : AreQuiet place steps s
+  pub quiet : HaveNoStops place steps s
 
 -- the repetition is reported to wait for input if and only if a step after its first `r.begin` steps loads from the exhausted input script
 pub record IsWaitReported (steps : ℕ) (s : State) (r : Repetition) : Type 0 where
@@ -39,16 +39,16 @@ pub record IsWaitReported (steps : ℕ) (s : State) (r : Repetition) : Type 0 wh
 -- ---- a search in progress
 
 -- the first step in `again`, or `place` if there is none
-abbrev pub first_again : Option Again → ℕ → ℕ
-first_again None place = place
-first_again (Some again) place = again.first
+abbrev pub first_matching : Option Again → ℕ → ℕ
+first_matching None place = place
+first_matching (Some again) place = again.first
 
 -- the first and the last step before which the hart has these values and after which no step can change the bus, or `None` if there is
 -- none; updated for step `place`, before which the state is `s`
-abbrev pub again_after : Option Again → ℕ → HartValues → State → Option Again
-again_after again place values s =
+abbrev pub matching_steps_after : Option Again → ℕ → HartValues → State → Option Again
+matching_steps_after again place values s =
     if is_step_quiet s then (if has_values values s
-    then Some (record { first = first_again again place; last = place }) else again)
+    then Some (record { first = first_matching again place; last = place }) else again)
     else None
 
 -- the number of steps up to and including the last one that loads from the exhausted input script, updated for step `place`, before which

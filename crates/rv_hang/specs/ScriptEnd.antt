@@ -13,10 +13,10 @@ loads_script_end op.Lw i s = address s i == 0x1000_0000 && length s.bus.script =
 loads_script_end _ i s = false
 
 -- whether there is an instruction and it loads from the exhausted input script
-abbrev pub is_found_loading : Option Instr → State → Bool
-is_found_loading None s = false
-is_found_loading (Some i) s = loads_script_end i.op i s
+abbrev pub is_loading_if_found : Option Instr → State → Bool
+is_loading_if_found None s = false
+is_loading_if_found (Some i) s = loads_script_end i.op i s
 
 -- whether the next step in this state loads from the exhausted input script
 abbrev pub reads_script_end : State → Bool
-reads_script_end s = is_found_loading (instr_at s) s
+reads_script_end s = is_loading_if_found (instr_at s) s

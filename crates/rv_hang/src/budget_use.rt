@@ -14,7 +14,7 @@ use rv_trace::{JobImage, Machine, machine_at};
 use std::alloc::{AllocError, Global};
 
 // The maximum number of a run's last steps that are searched.
-const MOST_SEARCHED: u32 = 100_000;
+const MAX_SEARCHED: u32 = 100_000;
 
 /// The result of the analysis of a used-up budget.
 #[derive(Clone, Copy)]
@@ -71,8 +71,8 @@ fn budget_use(machine: Machine, steps: u32, end: &HartValues) -> BudgetUse
     requires end { has_values end.now (state_after steps (state_of machine)) ≡ true }
     ensures { IsBudgetUse steps (state_of machine) result }
 {
-    match find_repetition(machine, steps, MOST_SEARCHED, end) {
+    match find_repetition(machine, steps, MAX_SEARCHED, end) {
         Some(repetition) => BudgetUse::Repeats(repetition),
-        None => BudgetUse::Changes(steps.min(MOST_SEARCHED)),
+        None => BudgetUse::Changes(steps.min(MAX_SEARCHED)),
     }
 }

@@ -15,7 +15,7 @@ pub struct HartValues {
 
 impl HartValues {
     /// Whether a machine's hart has this pc and these registers.
-    pub(crate) fn are_of(&self, machine: &Machine) -> bool
+    pub(crate) fn match_machine(&self, machine: &Machine) -> bool
         ensures { result ≡ has_values self.now (state_of machine.now) }
     {
         machine.pc() == self.pc && machine.registers() == self.registers

@@ -1,8 +1,8 @@
 //! Steps that leave the bus unchanged.
 
 ghost use Rattle.std.specs.Prelude.{◌≡◌, ◌≤◌, ◌+◌};
-ghost use Rattle.rv_hang.specs.Quiet.{are_bytes_apart, is_byte_again, is_instr_quiet, is_step_quiet, is_store_again, is_value_again};
-ghost use Rattle.rv_hang.specs.Quiet.{takes_script};
+ghost use Rattle.rv_hang.specs.Quiet.{are_outside_console, has_byte_stored, is_instr_quiet, is_step_quiet, is_store_redundant, has_value_stored};
+ghost use Rattle.rv_hang.specs.Quiet.{consumes_script};
 ghost use Rattle.rv_trace.specs.IsaWords.{IsWellFormed};
 ghost use Rattle.rv_trace.specs.Effect.{address, rs2_value};
 ghost use Rattle.rv_trace.specs.Machine.{state_of};
@@ -29,7 +29,7 @@ fn is_instr_quiet(machine: &Machine, instr: Instr) -> bool
     ensures { result ≡ is_instr_quiet instr.op instr (state_of machine.now) }
 {
     match instr.op {
-        Op::Lw => !takes_script(machine.bus(), accessed_address(machine, instr)),
+        Op::Lw => !consumes_script(machine.bus(), accessed_address(machine, instr)),
         Op::Sb => is_store_quiet(machine, instr, Width::Byte),
         Op::Sh => is_store_quiet(machine, instr, Width::Half),
         Op::Sw => is_store_quiet(machine, instr, Width::Word),
@@ -39,8 +39,8 @@ fn is_instr_quiet(machine: &Machine, instr: Instr) -> bool
 }
 
 // Whether a word load at this address consumes a byte of the input script: it is the console's first address, and a byte is left.
-fn takes_script(bus: &Bus, addr: u32) -> bool
-    ensures { result ≡ takes_script bus.now addr }
+fn consumes_script(bus: &Bus, addr: u32) -> bool
+    ensures { result ≡ consumes_script bus.now addr }
 {
     addr == 0x1000_0000 && bus.script_remaining() != 0
 }
@@ -48,10 +48,10 @@ fn takes_script(bus: &Bus, addr: u32) -> bool
 // Whether a store instruction of this width leaves the bus unchanged if it completes.
 fn is_store_quiet(machine: &Machine, instr: Instr, width: Width) -> bool
     requires { IsWellFormed instr }
-    ensures { result ≡ is_store_again (state_of machine.now).bus (address (state_of machine.now) instr) width
+    ensures { result ≡ is_store_redundant (state_of machine.now).bus (address (state_of machine.now) instr) width
         (rs2_value (state_of machine.now) instr) }
 {
-    is_store_again(
+    is_store_redundant(
         machine.bus(),
         accessed_address(machine, instr),
         width,
@@ -60,43 +60,43 @@ fn is_store_quiet(machine: &Machine, instr: Instr, width: Width) -> bool
 }
 
 // Whether a store would change nothing: it is outside the console, and its bytes already have these values and count as stored.
-fn is_store_again(bus: &Bus, addr: u32, width: Width, value: u32) -> bool
-    ensures { result ≡ is_store_again bus.now addr width value }
+fn is_store_redundant(bus: &Bus, addr: u32, width: Width, value: u32) -> bool
+    ensures { result ≡ is_store_redundant bus.now addr width value }
 {
-    are_bytes_apart(addr, width) && is_value_again(bus, addr, width, value)
+    are_outside_console(addr, width) && has_value_stored(bus, addr, width, value)
 }
 
 // Whether the bytes of an access of this width are in the address space, and none of them belongs to the console.
-fn are_bytes_apart(addr: u32, width: Width) -> bool
-    ensures { result ≡ are_bytes_apart addr (size_of width) }
+fn are_outside_console(addr: u32, width: Width) -> bool
+    ensures { result ≡ are_outside_console addr (size_of width) }
 {
     let end = u64::from(addr) + u64::from(width.size());
     end <= 0x1000_0000 || (addr >= 0x1000_0010 && end <= 0x1_0000_0000)
 }
 
 // Whether the bytes at the address already have the values that a store of this width and value would give them, and count as stored.
-fn is_value_again(bus: &Bus, addr: u32, width: Width, value: u32) -> bool
+fn has_value_stored(bus: &Bus, addr: u32, width: Width, value: u32) -> bool
     requires { addr + size_of width ≤ 0x1_0000_0000 }
-    ensures { result ≡ is_value_again bus.now addr width value }
+    ensures { result ≡ has_value_stored bus.now addr width value }
 {
     match width {
-        Width::Byte => is_byte_again(bus, addr, value % 0x100),
+        Width::Byte => has_byte_stored(bus, addr, value % 0x100),
         Width::Half => {
-            is_byte_again(bus, addr, value % 0x100)
-                && is_byte_again(bus, addr + 1, value / 0x100 % 0x100)
+            has_byte_stored(bus, addr, value % 0x100)
+                && has_byte_stored(bus, addr + 1, value / 0x100 % 0x100)
         }
         Width::Word => {
-            is_byte_again(bus, addr, value % 0x100)
-                && is_byte_again(bus, addr + 1, value / 0x100 % 0x100)
-                && is_byte_again(bus, addr + 2, value / 0x1_0000 % 0x100)
-                && is_byte_again(bus, addr + 3, value / 0x100_0000 % 0x100)
+            has_byte_stored(bus, addr, value % 0x100)
+                && has_byte_stored(bus, addr + 1, value / 0x100 % 0x100)
+                && has_byte_stored(bus, addr + 2, value / 0x1_0000 % 0x100)
+                && has_byte_stored(bus, addr + 3, value / 0x100_0000 % 0x100)
         }
     }
 }
 
 // Whether the byte at the address already has this value, and counts as stored.
-fn is_byte_again(bus: &Bus, addr: u32, byte: u32) -> bool
-    ensures { result ≡ is_byte_again bus.now addr byte }
+fn has_byte_stored(bus: &Bus, addr: u32, byte: u32) -> bool
+    ensures { result ≡ has_byte_stored bus.now addr byte }
 {
     match bus.byte(addr) {
         Some(there) => u32::from(there) == byte && bus.is_stored(addr),

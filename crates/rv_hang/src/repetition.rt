@@ -1,7 +1,7 @@
 //! Repeated states.
 
 ghost use Rattle.std.specs.Prelude.{◌≡◌, ◌≤◌, ◌<◌, ◌-◌, ℕ, IfSome, is_some, true};
-ghost use Rattle.rv_hang.specs.Repetition.{IsLastAgain, IsRepetition, IsWaitReported, again_after, has_values, waits_up_to};
+ghost use Rattle.rv_hang.specs.Repetition.{RepeatsAtEnd, IsRepetition, IsWaitReported, matching_steps_after, has_values, waits_up_to};
 ghost use Rattle.rv_trace.specs.Machine.{state_of};
 ghost use Rattle.rv_trace.specs.Run.{run_of};
 ghost use Rattle.rv_trace.specs.Trace.{state_after};
@@ -35,7 +35,7 @@ pub fn find_repetition(
     requires end { has_values end.now (state_after steps (state_of machine)) ≡ true }
     ensures repetition { IfSome result (IsRepetition steps (state_of machine)) }
     ensures waits { IfSome result (IsWaitReported steps (state_of machine)) }
-    ensures found { (place : ℕ) → steps - within ≤ place → IsLastAgain steps place (state_of machine)
+    ensures found { (place : ℕ) → steps - within ≤ place → RepeatsAtEnd steps place (state_of machine)
         → is_some result ≡ true }
 {
     let mut ahead = machine;
@@ -66,12 +66,12 @@ struct Again {
 // Returns the first and the last step before which the hart has the values `end` and after which nothing can change the bus, or `None` if
 // there is none. `again` has these steps up to step `place`, and `machine` is the machine before this step.
 fn again_at(again: Option<Again>, machine: &Machine, place: u32, end: &HartValues) -> Option<Again>
-    ensures { result ≡ again_after again place end.now (state_of machine.now) }
+    ensures { result ≡ matching_steps_after again place end.now (state_of machine.now) }
 {
     if !is_step_quiet(machine) {
         return None;
     }
-    if !end.are_of(machine) {
+    if !end.match_machine(machine) {
         return again;
     }
     let first = again.map_or(place, |again| again.first);

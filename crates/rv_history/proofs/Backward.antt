@@ -5,14 +5,14 @@ use Rattle.rv_trace.specs.Run.{run_of, step_of}
 use Rattle.rv_trace.specs.State.{State}
 use Rattle.rv_trace.specs.Trace.{state_after}
 use Rattle.rv_trace.proofs.Public.{each_completes}
-use Rattle.rv_history.specs.declared.found.StopInfo.{StopInfo}
+use Rattle.rv_history.specs.declared.found.SearchEnd.{SearchEnd}
 use Rattle.rv_history.specs.declared.found.Found.{Found}
 use Rattle.rv_history.specs.declared.found.Found.TheVariants as found
 use Rattle.rv_history.specs.declared.stepping.Stepped.{Stepped}
 use Rattle.rv_history.specs.declared.stepping.Stepped.TheVariants as stepped
 use Rattle.rv_history.specs.declared.stops.Stops.{Stops}
-use Rattle.rv_history.specs.LastStop.{AreQuiet, IsLastOn, IsQuietAt, last_at, last_stop_after}
-use Rattle.rv_history.specs.Moves.{HasNoStopBack, IsChangeBefore, IsStepBefore, IsStopBefore, IsUninterrupted, IsStopBack}
+use Rattle.rv_history.specs.LastStop.{HaveNoStops, IsLastStopIn, HasNoStopAt, last_at, last_stop_after}
+use Rattle.rv_history.specs.Moves.{HasNoBackwardStop, IsChangeBefore, IsStepBefore, IsStopBefore, IsUninterrupted, IsBackwardStop}
 use Rattle.rv_history.specs.Places.{IsBreakAt, IsChangeAt, IsReached, last_step}
 use Rattle.rv_history.specs.Stepping.{IsStepped}
 use Rattle.rv_history.specs.Stops.{TriggersWatch, TriggersNoWatch, is_break}
@@ -20,7 +20,7 @@ use Rattle.rv_history.proofs.Reaching.{next_place}
 use Rattle.rv_history.proofs.Forward.{change_at, no_change_at}
 
 -- the stop before, as it is kept
-abbrev pub IsLastStop : Stops → ℕ → State → ℕ → StopInfo → Type 0
+abbrev pub IsLastStop : Stops → ℕ → State → ℕ → SearchEnd → Type 0
 IsLastStop stops budget start from last = IsStopBefore stops budget start from last.place last.found
 
 -- a change is behind one place alone
@@ -49,8 +49,8 @@ no_break_later stops from place start order absent before is =
 
 -- what a move meets, it meets from a place later, if there is no break where it began
 meets_later : (stops : Stops) (budget from place : ℕ) (start : State) (found : Found) → place ≤ from
-    → (IsBreakAt stops start from → ⊥) → IsUninterrupted found → IsStopBack stops budget start from place found
-    → IsStopBack stops budget start (from + 1) place found
+    → (IsBreakAt stops start from → ⊥) → IsUninterrupted found → IsBackwardStop stops budget start from place found
+    → IsBackwardStop stops budget start (from + 1) place found
 meets_later stops budget from place start found.Break order absent unbroken meets = (omega arith, meets.1)
 meets_later stops budget from place start found.Change order absent unbroken meets =
     (meets.0, λ below is. no_break_later stops from place start order absent meets.1 is)
@@ -61,7 +61,7 @@ meets_later stops budget from place start found.Done order absent unbroken meets
 meets_later stops budget from place start found.Interrupted order absent unbroken meets = absurd (unbroken refl)
 
 goes_later : (stops : Stops) (budget from j : ℕ) (start : State) → j ≤ from → (IsBreakAt stops start from → ⊥)
-    → HasNoStopBack stops budget start from j → HasNoStopBack stops budget start (from + 1) j
+    → HasNoBackwardStop stops budget start from j → HasNoBackwardStop stops budget start (from + 1) j
 goes_later stops budget from j start order absent goes = record {
   no_break = λ below is. no_break_later stops from j start order absent goes.no_break is;
   no_change = goes.no_change;
@@ -69,14 +69,14 @@ goes_later stops budget from j start order absent goes = record {
 
 -- the place behind a step that changes nothing
 goes_there : (stops : Stops) (budget from : ℕ) (start : State) → (IsChangeAt stops budget start from → ⊥)
-    → HasNoStopBack stops budget start (from + 1) (from + 1)
+    → HasNoBackwardStop stops budget start (from + 1) (from + 1)
 goes_there stops budget from start none = record {
   no_break = λ below. absurd (omega arith);
   no_change = λ change. none (change_before stops budget from start change);
 }
 
 -- behind a step that changes nothing, at whose place there is no breakpoint
-last_stays : (stops : Stops) (budget from : ℕ) (start : State) (last : StopInfo) → (IsBreakAt stops start from → ⊥)
+last_stays : (stops : Stops) (budget from : ℕ) (start : State) (last : SearchEnd) → (IsBreakAt stops start from → ⊥)
     → (IsChangeAt stops budget start from → ⊥) → IsUninterrupted last.found → IsLastStop stops budget start from last
     → IsLastStop stops budget start (from + 1) last
 last_stays stops budget from start last absent none unbroken stop = record {
@@ -109,8 +109,8 @@ last_changes stops budget from start change = record {
 }
 
 -- before a step that is quiet nothing else comes to be the last stop
-last_stays_on : (stops : Stops) (budget begin from : ℕ) (start : State) (last : Option StopInfo) → IsQuietAt stops budget start from
-    → IsLastOn stops budget start begin from last → IsLastOn stops budget start begin (from + 1) last
+last_stays_on : (stops : Stops) (budget begin from : ℕ) (start : State) (last : Option SearchEnd) → HasNoStopAt stops budget start from
+    → IsLastStopIn stops budget start begin from last → IsLastStopIn stops budget start begin (from + 1) last
 last_stays_on stops budget begin from start None quiet stop = λ j low high. elim (cases_eq j from) [
   | inl here ↦ rw here quiet
   | inr other ↦ stop j low (omega arith)
@@ -119,9 +119,9 @@ last_stays_on stops budget begin from start (Some last) quiet stop =
     (last_stays stops budget from start last quiet.no_break quiet.no_change stop.1 stop.0, stop.1)
 
 -- with a breakpoint or without one
-last_quiet : (stops : Stops) (budget begin from : ℕ) (start s : State) (last : Option StopInfo) (is : Bool) → IsReached start from s
-    → is ≡ is_break stops s.pc → (IsChangeAt stops budget start from → ⊥) → IsLastOn stops budget start begin from last
-    → IsLastOn stops budget start begin (from + 1) (last_at last from is)
+last_quiet : (stops : Stops) (budget begin from : ℕ) (start s : State) (last : Option SearchEnd) (is : Bool) → IsReached start from s
+    → is ≡ is_break stops s.pc → (IsChangeAt stops budget start from → ⊥) → IsLastStopIn stops budget start begin from last
+    → IsLastStopIn stops budget start begin (from + 1) (last_at last from is)
 last_quiet stops budget begin from start s last true reached told none stop =
     (last_breaks stops budget from start (ap (λ (t : State). is_break stops t.pc) (sym reached.same) ∙ sym told) none, λ same. cc same)
 last_quiet stops budget begin from start s last false reached told none stop =
@@ -131,9 +131,9 @@ last_quiet stops budget begin from start s last false reached told none stop =
     }) stop
 
 -- behind a step of any kind
-pub last_more : (stops : Stops) (budget begin from : ℕ) (start s t : State) (last : Option StopInfo) (is : Bool) (kind : Stepped)
+pub last_more : (stops : Stops) (budget begin from : ℕ) (start s t : State) (last : Option SearchEnd) (is : Bool) (kind : Stepped)
     → IsReached start from s → from < last_step budget start → is ≡ is_break stops s.pc → IsStepped stops s t kind → from < budget
-    → IsLastOn stops budget start begin from last → IsLastOn stops budget start begin (from + 1) (last_stop_after last from is kind)
+    → IsLastStopIn stops budget start begin from last → IsLastStopIn stops budget start begin (from + 1) (last_stop_after last from is kind)
 last_more stops budget begin from start s t last is stepped.Changed reached goes told did within stop =
     (last_changes stops budget from start (change_at stops budget from start s t reached within did.0 did.1), λ same. cc same)
 last_more stops budget begin from start s t last is stepped.Quiet reached goes told did within stop =
@@ -144,7 +144,7 @@ last_more stops budget begin from start s t last is (stepped.Ended ending) reach
 -- ---- the parts of a search
 
 -- the last stop before a place is that before a later one, if the steps between them are quiet
-stays_over : (stops : Stops) (budget end more : ℕ) (start : State) (last : StopInfo) → AreQuiet stops budget start end (end + more)
+stays_over : (stops : Stops) (budget end more : ℕ) (start : State) (last : SearchEnd) → HaveNoStops stops budget start end (end + more)
     → IsUninterrupted last.found → IsLastStop stops budget start end last → IsLastStop stops budget start (end + more) last
 stays_over stops budget end zero start last quiet unbroken stop =
     subst (λ (k : ℕ). IsLastStop stops budget start k last) (sym (add-zero end)) stop
@@ -155,25 +155,25 @@ stays_over stops budget end (suc more) start last quiet unbroken stop =
     (last_stays stops budget (end + more) start last here.no_break here.no_change unbroken
     (stays_over stops budget end more start last (λ j low high. quiet j low (omega arith)) unbroken stop))
 
-pub last_before : (stops : Stops) (budget end from : ℕ) (start : State) (last : StopInfo) → end ≤ from
-    → AreQuiet stops budget start end from → IsUninterrupted last.found → IsLastStop stops budget start end last
+pub last_before : (stops : Stops) (budget end from : ℕ) (start : State) (last : SearchEnd) → end ≤ from
+    → HaveNoStops stops budget start end from → IsUninterrupted last.found → IsLastStop stops budget start end last
     → IsLastStop stops budget start from last
 last_before stops budget end from start last order quiet unbroken stop =
     let more = from - end in
     let sum : end + more ≡ from = omega arith in
     subst (λ (k : ℕ). IsLastStop stops budget start k last) sum
-    (stays_over stops budget end more start last (subst (λ (k : ℕ). AreQuiet stops budget start end k) (sym sum) quiet) unbroken stop)
+    (stays_over stops budget end more start last (subst (λ (k : ℕ). HaveNoStops stops budget start end k) (sym sum) quiet) unbroken stop)
 
 -- two parts where nothing is met
-pub quiet_joined : (stops : Stops) (budget begin end from : ℕ) (start : State) → AreQuiet stops budget start begin end
-    → AreQuiet stops budget start end from → AreQuiet stops budget start begin from
+pub quiet_joined : (stops : Stops) (budget begin end from : ℕ) (start : State) → HaveNoStops stops budget start begin end
+    → HaveNoStops stops budget start end from → HaveNoStops stops budget start begin from
 quiet_joined stops budget begin end from start one other j low high = elim (cases_lt j end) [
   | inl before ↦ one j low before
   | inr behind ↦ other j behind high
 ]
 
 -- where nothing is met at all, there is the beginning
-pub begins_over : (stops : Stops) (budget from : ℕ) (start : State) → AreQuiet stops budget start 0 from
+pub begins_over : (stops : Stops) (budget from : ℕ) (start : State) → HaveNoStops stops budget start 0 from
     → IsStopBefore stops budget start from 0 found.Begin
 begins_over stops budget from start quiet =
     last_before stops budget 0 from start (record { place = 0; found = found.Begin }) (omega arith) quiet (λ same. cc same)

@@ -4,7 +4,7 @@ use Rattle.std.specs.List.{list_any}
 use Rattle.std.specs.Prelude.{◌==◌, slice_index_or}
 use Rattle.std.proofs.lemmas.Bool.{and_right, cases_Bool, eqb-true}
 use Rattle.std.proofs.lemmas.List.Folds.{list_any_more}
-use Rattle.rv_trace.specs.DecodeCache.{CachedInstrs}
+use Rattle.rv_trace.specs.DecodeCache.{DecodeCacheView}
 use Rattle.rv_trace.specs.ValidEntries.{IsCached, NoneBecomesValid}
 use Rattle.rv_trace.specs.declared_ending.Ending.{Ending}
 use Rattle.rv_trace.specs.declared_ending.Ending.TheVariants.{Budget}
@@ -13,12 +13,12 @@ use Rattle.rv_trace.specs.State.{State}
 use Rattle.rv_trace.proofs.Public.{each_completes}
 use Rattle.rv_history.specs.declared.bounds.Bounds.{Bounds}
 use Rattle.rv_history.specs.declared.bounds.Bounds.TheVariants as bounds
-use Rattle.rv_history.specs.declared.found.StopInfo.{StopInfo}
+use Rattle.rv_history.specs.declared.found.SearchEnd.{SearchEnd}
 use Rattle.rv_history.specs.declared.stepping.Stepped.TheVariants as stepped
 use Rattle.rv_history.specs.declared.stops.Stops.{Stops}
-use Rattle.rv_history.specs.LastStop.{IsLastOn}
+use Rattle.rv_history.specs.LastStop.{IsLastStopIn}
 use Rattle.rv_history.specs.Places.{IsReached, last_step}
-use Rattle.rv_history.specs.Stops.{AreUnwatched, is_break, is_halt, is_outside}
+use Rattle.rv_history.specs.Stops.{AreUnwatched, is_break, halts_at, is_outside}
 use Rattle.rv_history.proofs.Backward.{last_more}
 use Rattle.rv_history.proofs.Forward.{QuietUpTo, quiet_more}
 use Rattle.rv_history.proofs.Reaching.{by_step, next_place, run_goes_on, run_none, same_ran, state_first, steps_end}
@@ -66,14 +66,14 @@ module _ (stops : Stops) (P : ℕ → Type 0) (start : State) (budget : ℕ)
 
 -- ---- breakpoints that sleep
 
-pub begins_at_none : (stops : Stops) (kept : CachedInstrs) (pc : ℕ) → (is_break stops pc ≡ true → IsCached kept pc → ⊥) → IsCached kept pc
+pub begins_at_none : (stops : Stops) (kept : DecodeCacheView) (pc : ℕ) → (is_break stops pc ≡ true → IsCached kept pc → ⊥) → IsCached kept pc
     → is_break stops pc ≡ false
 begins_at_none stops kept pc asleep is = elim (cases_Bool (is_break stops pc)) [
   | inl breaks ↦ absurd (asleep breaks is)
   | inr none ↦ none
 ]
 
-pub asleep_more : (xs : List ℕ) (i d pc : ℕ) (old new : CachedInstrs) → i < length xs → NoneBecomesValid old new
+pub asleep_more : (xs : List ℕ) (i d pc : ℕ) (old new : DecodeCacheView) → i < length xs → NoneBecomesValid old new
     → (IsCached new (slice_index_or xs i d) → ⊥) → (list_any (λ a. a == pc) (take i xs) ≡ true → IsCached old pc → ⊥)
     → list_any (λ a. a == pc) (take (i + 1) xs) ≡ true → IsCached new pc → ⊥
 asleep_more xs i d pc old new low none here before found is =
@@ -88,10 +88,10 @@ asleep_more xs i d pc old new low none here before found is =
 -- ---- forwards
 
 no_halt : (stops : Stops) (within : Bounds) (from place pc : ℕ) → within ≡ bounds.All → is_break stops pc ≡ false
-    → (ltb from place && is_halt stops within pc) ≡ false
+    → (ltb from place && halts_at stops within pc) ≡ false
 no_halt stops within from place pc all absent =
     let inside : is_outside within pc ≡ false = ap (λ b. is_outside b pc) all in
-    and_right (ltb from place) (is_halt stops within pc)
+    and_right (ltb from place) (halts_at stops within pc)
     ((λ i. absent i || is_outside within pc) ∙ inside)
 
 pub quiet_run : (stops : Stops) (within : Bounds) (budget from place n : ℕ) (start s t : State) → within ≡ bounds.All → AreUnwatched stops
@@ -113,12 +113,12 @@ step_completes None end place start s t reached goes did = did
 step_completes (Some e) end place start s t reached goes did =
     let ok = ap step_of reached.same ∙ each_completes end place start goes in absurd (cc (sym did.0, ok))
 
-pub last_run : (stops : Stops) (budget begin place n : ℕ) (start s t : State) (last : Option StopInfo) → AreUnwatched stops
+pub last_run : (stops : Stops) (budget begin place n : ℕ) (start s t : State) (last : Option SearchEnd) → AreUnwatched stops
     → IsReached start place s → place + n ≤ last_step budget start → last_step budget start ≤ budget → Completes n s t
-    → BeginsAtNone stops n s → IsLastOn stops budget start begin place last
-    → IsLastOn stops budget start begin (place + n) last × IsReached start (place + n) t
+    → BeginsAtNone stops n s → IsLastStopIn stops budget start begin place last
+    → IsLastStopIn stops budget start begin (place + n) last × IsReached start (place + n) t
 last_run stops budget begin place n start s t last none reached few within ran absent so =
-    over_run stops (λ k. IsLastOn stops budget start begin k last) start (last_step budget start)
+    over_run stops (λ k. IsLastStopIn stops budget start begin k last) start (last_step budget start)
     (λ k u v there low e begins stop. last_more stops budget begin k start u v last false stepped.Quiet there low (sym begins)
     (e, is_unset stops u v none) (omega arith) stop)
     n place s t reached few ran absent so

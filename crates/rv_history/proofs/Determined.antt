@@ -6,8 +6,8 @@ use Rattle.rv_history.specs.declared.counts.Count.{Count}
 use Rattle.rv_history.specs.declared.found.Found.{Found}
 use Rattle.rv_history.specs.declared.found.Found.TheVariants as found
 use Rattle.rv_history.specs.declared.stops.Stops.{Stops}
-use Rattle.rv_history.specs.Counts.{IsFirstWith}
-use Rattle.rv_history.specs.Moves.{HasNoStopAhead, HasNoStopBack, IsChangeBefore, IsNextStep, IsNextStop, IsStepBefore, IsStopBefore, IsUninterrupted, IsStopAhead, IsStopBack}
+use Rattle.rv_history.specs.Counts.{IsFirstStepWith}
+use Rattle.rv_history.specs.Moves.{HasNoForwardStop, HasNoBackwardStop, IsChangeBefore, IsNextStep, IsNextStop, IsStepBefore, IsStopBefore, IsUninterrupted, IsForwardStop, IsBackwardStop}
 use Rattle.rv_history.specs.Places.{IsChangeAt}
 
 -- neither of two places is before the other
@@ -17,7 +17,7 @@ one_place p q not_first not_second = omega arith
 -- ---- forwards
 
 meets_or_goes : (stops : Stops) (bounds : Bounds) (budget from place : ℕ) (start : State) (found : Found)
-    → IsUninterrupted found → IsStopAhead stops bounds budget start from place found → HasNoStopAhead stops bounds budget start from place → ⊥
+    → IsUninterrupted found → IsForwardStop stops bounds budget start from place found → HasNoForwardStop stops bounds budget start from place → ⊥
 meets_or_goes stops bounds budget from place start found.Break unbroken meets goes = goes.no_halt meets.0 meets.1
 meets_or_goes stops bounds budget from place start (found.End ending) unbroken meets goes =
     let there = meets.0.0 in let before = goes.no_end in omega arith
@@ -27,8 +27,8 @@ meets_or_goes stops bounds budget from place start found.Begin unbroken meets go
 meets_or_goes stops bounds budget from place start found.Interrupted unbroken meets goes = unbroken refl
 
 met_ahead : (stops : Stops) (bounds : Bounds) (budget from place : ℕ) (start : State) (one other : Found)
-    → IsUninterrupted one → IsUninterrupted other → IsStopAhead stops bounds budget start from place one
-    → IsStopAhead stops bounds budget start from place other → one ≡ other
+    → IsUninterrupted one → IsUninterrupted other → IsForwardStop stops bounds budget start from place one
+    → IsForwardStop stops bounds budget start from place other → one ≡ other
 met_ahead stops bounds budget from place start found.Break found.Break whole sound first second = refl
 met_ahead stops bounds budget from place start found.Break (found.End ending) whole sound first second = absurd (second.1 first.0 first.1)
 met_ahead stops bounds budget from place start found.Break found.Change whole sound first second = absurd (second.1 first.0 first.1)
@@ -63,7 +63,7 @@ one_next_stop stops bounds budget from p q start one other first second whole so
     (λ before. meets_or_goes stops bounds budget from q start other sound second.meets (first.between q second.order before)) in (
       same,
       met_ahead stops bounds budget from q start one other whole sound
-          (subst (λ (k : ℕ). IsStopAhead stops bounds budget start from k one) same first.meets) second.meets,
+          (subst (λ (k : ℕ). IsForwardStop stops bounds budget start from k one) same first.meets) second.meets,
     )
 
 pub one_next_step : (stops : Stops) (budget from p q : ℕ) (start : State) (one other : Found)
@@ -98,7 +98,7 @@ one_next_step stops budget from p q start found.Interrupted other first second =
 -- ---- backwards
 
 met_or_went : (stops : Stops) (budget from place low : ℕ) (start : State) (found : Found) → low < place → IsUninterrupted found
-    → IsStopBack stops budget start from place found → HasNoStopBack stops budget start from place → ⊥
+    → IsBackwardStop stops budget start from place found → HasNoBackwardStop stops budget start from place → ⊥
 met_or_went stops budget from place low start found.Break above unbroken meets goes = goes.no_break meets.0 meets.1
 met_or_went stops budget from place low start found.Change above unbroken meets goes = goes.no_change meets.0
 met_or_went stops budget from place low start found.Begin above unbroken meets goes = let none = meets.0 in omega arith
@@ -110,8 +110,8 @@ no_change_at_start : (stops : Stops) (budget place : ℕ) (start : State) → pl
 no_change_at_start stops budget place start none change = let is = change.place_is in omega arith
 
 met_back : (stops : Stops) (budget from place : ℕ) (start : State) (one other : Found)
-    → IsUninterrupted one → IsUninterrupted other → IsStopBack stops budget start from place one
-    → IsStopBack stops budget start from place other → one ≡ other
+    → IsUninterrupted one → IsUninterrupted other → IsBackwardStop stops budget start from place one
+    → IsBackwardStop stops budget start from place other → one ≡ other
 met_back stops budget from place start found.Break found.Break whole sound first second = refl
 met_back stops budget from place start found.Break found.Change whole sound first second = absurd (second.1 first.0 first.1)
 met_back stops budget from place start found.Break found.Begin whole sound first second = absurd (second.1 first.0 first.1)
@@ -145,7 +145,7 @@ one_stop_before stops budget from p q start one other first second whole sound =
     (λ above. met_or_went stops budget from p q start one above whole first.meets (second.between p above first.order)) in (
       same,
       met_back stops budget from q start one other whole sound
-          (subst (λ (k : ℕ). IsStopBack stops budget start from k one) same first.meets) second.meets,
+          (subst (λ (k : ℕ). IsBackwardStop stops budget start from k one) same first.meets) second.meets,
     )
 
 -- the step behind a place changes something, or nothing
@@ -188,7 +188,7 @@ one_step_before stops budget from p q start found.Interrupted other first second
 
 -- ---- counts
 
-pub one_first_with : (count : Count) (value budget p q : ℕ) (start : State) → IsFirstWith count value budget start p
-    → IsFirstWith count value budget start q → p ≡ q
+pub one_first_with : (count : Count) (value budget p q : ℕ) (start : State) → IsFirstStepWith count value budget start p
+    → IsFirstStepWith count value budget start q → p ≡ q
 one_first_with count value budget p q start first second =
     one_place p q (λ before. second.first p before first.there) (λ before. first.first q before second.there)

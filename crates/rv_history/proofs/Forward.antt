@@ -11,25 +11,25 @@ use Rattle.rv_history.specs.declared.bounds.Bounds.{Bounds}
 use Rattle.rv_history.specs.declared.found.Found.{Found}
 use Rattle.rv_history.specs.declared.found.Found.TheVariants as found
 use Rattle.rv_history.specs.declared.stops.Stops.{Stops}
-use Rattle.rv_history.specs.Moves.{HasNoStopAhead, IsNextStep, IsNextStop, found_at_budget}
+use Rattle.rv_history.specs.Moves.{HasNoForwardStop, IsNextStep, IsNextStop, result_at_budget}
 use Rattle.rv_history.specs.Places.{IsChangeAt, IsHaltAt, IsReached, last_step}
-use Rattle.rv_history.specs.Stops.{TriggersWatch, TriggersNoWatch, is_halt, access_hit}
+use Rattle.rv_history.specs.Stops.{TriggersWatch, TriggersNoWatch, halts_at, access_hit}
 use Rattle.rv_history.proofs.Reaching.{comes_within, ends_by_budget, ends_here, goes_on, next_place}
 
 -- ---- at one place
 
 -- a machine at a place tells whether a move stops there
 no_halt_at : (stops : Stops) (bounds : Bounds) (start s : State) (from place : ℕ) → IsReached start place s
-    → (ltb from place && is_halt stops bounds s.pc) ≡ false → from < place → IsHaltAt stops bounds start place → ⊥
+    → (ltb from place && halts_at stops bounds s.pc) ≡ false → from < place → IsHaltAt stops bounds start place → ⊥
 no_halt_at stops bounds start s from place reached absent behind is =
-    let here : is_halt stops bounds s.pc ≡ true = ap (λ (t : State). is_halt stops bounds t.pc) reached.same ∙ is in
-    both_ways (ltb from place && is_halt stops bounds s.pc) absent (and_from (ltb from place) (is_halt stops bounds s.pc) (lt-ltb from place behind) here)
+    let here : halts_at stops bounds s.pc ≡ true = ap (λ (t : State). halts_at stops bounds t.pc) reached.same ∙ is in
+    both_ways (ltb from place && halts_at stops bounds s.pc) absent (and_from (ltb from place) (halts_at stops bounds s.pc) (lt-ltb from place behind) here)
 
 halt_at : (stops : Stops) (bounds : Bounds) (start s : State) (from place : ℕ) → IsReached start place s
-    → (ltb from place && is_halt stops bounds s.pc) ≡ true → (from < place) × IsHaltAt stops bounds start place
+    → (ltb from place && halts_at stops bounds s.pc) ≡ true → (from < place) × IsHaltAt stops bounds start place
 halt_at stops bounds start s from place reached is =
-    let parts = and_parts (ltb from place) (is_halt stops bounds s.pc) is in
-    (ltb-true from place parts.0, ap (λ (t : State). is_halt stops bounds t.pc) (sym reached.same) ∙ parts.1)
+    let parts = and_parts (ltb from place) (halts_at stops bounds s.pc) is in
+    (ltb-true from place parts.0, ap (λ (t : State). halts_at stops bounds t.pc) (sym reached.same) ∙ parts.1)
 
 -- a step sets off a watch, or none
 not_both : (stops : Stops) (s t : State) → TriggersNoWatch stops s t → TriggersWatch stops s t → ⊥
@@ -58,10 +58,10 @@ no_change_at stops budget place start s t reached e same change =
 
 -- what is known of the places up to one
 abbrev pub QuietUpTo : Stops → Bounds → ℕ → State → ℕ → ℕ → Type 0
-QuietUpTo stops bounds budget start from place = (j : ℕ) → from ≤ j → j < place → HasNoStopAhead stops bounds budget start from j
+QuietUpTo stops bounds budget start from place = (j : ℕ) → from ≤ j → j < place → HasNoForwardStop stops bounds budget start from j
 
 pub quiet_more : (stops : Stops) (bounds : Bounds) (budget from place : ℕ) (start s t : State) → IsReached start place s → place < budget
-    → step_of s ≡ Ok t → TriggersNoWatch stops s t → (ltb from place && is_halt stops bounds s.pc) ≡ false
+    → step_of s ≡ Ok t → TriggersNoWatch stops s t → (ltb from place && halts_at stops bounds s.pc) ≡ false
     → QuietUpTo stops bounds budget start from place → QuietUpTo stops bounds budget start from (place + 1)
 quiet_more stops bounds budget from place start s t reached within e same absent quiet j low high =
     elim (cases_eq j place) [
@@ -74,7 +74,7 @@ quiet_more stops bounds budget from place start s t reached within e same absent
     ]
 
 pub stops_by_break : (stops : Stops) (bounds : Bounds) (budget from place : ℕ) (start s : State) → IsReached start place s → from ≤ place
-    → place ≤ budget → (ltb from place && is_halt stops bounds s.pc) ≡ true → QuietUpTo stops bounds budget start from place
+    → place ≤ budget → (ltb from place && halts_at stops bounds s.pc) ≡ true → QuietUpTo stops bounds budget start from place
     → IsNextStop stops bounds budget start from place found.Break
 stops_by_break stops bounds budget from place start s reached low within is quiet = record {
   order = low;
@@ -85,7 +85,7 @@ stops_by_break stops bounds budget from place start s reached low within is quie
 
 pub stops_by_change : (stops : Stops) (bounds : Bounds) (budget from place : ℕ) (start s t : State) → IsReached start place s → from ≤ place
     → place < budget → step_of s ≡ Ok t → TriggersWatch stops s t
-    → (ltb from place && is_halt stops bounds s.pc) ≡ false → QuietUpTo stops bounds budget start from place
+    → (ltb from place && halts_at stops bounds s.pc) ≡ false → QuietUpTo stops bounds budget start from place
     → IsNextStop stops bounds budget start from place found.Change
 stops_by_change stops bounds budget from place start s t reached low within e differ absent quiet = record {
   order = low;
@@ -95,7 +95,7 @@ stops_by_change stops bounds budget from place start s t reached low within e di
 }
 
 pub stops_by_end : (stops : Stops) (bounds : Bounds) (budget from place : ℕ) (start s : State) (ending : Ending) → IsReached start place s
-    → from ≤ place → place < budget → step_of s ≡ Err ending → (ltb from place && is_halt stops bounds s.pc) ≡ false
+    → from ≤ place → place < budget → step_of s ≡ Err ending → (ltb from place && halts_at stops bounds s.pc) ≡ false
     → QuietUpTo stops bounds budget start from place → IsNextStop stops bounds budget start from place (found.End ending)
 stops_by_end stops bounds budget from place start s ending reached low within e absent quiet = record {
   order = low;
@@ -105,7 +105,7 @@ stops_by_end stops bounds budget from place start s ending reached low within e 
 }
 
 pub stops_by_interrupt : (stops : Stops) (bounds : Bounds) (budget from place : ℕ) (start s : State) → IsReached start place s
-    → from ≤ place → place ≤ budget → (ltb from place && is_halt stops bounds s.pc) ≡ false
+    → from ≤ place → place ≤ budget → (ltb from place && halts_at stops bounds s.pc) ≡ false
     → QuietUpTo stops bounds budget start from place → IsNextStop stops bounds budget start from place found.Interrupted
 stops_by_interrupt stops bounds budget from place start s reached low within absent quiet = record {
   order = low;
@@ -123,14 +123,14 @@ at_budget stops bounds budget from place start s end reached quiet = (
 )
 
 breaks_at_budget : (stops : Stops) (bounds : Bounds) (budget from place : ℕ) (start s : State) → IsReached start place s → from ≤ budget
-    → place ≡ budget → (ltb from budget && is_halt stops bounds s.pc) ≡ true → QuietUpTo stops bounds budget start from place
+    → place ≡ budget → (ltb from budget && halts_at stops bounds s.pc) ≡ true → QuietUpTo stops bounds budget start from place
     → IsNextStop stops bounds budget start from budget found.Break
 breaks_at_budget stops bounds budget from place start s reached low end is quiet =
     let there = at_budget stops bounds budget from place start s end reached quiet in
     stops_by_break stops bounds budget from budget start s there.0 low (omega arith) is there.1
 
 stops_by_budget : (stops : Stops) (bounds : Bounds) (budget from place : ℕ) (start s : State) → IsReached start place s → from ≤ budget
-    → place ≡ budget → (ltb from budget && is_halt stops bounds s.pc) ≡ false → QuietUpTo stops bounds budget start from place
+    → place ≡ budget → (ltb from budget && halts_at stops bounds s.pc) ≡ false → QuietUpTo stops bounds budget start from place
     → IsNextStop stops bounds budget start from budget (found.End Budget)
 stops_by_budget stops bounds budget from place start s reached low end absent quiet =
     let there = at_budget stops bounds budget from place start s end reached quiet in record {
@@ -142,15 +142,15 @@ stops_by_budget stops bounds budget from place start s reached low end absent qu
 
 pub stops_at_budget : (stops : Stops) (bounds : Bounds) (budget from place at : ℕ) (start s : State) (told : Found) → IsReached start place s
     → from ≤ budget → place ≡ budget → at ≡ budget
-    → told ≡ found_at_budget (ltb from budget && is_halt stops bounds s.pc) → QuietUpTo stops bounds budget start from place
+    → told ≡ result_at_budget (ltb from budget && halts_at stops bounds s.pc) → QuietUpTo stops bounds budget start from place
     → IsNextStop stops bounds budget start from at told
 stops_at_budget stops bounds budget from place at start s told reached low end at_is told_is quiet =
     subst (λ (k : ℕ). IsNextStop stops bounds budget start from k told) (sym at_is)
     (subst (λ (f : Found). IsNextStop stops bounds budget start from budget f) (sym told_is)
-    (by_halt (ltb from budget && is_halt stops bounds s.pc) refl))
+    (by_halt (ltb from budget && halts_at stops bounds s.pc) refl))
   where
-    by_halt : (halts : Bool) → (ltb from budget && is_halt stops bounds s.pc) ≡ halts
-        → IsNextStop stops bounds budget start from budget (found_at_budget halts)
+    by_halt : (halts : Bool) → (ltb from budget && halts_at stops bounds s.pc) ≡ halts
+        → IsNextStop stops bounds budget start from budget (result_at_budget halts)
     by_halt true is = breaks_at_budget stops bounds budget from place start s reached low end is quiet
     by_halt false is = stops_by_budget stops bounds budget from place start s reached low end is quiet
 

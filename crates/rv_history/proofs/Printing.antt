@@ -11,9 +11,9 @@ use Rattle.rv_trace.specs.declared_access.Width.TheVariants.{Byte, Half, Word}
 use Rattle.rv_trace.specs.declared_faults.BusFault.{BusFault}
 use Rattle.rv_trace.specs.declared_faults.BusFault.TheVariants.{Access, ConsoleFull, Misaligned}
 use Rattle.rv_trace.specs.declared_ending.Ending.{Ending}
-use Rattle.rv_trace.specs.State.{State, at_pc, is_misaligned, with_bus, with_register}
+use Rattle.rv_trace.specs.State.{State, with_pc, is_misaligned, with_bus, with_register}
 use Rattle.rv_trace.specs.Fetch.{Fetched, fetch}
-use Rattle.rv_trace.specs.Effect.{address, after_branch, after_store, at_target, effect, effect_of, from_pc, next_pc, rs2_value, store}
+use Rattle.rv_trace.specs.Effect.{address, after_branch, after_store, jump_to, effect, effect_of, pc_plus_immediate, next_pc, rs2_value, store}
 use Rattle.rv_trace.specs.Run.{after_fetch, step_of}
 use Rattle.rv_trace.proofs.Public.{ok_is}
 use Rattle.rv_trace.specs.Trace.{state_after}
@@ -105,11 +105,11 @@ written_bus s n v = either_bus s (record s { registers = slice_set s.registers n
 written : (s : State) (n v : ℕ) → Grows s (with_register s n v)
 written s n v = same_begins _ s.bus.output (ap (λ (c : Contents). c.output) (written_bus s n v))
 
-gone : (s : State) (target : ℕ) (after : State) → Grows s after → ok_is (Grows s) (at_target s target after)
-gone s target after h = by_test {E = Ending} (Grows s) (is_misaligned s.isa target) (Err _) (Ok (at_pc after target)) tt h
+gone : (s : State) (target : ℕ) (after : State) → Grows s after → ok_is (Grows s) (jump_to s target after)
+gone s target after h = by_test {E = Ending} (Grows s) (is_misaligned s.isa target) (Err _) (Ok (with_pc after target)) tt h
 
 branch : (holds : Bool) (s : State) (i : Instr) (next : ℕ) → ok_is (Grows s) (after_branch holds s i next)
-branch true s i next = gone s (from_pc s i) s (all_of s)
+branch true s i next = gone s (pc_plus_immediate s i) s (all_of s)
 branch false s i next = all_of s
 
 -- by the answer of a load
@@ -134,7 +134,7 @@ store_grows w i next s = go (store_to s.bus (address s i) w (rs2_value s i)) (st
 effect_grows : (o : Op) (i : Instr) (n : ℕ) (s : State) → ok_is (Grows s) (effect_of o i (next_pc s n) s)
 effect_grows op.Lui i n s = written s i.rd _
 effect_grows op.Auipc i n s = written s i.rd _
-effect_grows op.Jal i n s = gone s (from_pc s i) (with_register s i.rd (next_pc s n)) (written s i.rd _)
+effect_grows op.Jal i n s = gone s (pc_plus_immediate s i) (with_register s i.rd (next_pc s n)) (written s i.rd _)
 effect_grows op.Jalr i n s = gone s (address s i / 2 * 2) (with_register s i.rd (next_pc s n)) (written s i.rd _)
 effect_grows op.Beq i n s = branch _ s i (next_pc s n)
 effect_grows op.Bne i n s = branch _ s i (next_pc s n)

@@ -2,7 +2,7 @@
 use Rattle.std.proofs.Common.{◌≡◌, ◌∙◌, ◌+◌, ◌-◌, ◌<◌, ◌≤◌, ℕ, zero, suc, Ok, Err, ap, sym, refl, subst, arith, zero-add, add-one}
 use Rattle.rv_trace.specs.declared_ending.Ending.{Ending}
 use Rattle.rv_trace.specs.declared_ending.Ending.TheVariants.{Budget}
-use Rattle.rv_trace.specs.Run.{Ran, run_rest, run_of, step_of}
+use Rattle.rv_trace.specs.Run.{Ran, run_after_step, run_of, step_of}
 use Rattle.rv_trace.specs.State.{State}
 use Rattle.rv_trace.specs.Trace.{state_after}
 use Rattle.rv_trace.proofs.Public.{after_more, after_none, completes, steps_more}
@@ -10,14 +10,14 @@ use Rattle.rv_history.specs.Places.{IsReached, last_step}
 
 -- ---- one step
 
-pub run_goes_on : (n : ℕ) (s t : State) → step_of s ≡ Ok t → run_of (suc n) s ≡ run_rest (Ok t) s (λ u. run_of n u)
+pub run_goes_on : (n : ℕ) (s t : State) → step_of s ≡ Ok t → run_of (suc n) s ≡ run_after_step (Ok t) s (λ u. run_of n u)
 unfolding run_of
-run_goes_on n s t e = ap (λ r. run_rest r s (λ u. run_of n u)) e
+run_goes_on n s t e = ap (λ r. run_after_step r s (λ u. run_of n u)) e
 
 run_ends : (n : ℕ) (s : State) (e : Ending) → step_of s ≡ Err e
     → run_of (suc n) s ≡ record { ending = e; steps = 0; state = s }
 unfolding run_of
-run_ends n s e is = ap (λ r. run_rest r s (λ u. run_of n u)) is
+run_ends n s e is = ap (λ r. run_after_step r s (λ u. run_of n u)) is
 
 pub run_none : (s : State) → run_of 0 s ≡ record { ending = Budget; steps = 0; state = s }
 unfolding run_of

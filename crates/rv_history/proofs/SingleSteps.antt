@@ -3,7 +3,7 @@ use Rattle.std.proofs.Common.{◌≡◌, ◌≢◌, ◌==◌, ℕ, Bool, Result,
 use Rattle.std.proofs.lemmas.Bool.{eq-eqb}
 use Rattle.std.specs.Prelude.{MatchBool}
 use Rattle.rv_trace.specs.declared_ending.Ending.{Ending}
-use Rattle.rv_trace.specs.Run.{Ran, run_rest, step_of, run_of}
+use Rattle.rv_trace.specs.Run.{Ran, run_after_step, step_of, run_of}
 use Rattle.rv_trace.specs.State.{State}
 
 -- what the steps of it tell: where there is one, the step completed with the state at the end, and else it gave the ending and left the state
@@ -11,7 +11,7 @@ abbrev Told : State → ℕ → Ending → Result State Ending → State → Typ
 Told s n e r t = MatchBool (n == 1) (r ≡ Ok t) ((r ≡ Err e) × (t ≡ s))
 
 told_by : (s : State) (r : Result State Ending)
-    → Told s (run_rest r s (λ t. run_of 0 t)).steps (run_rest r s (λ t. run_of 0 t)).ending r (run_rest r s (λ t. run_of 0 t)).state
+    → Told s (run_after_step r s (λ t. run_of 0 t)).steps (run_after_step r s (λ t. run_of 0 t)).ending r (run_after_step r s (λ t. run_of 0 t)).state
 unfolding run_of
 told_by s (Ok t) = refl
 told_by s (Err e) = (refl, refl)

@@ -24,15 +24,15 @@ use Rattle.rv_history.specs.declared.stops.WatchHit.{WatchHit}
 use Rattle.rv_history.specs.declared.stops.WatchHit.TheVariants as set_off
 use Rattle.rv_history.specs.Accesses.{access_at}
 use Rattle.rv_history.specs.Kept.{IsAt}
-use Rattle.rv_history.specs.LastStop.{IsQuietAt}
+use Rattle.rv_history.specs.LastStop.{HasNoStopAt}
 use Rattle.rv_history.specs.ForwardMoves.{IsArrival, IsMoveInProgress}
-use Rattle.rv_history.specs.Moves.{HasNoStopAhead, IsEndAt, IsNextStop, IsStepBefore, IsStopBefore}
+use Rattle.rv_history.specs.Moves.{HasNoForwardStop, IsEndAt, IsNextStop, IsStepBefore, IsStopBefore}
 use Rattle.rv_history.specs.Places.{IsChangeAt, IsHaltAt, last_step}
-use Rattle.rv_history.specs.Stops.{AreNone, AreUnwatched, TriggersWatch, TriggersNoWatch, first_hit, first_read, is_break, is_halt, reported_or, access_hit, touched_by, watch_bytes, watched_bytes}
+use Rattle.rv_history.specs.Stops.{AreEmpty, AreUnwatched, TriggersWatch, TriggersNoWatch, first_hit, first_read, is_break, halts_at, hit_or, access_hit, hit_by_access, watch_bytes, watched_bytes}
 use Rattle.rv_history.proofs.Backward.{begins_over}
 use Rattle.rv_history.proofs.Reaching.{by_step, comes_within, ends_by_budget, ends_here, goes_on, ran_to}
 
-no_break : (stops : Stops) (pc : ℕ) → AreNone stops → is_break stops pc ≡ false
+no_break : (stops : Stops) (pc : ℕ) → AreEmpty stops → is_break stops pc ≡ false
 no_break stops pc none = ap (λ (breaks : List ℕ). list_any (λ address. address == pc) breaks) none.0
 
 no_bytes : (stops : Stops) (bus : Contents) → stops.watches ≡ [] → watched_bytes stops bus ≡ []
@@ -41,15 +41,15 @@ no_bytes stops bus none = ap (λ (watches : List Watch). flat_map (watch_bytes b
 
 -- with no watch of reads and none of accesses, nothing is access_hit
 pub nothing_touched : (stops : Stops) (access : Option Access) → (stops.reads ≡ []) × (stops.accesses ≡ [])
-    → touched_by stops access ≡ None
+    → hit_by_access stops access ≡ None
 nothing_touched stops None none = refl
 nothing_touched stops (Some access) none =
-    let found : List Watch → List Watch → Option WatchHit = λ reads accesses. reported_or set_off.Read (first_read access reads)
-    (reported_or set_off.Access (first_hit access accesses) None) in
+    let found : List Watch → List Watch → Option WatchHit = λ reads accesses. hit_or set_off.Read (first_read access reads)
+    (hit_or set_off.Access (first_hit access accesses) None) in
     ap (λ (reads : List Watch). found reads stops.accesses) none.0
     ∙ ap (λ (accesses : List Watch). found [] accesses) none.1 ∙ nothing access.is_read
   where
-    nothing : (is_read : Bool) → reported_or set_off.Read (if is_read then None else None) None ≡ None
+    nothing : (is_read : Bool) → hit_or set_off.Read (if is_read then None else None) None ≡ None
     nothing true = refl
     nothing false = refl
 
@@ -67,13 +67,13 @@ no_change : (stops : Stops) (budget place : ℕ) (start : State) → AreUnwatche
 no_change stops budget place start none change =
     unset stops (state_after place start) (state_after (place + 1) start) none change.changes
 
-quiet_at : (stops : Stops) (budget place : ℕ) (start : State) → AreNone stops → IsQuietAt stops budget start place
+quiet_at : (stops : Stops) (budget place : ℕ) (start : State) → AreEmpty stops → HasNoStopAt stops budget start place
 quiet_at stops budget place start none = record {
   no_break = λ is. both_ways (is_break stops (state_after place start).pc) (no_break stops (state_after place start).pc none) is;
   no_change = no_change stops budget place start none.1;
 }
 
-pub begins_unstopped : (stops : Stops) (budget from : ℕ) (start : State) → AreNone stops
+pub begins_unstopped : (stops : Stops) (budget from : ℕ) (start : State) → AreEmpty stops
     → IsStopBefore stops budget start from 0 found.Begin
 begins_unstopped stops budget from start none = begins_over stops budget from start (λ j low high. quiet_at stops budget j start none)
 
@@ -81,16 +81,16 @@ pub step_unwatched : (stops : Stops) (budget before from : ℕ) (start : State) 
     → IsStepBefore stops budget start from before found.Done
 step_unwatched stops budget before from start none is = (is, no_change stops budget before start none)
 
-no_halt : (stops : Stops) (place : ℕ) (start : State) → AreNone stops → IsHaltAt stops bounds.All start place → ⊥
+no_halt : (stops : Stops) (place : ℕ) (start : State) → AreEmpty stops → IsHaltAt stops bounds.All start place → ⊥
 no_halt stops place start none is =
-    both_ways (is_halt stops bounds.All (state_after place start).pc)
+    both_ways (halts_at stops bounds.All (state_after place start).pc)
     (ap (λ b. b || false) (no_break stops (state_after place start).pc none)) is
 
 -- a machine tells that a move does not stop there
-pub never_halted : (stops : Stops) (within : Bounds) (from place pc : ℕ) → AreNone stops → within ≡ bounds.All
-    → (ltb from place && is_halt stops within pc) ≡ false
+pub never_halted : (stops : Stops) (within : Bounds) (from place pc : ℕ) → AreEmpty stops → within ≡ bounds.All
+    → (ltb from place && halts_at stops within pc) ≡ false
 never_halted stops within from place pc none all =
-    ap (λ b. ltb from place && is_halt stops b pc) all ∙ ap (λ b. ltb from place && (b || false)) (no_break stops pc none)
+    ap (λ b. ltb from place && halts_at stops b pc) all ∙ ap (λ b. ltb from place && (b || false)) (no_break stops pc none)
     ∙ never (ltb from place)
   where
     never : (b : Bool) → (b && false) ≡ false
@@ -98,15 +98,15 @@ never_halted stops within from place pc none all =
     never false = refl
 
 -- nothing is met on the way
-goes_unstopped : (stops : Stops) (budget from place j : ℕ) (start : State) → AreNone stops → place ≤ last_step budget start
-    → j < place → HasNoStopAhead stops bounds.All budget start from j
+goes_unstopped : (stops : Stops) (budget from place j : ℕ) (start : State) → AreEmpty stops → place ≤ last_step budget start
+    → j < place → HasNoForwardStop stops bounds.All budget start from j
 goes_unstopped stops budget from place j start none within before = record {
   no_halt = λ below is. no_halt stops j start none is;
   no_end = omega arith;
   no_change = no_change stops budget j start none.1;
 }
 
-ends_everywhere : (stops : Stops) (budget from place : ℕ) (start : State) (ending : Ending) → AreNone stops
+ends_everywhere : (stops : Stops) (budget from place : ℕ) (start : State) (ending : Ending) → AreEmpty stops
     → from ≤ last_step budget start → IsEndAt budget start place ending
     → IsNextStop stops bounds.All budget start from place (found.End ending)
 ends_everywhere stops budget from place start ending none order there =
@@ -117,7 +117,7 @@ ends_everywhere stops budget from place start ending none order there =
       between = λ j low high. goes_unstopped stops budget from place j start none (omega arith) high;
     }
 
-ends_anywhere : (stops : Stops) (within : Bounds) (budget from place : ℕ) (start : State) (ending : Ending) → AreNone stops
+ends_anywhere : (stops : Stops) (within : Bounds) (budget from place : ℕ) (start : State) (ending : Ending) → AreEmpty stops
     → within ≡ bounds.All → from ≤ last_step budget start → IsEndAt budget start place ending
     → IsNextStop stops within budget start from place (found.End ending)
 ends_anywhere stops within budget from place start ending none all order end =
@@ -139,20 +139,20 @@ ends_within budget end place start t ending ran short within =
     (there.0, sym (ap (λ r. r.ending) ran) ∙ sym here.1 ∙ there.1))
 
 -- a move is under way wherever it stands
-pub under_way : (stops : Stops) (start : State) (leg : ForwardMove) → AreNone stops → leg.bounds ≡ bounds.All → IsAt start leg.at
+pub under_way : (stops : Stops) (start : State) (leg : ForwardMove) → AreEmpty stops → leg.bounds ≡ bounds.All → IsAt start leg.at
     → leg.from ≤ leg.at.place → leg.at.place ≤ leg.budget → IsMoveInProgress stops start leg
 under_way stops start leg none all there order within = record {
   there = there;
   order = order;
   within = within;
-  quiet = λ j low high. subst (λ (b : Bounds). HasNoStopAhead stops b leg.budget start leg.from j) (sym all)
+  quiet = λ j low high. subst (λ (b : Bounds). HasNoForwardStop stops b leg.budget start leg.from j) (sym all)
       (goes_unstopped stops leg.budget leg.from leg.at.place j start none
       (comes_within leg.budget leg.at.place start there.completed within) high);
 }
 
 -- a move that meets nothing comes to an end before its budget
 pub ends_before : (stops : Stops) (start : State) (leg : ForwardMove) (at : MachineAt) (arrived : Arrived) (end : ℕ) (ending : Ending)
-    → AreNone stops → leg.bounds ≡ bounds.All → leg.from ≤ at.place → arrived ≡ record { at = at; found = found.End ending }
+    → AreEmpty stops → leg.bounds ≡ bounds.All → leg.from ≤ at.place → arrived ≡ record { at = at; found = found.End ending }
     → run_of end start ≡ record { ending = ending; steps = at.place; state = state_of at.machine } → at.place < end
     → end ≤ leg.budget → IsArrival stops start leg arrived
 ends_before stops start leg at arrived end ending none all order is ran short within =
@@ -165,7 +165,7 @@ ends_before stops start leg at arrived end ending none all order is ran short wi
     )
 
 -- or it comes to its budget
-pub ends_at : (stops : Stops) (start : State) (leg : ForwardMove) (at : MachineAt) (arrived : Arrived) → AreNone stops
+pub ends_at : (stops : Stops) (start : State) (leg : ForwardMove) (at : MachineAt) (arrived : Arrived) → AreEmpty stops
     → leg.bounds ≡ bounds.All → leg.from ≤ at.place → arrived ≡ record { at = at; found = found.End Budget } → IsAt start at
     → at.place ≡ leg.budget → IsArrival stops start leg arrived
 ends_at stops start leg at arrived none all order is there end =
@@ -176,7 +176,7 @@ ends_at stops start leg at arrived none all order is there end =
     subst (λ (a : Arrived). IsArrival stops start leg a) (sym is)
     (there, ends_anywhere stops leg.bounds leg.budget leg.from at.place start Budget none all (omega (arith, order, far)) here)
 
-pub ends_told : {E : Type 0} (stops : Stops) (start : State) (leg : ForwardMove) (result : Result Arrived E) → AreNone stops
-    → IfOk result (λ arrived. (none : Stops) → AreNone none → IsArrival none start leg arrived) → IfOk result (IsArrival stops start leg)
+pub ends_told : {E : Type 0} (stops : Stops) (start : State) (leg : ForwardMove) (result : Result Arrived E) → AreEmpty stops
+    → IfOk result (λ arrived. (none : Stops) → AreEmpty none → IsArrival none start leg arrived) → IfOk result (IsArrival stops start leg)
 ends_told stops start leg (Ok arrived) none arrives = arrives stops none
 ends_told stops start leg (Err error) none arrives = tt

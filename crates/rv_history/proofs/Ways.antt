@@ -7,8 +7,8 @@ use Rattle.rv_trace.specs.declared_ending.Ending.{Ending}
 use Rattle.rv_trace.specs.Trace.{state_after}
 use Rattle.rv_history.specs.Kept.{IsAt}
 use Rattle.rv_history.specs.ForwardMoves.{IsArrival, IsMoveInProgress}
-use Rattle.rv_history.specs.Moves.{IsNextStop, found_at_budget}
-use Rattle.rv_history.specs.Stops.{TriggersWatch, is_halt}
+use Rattle.rv_history.specs.Moves.{IsNextStop, result_at_budget}
+use Rattle.rv_history.specs.Stops.{TriggersWatch, halts_at}
 use Rattle.rv_history.specs.declared.bounds.Bounds.TheVariants as bounds
 use Rattle.rv_history.specs.declared.found.Found.{Found}
 use Rattle.rv_history.specs.declared.found.Found.TheVariants as found
@@ -48,13 +48,13 @@ arrives stops start leg now at told arrived same is there place stop =
 module _ (stops : Stops) (start : State) (leg now : ForwardMove) (arrived : Arrived) (way : IsMoveInProgress stops start now)
     (same : now ≡ record leg { at = now.at }) where
   pub arrives_halted : arrived ≡ record { at = now.at; found = found.Break }
-      → (ltb now.from now.at.place && is_halt stops now.bounds (state_of now.at.machine).pc) ≡ true → IsArrival stops start leg arrived
+      → (ltb now.from now.at.place && halts_at stops now.bounds (state_of now.at.machine).pc) ≡ true → IsArrival stops start leg arrived
   arrives_halted is halts = arrives stops start leg now now.at found.Break arrived same is way.there refl
       (stops_by_break stops now.bounds now.budget now.from now.at.place start (state_of now.at.machine) way.there way.order
       way.within halts way.quiet)
 
   pub arrives_broken : arrived ≡ record { at = now.at; found = found.Interrupted }
-      → (ltb now.from now.at.place && is_halt stops now.bounds (state_of now.at.machine).pc) ≡ false → IsArrival stops start leg arrived
+      → (ltb now.from now.at.place && halts_at stops now.bounds (state_of now.at.machine).pc) ≡ false → IsArrival stops start leg arrived
   arrives_broken is halts = arrives stops start leg now now.at found.Interrupted arrived same is way.there refl
       (stops_by_interrupt stops now.bounds now.budget now.from now.at.place start (state_of now.at.machine) way.there way.order
       way.within halts way.quiet)
@@ -62,7 +62,7 @@ module _ (stops : Stops) (start : State) (leg now : ForwardMove) (arrived : Arri
   pub arrives_ended : (at : MachineAt) (ending : Ending) → arrived ≡ record { at = at; found = found.End ending }
       → at.place ≡ now.at.place → state_of at.machine ≡ state_of now.at.machine → now.at.place < now.budget
       → step_of (state_of now.at.machine) ≡ Err ending
-      → (ltb now.from now.at.place && is_halt stops now.bounds (state_of now.at.machine).pc) ≡ false → IsArrival stops start leg arrived
+      → (ltb now.from now.at.place && halts_at stops now.bounds (state_of now.at.machine).pc) ≡ false → IsArrival stops start leg arrived
   arrives_ended at ending is place state goes e halts = arrives stops start leg now at (found.End ending) arrived same is
       (same_at start now.at at way.there place state) place
       (stops_by_end stops now.bounds now.budget now.from now.at.place start (state_of now.at.machine) ending way.there way.order
@@ -71,19 +71,19 @@ module _ (stops : Stops) (start : State) (leg now : ForwardMove) (arrived : Arri
   pub arrives_changed : (at : MachineAt) (t : State) → arrived ≡ record { at = at; found = found.Change } → IsAt start at
       → at.place ≡ now.at.place → now.at.place < now.budget → step_of (state_of now.at.machine) ≡ Ok t
       → TriggersWatch stops (state_of now.at.machine) t
-      → (ltb now.from now.at.place && is_halt stops now.bounds (state_of now.at.machine).pc) ≡ false → IsArrival stops start leg arrived
+      → (ltb now.from now.at.place && halts_at stops now.bounds (state_of now.at.machine).pc) ≡ false → IsArrival stops start leg arrived
   arrives_changed at t is there place goes e differ halts = arrives stops start leg now at found.Change arrived same is there place
       (stops_by_change stops now.bounds now.budget now.from now.at.place start (state_of now.at.machine) t way.there way.order
       goes e differ halts way.quiet)
 
   pub arrives_at_budget : (told : Found) → arrived ≡ record { at = now.at; found = told } → now.budget ≤ now.at.place
-      → told ≡ found_at_budget (ltb now.from now.at.place && is_halt stops now.bounds (state_of now.at.machine).pc)
+      → told ≡ result_at_budget (ltb now.from now.at.place && halts_at stops now.bounds (state_of now.at.machine).pc)
       → IsArrival stops start leg arrived
   arrives_at_budget told is end told_is =
       let within = way.within in
       let order = way.order in
       let all : now.at.place ≡ now.budget = omega (arith, within, end) in
-      let here = ap (λ (k : ℕ). found_at_budget (ltb now.from k && is_halt stops now.bounds (state_of now.at.machine).pc)) all in
+      let here = ap (λ (k : ℕ). result_at_budget (ltb now.from k && halts_at stops now.bounds (state_of now.at.machine).pc)) all in
       arrives stops start leg now now.at told arrived same is way.there refl
       (stops_at_budget stops now.bounds now.budget now.from now.at.place now.at.place start (state_of now.at.machine) told way.there
       (omega (arith, order, within)) all all (told_is ∙ here) way.quiet)

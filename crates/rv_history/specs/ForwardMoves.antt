@@ -2,7 +2,7 @@
 use Rattle.std.specs.Prelude.{ℕ, ◌≤◌, ◌<◌}
 use Rattle.rv_trace.specs.State.{State}
 use Rattle.rv_history.specs.Kept.{IsAt}
-use Rattle.rv_history.specs.Moves.{HasNoStopAhead, IsNextStop}
+use Rattle.rv_history.specs.Moves.{HasNoForwardStop, IsNextStop}
 use Rattle.rv_history.specs.declared.forward_move.Arrived.{Arrived}
 use Rattle.rv_history.specs.declared.forward_move.ForwardMove.{ForwardMove}
 use Rattle.rv_history.specs.declared.stops.Stops.{Stops}
@@ -12,7 +12,7 @@ pub record IsMoveInProgress (stops : Stops) (start : State) (leg : ForwardMove) 
   pub there : IsAt start leg.at
   pub order : leg.from ≤ leg.at.place
   pub within : leg.at.place ≤ leg.budget
-  pub quiet : (j : ℕ) → leg.from ≤ j → j < leg.at.place → HasNoStopAhead stops leg.bounds leg.budget start leg.from j
+  pub quiet : (j : ℕ) → leg.from ≤ j → j < leg.at.place → HasNoForwardStop stops leg.bounds leg.budget start leg.from j
 
 -- a forward move ended at its next stop, and its machine is in the state of the run at this step
 abbrev pub IsArrival : Stops → State → ForwardMove → Arrived → Type 0

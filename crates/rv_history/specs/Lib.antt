@@ -7,7 +7,7 @@ pub mod Places
 pub mod Moves
 pub mod Counts
 pub mod Positions
-pub mod PositionInside
+pub mod PositionCode
 pub mod Printing
 pub mod Kept
 pub mod ForwardMoves

@@ -3,7 +3,7 @@ use Rattle.std.specs.Prelude.{ℕ, ◌≡◌, ◌+◌, ◌<◌, true}
 use Rattle.rv_trace.specs.Run.{run_of}
 use Rattle.rv_trace.specs.State.{State}
 use Rattle.rv_trace.specs.Trace.{state_after}
-use Rattle.rv_history.specs.Stops.{TriggersWatch, is_break, is_halt}
+use Rattle.rv_history.specs.Stops.{TriggersWatch, is_break, halts_at}
 use Rattle.rv_history.specs.declared.bounds.Bounds.{Bounds}
 use Rattle.rv_history.specs.declared.stops.Stops.{Stops}
 
@@ -22,7 +22,7 @@ IsBreakAt stops start place = is_break stops (state_after place start).pc ≡ tr
 
 -- the pc after `place` steps is a breakpoint or outside of the bounds
 abbrev pub IsHaltAt : Stops → Bounds → State → ℕ → Type 0
-IsHaltAt stops bounds start place = is_halt stops bounds (state_after place start).pc ≡ true
+IsHaltAt stops bounds start place = halts_at stops bounds (state_after place start).pc ≡ true
 
 -- the run completes another step after its first `place` steps within the budget, and this step triggers a watchpoint
 pub record IsChangeAt (stops : Stops) (budget : ℕ) (start : State) (place : ℕ) : Type 0 where

@@ -23,8 +23,8 @@ abbrev pub AreUnwatched : Stops → Type 0
 AreUnwatched stops = (stops.watches ≡ []) × ((stops.reads ≡ []) × (stops.accesses ≡ []))
 
 -- there are no breakpoints and no watchpoints
-abbrev pub AreNone : Stops → Type 0
-AreNone stops = (stops.breaks ≡ []) × AreUnwatched stops
+abbrev pub AreEmpty : Stops → Type 0
+AreEmpty stops = (stops.breaks ≡ []) × AreUnwatched stops
 
 -- whether an address is outside of the bounds of a move: below the first one, or at or above the second one
 abbrev pub is_outside : Bounds → ℕ → Bool
@@ -32,8 +32,8 @@ is_outside bounds.All pc = false
 is_outside (bounds.Within low high) pc = nat_lt pc low || nat_le high pc
 
 -- whether a forward move stops before an instruction at this address: at a breakpoint, or outside of the bounds
-abbrev pub is_halt : Stops → Bounds → ℕ → Bool
-is_halt stops bounds pc = is_break stops pc || is_outside bounds pc
+abbrev pub halts_at : Stops → Bounds → ℕ → Bool
+halts_at stops bounds pc = is_break stops pc || is_outside bounds pc
 
 -- the bytes of a watchpoint's range, without bytes outside the regions
 abbrev pub watch_bytes : Contents → Watch → List ℕ
@@ -60,25 +60,25 @@ abbrev pub first_read : Access → List Watch → Option ℕ
 first_read access watches = if access.is_read then first_hit access watches else None
 
 -- the result of `told` for the address, or `other` if there is no address
-abbrev pub reported_or : (ℕ → WatchHit) → Option ℕ → Option WatchHit → Option WatchHit
-reported_or told None other = other
-reported_or told (Some address) other = Some (told address)
+abbrev pub hit_or : (ℕ → WatchHit) → Option ℕ → Option WatchHit → Option WatchHit
+hit_or told None other = other
+hit_or told (Some address) other = Some (told address)
 
 -- the first read watchpoint, or else the first access watchpoint, that an access triggers, or `None` if there is no access or it triggers
 -- none
-abbrev pub touched_by : Stops → Option Access → Option WatchHit
-touched_by stops None = None
-touched_by stops (Some access) = reported_or set_off.Read (first_read access stops.reads)
-    (reported_or set_off.Access (first_hit access stops.accesses) None)
+abbrev pub hit_by_access : Stops → Option Access → Option WatchHit
+hit_by_access stops None = None
+hit_by_access stops (Some access) = hit_or set_off.Read (first_read access stops.reads)
+    (hit_or set_off.Access (first_hit access stops.accesses) None)
 
 -- the first read watchpoint, or else the first access watchpoint, that the instruction at the pc triggers, or `None` if it triggers none
 abbrev pub access_hit : Stops → State → Option WatchHit
-access_hit stops s = touched_by stops (access_at s)
+access_hit stops s = hit_by_access stops (access_at s)
 
 -- the first watchpoint that a step from the state `s` to the state `t` triggers, or `None`: watchpoints for changes come first, then for
 -- reads, then for accesses
 abbrev pub first_triggered : Stops → State → State → Option WatchHit
-first_triggered stops s t = reported_or set_off.Change (first_differing stops.watches s.bus t.bus) (access_hit stops s)
+first_triggered stops s t = hit_or set_off.Change (first_differing stops.watches s.bus t.bus) (access_hit stops s)
 
 -- a step from state `s` to state `t` triggers a watchpoint
 abbrev pub TriggersWatch : Stops → State → State → Type 0

@@ -15,7 +15,7 @@ pub enum Bounds {
 
 impl Bounds {
     /// Whether all addresses are within the bounds.
-    pub(crate) fn are_all(self) -> bool
+    pub(crate) fn is_unbounded(self) -> bool
         ensures { IsTrue result ↔ (self ≡ All) }
     {
         match self {

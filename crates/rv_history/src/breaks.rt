@@ -4,7 +4,7 @@ ghost use Rattle.std.specs.Prelude.{◌≡◌, ◌≤◌, ◌<◌, ℕ, IfNone, 
 ghost use Rattle.rv_trace.specs.Machine.{state_of};
 ghost use Rattle.rv_trace.specs.Run.{run_of};
 ghost use Rattle.rv_trace.specs.declared_ending.Ending.TheVariants.{Budget};
-ghost use Rattle.rv_history.specs.LastStop.{IsPart};
+ghost use Rattle.rv_history.specs.LastStop.{IsSearchedPart};
 ghost use Rattle.rv_history.specs.ForwardMoves.{IsArrival, IsMoveInProgress};
 ghost use Rattle.rv_history.specs.Stops.{AreUnwatched, is_break};
 ghost use Rattle.rv_history.specs.declared.bounds.Bounds.TheVariants.{All as AllAddresses};
@@ -15,7 +15,7 @@ use crate::forward_move::{Arrived, ForwardMove};
 use crate::found::Found;
 use crate::interrupt::Interrupt;
 use crate::search_back::{Part, last_stop_after};
-use crate::slices::{fill_a_slice, is_slice_end, slice_end};
+use crate::slices::{is_at_least_a_slice, is_slice_end, slice_end};
 use crate::stepping::{Stepped, step};
 use crate::stops::Stops;
 use rv_trace::Machine;
@@ -23,7 +23,7 @@ use std::alloc::{AllocError, Global};
 
 /// Returns where a forward move without bounds ends, if there are no watchpoints, and the result of the move. Runs at full speed between
 /// breakpoints.
-pub(crate) fn next_break<I: Interrupt>(
+pub(crate) fn next_breakpoint<I: Interrupt>(
     alloc: Global,
     track: &mut Checkpoints,
     mut leg: ForwardMove,
@@ -52,13 +52,13 @@ pub(crate) fn next_break<I: Interrupt>(
         let left = end - leg.at.place;
         leg.at.place += run_between(&mut leg.at.machine, stops, left);
     }
-    let found = leg.found_at_budget(stops);
+    let found = leg.result_at_budget(stops);
     Ok(leg.arrived(found))
 }
 
 /// Searches the run from the last stored state up to the step `end` for its last breakpoint, if there are no watchpoints. Returns what it
 /// found, or `None` if an interrupt ends the search.
-pub(crate) fn search_breaks<I: Interrupt>(
+pub(crate) fn search_breakpoints<I: Interrupt>(
     alloc: Global,
     track: &Checkpoints,
     end: u32,
@@ -68,14 +68,14 @@ pub(crate) fn search_breaks<I: Interrupt>(
     requires some { 0 < end }
     requires comes { (run_of end track.now).steps ≡ end }
     requires unwatched { AreUnwatched stops.now }
-    ensures part { IfOk result (λ searched. IfSome searched (IsPart stops.now track.now end)) }
+    ensures part { IfOk result (λ searched. IfSome searched (IsSearchedPart stops.now track.now end)) }
     ensures broken_off { IfOk result (λ searched. IfNone searched (I.was_raised interrupt.new ≡ true)) }
 {
     let mut at = track.before(alloc, end - 1)?;
     let begin = at.place;
     let mut last = None;
     'places: while at.place < end {
-        if is_slice_end(at.place) && fill_a_slice(at.place - begin) && interrupt.is_raised() {
+        if is_slice_end(at.place) && is_at_least_a_slice(at.place - begin) && interrupt.is_raised() {
             return Ok(None);
         }
         let slice = slice_end(at.place, end);

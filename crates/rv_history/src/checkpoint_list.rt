@@ -19,7 +19,7 @@ impl Model for CheckpointList {
     ghost use Rattle.std.specs.Prelude.{◌<◌, ◌≤◌, List, length};
     ghost use Rattle.rv_history.specs.Kept.{AreDecreasing};
     ghost use Rattle.rv_history.specs.declared.machine_at.MachineAt.{MachineAt};
-    ghost use Rattle.rv_history.specs.PositionInside.{state_code};
+    ghost use Rattle.rv_history.specs.PositionCode.{state_code};
     ghost use Rattle.std.specs.Coded.{codes};
 
     ghost Value = { List MachineAt };
@@ -82,7 +82,7 @@ impl CheckpointList {
     }
 
     /// Drops the states whose steps are not multiples of `number`.
-    pub(crate) fn keep_multiples(&mut self, number: u32)
+    pub(crate) fn retain_multiples(&mut self, number: u32)
         requires { 0 < number }
         ensures { (start : State) → AreStates start self.old → AreStates start self.new }
     {

@@ -19,24 +19,24 @@ const INTERVAL: u32 = 1 << 22;
 const NEAR: u32 = 1 << 16;
 
 // The default memory limit of a session, in megabytes.
-const MEGABYTES: u32 = 256;
+const DEFAULT_MEGABYTES: u32 = 256;
 
 const MEGABYTE: usize = 1 << 20;
 
 // How many megabytes of the memory limit are reserved for everything except machines.
-const MEGABYTES_BESIDE: usize = 32;
+const RESERVED_MEGABYTES: usize = 32;
 
 // The number of machines that exist during a move without being stored.
-const MACHINES_BESIDE: usize = 4;
+const UNSTORED_MACHINES: usize = 4;
 
 // One in this many of the states is stored before the end of the last backward move, seek or move to a watchpoint.
 const NEAR_SHARE: usize = 8;
 
 // How many bytes of memory a machine takes for each byte of its regions.
-const BYTES_OF_BYTE: usize = 3;
+const BYTES_PER_REGION_BYTE: usize = 3;
 
 /// The maximum number of bytes that a machine takes in addition to those for its regions.
-const BYTES_BESIDE: usize = 1 << 18;
+const MACHINE_OVERHEAD: usize = 1 << 18;
 
 /// A run from its start, with some of its states stored so that a move need not begin at the start. Which states are stored affects only
 /// where an interrupt ends a move.
@@ -54,7 +54,7 @@ impl Model for Checkpoints {
     ghost use Rattle.std.specs.Prelude.{◌<◌};
     ghost use Rattle.rv_trace.specs.State.{State};
     ghost use Rattle.rv_history.specs.Kept.{AreStates};
-    ghost use Rattle.rv_history.specs.PositionInside.{state_code};
+    ghost use Rattle.rv_history.specs.PositionCode.{state_code};
     ghost use Rattle.rv_history.specs.Starts.{start_of};
 
     ghost Value = { State };
@@ -75,7 +75,7 @@ impl Checkpoints {
     pub(crate) fn new(alloc: Global, start: Start) -> Checkpoints
         ensures { result ≡ start_of start }
     {
-        let (coarse, near) = kept_states(alloc, &start.bus, MEGABYTES);
+        let (coarse, near) = empty_checkpoint_lists(alloc, &start.bus, DEFAULT_MEGABYTES);
         Checkpoints {
             start,
             interval: INTERVAL,
@@ -85,10 +85,10 @@ impl Checkpoints {
     }
 
     /// Limits the memory to `megabytes`. Drops all stored states except the start.
-    pub(crate) fn set_memory(&mut self, alloc: Global, megabytes: u32)
+    pub(crate) fn limit_memory(&mut self, alloc: Global, megabytes: u32)
         ensures { self.new ≡ self.old }
     {
-        let (coarse, near) = kept_states(alloc, &self.start.bus, megabytes);
+        let (coarse, near) = empty_checkpoint_lists(alloc, &self.start.bus, megabytes);
         self.coarse = coarse;
         self.near = near;
     }
@@ -164,7 +164,7 @@ impl Checkpoints {
         ensures same { self.new ≡ self.old }
     {
         let mut at = self.before(alloc, place)?;
-        while let Some(next) = self.next_kept(at.place, place) {
+        while let Some(next) = self.next_step_to_store(at.place, place) {
             let _ = at.go_to(next);
             if at.place < next {
                 break;
@@ -191,7 +191,7 @@ impl Checkpoints {
     }
 
     /// Stores the state of a machine if it is at a multiple of the interval and not stored yet.
-    pub(crate) fn keep_if_multiple(
+    pub(crate) fn store_if_multiple(
         &mut self,
         alloc: Global,
         at: &MachineAt,
@@ -206,7 +206,7 @@ impl Checkpoints {
     }
 
     // Returns the next step after `at`, up to `place`, at which a state must be stored, or `None` if there is none.
-    fn next_kept(&self, at: u32, place: u32) -> Option<u32>
+    fn next_step_to_store(&self, at: u32, place: u32) -> Option<u32>
         requires { at ≤ place }
         ensures { IfSome result (λ next. (at < next) × (next ≤ place)) }
     {
@@ -229,7 +229,7 @@ impl Checkpoints {
         let kept = at.copied(alloc)?;
         if self.coarse.is_full() {
             self.interval = self.interval.saturating_mul(2);
-            self.coarse.keep_multiples(self.interval);
+            self.coarse.retain_multiples(self.interval);
         }
         if at.place % self.interval == 0 {
             self.coarse.keep(kept)
@@ -241,13 +241,13 @@ impl Checkpoints {
 
 // Returns two empty lists of states for a machine with this bus, with as much room as the memory limit allows: the first for multiples of
 // the interval, the second for states before the ends of backward moves, seeks and moves to watchpoints.
-fn kept_states(alloc: Global, bus: &Bus, megabytes: u32) -> (CheckpointList, CheckpointList)
+fn empty_checkpoint_lists(alloc: Global, bus: &Bus, megabytes: u32) -> (CheckpointList, CheckpointList)
     ensures { (result.0 ≡ []) × (result.1 ≡ []) }
 {
     let room = (megabytes as usize)
-        .saturating_sub(MEGABYTES_BESIDE)
+        .saturating_sub(RESERVED_MEGABYTES)
         .saturating_mul(MEGABYTE);
-    let states = (room / machine_size(bus)).saturating_sub(MACHINES_BESIDE);
+    let states = (room / machine_size(bus)).saturating_sub(UNSTORED_MACHINES);
     let near = states / NEAR_SHARE;
     let coarse = CheckpointList::new(alloc, states - near);
     (coarse, CheckpointList::new(alloc, near))
@@ -258,9 +258,9 @@ fn machine_size(bus: &Bus) -> usize
     ensures { 0 < result }
 {
     let map = bus.map();
-    let mut size = BYTES_BESIDE;
+    let mut size = MACHINE_OVERHEAD;
     for region in map.as_slice() {
-        size = size.saturating_add((region.size as usize).saturating_mul(BYTES_OF_BYTE));
+        size = size.saturating_add((region.size as usize).saturating_mul(BYTES_PER_REGION_BYTE));
     }
     size.saturating_add(bus.script_remaining())
 }

@@ -1,7 +1,7 @@
 //! Counts that a run reaches.
 
 ghost use Rattle.std.specs.Prelude.{◌≡◌, ◌≤◌, IfOk};
-ghost use Rattle.rv_history.specs.Counts.{IsFound, count_in};
+ghost use Rattle.rv_history.specs.Counts.{IsFound, count_value};
 ghost use Rattle.rv_history.specs.Starts.{start_of};
 
 use crate::start::Start;
@@ -32,22 +32,22 @@ pub(crate) fn first_with(
     let mut machine = start.machine(alloc)?;
     let script = start.bus.script_remaining();
     for place in 0..budget {
-        if count_in(count, script, machine.bus()) == value as usize {
+        if count_value(count, script, machine.bus()) == value as usize {
             return Ok(Some(place));
         }
         if step(&mut machine).is_some() {
             return Ok(None);
         }
     }
-    if count_in(count, script, machine.bus()) == value as usize {
+    if count_value(count, script, machine.bus()) == value as usize {
         return Ok(Some(budget));
     }
     Ok(None)
 }
 
 // Returns the value of a count; `script` is the length of the input script at the start.
-fn count_in(count: Count, script: usize, bus: &Bus) -> usize
-    ensures { result ≡ count_in count script bus.now }
+fn count_value(count: Count, script: usize, bus: &Bus) -> usize
+    ensures { result ≡ count_value count script bus.now }
 {
     match count {
         Count::Printed => bus.console().len(),

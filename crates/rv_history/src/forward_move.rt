@@ -3,15 +3,15 @@
 ghost use Rattle.std.specs.Prelude.{◌≡◌, ◌≤◌, ◌&&◌, IfOk, IsTrue, nat_lt, true};
 ghost use Rattle.rv_trace.specs.Machine.{state_of};
 ghost use Rattle.rv_history.specs.Kept.{IsAt};
-ghost use Rattle.rv_history.specs.Moves.{found_at_budget};
-ghost use Rattle.rv_history.specs.Stops.{is_halt};
+ghost use Rattle.rv_history.specs.Moves.{result_at_budget};
+ghost use Rattle.rv_history.specs.Stops.{halts_at};
 
 use crate::bounds::Bounds;
 use crate::checkpoints::Checkpoints;
 use crate::found::Found;
 use crate::interrupt::Interrupt;
 use crate::machine_at::MachineAt;
-use crate::slices::{fill_a_slice, is_slice_end};
+use crate::slices::{is_at_least_a_slice, is_slice_end};
 use crate::stops::Stops;
 use rv_trace::Ending;
 use std::alloc::{AllocError, Global};
@@ -45,16 +45,16 @@ impl ForwardMove {
     /// Whether the move must stop at its current step: it is after its first step, and at a breakpoint or outside of the bounds.
     pub(crate) fn is_stopped(&self, stops: &Stops) -> bool
         ensures { result ≡ (nat_lt self.now.from self.now.at.place
-            && is_halt stops.now self.now.bounds (state_of self.now.at.machine).pc) }
+            && halts_at stops.now self.now.bounds (state_of self.now.at.machine).pc) }
     {
-        self.from < self.at.place && is_halt(stops, self.bounds, self.at.machine.pc())
+        self.from < self.at.place && halts_at(stops, self.bounds, self.at.machine.pc())
     }
 
     /// Returns the result of a move that has used up the budget: that it is at a breakpoint or outside of the bounds, or else the end of
     /// the run.
-    pub(crate) fn found_at_budget(&self, stops: &Stops) -> Found
-        ensures { result ≡ found_at_budget (nat_lt self.now.from self.now.at.place
-            && is_halt stops.now self.now.bounds (state_of self.now.at.machine).pc) }
+    pub(crate) fn result_at_budget(&self, stops: &Stops) -> Found
+        ensures { result ≡ result_at_budget (nat_lt self.now.from self.now.at.place
+            && halts_at stops.now self.now.bounds (state_of self.now.at.machine).pc) }
     {
         if self.is_stopped(stops) {
             Found::Break
@@ -79,14 +79,14 @@ impl ForwardMove {
         if !is_slice_end(self.at.place) {
             return Ok(false);
         }
-        track.keep_if_multiple(alloc, &self.at)?;
-        Ok(fill_a_slice(self.at.place - self.from) && interrupt.is_raised())
+        track.store_if_multiple(alloc, &self.at)?;
+        Ok(is_at_least_a_slice(self.at.place - self.from) && interrupt.is_raised())
     }
 }
 
 // Whether a forward move stops before an instruction at this address: at a breakpoint, or outside of the bounds.
-fn is_halt(stops: &Stops, bounds: Bounds, pc: u32) -> bool
-    ensures { result ≡ is_halt stops.now bounds pc }
+fn halts_at(stops: &Stops, bounds: Bounds, pc: u32) -> bool
+    ensures { result ≡ halts_at stops.now bounds pc }
 {
     stops.has_break(pc) || bounds.is_outside(pc)
 }

@@ -21,7 +21,7 @@ pub enum Found {
 
 /// Where a search ended, and its result.
 #[derive(Clone, Copy)]
-pub(crate) struct StopInfo {
+pub(crate) struct SearchEnd {
     pub place: u32,
     pub found: Found,
 }

@@ -8,7 +8,7 @@ use crate::bounds::Bounds;
 use crate::checkpoints::Checkpoints;
 use crate::counts::{Count, first_with};
 use crate::forward_move::ForwardMove;
-use crate::found::{Found, StopInfo};
+use crate::found::{Found, SearchEnd};
 use crate::interrupt::Interrupt;
 use crate::machine_at::MachineAt;
 use crate::search::next_stop;
@@ -34,7 +34,7 @@ impl Model for History {
     ghost use Rattle.std.specs.Prelude.{◌≤◌};
     ghost use Rattle.rv_trace.specs.Machine.{state_of};
     ghost use Rattle.rv_history.specs.Places.{IsReached};
-    ghost use Rattle.rv_history.specs.PositionInside.{position_code};
+    ghost use Rattle.rv_history.specs.PositionCode.{position_code};
     ghost use Rattle.rv_history.specs.Positions.{Position};
 
     ghost Value = { Position };
@@ -47,7 +47,7 @@ impl Model for History {
 }
 
 impl History {
-    ghost use Rattle.rv_history.specs.Counts.{IsFirstWith, IsFound};
+    ghost use Rattle.rv_history.specs.Counts.{IsFirstStepWith, IsFound};
     ghost use Rattle.rv_history.specs.Moves.{IsNextStep, IsNextStop, IsStepBefore, IsStopBefore};
     ghost use Rattle.rv_history.specs.Places.{IsReached, last_step};
     ghost use Rattle.rv_history.specs.Starts.{start_of};
@@ -68,10 +68,10 @@ impl History {
 
     /// Limits the memory to `megabytes`, from 64 to 4,096. The default is 256. With more memory, backward moves repeat fewer steps. Drops
     /// all stored states.
-    pub fn set_memory(&mut self, alloc: Global, megabytes: u32)
+    pub fn limit_memory(&mut self, alloc: Global, megabytes: u32)
         ensures { self.new ≡ self.old }
     {
-        self.track.set_memory(alloc, megabytes);
+        self.track.limit_memory(alloc, megabytes);
     }
 
     /// Returns the current step, which is the number of completed steps.
@@ -155,7 +155,7 @@ impl History {
         ensures same { OnErr result (self.new ≡ self.old) }
     {
         if stops.are_none() {
-            let begin = StopInfo {
+            let begin = SearchEnd {
                 place: 0,
                 found: Found::Begin,
             };
@@ -209,7 +209,7 @@ impl History {
         value: u32,
     ) -> Result<bool, AllocError>
         ensures granted { IfOk result (λ granted. MatchBool granted
-            (IsFirstWith count value self.old.budget self.old.start self.new.place)
+            (IsFirstStepWith count value self.old.budget self.old.start self.new.place)
             (IsFound count value self.old.budget self.old.start None × (self.new ≡ self.old))) }
         ensures run { self.new ≡ record self.old { place = self.new.place } }
         ensures same { OnErr result (self.new ≡ self.old) }
@@ -217,7 +217,7 @@ impl History {
         match first_with(alloc, self.track.start(), self.budget, count, value)? {
             Some(place) => {
                 let found = Found::Done;
-                let _ = self.arrive(alloc, StopInfo { place, found })?;
+                let _ = self.arrive(alloc, SearchEnd { place, found })?;
                 Ok(true)
             }
             None => Ok(false),
@@ -226,7 +226,7 @@ impl History {
 
     /// Returns the first watchpoint that the next step triggers, or `None` if it triggers none. The next step must complete within the
     /// budget.
-    pub fn watch_ahead(&self, alloc: Global, stops: &Stops) -> Result<Option<WatchHit>, AllocError>
+    pub fn watch_hit_by_next_step(&self, alloc: Global, stops: &Stops) -> Result<Option<WatchHit>, AllocError>
         ensures { self.now.place < last_step self.now.budget self.now.start → IfOk result
             (λ found. found ≡ first_triggered stops.now (state_after self.now.place self.now.start)
             (state_after (self.now.place + 1) self.now.start)) }
@@ -253,7 +253,7 @@ impl History {
     }
 
     // Moves to the step where a search ended, and returns the result of the search.
-    fn arrive(&mut self, alloc: Global, arrival: StopInfo) -> Result<Found, AllocError>
+    fn arrive(&mut self, alloc: Global, arrival: SearchEnd) -> Result<Found, AllocError>
         requires { arrival.place ≤ last_step self.old.budget self.old.start }
         ensures found { IfOk result (λ found. found ≡ arrival.found) }
         ensures moved { IfOk result (λ found. self.new ≡ record self.old { place = arrival.place }) }

@@ -1,7 +1,7 @@
 //! Laws about moves; none of them is executed.
 
 ghost use Rattle.std.specs.Prelude.{◌≡◌, ◌≤◌, ℕ};
-ghost use Rattle.rv_history.specs.Counts.{IsFirstWith};
+ghost use Rattle.rv_history.specs.Counts.{IsFirstStepWith};
 ghost use Rattle.rv_history.specs.Moves.{IsNextStep, IsNextStop, IsStepBefore, IsStopBefore, IsUninterrupted};
 ghost use Rattle.rv_history.specs.Printing.{Begins};
 ghost use Rattle.rv_history.specs.declared.bounds.Bounds.{Bounds};
@@ -24,12 +24,12 @@ pub fn moves_are_determined()
         → IsUninterrupted one → IsUninterrupted other → (p ≡ q) × (one ≡ other) }
     ensures step_back { (stops : Stops) (budget from p q : ℕ) (start : State) (one other : Found)
         → IsStepBefore stops budget start from p one → IsStepBefore stops budget start from q other → (p ≡ q) × (one ≡ other) }
-    ensures count { (count : Count) (value budget p q : ℕ) (start : State) → IsFirstWith count value budget start p
-        → IsFirstWith count value budget start q → p ≡ q }
+    ensures count { (count : Count) (value budget p q : ℕ) (start : State) → IsFirstStepWith count value budget start p
+        → IsFirstStepWith count value budget start q → p ≡ q }
 {}
 
 /// Proves that the output at a step is a prefix of the output at every later step.
-pub fn printed_bytes_stay()
+pub fn console_only_grows()
     ensures { (i j : ℕ) (start : State) → i ≤ j
         → Begins (state_after j start).bus.output (state_after i start).bus.output }
 {}

@@ -3,12 +3,12 @@
 ghost use Rattle.std.specs.Prelude.{◌≡◌, ◌≤◌, IfOk, true};
 ghost use Rattle.rv_history.specs.Kept.{IsAt};
 ghost use Rattle.rv_history.specs.ForwardMoves.{IsArrival, IsMoveInProgress};
-ghost use Rattle.rv_history.specs.Stops.{AreNone};
+ghost use Rattle.rv_history.specs.Stops.{AreEmpty};
 ghost use Rattle.rv_history.specs.declared.bounds.Bounds.TheVariants.{All as AllAddresses};
 ghost use Rattle.rv_history.specs.declared.found.Found.TheVariants.{Interrupted};
 ghost use Rattle.rv_history.specs.declared.stops.Stops.{Stops};
 
-use crate::breaks::next_break;
+use crate::breaks::next_breakpoint;
 use crate::checkpoints::Checkpoints;
 use crate::forward_move::{Arrived, ForwardMove};
 use crate::found::Found;
@@ -32,21 +32,21 @@ pub(crate) fn next_stop<I: Interrupt>(
     ensures broken_off { IfOk result (λ arrived. arrived.found ≡ Interrupted → I.was_raised interrupt.new ≡ true) }
     ensures same { track.new ≡ track.old }
 {
-    if !leg.bounds.are_all() {
-        return next_watched(alloc, track, leg, stops, interrupt);
+    if !leg.bounds.is_unbounded() {
+        return next_stop_by_steps(alloc, track, leg, stops, interrupt);
     }
     // Without stops to look for, the run goes at full speed.
     if stops.are_none() {
         return run_to_end(alloc, track, leg, interrupt);
     }
     if stops.have_no_watchpoints() {
-        return next_break(alloc, track, leg, stops, interrupt);
+        return next_breakpoint(alloc, track, leg, stops, interrupt);
     }
-    next_watched(alloc, track, leg, stops, interrupt)
+    next_stop_by_steps(alloc, track, leg, stops, interrupt)
 }
 
 // Returns where a forward move ends, as [`next_stop`] does, but executes one step at a time.
-fn next_watched<I: Interrupt>(
+fn next_stop_by_steps<I: Interrupt>(
     alloc: Global,
     track: &mut Checkpoints,
     mut leg: ForwardMove,
@@ -78,7 +78,7 @@ fn next_watched<I: Interrupt>(
         }
         leg.at.place += 1;
     }
-    let found = leg.found_at_budget(stops);
+    let found = leg.result_at_budget(stops);
     Ok(leg.arrived(found))
 }
 
@@ -94,7 +94,7 @@ fn run_to_end<I: Interrupt>(
     requires order { leg.from ≤ leg.at.place }
     requires within { leg.at.place ≤ leg.budget }
     requires unbounded { leg.bounds ≡ AllAddresses }
-    ensures stop { IfOk result (λ arrived. (stops : Stops) → AreNone stops → IsArrival stops track.old leg arrived) }
+    ensures stop { IfOk result (λ arrived. (stops : Stops) → AreEmpty stops → IsArrival stops track.old leg arrived) }
     ensures broken_off { IfOk result (λ arrived. arrived.found ≡ Interrupted → I.was_raised interrupt.new ≡ true) }
     ensures same { track.new ≡ track.old }
 {

@@ -2,15 +2,15 @@
 
 ghost use Rattle.std.specs.Prelude.{◌≡◌, ◌≤◌, ◌<◌, ℕ, IfNone, IfOk, IfSome, true};
 ghost use Rattle.rv_trace.specs.Run.{run_of};
-ghost use Rattle.rv_history.specs.LastStop.{IsPart, last_stop_after};
+ghost use Rattle.rv_history.specs.LastStop.{IsSearchedPart, last_stop_after};
 ghost use Rattle.rv_history.specs.Moves.{IsStepBefore, IsStopBefore};
 ghost use Rattle.rv_history.specs.declared.found.Found.TheVariants.{Interrupted};
 
-use crate::breaks::search_breaks;
+use crate::breaks::search_breakpoints;
 use crate::checkpoints::Checkpoints;
-use crate::found::{Found, StopInfo};
+use crate::found::{Found, SearchEnd};
 use crate::interrupt::Interrupt;
-use crate::slices::{fill_a_slice, is_slice_end};
+use crate::slices::{is_at_least_a_slice, is_slice_end};
 use crate::stepping::{Stepped, step_watched, step_with_watched_bytes};
 use crate::stops::Stops;
 use std::alloc::{AllocError, Global};
@@ -21,7 +21,7 @@ pub(crate) struct Part {
     /// The step where the part begins.
     pub begin: u32,
     /// The last stop in the part; `None` if there is none.
-    pub last: Option<StopInfo>,
+    pub last: Option<SearchEnd>,
 }
 
 /// Returns where a backward move from the step `from` ends, and its result, for any budget within which the run reaches this step. Polls
@@ -32,19 +32,19 @@ pub(crate) fn stop_before<I: Interrupt>(
     from: u32,
     stops: &Stops,
     interrupt: &mut I,
-) -> Result<StopInfo, AllocError>
+) -> Result<SearchEnd, AllocError>
     requires { (run_of from track.now).steps ≡ from }
     ensures stop { IfOk result (λ arrival. (budget : ℕ) → from ≤ budget
         → IsStopBefore stops.now budget track.now from arrival.place arrival.found) }
     ensures broken_off { IfOk result (λ arrival. arrival.found ≡ Interrupted → I.was_raised interrupt.new ≡ true) }
 {
-    let broken_off = StopInfo {
+    let broken_off = SearchEnd {
         place: from,
         found: Found::Interrupted,
     };
     let mut end = from;
     while 0 < end {
-        if fill_a_slice(from - end) && interrupt.is_raised() {
+        if is_at_least_a_slice(from - end) && interrupt.is_raised() {
             return Ok(broken_off);
         }
         let Some(part) = search_part(alloc, track, end, stops, interrupt)? else {
@@ -55,7 +55,7 @@ pub(crate) fn stop_before<I: Interrupt>(
         }
         end = part.begin;
     }
-    Ok(StopInfo {
+    Ok(SearchEnd {
         place: 0,
         found: Found::Begin,
     })
@@ -72,18 +72,18 @@ fn search_part<I: Interrupt>(
 ) -> Result<Option<Part>, AllocError>
     requires some { 0 < end }
     requires comes { (run_of end track.now).steps ≡ end }
-    ensures part { IfOk result (λ searched. IfSome searched (IsPart stops.now track.now end)) }
+    ensures part { IfOk result (λ searched. IfSome searched (IsSearchedPart stops.now track.now end)) }
     ensures broken_off { IfOk result (λ searched. IfNone searched (I.was_raised interrupt.new ≡ true)) }
 {
     if stops.have_no_watchpoints() {
-        return search_breaks(alloc, track, end, stops, interrupt);
+        return search_breakpoints(alloc, track, end, stops, interrupt);
     }
     let mut at = track.before(alloc, end - 1)?;
     let begin = at.place;
     let mut watched = stops.watched_bytes(alloc, at.machine.bus())?;
     let mut last = None;
     for place in begin..end {
-        if is_slice_end(place) && fill_a_slice(place - begin) && interrupt.is_raised() {
+        if is_slice_end(place) && is_at_least_a_slice(place - begin) && interrupt.is_raised() {
             return Ok(None);
         }
         let is_break = stops.has_break(at.machine.pc());
@@ -96,22 +96,22 @@ fn search_part<I: Interrupt>(
 /// Returns the last stop after the search has passed the step `place`, or `None` if it has found none. `last` is the last stop before,
 /// `is_break` is whether there is a breakpoint at `place`, and `stepped` is the result of the step from there.
 pub(crate) fn last_stop_after(
-    last: Option<StopInfo>,
+    last: Option<SearchEnd>,
     place: u32,
     is_break: bool,
     stepped: Stepped,
-) -> Option<StopInfo>
+) -> Option<SearchEnd>
     requires { place < 0xFFFF_FFFF }
     ensures { result ≡ last_stop_after last place is_break stepped }
 {
     match stepped {
-        Stepped::Changed => Some(StopInfo {
+        Stepped::Changed => Some(SearchEnd {
             place: place + 1,
             found: Found::Change,
         }),
         Stepped::Quiet | Stepped::Ended(_) => {
             if is_break {
-                Some(StopInfo {
+                Some(SearchEnd {
                     place,
                     found: Found::Break,
                 })
@@ -128,19 +128,19 @@ pub(crate) fn step_before(
     track: &Checkpoints,
     from: u32,
     stops: &Stops,
-) -> Result<StopInfo, AllocError>
+) -> Result<SearchEnd, AllocError>
     requires { (run_of from track.now).steps ≡ from }
     ensures { IfOk result (λ arrival. (budget : ℕ) → from ≤ budget
         → IsStepBefore stops.now budget track.now from arrival.place arrival.found) }
 {
     if from == 0 {
-        return Ok(StopInfo {
+        return Ok(SearchEnd {
             place: 0,
             found: Found::Begin,
         });
     }
     let before = from - 1;
-    let done = StopInfo {
+    let done = SearchEnd {
         place: before,
         found: Found::Done,
     };
@@ -149,7 +149,7 @@ pub(crate) fn step_before(
     }
     let mut machine = track.machine_after(alloc, before)?;
     match step_watched(alloc, &mut machine, stops)? {
-        Stepped::Changed => Ok(StopInfo {
+        Stepped::Changed => Ok(SearchEnd {
             place: from,
             found: Found::Change,
         }),

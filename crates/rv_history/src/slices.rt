@@ -11,7 +11,7 @@ pub(crate) fn is_slice_end(place: u32) -> bool {
 }
 
 /// Whether these are at least as many steps as a slice has.
-pub(crate) fn fill_a_slice(steps: u32) -> bool {
+pub(crate) fn is_at_least_a_slice(steps: u32) -> bool {
     SLICE <= steps
 }
 

@@ -100,7 +100,7 @@ impl Stops {
     {
         let mut seen = 0;
         for watch in self.watches.as_slice() {
-            match watch.seen_in(bus, bytes, seen) {
+            match watch.index_after_bytes(bus, bytes, seen) {
                 Some(more) => seen = more,
                 None => return false,
             }
@@ -136,7 +136,7 @@ impl Watch {
 
     // Compares the bytes of the watchpoint's range that are in regions with the bytes after the index `from`. Returns the index after them
     // if they are equal, or `None` otherwise.
-    fn seen_in(&self, bus: &Bus, bytes: &[u8], from: usize) -> Option<usize>
+    fn index_after_bytes(&self, bus: &Bus, bytes: &[u8], from: usize) -> Option<usize>
         requires { from ≤ length bytes.now }
         ensures within { IfSome result (λ end. end ≤ length bytes.now) }
         ensures bytes { MatchOption result

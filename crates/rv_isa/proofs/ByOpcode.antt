@@ -7,7 +7,7 @@ use Rattle.rv_isa.specs.Bits.{field}
 use Rattle.rv_isa.specs.declared.instruction.Op.{Op}
 use Rattle.rv_isa.specs.declared.instruction.Op.TheVariants as op
 use Rattle.rv_isa.specs.Words.{rows, instruction, meaning32, name_at, branches, loads, stores, immediates, shifts}
-use Rattle.rv_isa.specs.Words.{arithmetic_shifts, registers, registers_alternate, products, fences, instruction_fences}
+use Rattle.rv_isa.specs.Words.{arithmetic_shifts, registers, register_alternate_ops, products, fences, instruction_fences}
 use Rattle.rv_isa.specs.Words.{TypeR, TypeI, TypeShift, TypeS, TypeB, TypeU, TypeJ, NoOperands}
 use Rattle.rv_isa.specs.declared.sets.Isa.{Isa}
 use Rattle.rv_isa.specs.Extensions.{has, has_m, RV32M}
@@ -90,7 +90,7 @@ pub at_register : (isa : Isa) (w : ℕ) → field w 6 0 ≡ 0x33
     → meaning32 isa w
     ≡ option_map (λ n. instruction n TypeR w)
     (cond (eqb (field w 31 25) 0) (name_at registers (field w 14 12))
-    (cond (eqb (field w 31 25) 32) (name_at registers_alternate (field w 14 12))
+    (cond (eqb (field w 31 25) 32) (name_at register_alternate_ops (field w 14 12))
     (cond (eqb (field w 31 25) 1 && has isa RV32M) (name_at products (field w 14 12)) None)))
 unfolding meaning32 rows field
 at_register isa w o =

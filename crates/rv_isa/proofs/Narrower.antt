@@ -10,14 +10,14 @@ use Rattle.rv_isa.specs.Halfwords.{lacks_fields, Means16, meaning16}
 use Rattle.rv_isa.proofs.WordRows.{meaning32_means}
 use Rattle.rv_isa.proofs.HalfwordRows.{meaning16_means}
 
-has_all_seats : (e : Extension) → has set.Imc e ≡ true
-has_all_seats RV32I = refl
-has_all_seats Zifencei = refl
-has_all_seats RV32M = refl
-has_all_seats RV32C = refl
+has_all_assigned_indices : (e : Extension) → has set.Imc e ≡ true
+has_all_assigned_indices RV32I = refl
+has_all_assigned_indices Zifencei = refl
+has_all_assigned_indices RV32M = refl
+has_all_assigned_indices RV32C = refl
 
 wider_too : (isa : Isa) (e : Extension) (rest : Bool) → (has isa e && rest) ≡ true → (has set.Imc e && rest) ≡ true
-wider_too isa e rest h = and_from (has set.Imc e) rest (has_all_seats e) (and_parts (has isa e) rest h).1
+wider_too isa e rest h = and_from (has set.Imc e) rest (has_all_assigned_indices e) (and_parts (has isa e) rest h).1
 
 pub meaning32_wider : (isa : Isa) (w : ℕ) (i : Instr) → meaning32 isa w ≡ Some i → meaning32 set.Imc w ≡ Some i
 unfolding Means32

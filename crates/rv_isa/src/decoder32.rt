@@ -2,7 +2,7 @@
 ghost use Rattle.rv_isa.specs.Bits.{field as bits_of};
 ghost use Rattle.rv_isa.specs.Words.{rows, fits, Means32, meaning32, IsWellFormed, name_at};
 ghost use Rattle.rv_isa.specs.Words.{branches, loads, stores, immediates, shifts, arithmetic_shifts};
-ghost use Rattle.rv_isa.specs.Words.{registers, registers_alternate, fences, instruction_fences, products};
+ghost use Rattle.rv_isa.specs.Words.{registers, register_alternate_ops, fences, instruction_fences, products};
 ghost use Rattle.rv_isa.specs.Extensions.{has, RV32M};
 ghost use Rattle.rv_isa.specs.declared.instruction.Instr.{Instr};
 ghost use Rattle.rv_isa.specs.declared.sets.Isa.{Isa as Set};
@@ -139,14 +139,14 @@ fn shift_op(funct7: u32, funct3: u32) -> Option<Op>
 #[inline]
 fn register_op(funct7: u32, funct3: u32, isa: Isa) -> Option<Op>
     ensures { result ≡ (if funct7 == 0 then name_at registers funct3
-        else if funct7 == 0x20 then name_at registers_alternate funct3
+        else if funct7 == 0x20 then name_at register_alternate_ops funct3
         else if (funct7 == 1) && has isa RV32M then name_at products funct3
         else None) }
 {
     match funct7 {
         0x00 => register_plain_op(funct3),
         0x20 => register_alternate_op(funct3),
-        0x01 if isa.has_m() => product_op(funct3),
+        0x01 if isa.has_m() => muldiv_op(funct3),
         _ => None,
     }
 }
@@ -172,7 +172,7 @@ fn register_plain_op(funct3: u32) -> Option<Op>
 // Returns the arithmetic instruction on two registers with funct7 0100000 and this funct3, or `None` if there is none.
 #[inline]
 fn register_alternate_op(funct3: u32) -> Option<Op>
-    ensures { result ≡ name_at registers_alternate funct3 }
+    ensures { result ≡ name_at register_alternate_ops funct3 }
 {
     match funct3 {
         0 => Some(Op::Sub),
@@ -183,7 +183,7 @@ fn register_alternate_op(funct3: u32) -> Option<Op>
 
 // Returns the multiplication or division with this funct3, or `None` if there is none.
 #[inline]
-fn product_op(funct3: u32) -> Option<Op>
+fn muldiv_op(funct3: u32) -> Option<Op>
     ensures { result ≡ name_at products funct3 }
 {
     match funct3 {

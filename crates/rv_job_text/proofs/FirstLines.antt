@@ -4,8 +4,8 @@ use Rattle.std.proofs.Common.{Bool, true, false, true≢false, cond}
 use Rattle.std.specs.List.{common_prefix_len, flat_map, onto_first}
 use Rattle.std.specs.Str.{bytes_eq}
 use Rattle.std.proofs.lemmas.Slice.Eq.{bytes_eq-Decides}
-use Rattle.rv_job_text.specs.ConsoleTail.{is_feed}
-use Rattle.rv_job_text.specs.ConsoleLines.{DifferFirstAt, equal_line_count, front_line, whole_lines}
+use Rattle.rv_job_text.specs.ConsoleTail.{is_line_feed}
+use Rattle.rv_job_text.specs.ConsoleLines.{DifferFirstAt, equal_line_count, first_or_empty, complete_lines}
 use Rattle.rv_job_text.proofs.DifferingLines.{equal_bytes}
 
 -- ---- all of a text
@@ -16,11 +16,11 @@ flat_step true byte lines = refl
 flat_step false byte [] = refl
 flat_step false byte (line ∷ lines) = refl
 
-pub whole_lines-flat : (text : List ℕ) → flat_map (λ line. line) (whole_lines text) ≡ text
-unfolding whole_lines
-whole_lines-flat [] = refl
-whole_lines-flat (byte ∷ rest) =
-    flat_step (is_feed byte) byte (whole_lines rest) ∙ ap (λ bytes. byte ∷ bytes) (whole_lines-flat rest)
+pub complete_lines-flat : (text : List ℕ) → flat_map (λ line. line) (complete_lines text) ≡ text
+unfolding complete_lines
+complete_lines-flat [] = refl
+complete_lines-flat (byte ∷ rest) =
+    flat_step (is_line_feed byte) byte (complete_lines rest) ∙ ap (λ bytes. byte ∷ bytes) (complete_lines-flat rest)
 
 -- ---- no line is empty
 
@@ -35,10 +35,10 @@ full_step true byte lines full = (omega arith, full)
 full_step false byte [] full = (omega arith, tt)
 full_step false byte (line ∷ lines) full = (omega arith, full.1)
 
-are_full : (text : List ℕ) → AreFull (whole_lines text)
-unfolding whole_lines AreFull
+are_full : (text : List ℕ) → AreFull (complete_lines text)
+unfolding complete_lines AreFull
 are_full [] = tt
-are_full (byte ∷ rest) = full_step (is_feed byte) byte (whole_lines rest) (are_full rest)
+are_full (byte ∷ rest) = full_step (is_line_feed byte) byte (complete_lines rest) (are_full rest)
 
 -- ---- where two texts part
 
@@ -57,8 +57,8 @@ equal_before (x ∷ xs) (y ∷ ys) =
     before_step (bytes_eq x y) x y (common_prefix_len bytes_eq xs ys) xs ys refl (equal_before xs ys)
 
 there_step : (same : Bool) (x y : List ℕ) (n : ℕ) (xs ys : List (List ℕ)) → bytes_eq x y ≡ same
-    → ((xs ≡ ys → ⊥) → front_line (drop n xs) ≡ front_line (drop n ys) → ⊥) → (x ∷ xs ≡ y ∷ ys → ⊥)
-    → front_line (drop (cond same (1 + n) 0) (x ∷ xs)) ≡ front_line (drop (cond same (1 + n) 0) (y ∷ ys)) → ⊥
+    → ((xs ≡ ys → ⊥) → first_or_empty (drop n xs) ≡ first_or_empty (drop n ys) → ⊥) → (x ∷ xs ≡ y ∷ ys → ⊥)
+    → first_or_empty (drop (cond same (1 + n) 0) (x ∷ xs)) ≡ first_or_empty (drop (cond same (1 + n) 0) (y ∷ ys)) → ⊥
 there_step true x y n xs ys equal behind other =
     let one_more : 1 + n ≡ suc n = omega arith in
     rw one_more
@@ -66,7 +66,7 @@ there_step true x y n xs ys equal behind other =
 there_step false x y n xs ys equal behind other = λ front. true≢false (sym (equal_bytes x y front) ∙ equal)
 
 differ_there : (xs ys : List (List ℕ)) → AreFull xs → AreFull ys → (xs ≡ ys → ⊥)
-    → front_line (drop (common_prefix_len bytes_eq xs ys) xs) ≡ front_line (drop (common_prefix_len bytes_eq xs ys) ys) → ⊥
+    → first_or_empty (drop (common_prefix_len bytes_eq xs ys) xs) ≡ first_or_empty (drop (common_prefix_len bytes_eq xs ys) ys) → ⊥
 unfolding AreFull
 differ_there [] [] full_x full_y other = λ front. other refl
 differ_there [] (y ∷ ys) full_x full_y other = λ front. let none : 0 ≡ length y = ap length front in omega (arith, full_y.0)
@@ -76,9 +76,9 @@ differ_there (x ∷ xs) (y ∷ ys) full_x full_y other =
     (differ_there xs ys full_x.1 full_y.1) other
 
 pub differ_first : (actual expected : List ℕ) → actual ≢ expected
-    → DifferFirstAt (equal_line_count actual expected) (whole_lines actual) (whole_lines expected)
+    → DifferFirstAt (equal_line_count actual expected) (complete_lines actual) (complete_lines expected)
 differ_first actual expected other = record {
-  before = equal_before (whole_lines actual) (whole_lines expected);
-  there = differ_there (whole_lines actual) (whole_lines expected) (are_full actual) (are_full expected)
-      (λ same. other (sym (whole_lines-flat actual) ∙ ap (flat_map (λ line. line)) same ∙ whole_lines-flat expected));
+  before = equal_before (complete_lines actual) (complete_lines expected);
+  there = differ_there (complete_lines actual) (complete_lines expected) (are_full actual) (are_full expected)
+      (λ same. other (sym (complete_lines-flat actual) ∙ ap (flat_map (λ line. line)) same ∙ complete_lines-flat expected));
 }

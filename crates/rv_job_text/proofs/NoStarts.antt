@@ -4,7 +4,7 @@ use Rattle.std.specs.Result.{result_ok}
 use Rattle.rv_rows.specs.declared_elf_error.ImageError.{ImageError}
 use Rattle.rv_rows.specs.Image.{image_of}
 use Rattle.rv_rows.specs.Jobs.{console_path}
-use Rattle.rv_rows.specs.Plans.{result_for_path}
+use Rattle.rv_rows.specs.Plans.{result_or_unreadable}
 use Rattle.rv_rows.specs.Reading.{◌>>=◌}
 use Rattle.rv_rows.specs.declared_answers.Answer.{Answer}
 use Rattle.rv_rows.specs.declared_kept.Kept.{Kept}
@@ -52,5 +52,5 @@ module _ (job : Job) (s : State) where
   no_start_of kept.TooLong reference console none e = cc
 
   pub no_start : (answers : List Answer) → image_in answers job ≡ None → start_in answers job ≡ Ok s → ⊥
-  no_start answers none e = no_start_of (result_for_path answers job.image) (option_map (result_for_path answers) job.expect_signature)
-      (option_map (result_for_path answers) (console_path job.expect_console)) none e
+  no_start answers none e = no_start_of (result_or_unreadable answers job.image) (option_map (result_or_unreadable answers) job.expect_signature)
+      (option_map (result_or_unreadable answers) (console_path job.expect_console)) none e

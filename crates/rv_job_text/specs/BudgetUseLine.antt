@@ -41,10 +41,10 @@ budget_use_line steps (Some (Repeats r)) = repetition_line r
 budget_use_line steps (Some (Changes within)) = changes_line steps within
 
 -- `found` is an analysis of the run if it used up its budget, or `None` for any other end
-abbrev pub IsUseAfter : RowEnd → Planned → Job → ℕ → Option BudgetUse → Type 0
-IsUseAfter Budget plan job steps found = IsBudgetUseIn plan job steps found
-IsUseAfter _ plan job steps found = found ≡ None
+abbrev pub IsBudgetUseAfter : RowEnd → Planned → Job → ℕ → Option BudgetUse → Type 0
+IsBudgetUseAfter Budget plan job steps found = IsBudgetUseIn plan job steps found
+IsBudgetUseAfter _ plan job steps found = found ≡ None
 
 -- `found` is an analysis of the run that the row describes if it used up its budget, or `None` for any other end
-abbrev pub IsUseOfRow : Planned → Job → Row → Option BudgetUse → Type 0
-IsUseOfRow plan job row found = IsUseAfter row.ending plan job row.steps found
+abbrev pub IsBudgetUseOfRow : Planned → Job → Row → Option BudgetUse → Type 0
+IsBudgetUseOfRow plan job row found = IsBudgetUseAfter row.ending plan job row.steps found

@@ -15,36 +15,36 @@ use Rattle.rv_rows.specs.Report.{line}
 use Rattle.rv_text.specs.Printable.{printable_text}
 use Rattle.rv_text.specs.Spans.{span_text}
 use Rattle.rv_job_text.specs.declared.expected_text.ExpectedText.{ExpectedText}
-use Rattle.rv_job_text.specs.ConsoleTail.{is_feed}
+use Rattle.rv_job_text.specs.ConsoleTail.{is_line_feed}
 
 -- ---- lines
 
 -- the lines of a text, each with its line feed, which only the last one may lack
-unfoldable pub whole_lines : List ℕ → List (List ℕ)
-whole_lines [] = []
-whole_lines (byte ∷ rest) =
-    if is_feed byte then (byte ∷ []) ∷ whole_lines rest else onto_first byte (whole_lines rest)
+unfoldable pub complete_lines : List ℕ → List (List ℕ)
+complete_lines [] = []
+complete_lines (byte ∷ rest) =
+    if is_line_feed byte then (byte ∷ []) ∷ complete_lines rest else onto_first byte (complete_lines rest)
 
 -- the first line; empty if there is none
-abbrev pub front_line : List (List ℕ) → List ℕ
-front_line [] = []
-front_line (line ∷ lines) = line
+abbrev pub first_or_empty : List (List ℕ) → List ℕ
+first_or_empty [] = []
+first_or_empty (line ∷ lines) = line
 
 -- the number of leading lines that are equal in the actual text `actual` and the expected text `expected`
 abbrev pub equal_line_count : List ℕ → List ℕ → ℕ
-equal_line_count actual expected = common_prefix_len bytes_eq (whole_lines actual) (whole_lines expected)
+equal_line_count actual expected = common_prefix_len bytes_eq (complete_lines actual) (complete_lines expected)
 
 -- the number of leading lines that differ, each from the line with its number in the other text; at most the given number
 unfoldable pub differing_line_count : ℕ → List (List ℕ) → List (List ℕ) → ℕ
 differing_line_count zero actual expected = 0
 differing_line_count (suc most) actual expected =
-    if bytes_eq (front_line actual) (front_line expected) then 0
+    if bytes_eq (first_or_empty actual) (first_or_empty expected) then 0
     else 1 + differing_line_count most (drop 1 actual) (drop 1 expected)
 
 -- the lines before the index `place` are equal in both texts; at this index they differ, or one text has no line
 pub record DifferFirstAt (place : ℕ) (actual expected : List (List ℕ)) : Type 0 where
   pub before : take place actual ≡ take place expected
-  pub there : front_line (drop place actual) ≢ front_line (drop place expected)
+  pub there : first_or_empty (drop place actual) ≢ first_or_empty (drop place expected)
 
 -- ---- a shown line
 
@@ -60,8 +60,8 @@ characters_len (suc most) (byte ∷ rest) =
     1 + characters_len (if begins_character byte then most else suc most) rest
 
 -- the maximum number of characters that are shown of a line
-abbrev pub most_line_characters : ℕ
-most_line_characters = 160
+abbrev pub max_line_characters : ℕ
+max_line_characters = 160
 
 -- the maximum number of bytes of a long line that are shown before its first difference
 abbrev pub bytes_before_difference : ℕ
@@ -69,48 +69,48 @@ bytes_before_difference = 32
 
 -- the offset from which a line with a difference at the offset `place` is shown: 0, or, if the line is long, an offset shortly before the
 -- difference
-abbrev pub shown_begin : ℕ → List ℕ → ℕ
-shown_begin place text =
-    if characters_len most_line_characters text == length text then 0
+abbrev pub shown_offset : ℕ → List ℕ → ℕ
+shown_offset place text =
+    if characters_len max_line_characters text == length text then 0
     else (place - bytes_before_difference
     + position_or_len begins_character (drop (place - bytes_before_difference) text))
 
 -- a line without its first `begin` bytes, after two dots unless `begin` is 0, up to the maximum number of characters
 abbrev pub text_shown_from : ℕ → List ℕ → List ℕ
 text_shown_from begin text = (if begin == 0 then [] else codes "..")
-    ++ printable_text (take (characters_len most_line_characters (drop begin text)) (drop begin text))
+    ++ printable_text (take (characters_len max_line_characters (drop begin text)) (drop begin text))
 
 -- a line that has a difference at the offset `place`; if it is long, only the part around the difference
 unfoldable pub shown_line : ℕ → List ℕ → List ℕ
-shown_line place text = text_shown_from (shown_begin place text) text
+shown_line place text = text_shown_from (shown_offset place text) text
 
 -- the note that a line has no line feed; empty if it has one
-abbrev pub feed_note : List ℕ → List ℕ
-feed_note whole =
-    if position_or_len is_feed whole == length whole then codes "     \\ no newline at end\n" else []
+abbrev pub missing_newline_note : List ℕ → List ℕ
+missing_newline_note whole =
+    if position_or_len is_line_feed whole == length whole then codes "     \\ no newline at end\n" else []
 
 -- the line `own` of one text after a margin, shown around its first difference from the line `other` of the other text
-unfoldable pub side_line : List ℕ → List ℕ → List ℕ → List ℕ
-side_line margin own other =
-    line (margin ++ shown_line (common_prefix_len nat_eq own other) (before_first is_feed own)) ++ feed_note own
+unfoldable pub diff_line : List ℕ → List ℕ → List ℕ → List ℕ
+diff_line margin own other =
+    line (margin ++ shown_line (common_prefix_len nat_eq own other) (before_first is_line_feed own)) ++ missing_newline_note own
 
 -- at most the given number of the first lines `own` of one text, each after a margin and shown around its difference from the line of the
 -- other text
-unfoldable pub side_lines : List ℕ → ℕ → List (List ℕ) → List (List ℕ) → List ℕ
-side_lines margin zero own other = []
-side_lines margin (suc count) [] other = []
-side_lines margin (suc count) (own ∷ more) other =
-    side_line margin own (front_line other) ++ side_lines margin count more (drop 1 other)
+unfoldable pub diff_lines : List ℕ → ℕ → List (List ℕ) → List (List ℕ) → List ℕ
+diff_lines margin zero own other = []
+diff_lines margin (suc count) [] other = []
+diff_lines margin (suc count) (own ∷ more) other =
+    diff_line margin own (first_or_empty other) ++ diff_lines margin count more (drop 1 other)
 
 -- ---- the difference
 
 -- the maximum number of equal lines that are shown before the first difference
-abbrev pub most_equal_lines : ℕ
-most_equal_lines = 2
+abbrev pub max_equal_lines : ℕ
+max_equal_lines = 2
 
 -- the maximum number of differing lines that are shown of each text
-abbrev pub most_differing_lines : ℕ
-most_differing_lines = 3
+abbrev pub max_differing_lines : ℕ
+max_differing_lines = 3
 
 -- the larger of two numbers
 abbrev pub larger : ℕ → ℕ → ℕ
@@ -123,13 +123,13 @@ lines_heading source number count = codes "     console differs from " ++ source
 
 -- the last lines of the `equal` leading lines of a text, which are equal in both texts
 abbrev pub equal_lines : ℕ → List (List ℕ) → List ℕ
-equal_lines equal lines = let earlier = equal - most_equal_lines in
-    side_lines (codes "       ") (equal - earlier) (drop earlier lines) []
+equal_lines equal lines = let earlier = equal - max_equal_lines in
+    diff_lines (codes "       ") (equal - earlier) (drop earlier lines) []
 
 -- the lines that differ at the beginning of two texts: first the expected ones, then the actual ones
 abbrev pub differing_lines : List (List ℕ) → List (List ℕ) → List ℕ
-differing_lines actual expected = let count = differing_line_count most_differing_lines actual expected in
-    side_lines (codes "     - ") count expected actual ++ side_lines (codes "     + ") count actual expected
+differing_lines actual expected = let count = differing_line_count max_differing_lines actual expected in
+    diff_lines (codes "     - ") count expected actual ++ diff_lines (codes "     + ") count actual expected
 
 -- the lines of two texts around their first difference, given the number of equal leading lines
 abbrev pub lines_around : ℕ → List (List ℕ) → List (List ℕ) → List ℕ
@@ -138,8 +138,8 @@ lines_around equal actual expected = equal_lines equal actual ++ differing_lines
 -- the difference between the console `actual` and the expected text `expected`, line by line; `source` names the expected text
 unfoldable pub console_lines : List ℕ → List ℕ → List ℕ → List ℕ
 console_lines source actual expected = let equal = equal_line_count actual expected in
-    lines_heading source (equal + 1) (larger (length (whole_lines actual)) (length (whole_lines expected)))
-    ++ lines_around equal (whole_lines actual) (whole_lines expected)
+    lines_heading source (equal + 1) (larger (length (complete_lines actual)) (length (complete_lines expected)))
+    ++ lines_around equal (complete_lines actual) (complete_lines expected)
 
 -- whether a difference is shown line by line: no text is missing, and both are UTF-8
 abbrev pub is_shown_by_lines : Difference → List ℕ → List ℕ → Bool

@@ -5,7 +5,7 @@ use Rattle.std.specs.Option.{option_or}
 use Rattle.rv_rows.specs.declared_elf_error.ImageError.{ImageError}
 use Rattle.rv_files.specs.declared.recording_store.UnreadablePath.{UnreadablePath}
 use Rattle.rv_rows.specs.declared_answers.Answer.{Answer}
-use Rattle.rv_rows.specs.Plans.{result_for_path}
+use Rattle.rv_rows.specs.Plans.{result_or_unreadable}
 use Rattle.rv_rows.specs.declared_job.Job.{Job}
 use Rattle.rv_rows.specs.Jobs.{console_path}
 use Rattle.rv_job_text.specs.ImageReasons.{image_reason}
@@ -32,7 +32,7 @@ unread_reference_path answers job =
 abbrev pub image_refusal_text : List Answer → Job → ImageError → Option (List ℕ)
 image_refusal_text answers job why =
     option_map (λ file. image_reason job file why)
-    (content_if_read (Some (result_for_path answers job.image)))
+    (content_if_read (Some (result_or_unreadable answers job.image)))
 
 -- the reason why a job is refused, or `None` if the file that the refusal concerns is not known; `unread` has the files that could not be
 -- read, with the reasons

@@ -31,11 +31,11 @@ result_ending_text (ending.Refused why) steps place reason =
     codes "refused " ++ refusal_name why ++ optional_reason_text reason
 
 -- the first word of the line about a row with this judgement: `PASS `, `FAIL ` or `KNOWN `
-abbrev pub judged_word : Judged → List ℕ
-judged_word passed = codes "PASS "
-judged_word failed = codes "FAIL "
-judged_word (known why) = codes "KNOWN "
-judged_word (now_passes path) = codes "FAIL "
+abbrev pub judgement_word : Judged → List ℕ
+judgement_word passed = codes "PASS "
+judgement_word failed = codes "FAIL "
+judgement_word (known why) = codes "KNOWN "
+judgement_word (now_passes path) = codes "FAIL "
 
 -- the reason of a known failure, in brackets, or nothing if there is no reason
 abbrev pub known_reason_text : List ℕ → List ℕ
@@ -56,4 +56,4 @@ judged_ending_text (now_passes path) row place reason = now_passes_text path
 -- the line about a row: whether it passed, the job's name, and how the run ended
 unfoldable pub result_line : Judged → Row → Option (List ℕ × ℕ) → Option (List ℕ) → List ℕ
 result_line judged row place reason =
-    line (judged_word judged ++ row.name ++ codes ": " ++ judged_ending_text judged row place reason)
+    line (judgement_word judged ++ row.name ++ codes ": " ++ judged_ending_text judged row place reason)

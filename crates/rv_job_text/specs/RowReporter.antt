@@ -4,11 +4,11 @@ use Rattle.std.specs.Prelude.{if◌then◌else◌, slice_get}
 use Rattle.rv_calls.specs.Calls.{calls_in}
 use Rattle.rv_expect.specs.declared.unmet.Unmet.{Unmet}
 use Rattle.rv_expect.specs.Comparisons.{Sides}
-use Rattle.rv_expect.specs.UnmetInPlan.{sides_in, unmet_in}
+use Rattle.rv_expect.specs.UnmetInPlan.{comparison_in, unmet_expectations_in}
 use Rattle.rv_files.specs.declared.recording_store.UnreadablePath.{UnreadablePath}
 use Rattle.rv_rows.specs.declared_job.Job.{Job}
 use Rattle.rv_rows.specs.Plans.{Planned}
-use Rattle.rv_expect.specs.Judgement.{Judging, fails, is_unknown_failure, judgement, judging_of}
+use Rattle.rv_expect.specs.Judgement.{Judging, fails, is_unknown_failure, judgement, judge_view}
 use Rattle.rv_job_text.specs.ConsoleTail.{console_tail}
 use Rattle.rv_job_text.specs.ResultLine.{result_line}
 use Rattle.rv_job_text.specs.MetLines.{met_lines}
@@ -44,7 +44,7 @@ abbrev pub reporter_of : TextReporter → RowReporter
 reporter_of reporter = record {
   plan = reporter.plan.now;
   unread = reporter.unread.now;
-  judging = judging_of reporter.judge;
+  judging = judge_view reporter.judge;
   verbosity = reporter.verbosity;
   last = reporter.last;
 }
@@ -78,8 +78,8 @@ compared_lines detail.All address sides unmet =
 -- the lines about the unmet expectations of a row and, if `Detail` says so, about the met ones
 abbrev pub expectation_lines : Detail → Planned → Job → Row → List ℕ
 expectation_lines which plan job row =
-    compared_lines which (signature_address plan job) (sides_in plan job row)
-    (unmet_in plan job row)
+    compared_lines which (signature_address plan job) (comparison_in plan job row)
+    (unmet_expectations_in plan job row)
 
 -- the lines about a failed run: its unmet expectations, the end of its console and, if requested, how it reached its end
 unfoldable pub run_lines : Planned → Job → Row → Option ℕ → List ℕ

@@ -7,8 +7,8 @@ use Rattle.std.specs.Fmt.{decimal}
 use Rattle.std.specs.List.{flat_map}
 use Rattle.rv_expect.specs.declared.difference.Difference.{Difference}
 use Rattle.rv_expect.specs.declared.difference.Difference.TheVariants as difference
-use Rattle.rv_expect.specs.declared.difference.SameDifference.{SameDifference}
-use Rattle.rv_expect.specs.declared.difference.SameDifference.TheVariants as same
+use Rattle.rv_expect.specs.declared.difference.SameAsDifference.{SameAsDifference}
+use Rattle.rv_expect.specs.declared.difference.SameAsDifference.TheVariants as same
 use Rattle.rv_expect.specs.declared.difference.SignatureDifference.{SignatureDifference}
 use Rattle.rv_expect.specs.declared.difference.SignatureDifference.TheVariants as signature
 use Rattle.rv_expect.specs.declared.unmet.Unmet.{Unmet}
@@ -98,12 +98,12 @@ word_address_text (Some first) place =
     codes " (" ++ word_digits ((first + 4 * place) % 2 ^ 32) ++ codes ")"
 
 -- the index of a word, and its address if the address of the first word is known
-unfoldable pub word_place_text : Option ℕ → ℕ → List ℕ
-word_place_text first place = codes " at word " ++ decimal place ++ word_address_text first place ++ codes ": expected "
+unfoldable pub word_location_text : Option ℕ → ℕ → List ℕ
+word_location_text first place = codes " at word " ++ decimal place ++ word_address_text first place ++ codes ": expected "
 
 -- the expected digits `expected` and the actual digits `actual` of the word at index `place`
 abbrev pub word_difference_text : Option ℕ → ℕ → List ℕ → List ℕ → List ℕ
-word_difference_text first place actual expected = word_place_text first place ++ expected ++ codes ", found " ++ actual
+word_difference_text first place actual expected = word_location_text first place ++ expected ++ codes ", found " ++ actual
 
 -- the message that the line with this number of a signature file is invalid, and what is expected
 unfoldable pub bad_reference_line_text : ℕ → List ℕ
@@ -137,9 +137,9 @@ row_end_text ending.Budget = codes "used up its budget"
 row_end_text (ending.Refused why) = codes "was refused (" ++ refusal_name why ++ codes ")"
 
 -- that the actual signature is missing if it is `None`, or else that the expected one is
-abbrev pub absent_signature_text : Option (List ℕ) → List ℕ
-absent_signature_text None = codes ": expected one, found none"
-absent_signature_text (Some words) = codes ": expected none, found one"
+abbrev pub missing_signature_text : Option (List ℕ) → List ℕ
+missing_signature_text None = codes ": expected one, found none"
+missing_signature_text (Some words) = codes ": expected none, found one"
 
 -- where the actual signature `words` first differs from the expected one `others`; either may be missing
 unfoldable pub signatures_difference_text : Option ℕ → Option (List ℕ) → Option (List ℕ) → Difference → List ℕ
@@ -148,10 +148,10 @@ signatures_difference_text first words others (difference.At place) =
     (signature_word_digits (signature_words_or_empty others) place)
 signatures_difference_text first words others difference.Lengths =
     count_difference_text (length (signature_words_or_empty words)) (codes "word") (length (signature_words_or_empty others))
-signatures_difference_text first words others difference.Absent = absent_signature_text words
+signatures_difference_text first words others difference.Absent = missing_signature_text words
 
 -- the first difference between the row of a job and the row `other` of the job that its `same_as` names
-unfoldable pub rows_difference_text : Option ℕ → Row → Row → SameDifference → List ℕ
+unfoldable pub rows_difference_text : Option ℕ → Row → Row → SameAsDifference → List ℕ
 rows_difference_text first row other same.Ending =
     codes ", which " ++ row_end_text other.ending ++ codes "; this job "
     ++ row_end_text row.ending
@@ -162,7 +162,7 @@ rows_difference_text first row other (same.Signature difference) =
 rows_difference_text first row other same.Absent = codes ", which was not run"
 
 -- the message that the result of a job differs from the result of the job that its `same_as` names
-unfoldable pub same_difference_text : Option ℕ → Row → Option Row → SameDifference → List ℕ
+unfoldable pub same_difference_text : Option ℕ → Row → Option Row → SameAsDifference → List ℕ
 same_difference_text first row None difference = codes "the same result as another job, which was not run"
 same_difference_text first row (Some other) difference =
     codes "the same result as " ++ printable_text other.name ++ rows_difference_text first row other difference
@@ -188,14 +188,14 @@ unmet_margin (unmet.Signature difference) = codes "     "
 unmet_margin _ = codes "     expected: "
 
 -- the lines about an unmet expectation: the differing lines if the expected text is given, and otherwise a single line
-abbrev pub unmet_line_by : Option ℕ → Sides → Unmet → Option NamedText → List ℕ
-unmet_line_by address sides unmet None =
+abbrev pub unmet_line_with : Option ℕ → Sides → Unmet → Option NamedText → List ℕ
+unmet_line_with address sides unmet None =
     line (unmet_margin unmet ++ unmet_expectation_text address sides unmet)
-unmet_line_by address sides unmet (Some expected) = console_lines expected.source sides.row.console expected.text
+unmet_line_with address sides unmet (Some expected) = console_lines expected.source sides.row.console expected.text
 
 -- the lines about an unmet expectation
 unfoldable pub unmet_line : Option ℕ → Sides → Unmet → List ℕ
-unmet_line address sides unmet = unmet_line_by address sides unmet (expected_by_lines sides unmet)
+unmet_line address sides unmet = unmet_line_with address sides unmet (expected_by_lines sides unmet)
 
 -- the lines about the unmet expectations, in order
 abbrev pub unmet_lines : Option ℕ → Sides → List Unmet → List ℕ

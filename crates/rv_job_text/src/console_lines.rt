@@ -3,18 +3,18 @@
 ghost use Rattle.std.specs.Prelude.{◌≡◌, ◌≤◌, ◌++◌, OnOk, drop, length, nat_lt, if◌then◌else◌};
 ghost use Rattle.rv_text.specs.Spans.{span_text};
 ghost use Rattle.rv_job_text.specs.ConsoleLines.{console_lines, differing_line_count, differing_lines, equal_line_count, equal_lines};
-ghost use Rattle.rv_job_text.specs.ConsoleLines.{larger, lines_around, lines_heading, side_lines, whole_lines};
+ghost use Rattle.rv_job_text.specs.ConsoleLines.{larger, lines_around, lines_heading, diff_lines, complete_lines};
 
-use crate::shown_line::push_side_line;
-use crate::whole_lines::{split_whole_line, whole_line_count};
+use crate::shown_line::push_diff_line;
+use crate::complete_lines::{split_whole_line, whole_line_count};
 use rv_text::{Span, push_spans};
 use std::alloc::AllocError;
 
 /// The maximum number of equal lines that are shown before the first difference.
-const EQUAL_LINES: usize = 2;
+const MAX_EQUAL_LINES: usize = 2;
 
 /// The maximum number of differing lines that are shown of each text.
-const DIFFERING_LINES: usize = 3;
+const MAX_DIFFERING_LINES: usize = 3;
 
 // The number of equal leading lines of two texts, and the rest of each text.
 #[derive(Clone, Copy)]
@@ -76,11 +76,11 @@ fn push_lines_heading(
 
 // Appends the last lines of the `equal` leading lines of a text, which are equal in both texts.
 fn push_equal_lines(bytes: &mut Vec<u8>, equal: usize, text: &[u8]) -> Result<(), AllocError>
-    ensures { OnOk result (bytes.new.items ≡ bytes.old.items ++ equal_lines equal (whole_lines text.now)) }
+    ensures { OnOk result (bytes.new.items ≡ bytes.old.items ++ equal_lines equal (complete_lines text.now)) }
 {
-    let earlier = equal.saturating_sub(EQUAL_LINES);
+    let earlier = equal.saturating_sub(MAX_EQUAL_LINES);
     let last = text_after_lines(text, earlier);
-    push_side_lines(bytes, "       ", equal - earlier, last, &[])
+    push_diff_lines(bytes, "       ", equal - earlier, last, &[])
 }
 
 // Appends the lines that differ at the beginning of two texts: first the expected ones, then the actual ones.
@@ -90,15 +90,15 @@ fn push_differing_lines(
     expected: &[u8],
 ) -> Result<(), AllocError>
     ensures { OnOk result (bytes.new.items
-        ≡ bytes.old.items ++ differing_lines (whole_lines actual.now) (whole_lines expected.now)) }
+        ≡ bytes.old.items ++ differing_lines (complete_lines actual.now) (complete_lines expected.now)) }
 {
-    let count = differing_line_count(DIFFERING_LINES, actual, expected);
-    push_side_lines(bytes, "     - ", count, expected, actual)?;
-    push_side_lines(bytes, "     + ", count, actual, expected)
+    let count = differing_line_count(MAX_DIFFERING_LINES, actual, expected);
+    push_diff_lines(bytes, "     - ", count, expected, actual)?;
+    push_diff_lines(bytes, "     + ", count, actual, expected)
 }
 
 // Appends the first `count` lines of the text `own`, each after a margin and shown around its difference from the line of the text `other`.
-fn push_side_lines(
+fn push_diff_lines(
     bytes: &mut Vec<u8>,
     margin: &'static str,
     count: usize,
@@ -106,14 +106,14 @@ fn push_side_lines(
     other: &[u8],
 ) -> Result<(), AllocError>
     ensures { OnOk result (bytes.new.items ≡ bytes.old.items
-        ++ side_lines margin.now count (whole_lines own.now) (whole_lines other.now)) }
+        ++ diff_lines margin.now count (complete_lines own.now) (complete_lines other.now)) }
 {
     let (mut own, mut other) = (own, other);
     let mut left = count;
     while left > 0 && !own.is_empty() {
         let (line, behind) = split_whole_line(own);
         let (other_line, other_behind) = split_whole_line(other);
-        push_side_line(bytes, margin, line, other_line)?;
+        push_diff_line(bytes, margin, line, other_line)?;
         own = behind;
         other = other_behind;
         left -= 1;
@@ -123,7 +123,7 @@ fn push_side_lines(
 
 // Returns the text after its first `count` lines, which is empty if there are not more.
 fn text_after_lines(text: &[u8], count: usize) -> &[u8]
-    ensures { whole_lines result.now ≡ drop count (whole_lines text.now) }
+    ensures { complete_lines result.now ≡ drop count (complete_lines text.now) }
 {
     let mut rest = text;
     let mut left = count;
@@ -139,8 +139,8 @@ fn text_after_lines(text: &[u8], count: usize) -> &[u8]
 fn skip_equal_lines<'a>(actual: &'a [u8], expected: &'a [u8]) -> Divergence<'a>
     ensures equal { result.equal ≡ equal_line_count actual.now expected.now }
     ensures within { result.equal ≤ length actual.now }
-    ensures actual { whole_lines result.actual.now ≡ drop result.equal (whole_lines actual.now) }
-    ensures expected { whole_lines result.expected.now ≡ drop result.equal (whole_lines expected.now) }
+    ensures actual { complete_lines result.actual.now ≡ drop result.equal (complete_lines actual.now) }
+    ensures expected { complete_lines result.expected.now ≡ drop result.equal (complete_lines expected.now) }
 {
     let mut parting = Divergence {
         equal: 0,
@@ -164,7 +164,7 @@ fn skip_equal_lines<'a>(actual: &'a [u8], expected: &'a [u8]) -> Divergence<'a>
 
 // Returns how many leading lines of two texts differ, each from the line with its number in the other text; at most `most`.
 fn differing_line_count(most: usize, actual: &[u8], expected: &[u8]) -> usize
-    ensures { result ≡ differing_line_count most (whole_lines actual.now) (whole_lines expected.now) }
+    ensures { result ≡ differing_line_count most (complete_lines actual.now) (complete_lines expected.now) }
 {
     let (mut actual, mut expected) = (actual, expected);
     let mut count = 0;

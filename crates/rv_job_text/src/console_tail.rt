@@ -2,7 +2,7 @@
 
 ghost use Rattle.std.specs.Prelude.{◌≡◌, ◌≤◌, ◌<◌, ◌++◌, IfSome, MatchOption, OnOk, [], ◌∷◌, drop, length};
 ghost use Rattle.std.specs.List.{flat_map, position_or_len};
-ghost use Rattle.rv_job_text.specs.ConsoleTail.{console_tail_line, console_tail, is_feed, last_elements, text_lines};
+ghost use Rattle.rv_job_text.specs.ConsoleTail.{console_tail_line, console_tail, is_line_feed, last_elements, text_lines};
 
 use rv_text::{Span, push_spans, tail_from};
 use std::alloc::AllocError;
@@ -11,15 +11,15 @@ use std::alloc::AllocError;
 pub const TAIL_LINES: usize = 10;
 
 /// The number of bytes at a console's end from which the lines are taken.
-pub const TAIL_BYTES: usize = 1_024;
+pub const MAX_TAIL_BYTES: usize = 1_024;
 
-/// Appends the last lines of a console, at most [`TAIL_LINES`] out of its last [`TAIL_BYTES`] bytes. Each line is written after a margin,
+/// Appends the last lines of a console, at most [`TAIL_LINES`] out of its last [`MAX_TAIL_BYTES`] bytes. Each line is written after a margin,
 /// by [`push_printable_text`](rv_text::push_printable_text), and ends with a line feed, even if the console ends without one.
 #[tactic(auto, unfolding(crate::specs::ConsoleTail::console_tail))]
 pub fn push_console_tail(bytes: &mut Vec<u8>, console: &[u8]) -> Result<(), AllocError>
     ensures { OnOk result (bytes.new.items ≡ bytes.old.items ++ console_tail console.now) }
 {
-    let tail = last_bytes(console, TAIL_BYTES);
+    let tail = last_bytes(console, MAX_TAIL_BYTES);
     let earlier = line_count(tail).saturating_sub(TAIL_LINES);
     push_later_lines(bytes, tail, earlier)
 }
@@ -80,7 +80,7 @@ fn split_first_line(text: &[u8]) -> Option<(&[u8], &[u8])>
 
 // Returns the length of the first line of a text in bytes, without its line feed.
 fn first_line_len(text: &[u8]) -> usize
-    ensures len { result ≡ position_or_len is_feed text.now }
+    ensures len { result ≡ position_or_len is_line_feed text.now }
     ensures within { result ≤ length text.now }
 {
     for (place, byte) in text.iter().enumerate() {

@@ -29,7 +29,7 @@ pub(crate) fn push_console_difference(
             push_bytes_difference(bytes, actual, text.as_slice(), difference)
         }
         Some(ExpectedConsole::File(path)) => {
-            push_compared_name(bytes, "console differs from ", path.as_str())?;
+            push_prefixed_name(bytes, "console differs from ", path.as_str())?;
             push_bytes_difference(bytes, actual, bytes_or_empty(file), difference)
         }
         None => push_text(bytes, "no console"),
@@ -37,7 +37,7 @@ pub(crate) fn push_console_difference(
 }
 
 /// Appends the text `before` and then a name.
-pub(crate) fn push_compared_name(
+pub(crate) fn push_prefixed_name(
     bytes: &mut Vec<u8>,
     before: &'static str,
     name: &str,

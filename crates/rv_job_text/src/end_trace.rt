@@ -4,7 +4,7 @@ ghost use Rattle.std.specs.Prelude.{◌≡◌, ◌<◌, ◌++◌, IfOk, OnOk, le
 ghost use Rattle.rv_hang.specs.BudgetUse.{IsBudgetUseIn};
 ghost use Rattle.rv_rows.specs.declared_job.Job.{Job as AJob};
 ghost use Rattle.rv_calls.specs.Trace.{job_at};
-ghost use Rattle.rv_job_text.specs.BudgetUseLine.{IsUseOfRow};
+ghost use Rattle.rv_job_text.specs.BudgetUseLine.{IsBudgetUseOfRow};
 ghost use Rattle.rv_job_text.specs.RowReporter.{calls_lines, end_trace_lines};
 
 use crate::job_file::JobFile;
@@ -32,7 +32,7 @@ pub fn budget_use_at(
     row: &Row,
 ) -> Result<Option<BudgetUse>, AllocError>
     requires { place < length plan.now.jobs }
-    ensures { IfOk result (λ found. (d : AJob) → IsUseOfRow plan.now (job_at plan.now place d) row.now found) }
+    ensures { IfOk result (λ found. (d : AJob) → IsBudgetUseOfRow plan.now (job_at plan.now place d) row.now found) }
 {
     match row.ending {
         RowEnd::Budget => {

@@ -1,7 +1,7 @@
 //! The expected text of a console, if the difference is shown by lines.
 
 ghost use Rattle.std.specs.Prelude.{◌≡◌, ◌&&◌, option_map};
-ghost use Rattle.rv_expect.specs.Comparisons.{sides_of};
+ghost use Rattle.rv_expect.specs.Comparisons.{comparison_view};
 ghost use Rattle.rv_job_text.specs.ConsoleLines.{is_shown_by_lines, shown_by_lines, expected_by_lines, expected_console, named_text_of};
 
 use crate::difference_text::bytes_or_empty;
@@ -21,7 +21,7 @@ pub(crate) fn expected_by_lines<'a>(
     comparison: &Comparison<'a, '_>,
     unmet: Unmet,
 ) -> Option<ExpectedText<'a>>
-    ensures { option_map named_text_of result ≡ expected_by_lines (sides_of comparison.now) unmet }
+    ensures { option_map named_text_of result ≡ expected_by_lines (comparison_view comparison.now) unmet }
 {
     match unmet {
         Unmet::Console(difference) => {

@@ -2,7 +2,7 @@
 
 ghost use Rattle.std.specs.Prelude.{◌≡◌, ◌<◌, IfOk, MatchOption, None, Some, length, option_map};
 ghost use Rattle.rv_rows.specs.declared_job.Job.{Job as AJob};
-ghost use Rattle.rv_rows.specs.Plans.{result_for_path};
+ghost use Rattle.rv_rows.specs.Plans.{result_or_unreadable};
 ghost use Rattle.rv_rows.specs.Rows.{content_if_read, image_if_read};
 ghost use Rattle.rv_calls.specs.Trace.{job_at};
 
@@ -30,7 +30,7 @@ impl<'a> JobFile<'a> {
         requires { place < length plan.now.jobs }
         ensures isa { IfOk result (λ file. (d : AJob) → file.isa ≡ (job_at plan.now place d).isa) }
         ensures bytes { IfOk result (λ file. (d : AJob) → option_map (λ bytes. bytes.now) file.bytes
-            ≡ content_if_read (Some (result_for_path plan.now.answers (job_at plan.now place d).image))) }
+            ≡ content_if_read (Some (result_or_unreadable plan.now.answers (job_at plan.now place d).image))) }
     {
         let isa = plan.job(place).isa;
         let bytes = image_bytes(plan, place);

@@ -2,7 +2,7 @@
 
 ghost use Rattle.std.specs.Prelude.{◌≡◌, ◌<◌, Some, length, option_map};
 ghost use Rattle.rv_rows.specs.declared_job.Job.{Job as AJob};
-ghost use Rattle.rv_rows.specs.Plans.{result_for_path};
+ghost use Rattle.rv_rows.specs.Plans.{result_or_unreadable};
 ghost use Rattle.rv_rows.specs.Rows.{content_if_read};
 ghost use Rattle.rv_calls.specs.Trace.{job_at};
 
@@ -20,5 +20,5 @@ pub(crate) struct JobRow<'a> {
     ghost within: { place < length plan.now.jobs },
     ghost isa: { (d : AJob) → file.now.isa ≡ (job_at plan.now place d).isa },
     ghost bytes: { (d : AJob) → option_map (λ bytes. bytes.now) file.now.bytes
-        ≡ content_if_read (Some (result_for_path plan.now.answers (job_at plan.now place d).image)) },
+        ≡ content_if_read (Some (result_or_unreadable plan.now.answers (job_at plan.now place d).image)) },
 }

@@ -33,10 +33,10 @@ mod totals_line;
 mod unmet_line;
 mod unread_files;
 mod verbosity;
-mod whole_lines;
+mod complete_lines;
 
 pub use console_lines::push_console_lines;
-pub use console_tail::{TAIL_BYTES, TAIL_LINES, push_console_tail};
+pub use console_tail::{MAX_TAIL_BYTES, TAIL_LINES, push_console_tail};
 pub use end_trace::{TraceOptions, budget_use_at};
 pub use law::{lines_are_the_text, shown_line_differs_first};
 pub use paths::{console_path, reference_path};

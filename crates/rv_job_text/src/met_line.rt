@@ -2,7 +2,7 @@
 
 ghost use Rattle.std.specs.Prelude.{◌≡◌, ◌++◌, OnOk, option_map};
 ghost use Rattle.std.specs.List.{flat_map};
-ghost use Rattle.rv_expect.specs.Comparisons.{sides_of};
+ghost use Rattle.rv_expect.specs.Comparisons.{comparison_view};
 ghost use Rattle.rv_job_text.specs.MetLines.{met_line, met_lines, met_expectation_text, same_as_job_text, optional_path_text};
 
 use crate::paths::{console_path, reference_path};
@@ -20,7 +20,7 @@ pub(crate) fn push_met_lines(
     unmet: &[Unmet],
 ) -> Result<(), AllocError>
     ensures { OnOk result (bytes.new.items
-        ≡ bytes.old.items ++ met_lines (sides_of comparison.now) unmet.now) }
+        ≡ bytes.old.items ++ met_lines (comparison_view comparison.now) unmet.now) }
 {
     push_each_met_line(
         bytes,
@@ -45,7 +45,7 @@ fn push_each_met_line(
     expectations: &[Expectation],
 ) -> Result<(), AllocError>
     ensures { OnOk result (bytes.new.items ≡ bytes.old.items
-        ++ flat_map (met_line (sides_of comparison.now) unmet.now) expectations.now) }
+        ++ flat_map (met_line (comparison_view comparison.now) unmet.now) expectations.now) }
 {
     for one in expectations {
         push_met_line(bytes, comparison, unmet, *one)?;
@@ -62,7 +62,7 @@ fn push_met_line(
     one: Expectation,
 ) -> Result<(), AllocError>
     ensures { OnOk result (bytes.new.items
-        ≡ bytes.old.items ++ met_line (sides_of comparison.now) unmet.now one) }
+        ≡ bytes.old.items ++ met_line (comparison_view comparison.now) unmet.now one) }
 {
     if !is_expectation_met(comparison.job, unmet, one) {
         return Ok(());
@@ -80,7 +80,7 @@ fn push_met_expectation(
     one: Expectation,
 ) -> Result<(), AllocError>
     ensures { OnOk result (bytes.new.items
-        ≡ bytes.old.items ++ met_expectation_text (sides_of comparison.now) one) }
+        ≡ bytes.old.items ++ met_expectation_text (comparison_view comparison.now) one) }
 {
     match one {
         Expectation::Exit => push_expected_exit(bytes, comparison.job.expect_exit),

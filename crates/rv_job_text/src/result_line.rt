@@ -1,11 +1,11 @@
 //! The line with a job's result.
 
 ghost use Rattle.std.specs.Prelude.{◌≡◌, ◌++◌, OnOk, codes, option_map};
-ghost use Rattle.rv_expect.specs.Judgement.{judged_of};
+ghost use Rattle.rv_expect.specs.Judgement.{judgement_view};
 ghost use Rattle.rv_rows.specs.Faults.{fault_name};
 ghost use Rattle.rv_rows.specs.Report.{refusal_name};
 ghost use Rattle.rv_text.specs.Words.{exit_code_text, word_digits};
-ghost use Rattle.rv_job_text.specs.ResultLine.{judged_ending_text, judged_word, known_reason_text, now_passes_text, optional_reason_text, result_ending_text};
+ghost use Rattle.rv_job_text.specs.ResultLine.{judged_ending_text, judgement_word, known_reason_text, now_passes_text, optional_reason_text, result_ending_text};
 ghost use Rattle.rv_text.specs.Symbol.{symbol_in_brackets};
 ghost use Rattle.rv_job_text.specs.ResultLine.{result_line, after_steps_text};
 ghost use Rattle.rv_text.specs.Symbol.{symbol_text};
@@ -36,14 +36,14 @@ pub fn push_result_line(
     detail: &EndDetail<'_, '_>,
 ) -> Result<(), AllocError>
     ensures { OnOk result (bytes.new.items ≡ bytes.old.items
-        ++ result_line (judged_of judgement.entry) row.now
+        ++ result_line (judgement_view judgement.entry) row.now
         (option_map (λ s. (s.name.now, s.offset)) detail.now.symbol)
         (option_map (λ text. text.now) detail.now.reason)) }
 {
     push_spans(
         bytes,
         &[
-            Span::Text(judged_word(judgement)),
+            Span::Text(judgement_word(judgement)),
             Span::Text(row.name.as_str()),
             Span::Text(": "),
         ],
@@ -53,8 +53,8 @@ pub fn push_result_line(
 }
 
 // Returns the first word of the line about a row with this judgement: `PASS `, `FAIL ` or `KNOWN `.
-fn judged_word(judgement: Judgement<'_>) -> &'static str
-    ensures { result.now ≡ judged_word (judged_of judgement.entry) }
+fn judgement_word(judgement: Judgement<'_>) -> &'static str
+    ensures { result.now ≡ judgement_word (judgement_view judgement.entry) }
 {
     match judgement {
         Judgement::Passed => "PASS ",
@@ -73,7 +73,7 @@ fn push_judged_ending(
     detail: &EndDetail<'_, '_>,
 ) -> Result<(), AllocError>
     ensures { OnOk result (bytes.new.items ≡ bytes.old.items
-        ++ judged_ending_text (judged_of judgement.entry) row.now
+        ++ judged_ending_text (judgement_view judgement.entry) row.now
         (option_map (λ s. (s.name.now, s.offset)) detail.now.symbol)
         (option_map (λ text. text.now) detail.now.reason)) }
 {

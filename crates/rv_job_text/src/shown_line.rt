@@ -2,41 +2,41 @@
 
 ghost use Rattle.std.specs.Prelude.{◌≡◌, ◌≤◌, ◌++◌, OnOk, length, nat_eq};
 ghost use Rattle.std.specs.List.{common_prefix_len, position_or_len};
-ghost use Rattle.rv_job_text.specs.ConsoleLines.{begins_character, characters_len, feed_note, shown_begin, shown_line, side_line};
+ghost use Rattle.rv_job_text.specs.ConsoleLines.{begins_character, characters_len, missing_newline_note, shown_offset, shown_line, diff_line};
 ghost use Rattle.rv_job_text.specs.ConsoleLines.{text_shown_from};
-ghost use Rattle.rv_job_text.specs.ConsoleTail.{is_feed};
+ghost use Rattle.rv_job_text.specs.ConsoleTail.{is_line_feed};
 
-use crate::whole_lines::first_feed;
+use crate::complete_lines::first_line_feed;
 use rv_text::{push_printable_text, push_text, tail_from};
 use std::alloc::AllocError;
 
 /// The maximum number of characters that are shown of a line.
-const LINE_CHARACTERS: usize = 160;
+const MAX_LINE_CHARACTERS: usize = 160;
 
 /// How many bytes before the first difference a longer line is shown, at most.
-const BYTES_BEFORE_DIFFERENCE: usize = 32;
+const MAX_BYTES_BEFORE_DIFFERENCE: usize = 32;
 
 /// Appends the line `own` of one text after a margin, shown around its first difference from the line `other` of the other text.
-#[tactic(auto, unfolding(crate::specs::ConsoleLines::side_line))]
-pub(crate) fn push_side_line(
+#[tactic(auto, unfolding(crate::specs::ConsoleLines::diff_line))]
+pub(crate) fn push_diff_line(
     bytes: &mut Vec<u8>,
     margin: &'static str,
     own: &[u8],
     other: &[u8],
 ) -> Result<(), AllocError>
-    ensures { OnOk result (bytes.new.items ≡ bytes.old.items ++ side_line margin.now own.now other.now) }
+    ensures { OnOk result (bytes.new.items ≡ bytes.old.items ++ diff_line margin.now own.now other.now) }
 {
-    let feed = first_feed(own);
+    let feed = first_line_feed(own);
     push_text(bytes, margin)?;
     push_shown_line(bytes, equal_len(own, other), &own[..feed])?;
     push_text(bytes, "\n")?;
-    push_feed_note(bytes, own, feed)
+    push_missing_newline_note(bytes, own, feed)
 }
 
 // Appends a note if a line has no line feed, or else nothing. `feed` is the index of its first line feed, or its length.
-fn push_feed_note(bytes: &mut Vec<u8>, whole: &[u8], feed: usize) -> Result<(), AllocError>
-    requires { feed ≡ position_or_len is_feed whole.now }
-    ensures { OnOk result (bytes.new.items ≡ bytes.old.items ++ feed_note whole.now) }
+fn push_missing_newline_note(bytes: &mut Vec<u8>, whole: &[u8], feed: usize) -> Result<(), AllocError>
+    requires { feed ≡ position_or_len is_line_feed whole.now }
+    ensures { OnOk result (bytes.new.items ≡ bytes.old.items ++ missing_newline_note whole.now) }
 {
     if feed == whole.len() {
         push_text(bytes, "     \\ no newline at end\n")
@@ -50,7 +50,7 @@ fn push_feed_note(bytes: &mut Vec<u8>, whole: &[u8], feed: usize) -> Result<(), 
 fn push_shown_line(bytes: &mut Vec<u8>, place: usize, text: &[u8]) -> Result<(), AllocError>
     ensures { OnOk result (bytes.new.items ≡ bytes.old.items ++ shown_line place text.now) }
 {
-    push_text_from(bytes, shown_begin(place, text), text)
+    push_text_from(bytes, shown_offset(place, text), text)
 }
 
 // Appends a line without its first `begin` bytes, after two dots unless `begin` is 0, up to the maximum number of characters.
@@ -61,18 +61,18 @@ fn push_text_from(bytes: &mut Vec<u8>, begin: usize, text: &[u8]) -> Result<(), 
         push_text(bytes, "..")?;
     }
     let rest = tail_from(text, begin);
-    push_printable_text(bytes, &rest[..characters_len(LINE_CHARACTERS, rest)])
+    push_printable_text(bytes, &rest[..characters_len(MAX_LINE_CHARACTERS, rest)])
 }
 
 // Returns the offset from which a line with a difference at the offset `place` is shown: 0, or, if the line is long, an offset shortly
 // before the difference.
-fn shown_begin(place: usize, text: &[u8]) -> usize
-    ensures { result ≡ shown_begin place text.now }
+fn shown_offset(place: usize, text: &[u8]) -> usize
+    ensures { result ≡ shown_offset place text.now }
 {
-    if characters_len(LINE_CHARACTERS, text) == text.len() {
+    if characters_len(MAX_LINE_CHARACTERS, text) == text.len() {
         return 0;
     }
-    let begin = place.saturating_sub(BYTES_BEFORE_DIFFERENCE);
+    let begin = place.saturating_sub(MAX_BYTES_BEFORE_DIFFERENCE);
     begin + first_character_begin(tail_from(text, begin))
 }
 

@@ -2,12 +2,12 @@
 
 ghost use Rattle.std.specs.Prelude.{◌≡◌, ◌++◌, ◌+◌, ◌*◌, ◌%◌, ◌^◌, OnOk, option_map};
 ghost use Rattle.rv_text.specs.Spans.{span_text};
-ghost use Rattle.rv_job_text.specs.UnmetLines.{absent_signature_text, bad_reference_line_text, reference_digits_at, word_place_text, reference_difference_text};
+ghost use Rattle.rv_job_text.specs.UnmetLines.{missing_signature_text, bad_reference_line_text, reference_digits_at, word_location_text, reference_difference_text};
 ghost use Rattle.rv_job_text.specs.UnmetLines.{signature_difference_text, signatures_difference_text, signature_word_digits, word_difference_text};
 
-use crate::difference_text::{bytes_or_empty, push_compared_name, push_count_difference};
+use crate::difference_text::{bytes_or_empty, push_prefixed_name, push_count_difference};
 use rv_expect::{Comparison, Difference, SignatureDifference, signature_words_or_empty};
-use rv_rows::{LINE, Words};
+use rv_rows::{WORD_LINE_LEN, Words};
 use rv_text::{Span, push_spans, push_text};
 use std::alloc::AllocError;
 
@@ -29,7 +29,7 @@ pub(crate) fn push_signature_difference(
         return push_text(bytes, "no signature");
     };
     let path = path.as_str();
-    push_compared_name(bytes, "signature differs from ", path)?;
+    push_prefixed_name(bytes, "signature differs from ", path)?;
     let words = signature_words_or_empty(&comparison.row.signature);
     let reference = bytes_or_empty(comparison.reference);
     push_reference_difference(bytes, address, words, reference, difference)
@@ -64,7 +64,7 @@ fn push_reference_difference(
             bytes,
             words.len(),
             "word",
-            reference.len() / LINE,
+            reference.len() / WORD_LINE_LEN,
         ),
         SignatureDifference::Absent => push_text(bytes, ", which was not read"),
     }
@@ -111,13 +111,13 @@ pub(crate) fn push_signatures_difference(
             )
         }
         Difference::Lengths => push_count_difference(bytes, actual.len(), "word", expected.len()),
-        Difference::Absent => push_text(bytes, absent_signature_text(words)),
+        Difference::Absent => push_text(bytes, missing_signature_text(words)),
     }
 }
 
 // Returns that the actual signature is missing if it is `None`, or else that the expected one is.
-fn absent_signature_text(words: &Option<Words>) -> &'static str
-    ensures { result.now ≡ absent_signature_text words.now }
+fn missing_signature_text(words: &Option<Words>) -> &'static str
+    ensures { result.now ≡ missing_signature_text words.now }
 {
     match words {
         Some(_) => ": expected none, found one",
@@ -136,14 +136,14 @@ fn push_word_difference<'a>(
     ensures { OnOk result (bytes.new.items ≡ bytes.old.items
         ++ word_difference_text first place (span_text actual.entry) (span_text expected.entry)) }
 {
-    push_word_place(bytes, first, place)?;
+    push_word_location(bytes, first, place)?;
     push_spans(bytes, &[expected, Span::Text(", found "), actual])
 }
 
 // Appends the index of a word, and its address if the address of the first word is known.
-#[tactic(auto, unfolding(crate::specs::UnmetLines::word_place_text))]
-fn push_word_place(bytes: &mut Vec<u8>, first: Option<u32>, place: usize) -> Result<(), AllocError>
-    ensures { OnOk result (bytes.new.items ≡ bytes.old.items ++ word_place_text first place) }
+#[tactic(auto, unfolding(crate::specs::UnmetLines::word_location_text))]
+fn push_word_location(bytes: &mut Vec<u8>, first: Option<u32>, place: usize) -> Result<(), AllocError>
+    ensures { OnOk result (bytes.new.items ≡ bytes.old.items ++ word_location_text first place) }
 {
     let number = Span::Number(place as u64);
     match first {
@@ -188,8 +188,8 @@ fn signature_word_digits(words: &[u32], place: usize) -> Span<'static>
 fn reference_digits_at(text: &[u8], place: usize) -> &[u8]
     ensures { result.now ≡ reference_digits_at text.now place }
 {
-    if place < text.len() / LINE {
-        &text[place * LINE..place * LINE + (LINE - 1)]
+    if place < text.len() / WORD_LINE_LEN {
+        &text[place * WORD_LINE_LEN..place * WORD_LINE_LEN + (WORD_LINE_LEN - 1)]
     } else {
         &[]
     }

@@ -1,8 +1,8 @@
 //! The text about the rows of a plan, with the reasons why files could not be read.
 
 ghost use Rattle.std.specs.Prelude.{◌≡◌, ◌<◌, ◌++◌, OnOk, length, option_map};
-ghost use Rattle.rv_expect.specs.Comparisons.{sides_of};
-ghost use Rattle.rv_expect.specs.Judgement.{judging_of};
+ghost use Rattle.rv_expect.specs.Comparisons.{comparison_view};
+ghost use Rattle.rv_expect.specs.Judgement.{judge_view};
 ghost use Rattle.rv_expect.specs.UnmetInPlan.{row_of_same_as_job};
 ghost use Rattle.rv_rows.specs.declared_job.Job.{Job as AJob};
 ghost use Rattle.rv_calls.specs.Trace.{image_bytes, job_at};
@@ -81,7 +81,7 @@ impl<'a> TextReporter<'a> {
             return Ok(());
         }
         if !judgement.is_unknown_failure() || !did_run(row.ending) {
-            return self.push_lone_row_line(alloc, place, row, text);
+            return self.push_only_row_line(alloc, place, row, text);
         }
         let plan = self.plan;
         let file = &JobFile::read(alloc, plan, place)?;
@@ -109,11 +109,11 @@ impl<'a> TextReporter<'a> {
     ) -> Result<(), AllocError>
         requires { place < length self.now.plan.now.jobs }
         ensures { OnOk result ((d : AJob) → text.new.items ≡ text.old.items
-            ++ explanation_text self.now.plan.now self.now.unread.now (judging_of self.now.judge)
+            ++ explanation_text self.now.plan.now self.now.unread.now (judge_view self.now.judge)
             (job_at self.now.plan.now place d) row.now way.now) }
     {
         if !did_run(row.ending) {
-            return self.push_lone_row_line(alloc, place, row, text);
+            return self.push_only_row_line(alloc, place, row, text);
         }
         let plan = self.plan;
         let file = &JobFile::read(alloc, plan, place)?;
@@ -138,11 +138,11 @@ impl<'a> TextReporter<'a> {
     ) -> Result<(), AllocError>
         requires { place < length self.now.plan.now.jobs }
         ensures { OnOk result ((d : AJob) → text.new.items ≡ text.old.items
-            ++ outcome_text self.now.plan.now self.now.unread.now (judging_of self.now.judge)
+            ++ outcome_text self.now.plan.now self.now.unread.now (judge_view self.now.judge)
             (job_at self.now.plan.now place d) row.now) }
     {
         if !did_run(row.ending) {
-            return self.push_lone_row_line(alloc, place, row, text);
+            return self.push_only_row_line(alloc, place, row, text);
         }
         let plan = self.plan;
         let file = &JobFile::read(alloc, plan, place)?;
@@ -159,7 +159,7 @@ impl<'a> TextReporter<'a> {
     /// Appends only the line about the row of the job at index `place`, whatever the verbosity. Parses the image only if the run ended with
     /// a fault.
     #[tactic(auto, unfolding(crate::specs::ImageSymbols::fault_symbol))]
-    pub fn push_lone_row_line(
+    pub fn push_only_row_line(
         &self,
         alloc: Global,
         place: usize,
@@ -168,7 +168,7 @@ impl<'a> TextReporter<'a> {
     ) -> Result<(), AllocError>
         requires { place < length self.now.plan.now.jobs }
         ensures { OnOk result ((d : AJob) → text.new.items ≡ text.old.items
-            ++ row_line self.now.plan.now self.now.unread.now (judging_of self.now.judge)
+            ++ row_line self.now.plan.now self.now.unread.now (judge_view self.now.judge)
             (job_at self.now.plan.now place d) row.now) }
     {
         match row.ending {
@@ -197,7 +197,7 @@ impl<'a> TextReporter<'a> {
             ≡ fault_symbol (job_at self.now.plan.now place d).isa
             (image_bytes self.now.plan.now.answers (job_at self.now.plan.now place d)) row.now.ending }
         ensures { OnOk result ((d : AJob) → text.new.items ≡ text.old.items
-            ++ row_line self.now.plan.now self.now.unread.now (judging_of self.now.judge)
+            ++ row_line self.now.plan.now self.now.unread.now (judge_view self.now.judge)
             (job_at self.now.plan.now place d) row.now) }
     {
         let reason = ending_reason(alloc, self.plan, self.unread, place, row.ending)?;
@@ -314,7 +314,7 @@ fn push_compared_lines(
     text: &mut Vec<u8>,
 ) -> Result<(), AllocError>
     ensures { OnOk result (text.new.items ≡ text.old.items
-        ++ compared_lines detail address (sides_of comparison.now) unmet.now) }
+        ++ compared_lines detail address (comparison_view comparison.now) unmet.now) }
 {
     push_unmet_lines(text, comparison, address, unmet)?;
     match detail {

@@ -3,7 +3,7 @@
 ghost use Rattle.std.specs.Prelude.{◌≡◌, ◌<◌, ◌≤◌, ◌^◌, ◌++◌, OnOk, codes, length};
 ghost use Rattle.rv_text.specs.Words.{count_text};
 ghost use Rattle.rv_job_text.specs.TotalsLine.{failed_count, hidden_text, job_word, known_count, known_count_text, passed_count, passed_counts_text, run_totals_line, total_steps, totals_line, totals_text};
-ghost use Rattle.rv_expect.specs.Judgement.{judging_of};
+ghost use Rattle.rv_expect.specs.Judgement.{judge_view};
 
 use crate::failure_counts::push_failure_counts;
 use rv_expect::{FailureKind, Judge, failures_by_end, failures_in_plan};
@@ -19,7 +19,7 @@ pub fn push_totals_line(
     rows: &[Row],
 ) -> Result<(), AllocError>
     requires { length rows.now < 2 ^ 32 }
-    ensures { OnOk result (bytes.new.items ≡ bytes.old.items ++ totals_line (judging_of judge.now) rows.now) }
+    ensures { OnOk result (bytes.new.items ≡ bytes.old.items ++ totals_line (judge_view judge.now) rows.now) }
 {
     let failures = failures_by_end(*bytes.allocator(), judge, rows)?;
     push_totals_text(bytes, judge, failures.as_slice(), rows)?;
@@ -45,7 +45,7 @@ pub fn push_run_totals_line(
     requires few { length run.now.rows.now < 2 ^ 32 }
     requires placed { length run.now.rows.now ≤ length run.now.places.now }
     ensures { OnOk result (bytes.new.items ≡ bytes.old.items
-        ++ run_totals_line (judging_of judge.now) run.now.plan.now run.now.places.now run.now.rows.now hidden) }
+        ++ run_totals_line (judge_view judge.now) run.now.plan.now run.now.places.now run.now.rows.now hidden) }
 {
     let failures = failures_in_plan(*bytes.allocator(), judge, run.plan, run.places, run.rows)?;
     push_totals_text(bytes, judge, failures.as_slice(), run.rows)?;
@@ -62,7 +62,7 @@ fn push_totals_text(
     rows: &[Row],
 ) -> Result<(), AllocError>
     requires { length rows.now < 2 ^ 32 }
-    ensures { OnOk result (bytes.new.items ≡ bytes.old.items ++ totals_text (judging_of judge.now) failures.now rows.now) }
+    ensures { OnOk result (bytes.new.items ≡ bytes.old.items ++ totals_text (judge_view judge.now) failures.now rows.now) }
 {
     push_passed_counts(
         bytes,
@@ -120,7 +120,7 @@ fn push_known_count(bytes: &mut Vec<u8>, count: usize) -> Result<(), AllocError>
 
 // Returns the number of rows that passed.
 fn passed_count(judge: &Judge<'_>, rows: &[Row]) -> usize
-    ensures { result ≡ passed_count (judging_of judge.now) rows.now }
+    ensures { result ≡ passed_count (judge_view judge.now) rows.now }
 {
     rows.iter()
         .filter(|row| judge.judgement(row).is_passed())
@@ -129,14 +129,14 @@ fn passed_count(judge: &Judge<'_>, rows: &[Row]) -> usize
 
 // Returns the number of rows that count as failures.
 fn failed_count(judge: &Judge<'_>, rows: &[Row]) -> usize
-    ensures { result ≡ failed_count (judging_of judge.now) rows.now }
+    ensures { result ≡ failed_count (judge_view judge.now) rows.now }
 {
     rows.iter().filter(|row| judge.fails(row)).count()
 }
 
 /// Returns the number of rows that failed and are listed as known failures.
 pub fn known_count(judge: &Judge<'_>, rows: &[Row]) -> usize
-    ensures { result ≡ known_count (judging_of judge.now) rows.now }
+    ensures { result ≡ known_count (judge_view judge.now) rows.now }
 {
     rows.iter()
         .filter(|row| judge.judgement(row).is_known())

@@ -1,15 +1,15 @@
 //! The line of an unmet expectation.
 
 ghost use Rattle.std.specs.Prelude.{◌≡◌, ◌++◌, OnOk, None, option_map};
-ghost use Rattle.rv_expect.specs.Comparisons.{sides_of};
+ghost use Rattle.rv_expect.specs.Comparisons.{comparison_view};
 ghost use Rattle.rv_job_text.specs.UnmetLines.{expected_end_text, row_end_text, expected_exit_text, same_difference_text, rows_difference_text};
-ghost use Rattle.rv_job_text.specs.UnmetLines.{unmet_line, unmet_line_by, unmet_lines, unmet_expectation_text, unmet_margin};
+ghost use Rattle.rv_job_text.specs.UnmetLines.{unmet_line, unmet_line_with, unmet_lines, unmet_expectation_text, unmet_margin};
 
 use crate::console_lines::push_console_lines;
-use crate::difference_text::{push_bytes_difference, push_compared_name, push_console_difference};
+use crate::difference_text::{push_bytes_difference, push_prefixed_name, push_console_difference};
 use crate::expected_text::{ExpectedText, expected_by_lines};
 use crate::signature_difference_text::{push_signature_difference, push_signatures_difference};
-use rv_expect::{Comparison, SameDifference, Unmet};
+use rv_expect::{Comparison, SameAsDifference, Unmet};
 use rv_rows::{ExpectedEnd, Row, RowEnd};
 use rv_text::{Span, push_spans, push_text};
 use std::alloc::AllocError;
@@ -22,7 +22,7 @@ pub(crate) fn push_unmet_lines(
     unmet: &[Unmet],
 ) -> Result<(), AllocError>
     ensures { OnOk result (bytes.new.items
-        ≡ bytes.old.items ++ unmet_lines address (sides_of comparison.now) unmet.now) }
+        ≡ bytes.old.items ++ unmet_lines address (comparison_view comparison.now) unmet.now) }
 {
     for one in unmet {
         push_unmet_line(bytes, comparison, address, *one)?;
@@ -39,7 +39,7 @@ fn push_unmet_line(
     unmet: Unmet,
 ) -> Result<(), AllocError>
     ensures { OnOk result (bytes.new.items
-        ≡ bytes.old.items ++ unmet_line address (sides_of comparison.now) unmet) }
+        ≡ bytes.old.items ++ unmet_line address (comparison_view comparison.now) unmet) }
 {
     match expected_by_lines(comparison, unmet) {
         Some(ExpectedText { source, text }) => {
@@ -57,7 +57,7 @@ fn push_expected_line(
     unmet: Unmet,
 ) -> Result<(), AllocError>
     ensures { OnOk result (bytes.new.items ≡ bytes.old.items
-        ++ unmet_line_by address (sides_of comparison.now) unmet None) }
+        ++ unmet_line_with address (comparison_view comparison.now) unmet None) }
 {
     push_text(bytes, unmet_margin(unmet))?;
     push_unmet_expectation(bytes, comparison, address, unmet)?;
@@ -83,7 +83,7 @@ fn push_unmet_expectation(
     unmet: Unmet,
 ) -> Result<(), AllocError>
     ensures { OnOk result (bytes.new.items
-        ≡ bytes.old.items ++ unmet_expectation_text address (sides_of comparison.now) unmet) }
+        ≡ bytes.old.items ++ unmet_expectation_text address (comparison_view comparison.now) unmet) }
 {
     let job = comparison.job;
     let row = comparison.row;
@@ -153,7 +153,7 @@ fn push_same_difference(
     first: Option<u32>,
     row: &Row,
     other: Option<&Row>,
-    difference: SameDifference,
+    difference: SameAsDifference,
 ) -> Result<(), AllocError>
     ensures { OnOk result (bytes.new.items ≡ bytes.old.items
         ++ same_difference_text first row.now (option_map (λ row. row.now) other.entry) difference) }
@@ -161,7 +161,7 @@ fn push_same_difference(
     let Some(other) = other else {
         return push_text(bytes, "the same result as another job, which was not run");
     };
-    push_compared_name(bytes, "the same result as ", other.name.as_str())?;
+    push_prefixed_name(bytes, "the same result as ", other.name.as_str())?;
     push_rows_difference(bytes, first, row, other, difference)
 }
 
@@ -172,17 +172,17 @@ fn push_rows_difference(
     first: Option<u32>,
     row: &Row,
     other: &Row,
-    difference: SameDifference,
+    difference: SameAsDifference,
 ) -> Result<(), AllocError>
     ensures { OnOk result (bytes.new.items ≡ bytes.old.items
         ++ rows_difference_text first row.now other.now difference) }
 {
     match difference {
-        SameDifference::Ending => {
+        SameAsDifference::Ending => {
             push_row_end(bytes, ", which ", other.ending)?;
             push_row_end(bytes, "; this job ", row.ending)
         }
-        SameDifference::Console(difference) => {
+        SameAsDifference::Console(difference) => {
             push_text(bytes, ": console differs")?;
             push_bytes_difference(
                 bytes,
@@ -191,11 +191,11 @@ fn push_rows_difference(
                 difference,
             )
         }
-        SameDifference::Signature(difference) => {
+        SameAsDifference::Signature(difference) => {
             push_text(bytes, ": signature differs")?;
             push_signatures_difference(bytes, first, &row.signature, &other.signature, difference)
         }
-        SameDifference::Absent => push_text(bytes, ", which was not run"),
+        SameAsDifference::Absent => push_text(bytes, ", which was not run"),
     }
 }
 

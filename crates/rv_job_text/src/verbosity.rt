@@ -1,7 +1,7 @@
 //! How much is shown of rows.
 
 ghost use Rattle.std.specs.Prelude.{◌≡◌};
-ghost use Rattle.rv_expect.specs.Judgement.{is_failing, judged_of};
+ghost use Rattle.rv_expect.specs.Judgement.{is_failing, judgement_view};
 ghost use Rattle.rv_job_text.specs.RowReporter.{shows_row};
 
 use rv_expect::Judgement;
@@ -29,7 +29,7 @@ pub(crate) enum Detail {
 impl Verbosity {
     /// Whether this verbosity shows a row with this judgement: no row, only failures, or every row.
     pub(crate) fn shows_row(self, judgement: Judgement<'_>) -> bool
-        ensures { result ≡ shows_row self (is_failing (judged_of judgement.entry)) }
+        ensures { result ≡ shows_row self (is_failing (judgement_view judgement.entry)) }
     {
         match self {
             Verbosity::Quiet => false,

@@ -16,24 +16,24 @@ use Rattle.rv_jobs.specs.declared.answers.Answer.{Answer}
 use Rattle.rv_jobs.specs.declared.path_reading.Places.{Places}
 use Rattle.rv_lists.specs.Names.{index_in}
 use Rattle.rv_lists.specs.Files.{FileContents}
-use Rattle.rv_jobs.specs.Kept.{IsKeptOf, is_unreadable, faults_with}
+use Rattle.rv_jobs.specs.Kept.{AgreesWithContents, is_unreadable, faults_after_read}
 use Rattle.rv_lists.specs.Counts.{one_more}
 use Rattle.rv_lists.specs.Jobs.{console_path}
-use Rattle.rv_jobs.specs.Plans.{paths_of, answers_with, with_path, with_path_if, with_job, result_of_path}
-use Rattle.rv_jobs.specs.Plans.{AgreeWithContents, result_for_path, unreadable_count, one_more_times}
-use Rattle.rv_jobs.specs.Placed.{ArePlaced, IsFound}
+use Rattle.rv_jobs.specs.Plans.{paths_of, results_with, with_path, with_path_if_any, with_job_paths, result_of_path}
+use Rattle.rv_jobs.specs.Plans.{AgreeWithContents, result_or_unreadable, unreadable_count, after_increments}
+use Rattle.rv_jobs.specs.Placed.{AreResultIndices, IsFound}
 use Rattle.rv_lists.proofs.Public.{place_below, place_last}
 use Rattle.std.proofs.lemmas.Slice.Eq.{bytes_eq-Decides}
 
 -- ---- what is kept of a path
 
-answer_places_of_job : (b : Bool) (o : Option ℕ) (a : Answer) (ans : List Answer) (f : Option Answer) (k : ℕ) (d : Answer)
+result_indices_of_job : (b : Bool) (o : Option ℕ) (a : Answer) (ans : List Answer) (f : Option Answer) (k : ℕ) (d : Answer)
     → ((j : ℕ) → o ≡ Some j → option_map (λ (x : Answer). x.kept) f ≡ Some (get_or ans j d).kept)
     → cond b (Some 0) (option_map (λ j. j + 1) o) ≡ Some k
     → option_map (λ (x : Answer). x.kept) (cond b (Some a) f) ≡ Some (get_or (a ∷ ans) k d).kept
-answer_places_of_job true o a ans f k d ih e = let z : 0 ≡ k = cc in ap (λ j. Some (get_or (a ∷ ans) j d).kept) z
-answer_places_of_job false None a ans f k d ih e = cc
-answer_places_of_job false (Some j) a ans f k d ih e = let z : j + 1 ≡ k = cc in let s : suc j ≡ k = omega arith in ih j refl
+result_indices_of_job true o a ans f k d ih e = let z : 0 ≡ k = cc in ap (λ j. Some (get_or (a ∷ ans) j d).kept) z
+result_indices_of_job false None a ans f k d ih e = cc
+result_indices_of_job false (Some j) a ans f k d ih e = let z : j + 1 ≡ k = cc in let s : suc j ≡ k = omega arith in ih j refl
     ∙ ap (λ i. Some (get_or (a ∷ ans) i d).kept) s
 
 -- the answer at the place of the path
@@ -41,7 +41,7 @@ pub cached_or_invalidated_at : (ans : List Answer) (p : List ℕ) (k : ℕ) (d :
     → result_of_path ans p ≡ Some (get_or ans k d).kept
 unfolding index_in
 cached_or_invalidated_at [] p k d e = cc
-cached_or_invalidated_at (a ∷ ans) p k d e = answer_places_of_job (bytes_eq p a.path) (index_in (paths_of ans) p) a ans
+cached_or_invalidated_at (a ∷ ans) p k d e = result_indices_of_job (bytes_eq p a.path) (index_in (paths_of ans) p) a ans
     (find (λ (x : Answer). bytes_eq p x.path) ans) k d (λ j h. cached_or_invalidated_at ans p j d h) e
 
 absent : (b : Bool) (o : Option ℕ) (a : Answer) (f : Option Answer)
@@ -55,37 +55,37 @@ absent false (Some k) a f ih e = cc
 -- ---- paths beside what is kept of them
 
 pub paths-with : (ps : List (List ℕ)) (ks : List Kept) → length ps ≡ length ks
-    → paths_of (answers_with ps ks) ≡ ps
+    → paths_of (results_with ps ks) ≡ ps
 paths-with [] ks e = refl
 paths-with (p ∷ ps) [] e = absurd (omega arith)
 paths-with (p ∷ ps) (k ∷ ks) e = ap (λ l. p ∷ l) (paths-with ps ks (omega arith))
 
 pub kept-with : (ps : List (List ℕ)) (ks : List Kept) → length ps ≡ length ks
-    → ks ≡ map (λ (a : Answer). a.kept) (answers_with ps ks)
+    → ks ≡ map (λ (a : Answer). a.kept) (results_with ps ks)
 kept-with [] [] e = refl
 kept-with [] (k ∷ ks) e = absurd (omega arith)
 kept-with (p ∷ ps) [] e = absurd (omega arith)
 kept-with (p ∷ ps) (k ∷ ks) e = ap (λ l. k ∷ l) (kept-with ps ks (omega arith))
 
 with-push : (ps : List (List ℕ)) (ks : List Kept) (p : List ℕ) (k : Kept) → length ps ≡ length ks
-    → answers_with (ps ++ p ∷ []) (ks ++ k ∷ []) ≡ answers_with ps ks ++ record { path = p; kept = k } ∷ []
+    → results_with (ps ++ p ∷ []) (ks ++ k ∷ []) ≡ results_with ps ks ++ record { path = p; kept = k } ∷ []
 with-push [] [] p k e = refl
 with-push [] (x ∷ xs) p k e = absurd (omega arith)
 with-push (q ∷ qs) [] p k e = absurd (omega arith)
 with-push (q ∷ qs) (x ∷ xs) p k e =
     ap (λ l. record { path = q; kept = x } ∷ l) (with-push qs xs p k (omega arith))
 
-with-parts : (all : List Answer) → answers_with (paths_of all) (map (λ (a : Answer). a.kept) all) ≡ all
+with-parts : (all : List Answer) → results_with (paths_of all) (map (λ (a : Answer). a.kept) all) ≡ all
 with-parts [] = refl
 with-parts (a ∷ rest) = ap (λ l. a ∷ l) (with-parts rest)
 
 pub parts_whole : (all : List Answer) (ps : List (List ℕ)) (ks : List Kept) → paths_of all ≡ ps
-    → ks ≡ map (λ (a : Answer). a.kept) all → answers_with ps ks ≡ all
-parts_whole all ps ks e f = (λ i. answers_with (sym e i) (f i)) ∙ with-parts all
+    → ks ≡ map (λ (a : Answer). a.kept) all → results_with ps ks ≡ all
+parts_whole all ps ks e f = (λ i. results_with (sym e i) (f i)) ∙ with-parts all
 
 with-at : (ps : List (List ℕ)) (ks : List Kept) (i : ℕ) (d : Answer) (k : Kept) → length ps ≡ length ks
     → i < length ks
-    → (get_or (answers_with ps ks) i d).kept ≡ get_or ks i k
+    → (get_or (results_with ps ks) i d).kept ≡ get_or ks i k
 with-at ps [] i d k e l = absurd (omega arith)
 with-at [] (x ∷ xs) i d k e l = absurd (omega arith)
 with-at (p ∷ ps) (x ∷ xs) zero d k e l = refl
@@ -138,11 +138,11 @@ below_length (Some j) k n m e is h = let z : k ≡ j = cc in omega arith
 abbrev pub one_answer : List Answer → List ℕ → Kept → List Answer
 one_answer old p kept = old ++ record { path = p; kept = kept } ∷ []
 
-counted_at : (b : Bool) (n u before after : ℕ) → before ≡ one_more_times n u → after ≡ cond b (one_more before) before
-    → after ≡ one_more_times n (u + cond b 1 0)
-unfolding one_more_times
-counted_at true n u before after e f = f ∙ ap one_more e ∙ ap (one_more_times n) (let s : suc u ≡ u + 1 = omega arith in s)
-counted_at false n u before after e f = f ∙ e ∙ ap (one_more_times n) (let s : u ≡ u + 0 = omega arith in s)
+counted_at : (b : Bool) (n u before after : ℕ) → before ≡ after_increments n u → after ≡ cond b (one_more before) before
+    → after ≡ after_increments n (u + cond b 1 0)
+unfolding after_increments
+counted_at true n u before after e f = f ∙ ap one_more e ∙ ap (after_increments n) (let s : suc u ≡ u + 1 = omega arith in s)
+counted_at false n u before after e f = f ∙ e ∙ ap (after_increments n) (let s : u ≡ u + 0 = omega arith in s)
 
 never_some : (o : Option ℕ) → ((k : ℕ) → o ≡ Some k → ⊥) → o ≡ None
 never_some None h = refl
@@ -165,7 +165,7 @@ new_place xs ys p at none pushed is =
 -- the paths and what is kept of them, with one of each more
 module _ (ps qs : List (List ℕ)) (ks ms : List Kept) (p : List ℕ) (kept : Kept) (even : length ps ≡ length ks)
     (pathed : qs ≡ ps ++ p ∷ []) (pushed : ms ≡ ks ++ kept ∷ []) (old : List Answer)
-    (view : answers_with ps ks ≡ old) where
+    (view : results_with ps ks ≡ old) where
   pub still_even : length qs ≡ length ms
   still_even = omega (
     arith,
@@ -176,50 +176,50 @@ module _ (ps qs : List (List ℕ)) (ks ms : List Kept) (p : List ℕ) (kept : Ke
         {A = Kept} ks (kept ∷ []),
   )
 
-  grown : answers_with qs ms ≡ one_answer old p kept
-  grown = (λ i. answers_with (pathed i) (pushed i)) ∙ with-push ps ks p kept even
+  grown : results_with qs ms ≡ one_answer old p kept
+  grown = (λ i. results_with (pathed i) (pushed i)) ∙ with-push ps ks p kept even
       ∙ ap (λ (l : List Answer). one_answer l p kept) view
 
-  pub asked_paths : index_in ps p ≡ None → paths_of (answers_with qs ms) ≡ with_path (paths_of old) p
+  pub asked_paths : index_in ps p ≡ None → paths_of (results_with qs ms) ≡ with_path (paths_of old) p
   asked_paths none =
       let same_paths : paths_of old ≡ ps = ap paths_of (sym view) ∙ paths-with ps ks even in
       ap paths_of grown ∙ map-append (λ (x : Answer). x.path) old (record { path = p; kept = kept } ∷ [])
       ∙ with_path-new (paths_of old) p (ap is_some (ap (λ l. index_in l p) same_paths ∙ none))
 
   pub asked_place : (at : ℕ) → index_in ps p ≡ None → at ≡ length ks
-      → index_in (paths_of (answers_with qs ms)) p ≡ Some at
+      → index_in (paths_of (results_with qs ms)) p ≡ Some at
   asked_place at none is =
-      new_place ps (paths_of (answers_with qs ms)) p at none (paths-with qs ms still_even ∙ pathed) (is ∙ sym even)
+      new_place ps (paths_of (results_with qs ms)) p at none (paths-with qs ms still_even ∙ pathed) (is ∙ sym even)
 
-  pub asked_kept : (known : Option FileContents) → IsKeptOf known p kept → AgreeWithContents known old
-      → AgreeWithContents known (answers_with qs ms)
+  pub asked_kept : (known : Option FileContents) → AgreesWithContents known p kept → AgreeWithContents known old
+      → AgreeWithContents known (results_with qs ms)
   asked_kept known is before = subst (AgreeWithContents known) (sym grown)
-      (All-push (λ (x : Answer). IsKeptOf known x.path x.kept) old (record { path = p; kept = kept }) before is)
+      (All-push (λ (x : Answer). AgreesWithContents known x.path x.kept) old (record { path = p; kept = kept }) before is)
 
-  pub asked_faults : (n before after : ℕ) → before ≡ one_more_times n (unreadable_count old)
-      → after ≡ faults_with kept before
-      → after ≡ one_more_times n (unreadable_count (answers_with qs ms))
+  pub asked_faults : (n before after : ℕ) → before ≡ after_increments n (unreadable_count old)
+      → after ≡ faults_after_read kept before
+      → after ≡ after_increments n (unreadable_count (results_with qs ms))
   asked_faults n before after b f =
       let more_one : unreadable_count (one_answer old p kept) ≡ unreadable_count old + cond (is_unreadable kept) 1 0 =
       sum_by-append (λ (x : Answer). cond (is_unreadable x.kept) 1 0) old (record { path = p; kept = kept } ∷ [])
       ∙ ap (λ k. unreadable_count old + k)
       (let z : 0 + cond (is_unreadable kept) 1 0 ≡ cond (is_unreadable kept) 1 0 = omega arith in z) in
       counted_at (is_unreadable kept) n (unreadable_count old) before after b f
-      ∙ ap (one_more_times n) (sym more_one ∙ sym (ap unreadable_count grown))
+      ∙ ap (after_increments n) (sym more_one ∙ sym (ap unreadable_count grown))
 
 -- ---- the places of a job's answers
 
-with_path_if-place : (xs : List (List ℕ)) (o : Option (List ℕ)) (q : List ℕ) (k : ℕ)
+with_path_if_any-place : (xs : List (List ℕ)) (o : Option (List ℕ)) (q : List ℕ) (k : ℕ)
     → index_in xs q ≡ Some k
-    → index_in (with_path_if xs o) q ≡ Some k
-with_path_if-place xs None q k h = h
-with_path_if-place xs (Some p) q k h = keeps_place xs p q k h
+    → index_in (with_path_if_any xs o) q ≡ Some k
+with_path_if_any-place xs None q k h = h
+with_path_if_any-place xs (Some p) q k h = keeps_place xs p q k h
 
-with_job-place : (xs : List (List ℕ)) (j : Job) (q : List ℕ) (k : ℕ) → index_in xs q ≡ Some k
-    → index_in (with_job xs j) q ≡ Some k
-with_job-place xs j q k h =
-    with_path_if-place (with_path_if (with_path xs j.image) j.expect_signature) (console_path j.expect_console) q k
-    (with_path_if-place (with_path xs j.image) j.expect_signature q k (keeps_place xs j.image q k h))
+with_job_paths-place : (xs : List (List ℕ)) (j : Job) (q : List ℕ) (k : ℕ) → index_in xs q ≡ Some k
+    → index_in (with_job_paths xs j) q ≡ Some k
+with_job_paths-place xs j q k h =
+    with_path_if_any-place (with_path_if_any (with_path xs j.image) j.expect_signature) (console_path j.expect_console) q k
+    (with_path_if_any-place (with_path xs j.image) j.expect_signature q k (keeps_place xs j.image q k h))
 
 reference_later : (xs ys : List (List ℕ))
     → ((q : List ℕ) (k : ℕ) → index_in xs q ≡ Some k → index_in ys q ≡ Some k)
@@ -233,14 +233,14 @@ reference_later xs ys still (Some q) (Some k) e = let h : index_in xs q ≡ Some
     ap (λ o. Some o) (still q k h)
 
 -- the answers of one job more leave the places of a job as they are
-pub placed_later : (xs : List (List ℕ)) (other job : Job) (at : Places) → ArePlaced xs job at
-    → ArePlaced (with_job xs other) job at
+pub placed_later : (xs : List (List ℕ)) (other job : Job) (at : Places) → AreResultIndices xs job at
+    → AreResultIndices (with_job_paths xs other) job at
 placed_later xs other job at h = record {
-  image = with_job-place xs other job.image at.image h.image;
+  image = with_job_paths-place xs other job.image at.image h.image;
   reference =
-      reference_later xs (with_job xs other) (with_job-place xs other) job.expect_signature at.reference h.reference;
+      reference_later xs (with_job_paths xs other) (with_job_paths-place xs other) job.expect_signature at.reference h.reference;
   console =
-      reference_later xs (with_job xs other) (with_job-place xs other) (console_path job.expect_console) at.console
+      reference_later xs (with_job_paths xs other) (with_job_paths-place xs other) (console_path job.expect_console) at.console
       h.console;
 }
 
@@ -249,14 +249,14 @@ pub placed_all : (xs ys zs : List (List ℕ)) (job : Job) (image : ℕ) (referen
     (r c : Option (List ℕ)) → p ≡ job.image → r ≡ job.expect_signature
     → c ≡ console_path job.expect_console
     → index_in xs p ≡ Some image
-    → ys ≡ with_path_if xs r → option_map (index_in ys) r ≡ option_map (λ k. Some k) reference
-    → zs ≡ with_path_if ys c → option_map (index_in zs) c ≡ option_map (λ k. Some k) console
-    → ArePlaced zs job (record { image = image; reference = reference; console = console })
-placed_all xs ys zs job image reference console p r c is_p is_r is_c found grown there one_more_times last =
+    → ys ≡ with_path_if_any xs r → option_map (index_in ys) r ≡ option_map (λ k. Some k) reference
+    → zs ≡ with_path_if_any ys c → option_map (index_in zs) c ≡ option_map (λ k. Some k) console
+    → AreResultIndices zs job (record { image = image; reference = reference; console = console })
+placed_all xs ys zs job image reference console p r c is_p is_r is_c found grown there after_increments last =
     let later : (q : List ℕ) (k : ℕ) → index_in xs q ≡ Some k → index_in ys q ≡ Some k =
-    λ q k h. ap (λ ws. index_in ws q) grown ∙ with_path_if-place xs r q k h in
+    λ q k h. ap (λ ws. index_in ws q) grown ∙ with_path_if_any-place xs r q k h in
     let last_too : (q : List ℕ) (k : ℕ) → index_in ys q ≡ Some k → index_in zs q ≡ Some k =
-    λ q k h. ap (λ ws. index_in ws q) one_more_times ∙ with_path_if-place ys c q k h in
+    λ q k h. ap (λ ws. index_in ws q) after_increments ∙ with_path_if_any-place ys c q k h in
     record {
       image = last_too job.image image (later job.image image (ap (index_in xs) (sym is_p) ∙ found));
       reference = ap (option_map (index_in zs)) (sym is_r) ∙ reference_later ys zs last_too r reference there;
@@ -270,10 +270,10 @@ place_within : (xs : List (List ℕ)) (q : List ℕ) (k n : ℕ) → length xs �
 place_within xs q k n e is = below_length (index_in xs q) k (length xs) n e (sym is) (place_below xs q)
 
 kept_there : (ps : List (List ℕ)) (ks : List Kept) (q : List ℕ) (k : ℕ) (x : Kept) → length ps ≡ length ks
-    → index_in ps q ≡ Some k → x ≡ get_or ks k x → result_of_path (answers_with ps ks) q ≡ Some x
+    → index_in ps q ≡ Some k → x ≡ get_or ks k x → result_of_path (results_with ps ks) q ≡ Some x
 kept_there ps ks q k x even found is =
     let d : Answer = record { path = q; kept = x } in
-    cached_or_invalidated_at (answers_with ps ks) q k d (ap (λ l. index_in l q) (paths-with ps ks even) ∙ found)
+    cached_or_invalidated_at (results_with ps ks) q k d (ap (λ l. index_in l q) (paths-with ps ks even) ∙ found)
     ∙ ap (λ (y : Kept). Some y) (with-at ps ks k d x even (place_within ps q k (length ks) even found) ∙ sym is)
 
 -- a path that has no place has no answer
@@ -285,7 +285,7 @@ kept_none (a ∷ ans) p e = absent (bytes_eq p a.path) (index_in (paths_of ans) 
 
 -- what is kept of the path that has this place, or none
 module _ (all : List Answer) (ps : List (List ℕ)) (ks : List Kept) (even : length ps ≡ length ks)
-    (view : answers_with ps ks ≡ all) (at : Option ℕ) where
+    (view : results_with ps ks ≡ all) (at : Option ℕ) where
   pub kept_below : (k : ℕ) → at ≡ Some k → IfSome at (λ j. j < length all) → k < length ks
   kept_below k is within =
       let below : k < length all = subst (λ o. IfSome o (λ j. j < length all)) is within in
@@ -294,7 +294,7 @@ module _ (all : List Answer) (ps : List (List ℕ)) (ks : List Kept) (even : len
         below,
         ap length (sym view),
         ap (length {A = Kept}) (kept-with ps ks even),
-        length-map (answers_with ps ks) (λ (a : Answer). a.kept),
+        length-map (results_with ps ks) (λ (a : Answer). a.kept),
       )
 
   same_place : (p : List ℕ) → index_in (paths_of all) p ≡ at → index_in ps p ≡ at
@@ -302,24 +302,24 @@ module _ (all : List Answer) (ps : List (List ℕ)) (ks : List Kept) (even : len
 
   pub kept_in : (k : ℕ) (x : Kept) (p : List ℕ) → at ≡ Some k → x ≡ get_or ks k x
       → index_in (paths_of all) p ≡ at
-      → x ≡ result_for_path all p
+      → x ≡ result_or_unreadable all p
   kept_in k x p is there placed =
-      sym (ap (λ (a : List Answer). result_for_path a p) (sym view)
+      sym (ap (λ (a : List Answer). result_or_unreadable a p) (sym view)
       ∙ ap (λ o. unwrap_or o Unreadable) (kept_there ps ks p k x even (same_place p placed ∙ is) there))
 
   pub kept_not_in : (x : Kept) (p : List ℕ) → at ≡ None → x ≡ Unreadable → index_in (paths_of all) p ≡ at
-      → x ≡ result_for_path all p
+      → x ≡ result_or_unreadable all p
   kept_not_in x p is unread placed =
       unread ∙ sym (ap (λ o. unwrap_or o Unreadable) (kept_none all p (placed ∙ is)))
 
 -- the place of a path that has an answer is one of theirs
 pub path_below : (all : List Answer) (ps : List (List ℕ)) (ks : List Kept) → length ps ≡ length ks
-    → answers_with ps ks ≡ all → (p : List ℕ) (at : Option ℕ) → index_in ps p ≡ at
+    → results_with ps ks ≡ all → (p : List ℕ) (at : Option ℕ) → index_in ps p ≡ at
     → IfSome at (λ k. k < length all)
 path_below all ps ks even view p at placed =
     subst (λ o. IfSome o (λ k. k < length all)) placed
     (subst (λ n. IfSome (index_in ps p) (λ k. k < n))
-    (sym (ap length (paths-with ps ks even)) ∙ length-map (answers_with ps ks) (λ (a : Answer). a.path)
+    (sym (ap length (paths-with ps ks even)) ∙ length-map (results_with ps ks) (λ (a : Answer). a.path)
     ∙ ap length view)
     (place_below ps p))
 
@@ -331,7 +331,7 @@ found_if xs None (Some k) e = cc
 found_if xs (Some q) None e = cc
 found_if xs (Some q) (Some k) e = cc
 
-pub placed_found : (xs : List (List ℕ)) (job : Job) (at : Places) → ArePlaced xs job at
+pub placed_found : (xs : List (List ℕ)) (job : Job) (at : Places) → AreResultIndices xs job at
     → IsFound xs job (record { image = Some at.image; reference = at.reference; console = at.console })
 placed_found xs job at h = record {
   image = h.image;
@@ -345,6 +345,6 @@ module _ (ans : List Answer) (e : ans ≡ []) where
   pub start_kept : (known : Option FileContents) → AgreeWithContents known ans
   start_kept known = subst (AgreeWithContents known) (sym e) (λ k d l. absurd (omega arith))
 
-  pub start_faults : (n : ℕ) → n ≡ one_more_times n (unreadable_count ans)
-  unfolding one_more_times
-  start_faults n = ap (λ a. one_more_times n (unreadable_count a)) (sym e)
+  pub start_faults : (n : ℕ) → n ≡ after_increments n (unreadable_count ans)
+  unfolding after_increments
+  start_faults n = ap (λ a. after_increments n (unreadable_count a)) (sym e)

@@ -9,60 +9,60 @@ use Rattle.std.proofs.Common.{◌+◌, ◌++◌}
 use Rattle.rv_lists.specs.declared.job.Job.{Job}
 use Rattle.rv_jobs.specs.declared.path_reading.Places.{Places}
 use Rattle.rv_jobs.specs.declared.path_reading.Found.{Found}
-use Rattle.rv_jobs.specs.Placed.{ArePlaced, AreNoted, IsFound}
-use Rattle.rv_jobs.specs.Plans.{with_job}
+use Rattle.rv_jobs.specs.Placed.{AreResultIndices, AreRecorded, IsFound}
+use Rattle.rv_jobs.specs.Plans.{with_job_paths}
 use Rattle.rv_jobs.proofs.Answering.{placed_later}
 use Rattle.rv_jobs.proofs.Needing.{placed_old}
 
 old_at : (xs : List (List ℕ)) (job : Job) (o : Option Places) → is_some o ≡ true
-    → IfSome o (λ at. ArePlaced xs job at) → xs ≡ with_job xs job
+    → IfSome o (λ at. AreResultIndices xs job at) → xs ≡ with_job_paths xs job
 old_at xs job None e h = cc
 old_at xs job (Some at) e h = sym (placed_old xs job at h)
 
 of_one : (xs : List (List ℕ)) (jobs : List Job) (i : ℕ) (d : Job) (o : Option Places)
-    → IfSome o (λ at. (d : Job) → ArePlaced xs (get_or jobs i d) at)
-    → IfSome o (λ at. ArePlaced xs (get_or jobs i d) at)
+    → IfSome o (λ at. (d : Job) → AreResultIndices xs (get_or jobs i d) at)
+    → IfSome o (λ at. AreResultIndices xs (get_or jobs i d) at)
 of_one xs jobs i d None h = tt
 of_one xs jobs i d (Some at) h = h d
 
 -- a job whose places are noted adds no path
 pub noted_old : (xs : List (List ℕ)) (jobs : List Job) (noted : List (Option Places)) (i : ℕ) (d : Job)
-    (o : Option Places) → AreNoted xs jobs noted → i < length jobs → o ≡ get_or noted i o → is_some o ≡ true
-    → xs ≡ with_job xs (get_or jobs i d)
+    (o : Option Places) → AreRecorded xs jobs noted → i < length jobs → o ≡ get_or noted i o → is_some o ≡ true
+    → xs ≡ with_job_paths xs (get_or jobs i d)
 noted_old xs jobs noted i d o are inside there e =
     let same : o ≡ get_or noted i None = there ∙ get_or_default noted i o None
     (subst (λ n. i < n) (sym are.many) inside) in
     old_at xs (get_or jobs i d) o e
-    (of_one xs jobs i d o (subst (λ p. IfSome p (λ at. (d : Job) → ArePlaced xs (get_or jobs i d) at)) (sym same)
+    (of_one xs jobs i d o (subst (λ p. IfSome p (λ at. (d : Job) → AreResultIndices xs (get_or jobs i d) at)) (sym same)
     (are.each i)))
 
 later_one : (xs : List (List ℕ)) (jobs : List Job) (other : Job) (i : ℕ) (o : Option Places)
-    → IfSome o (λ at. (d : Job) → ArePlaced xs (get_or jobs i d) at)
-    → IfSome o (λ at. (d : Job) → ArePlaced (with_job xs other) (get_or jobs i d) at)
+    → IfSome o (λ at. (d : Job) → AreResultIndices xs (get_or jobs i d) at)
+    → IfSome o (λ at. (d : Job) → AreResultIndices (with_job_paths xs other) (get_or jobs i d) at)
 later_one xs jobs other i None h = tt
 later_one xs jobs other i (Some at) h = λ d. placed_later xs other (get_or jobs i d) at (h d)
 
 -- one job's places more
 module _ (xs ys : List (List ℕ)) (jobs : List Job) (noted : List (Option Places)) (i : ℕ) (job : Job) (at : Places)
-    (are : AreNoted xs jobs noted) (inside : i < length jobs) (is : job ≡ get_or jobs i job)
-    (grown : ys ≡ with_job xs job) (placed : ArePlaced ys job at) where
+    (are : AreRecorded xs jobs noted) (inside : i < length jobs) (is : job ≡ get_or jobs i job)
+    (grown : ys ≡ with_job_paths xs job) (placed : AreResultIndices ys job at) where
   below : i < length noted
   below = subst (λ n. i < n) (sym are.many) inside
 
   at_itself : IfSome (get_or (slice_set noted i (Some at)) i None)
-      (λ a. (d : Job) → ArePlaced ys (get_or jobs i d) a)
-  at_itself = subst (λ o. IfSome o (λ a. (d : Job) → ArePlaced ys (get_or jobs i d) a))
+      (λ a. (d : Job) → AreResultIndices ys (get_or jobs i d) a)
+  at_itself = subst (λ o. IfSome o (λ a. (d : Job) → AreResultIndices ys (get_or jobs i d) a))
       (sym (get_or-set_same noted i (Some at) None below))
-      (λ d. subst (λ j. ArePlaced ys j at) (is ∙ get_or_default jobs i job d inside) placed)
+      (λ d. subst (λ j. AreResultIndices ys j at) (is ∙ get_or_default jobs i job d inside) placed)
 
   at_other : (k : ℕ) → (k ≡ i → ⊥) → IfSome (get_or (slice_set noted i (Some at)) k None)
-      (λ a. (d : Job) → ArePlaced ys (get_or jobs k d) a)
-  at_other k apart = subst (λ o. IfSome o (λ a. (d : Job) → ArePlaced ys (get_or jobs k d) a))
+      (λ a. (d : Job) → AreResultIndices ys (get_or jobs k d) a)
+  at_other k apart = subst (λ o. IfSome o (λ a. (d : Job) → AreResultIndices ys (get_or jobs k d) a))
       (sym (get_or-set_other noted i k (Some at) None apart))
-      (subst (λ zs. IfSome (get_or noted k None) (λ a. (d : Job) → ArePlaced zs (get_or jobs k d) a)) (sym grown)
+      (subst (λ zs. IfSome (get_or noted k None) (λ a. (d : Job) → AreResultIndices zs (get_or jobs k d) a)) (sym grown)
       (later_one xs jobs job k (get_or noted k None) (are.each k)))
 
-  pub noted_more : AreNoted ys jobs (slice_set noted i (Some at))
+  pub noted_more : AreRecorded ys jobs (slice_set noted i (Some at))
   noted_more = record {
     many = length-set noted i (Some at) ∙ are.many;
     each = λ k. elim (cases_lt k i) [
@@ -72,7 +72,7 @@ module _ (xs ys : List (List ℕ)) (jobs : List Job) (noted : List (Option Place
         | inr not_above ↦
             let same : i ≡ k = omega arith in
             subst (λ n. IfSome (get_or (slice_set noted i (Some at)) n None)
-            (λ a. (d : Job) → ArePlaced ys (get_or jobs n d) a)) same at_itself
+            (λ a. (d : Job) → AreResultIndices ys (get_or jobs n d) a)) same at_itself
       ]
     ];
   }

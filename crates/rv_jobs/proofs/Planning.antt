@@ -9,11 +9,11 @@ use Rattle.rv_jobs.specs.declared.plan.Plan.TheInside.{Inside}
 use Rattle.rv_lists.specs.Jobs.{single_job}
 use Rattle.rv_lists.specs.Names.{index_in}
 use Rattle.rv_jobs.specs.Placed.{IsFound}
-use Rattle.rv_jobs.specs.PlanInside.{IsPlanInside, paths_read, plan_view}
-use Rattle.rv_jobs.specs.Plans.{Planned, paths_of, result_for_path}
+use Rattle.rv_jobs.specs.PlanInside.{IsValidPlan, paths_read, plan_view}
+use Rattle.rv_jobs.specs.Plans.{Planned, paths_of, result_or_unreadable}
 use Rattle.rv_jobs.proofs.Answering.{paths-with, path_below}
 
-module _ (a : Inside) (is : IsPlanInside a) (p : Planned) (view : plan_view a ≡ p) (i : ℕ) (within : i < length p.jobs)
+module _ (a : Inside) (is : IsValidPlan a) (p : Planned) (view : plan_view a ≡ p) (i : ℕ) (within : i < length p.jobs)
     (at : Found) (there : at ≡ get_or a.found.items i at) where
   inside : i < length a.jobs
   inside = subst (λ (q : Planned). i < length q.jobs) (sym view) within
@@ -47,8 +47,8 @@ module _ (a : Inside) (is : IsPlanInside a) (p : Planned) (view : plan_view a �
     named_within = within_if (named (get_or a.jobs i (single_job [] 0 []))) (placed (single_job [] 0 []))
 
     pub named_kept : (job : Job) (path : List ℕ) (kept : Kept) → job ≡ get_or p.jobs i job → named job ≡ Some path
-        → ((q : List ℕ) → index_in (paths_of p.answers) q ≡ place → kept ≡ result_for_path p.answers q) → (d : Job)
-        → Some kept ≡ option_map (result_for_path p.answers) (named (get_or p.jobs i d))
+        → ((q : List ℕ) → index_in (paths_of p.answers) q ≡ place → kept ≡ result_or_unreadable p.answers q) → (d : Job)
+        → Some kept ≡ option_map (result_or_unreadable p.answers) (named (get_or p.jobs i d))
     named_kept job path kept job_is names told d =
         let same : named (get_or p.jobs i d) ≡ Some path =
         ap named (sym (job_is ∙ get_or_default p.jobs i job d within)) ∙ names in
@@ -58,4 +58,4 @@ module _ (a : Inside) (is : IsPlanInside a) (p : Planned) (view : plan_view a �
         (ap (λ l. option_and_then (index_in l) (named (get_or a.jobs i d)))
         (paths-with (paths_read a) a.answers.items is.even) ∙ placed d) in
         ap (λ k. Some k) (told path (sym (ap (option_and_then (index_in (paths_of p.answers))) same) ∙ stands))
-        ∙ sym (ap (option_map (result_for_path p.answers)) same)
+        ∙ sym (ap (option_map (result_or_unreadable p.answers)) same)

@@ -13,13 +13,13 @@ is_unreadable Unreadable = true
 is_unreadable _ = false
 
 -- the number of unreadable files after a read with this result, if it was `n` before the read
-abbrev pub faults_with : Kept → ℕ → ℕ
-faults_with kept n = if is_unreadable kept then one_more n else n
+abbrev pub faults_after_read : Kept → ℕ → ℕ
+faults_after_read kept n = if is_unreadable kept then one_more n else n
 
 -- the result of reading a path agrees with the contents of the files, if these are known
-abbrev pub IsKeptOf : Option FileContents → List ℕ → Kept → Type 0
-IsKeptOf known path (Content bytes) =
+abbrev pub AgreesWithContents : Option FileContents → List ℕ → Kept → Type 0
+AgreesWithContents known path (Content bytes) =
     (length bytes ≤ most_bytes) × IfSome known (λ files. files path ≡ Some bytes)
-IsKeptOf known path TooLong =
+AgreesWithContents known path TooLong =
     IfSome known (λ files. IsSomeAnd (files path) (λ bytes. most_bytes < length bytes))
-IsKeptOf known path Unreadable = Unit {0}
+AgreesWithContents known path Unreadable = Unit {0}

@@ -8,7 +8,7 @@ use Rattle.rv_lists.specs.Names.{index_in}
 use Rattle.rv_lists.specs.Jobs.{console_path}
 
 -- each path of the job is in `paths`, and `at` has its index there
-pub record ArePlaced (paths : List (List ℕ)) (job : Job) (at : Places) : Type 0 where
+pub record AreResultIndices (paths : List (List ℕ)) (job : Job) (at : Places) : Type 0 where
   pub image : index_in paths job.image ≡ Some at.image
   pub reference :
       option_map (index_in paths) job.expect_signature ≡ option_map (λ k. Some k) at.reference
@@ -17,11 +17,11 @@ pub record ArePlaced (paths : List (List ℕ)) (job : Job) (at : Places) : Type 
       ≡ option_map (λ k. Some k) at.console
 
 -- each entry of `noted` has the indices in `paths` of the paths of one job, or is empty
-pub record AreNoted (paths : List (List ℕ)) (jobs : List Job)
+pub record AreRecorded (paths : List (List ℕ)) (jobs : List Job)
     (noted : List (Option Places)) : Type 0 where
   pub many : length noted ≡ length jobs
   pub each : (i : ℕ) → IfSome (slice_index_or noted i None)
-      (λ at. (d : Job) → ArePlaced paths (slice_index_or jobs i d) at)
+      (λ at. (d : Job) → AreResultIndices paths (slice_index_or jobs i d) at)
 
 -- `at` has, for each path of the job, its index in `paths`, or `None` if it is not in `paths`
 pub record IsFound (paths : List (List ℕ)) (job : Job) (at : Found) : Type 0 where
@@ -30,7 +30,7 @@ pub record IsFound (paths : List (List ℕ)) (job : Job) (at : Found) : Type 0 w
   pub console : option_and_then (index_in paths) (console_path job.expect_console) ≡ at.console
 
 -- `found` has, for each path of each job, its index in `paths`, or `None` if it is not in `paths`
-pub record AreFound (paths : List (List ℕ)) (jobs : List Job) (found : List Found) : Type 0 where
+pub record ArePartialResultIndicesOfJobs (paths : List (List ℕ)) (jobs : List Job) (found : List Found) : Type 0 where
   pub many : length found ≡ length jobs
   pub each : (i : ℕ) (d : Job) (e : Found) → i < length jobs
       → IsFound paths (slice_index_or jobs i d) (slice_index_or found i e)

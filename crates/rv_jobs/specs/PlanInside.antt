@@ -2,9 +2,9 @@
 use Rattle.std.specs.Prelude.{◌≡◌, List, ℕ, length}
 use Rattle.rv_jobs.specs.declared.plan.Plan.TheInside.{Inside}
 use Rattle.rv_jobs.specs.declared.kept.Kept.TheVariants.{Unreadable}
-use Rattle.rv_lists.specs.Jobs.{AreJobs}
-use Rattle.rv_jobs.specs.Placed.{AreFound}
-use Rattle.rv_jobs.specs.Plans.{Planned, paths_used, jobs_needed_for, answers_with}
+use Rattle.rv_lists.specs.Jobs.{AreValidJobs}
+use Rattle.rv_jobs.specs.Placed.{ArePartialResultIndicesOfJobs}
+use Rattle.rv_jobs.specs.Plans.{Planned, paths_used, jobs_needed_for, results_with}
 
 -- the paths that were read for a plan, in order of first use
 abbrev pub paths_read : Inside → List (List ℕ)
@@ -12,12 +12,12 @@ paths_read a = paths_used (jobs_needed_for a.jobs a.chosen.items)
 
 -- what contracts see of a plan with these fields
 abbrev pub plan_view : Inside → Planned
-plan_view a = record { jobs = a.jobs; answers = answers_with (paths_read a) a.answers.items }
+plan_view a = record { jobs = a.jobs; answers = results_with (paths_read a) a.answers.items }
 
 -- the invariant of the fields of a plan: the jobs form a valid list, there is one result for each path that was read, and each job has the
 -- indices of its results
-pub record IsPlanInside (a : Inside) : Type 0 where
-  pub jobs : AreJobs a.jobs
+pub record IsValidPlan (a : Inside) : Type 0 where
+  pub jobs : AreValidJobs a.jobs
   pub even : length (paths_read a) ≡ length a.answers.items
-  pub found : AreFound (paths_read a) a.jobs a.found.items
+  pub found : ArePartialResultIndicesOfJobs (paths_read a) a.jobs a.found.items
   pub unread : a.unread ≡ Unreadable

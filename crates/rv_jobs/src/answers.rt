@@ -2,7 +2,7 @@
 
 ghost use Rattle.std.specs.Prelude.{◌≡◌, ℕ, [], IfOk, Some, map};
 ghost use Rattle.rv_lists.specs.Names.{index_in};
-ghost use Rattle.rv_jobs.specs.Plans.{paths_of, with_path, AgreeWithContents, unreadable_count, one_more_times};
+ghost use Rattle.rv_jobs.specs.Plans.{paths_of, with_path, AgreeWithContents, unreadable_count, after_increments};
 
 use crate::kept::{Kept, read_path};
 use rv_lists::{Store, Text};
@@ -33,11 +33,11 @@ impl<'a> Model for Answers<'a> {
 
     ghost Value = { List Answer };
 
-    ghost use Rattle.rv_jobs.specs.AnswersInside.{answers_of, IsAnswersInside};
+    ghost use Rattle.rv_jobs.specs.AnswersInside.{results_of, IsValidPathResults};
 
-    ghost view = { answers_of };
+    ghost view = { results_of };
 
-    ghost invariant = { IsAnswersInside };
+    ghost invariant = { IsValidPathResults };
 }
 
 impl<'a> Answers<'a> {
@@ -67,8 +67,8 @@ impl<'a> Answers<'a> {
         ensures place { IfOk result (λ a. index_in (paths_of a.0) path.now ≡ Some a.1) }
         ensures kept { AgreeWithContents (S.contents store.old) self.entry
             → IfOk result (λ a. AgreeWithContents (S.contents store.old) a.0) }
-        ensures faults { (n : ℕ) → S.faulted store.old ≡ one_more_times n (unreadable_count self.entry)
-            → IfOk result (λ a. S.faulted store.new ≡ one_more_times n (unreadable_count a.0)) }
+        ensures faults { (n : ℕ) → S.faulted store.old ≡ after_increments n (unreadable_count self.entry)
+            → IfOk result (λ a. S.faulted store.new ≡ after_increments n (unreadable_count a.0)) }
     {
         let Answers {
             mut answers,
@@ -97,7 +97,7 @@ impl<'a> Answers<'a> {
     }
 
     /// Returns the index of the result for a path, or `None` if it has none.
-    pub(crate) fn place_of_path(&self, path: &str) -> Option<usize>
+    pub(crate) fn index_of_path(&self, path: &str) -> Option<usize>
         ensures { result ≡ index_in (paths_of self.now) path.now }
     {
         let _ = &self.paths;
@@ -105,7 +105,7 @@ impl<'a> Answers<'a> {
     }
 
     /// Returns the results in the order in which the paths were read.
-    pub(crate) fn into_kept(self) -> Vec<Kept>
+    pub(crate) fn into_results(self) -> Vec<Kept>
         ensures { result.items ≡ map (λ a. a.kept) self.entry }
     {
         self.answers

@@ -1,7 +1,7 @@
 //! The result of reading a path.
 
 ghost use Rattle.std.specs.Prelude.{◌≡◌, IfOk};
-ghost use Rattle.rv_jobs.specs.Kept.{IsKeptOf, faults_with};
+ghost use Rattle.rv_jobs.specs.Kept.{AgreesWithContents, faults_after_read};
 
 use rv_lists::{Bytes, ReadError, Store};
 use std::alloc::{AllocError, Global};
@@ -24,9 +24,9 @@ pub(crate) fn read_path<S: Store>(
     path: &str,
 ) -> Result<Kept, AllocError>
     ensures same { S.contents store.new ≡ S.contents store.old }
-    ensures kept { IfOk result (IsKeptOf (S.contents store.old) path.now) }
+    ensures kept { IfOk result (AgreesWithContents (S.contents store.old) path.now) }
     ensures counted { IfOk result (λ kept. S.faulted store.new
-        ≡ faults_with kept (S.faulted store.old)) }
+        ≡ faults_after_read kept (S.faulted store.old)) }
 {
     match store.read(alloc, path) {
         Ok(bytes) => Ok(Kept::Content(Bytes::new(bytes))),

@@ -15,7 +15,7 @@ mod plan;
 pub use answers::Answer;
 pub use choice::selected_indices;
 pub use kept::Kept;
-pub use law::used_paths_have_answers;
+pub use law::used_paths_have_results;
 pub use plan::{Plan, gather, gather_jobs};
 
 // From the crates below: what this interface names, and what its callers need with it.

@@ -3,11 +3,11 @@
 ghost use Rattle.std.specs.Prelude.{◌≡◌, ◌<◌, ℕ, IfOk, IfSome, Some, [], length, slice_index_or};
 ghost use Rattle.std.specs.Prelude.{option_map, option_and_then};
 ghost use Rattle.std.specs.List.{fold};
-ghost use Rattle.rv_lists.specs.Jobs.{AreJobs, console_path, single_job};
+ghost use Rattle.rv_lists.specs.Jobs.{AreValidJobs, console_path, single_job};
 ghost use Rattle.rv_lists.specs.Names.{index_in};
-ghost use Rattle.rv_jobs.specs.Plans.{paths_of, with_job, with_path_if, jobs_needed_at};
-ghost use Rattle.rv_jobs.specs.Plans.{AgreeWithContents, unreadable_count, one_more_times};
-ghost use Rattle.rv_jobs.specs.Placed.{ArePlaced, AreNoted, IsFound, AreFound};
+ghost use Rattle.rv_jobs.specs.Plans.{paths_of, with_job_paths, with_path_if_any, jobs_needed_at};
+ghost use Rattle.rv_jobs.specs.Plans.{AgreeWithContents, unreadable_count, after_increments};
+ghost use Rattle.rv_jobs.specs.Placed.{AreResultIndices, AreRecorded, IsFound, ArePartialResultIndicesOfJobs};
 
 use crate::answers::Answers;
 use rv_lists::{Job, Store};
@@ -30,11 +30,11 @@ pub(crate) struct Found {
 }
 
 /// Returns an empty entry for each job, since no path has been read.
-pub(crate) fn blank_job_places(
+pub(crate) fn empty_result_indices(
     alloc: Global,
     jobs: &[Job],
 ) -> Result<Vec<Option<Places>>, AllocError>
-    ensures { IfOk result (λ noted. AreNoted [] jobs.now noted.items) }
+    ensures { IfOk result (λ noted. AreRecorded [] jobs.now noted.items) }
 {
     let mut noted = Vec::with_capacity(alloc, jobs.len())?;
     for _ in jobs {
@@ -53,27 +53,27 @@ impl<'a> Answers<'a> {
         place: usize,
         noted: &mut Vec<Option<Places>>,
     ) -> Result<Answers<'a>, AllocError>
-        requires jobs { AreJobs jobs.now }
+        requires jobs { AreValidJobs jobs.now }
         requires place { place < length jobs.now }
-        requires noted { AreNoted (paths_of self) jobs.now noted.old.items }
+        requires noted { AreRecorded (paths_of self) jobs.now noted.old.items }
         ensures same { S.contents store.new ≡ S.contents store.old }
         ensures paths { IfOk result (λ a. paths_of a
-            ≡ fold with_job (paths_of self.entry) (jobs_needed_at jobs.now place)) }
-        ensures noted { IfOk result (λ a. AreNoted (paths_of a) jobs.now noted.new.items) }
+            ≡ fold with_job_paths (paths_of self.entry) (jobs_needed_at jobs.now place)) }
+        ensures noted { IfOk result (λ a. AreRecorded (paths_of a) jobs.now noted.new.items) }
         ensures kept { AgreeWithContents (S.contents store.old) self.entry
             → IfOk result (AgreeWithContents (S.contents store.old)) }
-        ensures faults { (n : ℕ) → S.faulted store.old ≡ one_more_times n (unreadable_count self.entry)
-            → IfOk result (λ a. S.faulted store.new ≡ one_more_times n (unreadable_count a)) }
+        ensures faults { (n : ℕ) → S.faulted store.old ≡ after_increments n (unreadable_count self.entry)
+            → IfOk result (λ a. S.faulted store.new ≡ after_increments n (unreadable_count a)) }
     {
-        let own = self.read_paths_at_place(alloc, store, jobs, place, noted)?;
+        let own = self.read_paths_at_index(alloc, store, jobs, place, noted)?;
         match jobs[place].same_as {
-            Some(other) => own.read_paths_at_place(alloc, store, jobs, other, noted),
+            Some(other) => own.read_paths_at_index(alloc, store, jobs, other, noted),
             None => Ok(own),
         }
     }
 
     /// Reads the paths of the job at an index, and records the indices of their results. Does nothing if these are already recorded.
-    fn read_paths_at_place<S: Store>(
+    fn read_paths_at_index<S: Store>(
         self,
         alloc: Global,
         store: &mut S,
@@ -82,15 +82,15 @@ impl<'a> Answers<'a> {
         noted: &mut Vec<Option<Places>>,
     ) -> Result<Answers<'a>, AllocError>
         requires place { place < length jobs.now }
-        requires noted { AreNoted (paths_of self) jobs.now noted.old.items }
+        requires noted { AreRecorded (paths_of self) jobs.now noted.old.items }
         ensures same { S.contents store.new ≡ S.contents store.old }
         ensures paths { IfOk result (λ a. paths_of a
-            ≡ with_job (paths_of self.entry) (slice_index_or jobs.now place (single_job [] 0 []))) }
-        ensures noted { IfOk result (λ a. AreNoted (paths_of a) jobs.now noted.new.items) }
+            ≡ with_job_paths (paths_of self.entry) (slice_index_or jobs.now place (single_job [] 0 []))) }
+        ensures noted { IfOk result (λ a. AreRecorded (paths_of a) jobs.now noted.new.items) }
         ensures kept { AgreeWithContents (S.contents store.old) self.entry
             → IfOk result (AgreeWithContents (S.contents store.old)) }
-        ensures faults { (n : ℕ) → S.faulted store.old ≡ one_more_times n (unreadable_count self.entry)
-            → IfOk result (λ a. S.faulted store.new ≡ one_more_times n (unreadable_count a)) }
+        ensures faults { (n : ℕ) → S.faulted store.old ≡ after_increments n (unreadable_count self.entry)
+            → IfOk result (λ a. S.faulted store.new ≡ after_increments n (unreadable_count a)) }
     {
         if noted[place].is_some() {
             return Ok(self);
@@ -109,16 +109,16 @@ fn read_paths_of_job<'a, S: Store>(
     job: &'a Job,
 ) -> Result<(Answers<'a>, Places), AllocError>
     ensures same { S.contents store.new ≡ S.contents store.old }
-    ensures paths { IfOk result (λ a. paths_of a.0 ≡ with_job (paths_of asked.entry) job.now) }
-    ensures places { IfOk result (λ a. ArePlaced (paths_of a.0) job.now a.1) }
+    ensures paths { IfOk result (λ a. paths_of a.0 ≡ with_job_paths (paths_of asked.entry) job.now) }
+    ensures places { IfOk result (λ a. AreResultIndices (paths_of a.0) job.now a.1) }
     ensures kept { AgreeWithContents (S.contents store.old) asked.entry
         → IfOk result (λ a. AgreeWithContents (S.contents store.old) a.0) }
-    ensures faults { (n : ℕ) → S.faulted store.old ≡ one_more_times n (unreadable_count asked.entry)
-        → IfOk result (λ a. S.faulted store.new ≡ one_more_times n (unreadable_count a.0)) }
+    ensures faults { (n : ℕ) → S.faulted store.old ≡ after_increments n (unreadable_count asked.entry)
+        → IfOk result (λ a. S.faulted store.new ≡ after_increments n (unreadable_count a.0)) }
 {
     let (first, image) = asked.read_path_once(alloc, store, job.image.as_str())?;
-    let (second, reference) = read_path_if_named(alloc, store, first, reference_path(job))?;
-    let (third, console) = read_path_if_named(alloc, store, second, console_path(job))?;
+    let (second, reference) = read_path_if_any(alloc, store, first, reference_path(job))?;
+    let (third, console) = read_path_if_any(alloc, store, second, console_path(job))?;
     let places = Places {
         image,
         reference,
@@ -148,7 +148,7 @@ pub(crate) fn console_path(job: &Job) -> Option<&str>
 }
 
 /// Reads a path, if there is one, and returns the index of its result, or `None` if there is no path.
-fn read_path_if_named<'a, S: Store>(
+fn read_path_if_any<'a, S: Store>(
     alloc: Global,
     store: &mut S,
     asked: Answers<'a>,
@@ -156,13 +156,13 @@ fn read_path_if_named<'a, S: Store>(
 ) -> Result<(Answers<'a>, Option<usize>), AllocError>
     ensures same { S.contents store.new ≡ S.contents store.old }
     ensures paths { IfOk result (λ a. paths_of a.0
-        ≡ with_path_if (paths_of asked.entry) (option_map (λ p. p.now) path.entry)) }
+        ≡ with_path_if_any (paths_of asked.entry) (option_map (λ p. p.now) path.entry)) }
     ensures place { IfOk result (λ a. option_map (index_in (paths_of a.0))
         (option_map (λ p. p.now) path.entry) ≡ option_map (λ k. Some k) a.1) }
     ensures kept { AgreeWithContents (S.contents store.old) asked.entry
         → IfOk result (λ a. AgreeWithContents (S.contents store.old) a.0) }
-    ensures faults { (n : ℕ) → S.faulted store.old ≡ one_more_times n (unreadable_count asked.entry)
-        → IfOk result (λ a. S.faulted store.new ≡ one_more_times n (unreadable_count a.0)) }
+    ensures faults { (n : ℕ) → S.faulted store.old ≡ after_increments n (unreadable_count asked.entry)
+        → IfOk result (λ a. S.faulted store.new ≡ after_increments n (unreadable_count a.0)) }
 {
     match path {
         Some(path) => {
@@ -181,20 +181,20 @@ pub(crate) fn result_indices(
     jobs: &[Job],
     noted: &[Option<Places>],
 ) -> Result<Vec<Found>, AllocError>
-    requires { AreNoted (paths_of asked.now) jobs.now noted.now }
-    ensures { IfOk result (λ found. AreFound (paths_of asked.now) jobs.now found.items) }
+    requires { AreRecorded (paths_of asked.now) jobs.now noted.now }
+    ensures { IfOk result (λ found. ArePartialResultIndicesOfJobs (paths_of asked.now) jobs.now found.items) }
 {
     let mut found = Vec::with_capacity(alloc, jobs.len())?;
     for at in 0..jobs.len() {
-        found.push(answer_places_of_job(asked, &jobs[at], noted[at]))?;
+        found.push(result_indices_of_job(asked, &jobs[at], noted[at]))?;
     }
     Ok(found)
 }
 
 /// Returns the indices of the results for a job's paths. If `noted` does not have them, only paths that were read for other jobs have an
 /// index.
-fn answer_places_of_job(asked: &Answers, job: &Job, noted: Option<Places>) -> Found
-    requires { IfSome noted (λ places. ArePlaced (paths_of asked.now) job.now places) }
+fn result_indices_of_job(asked: &Answers, job: &Job, noted: Option<Places>) -> Found
+    requires { IfSome noted (λ places. AreResultIndices (paths_of asked.now) job.now places) }
     ensures { IsFound (paths_of asked.now) job.now result }
 {
     match noted {
@@ -204,20 +204,20 @@ fn answer_places_of_job(asked: &Answers, job: &Job, noted: Option<Places>) -> Fo
             console: places.console,
         },
         None => Found {
-            image: asked.place_of_path(job.image.as_str()),
-            reference: place_of_path_if_named(asked, reference_path(job)),
-            console: place_of_path_if_named(asked, console_path(job)),
+            image: asked.index_of_path(job.image.as_str()),
+            reference: index_of_path_if_any(asked, reference_path(job)),
+            console: index_of_path_if_any(asked, console_path(job)),
         },
     }
 }
 
 /// Returns the index of a path's result, or `None` if there is no path or it has no result.
-fn place_of_path_if_named(asked: &Answers, path: Option<&str>) -> Option<usize>
+fn index_of_path_if_any(asked: &Answers, path: Option<&str>) -> Option<usize>
     ensures { result ≡ option_and_then (index_in (paths_of asked.now))
         (option_map (λ p. p.now) path.entry) }
 {
     match path {
-        Some(path) => asked.place_of_path(path),
+        Some(path) => asked.index_of_path(path),
         None => None,
     }
 }

@@ -1,18 +1,18 @@
 //! A plan: the jobs of a list, and the results for the paths that they name.
 
-ghost use Rattle.rv_lists.specs.Limits.{most_jobs};
+ghost use Rattle.rv_lists.specs.Limits.{max_jobs};
 ghost use Rattle.rv_lists.specs.declared.job.Job.{Job as AJob};
 ghost use Rattle.std.specs.Prelude.{◌≡◌, ◌<◌, ◌≤◌, ℕ, List, IfOk, IfSome, length};
 ghost use Rattle.std.specs.Prelude.{slice_index_or, option_map};
 ghost use Rattle.std.specs.List.{All};
-ghost use Rattle.rv_lists.specs.Jobs.{IsJob, console_path};
+ghost use Rattle.rv_lists.specs.Jobs.{IsValidJobAt, console_path};
 ghost use Rattle.rv_lists.specs.Names.{index_in};
-ghost use Rattle.rv_jobs.specs.Plans.{paths_of, paths_used, jobs_needed_for, result_for_path};
-ghost use Rattle.rv_jobs.specs.Plans.{AgreeWithContents, unreadable_count, one_more_times};
+ghost use Rattle.rv_jobs.specs.Plans.{paths_of, paths_used, jobs_needed_for, result_or_unreadable};
+ghost use Rattle.rv_jobs.specs.Plans.{AgreeWithContents, unreadable_count, after_increments};
 
 use crate::answers::Answers;
 use crate::kept::Kept;
-use crate::path_reading::{Found, blank_job_places, console_path, reference_path, result_indices};
+use crate::path_reading::{Found, empty_result_indices, console_path, reference_path, result_indices};
 use rv_lists::{Job, JobList, Store};
 use std::alloc::{AllocError, Global};
 use std::marker::Model;
@@ -36,11 +36,11 @@ impl Model for Plan {
 
     ghost Value = { Planned };
 
-    ghost use Rattle.rv_jobs.specs.PlanInside.{plan_view, IsPlanInside};
+    ghost use Rattle.rv_jobs.specs.PlanInside.{plan_view, IsValidPlan};
 
     ghost view = { plan_view };
 
-    ghost invariant = { IsPlanInside };
+    ghost invariant = { IsValidPlan };
 }
 
 /// Reads each distinct path of the jobs once, in order of first use, and returns the plan with the results.
@@ -50,7 +50,7 @@ pub fn gather<S: Store>(alloc: Global, jobs: JobList, store: &mut S) -> Result<P
     ensures paths { IfOk result (λ p. paths_of p.answers ≡ paths_used jobs) }
     ensures kept { IfOk result (λ p. AgreeWithContents (S.contents store.old) p.answers) }
     ensures faults { IfOk result (λ p. S.faulted store.new
-        ≡ one_more_times (S.faulted store.old) (unreadable_count p.answers)) }
+        ≡ after_increments (S.faulted store.old) (unreadable_count p.answers)) }
 {
     let places = all_indices(alloc, &jobs)?;
     gather_jobs(alloc, jobs, places, store)
@@ -71,16 +71,16 @@ pub fn gather_jobs<S: Store>(
         ≡ paths_used (jobs_needed_for jobs places.items)) }
     ensures kept { IfOk result (λ p. AgreeWithContents (S.contents store.old) p.answers) }
     ensures faults { IfOk result (λ p. S.faulted store.new
-        ≡ one_more_times (S.faulted store.old) (unreadable_count p.answers)) }
+        ≡ after_increments (S.faulted store.old) (unreadable_count p.answers)) }
 {
     let none = Answers::new(alloc, places.len())?;
     let mut asked = none;
-    let mut noted = blank_job_places(alloc, jobs.as_slice())?;
+    let mut noted = empty_result_indices(alloc, jobs.as_slice())?;
     for place in places.as_slice() {
         asked = asked.read_paths_for_row(alloc, store, jobs.as_slice(), *place, &mut noted)?;
     }
     let found = result_indices(alloc, &asked, jobs.as_slice(), noted.as_slice())?;
-    let answers = asked.into_kept();
+    let answers = asked.into_results();
     Ok(Plan {
         jobs,
         chosen: places,
@@ -108,7 +108,7 @@ impl Plan {
     /// Returns the number of jobs, at most 4,096.
     pub fn jobs(&self) -> usize
         ensures value { result ≡ length self.now.jobs }
-        ensures few { result ≤ most_jobs }
+        ensures few { result ≤ max_jobs }
     {
         self.jobs.as_slice().len()
     }
@@ -117,7 +117,7 @@ impl Plan {
     pub fn job(&self, i: usize) -> &Job
         requires { i < length self.now.jobs }
         ensures value { result.now ≡ slice_index_or self.now.jobs i result.now }
-        ensures good { IsJob i result.now }
+        ensures good { IsValidJobAt i result.now }
     {
         &self.jobs.as_slice()[i]
     }
@@ -126,9 +126,9 @@ impl Plan {
     pub fn image(&self, i: usize) -> &Kept
         requires { i < length self.now.jobs }
         ensures { (d : AJob) → result.now
-            ≡ result_for_path self.now.answers (slice_index_or self.now.jobs i d).image }
+            ≡ result_or_unreadable self.now.answers (slice_index_or self.now.jobs i d).image }
     {
-        self.kept_or_unread(self.found[i].image)
+        self.result_or_unread(self.found[i].image)
     }
 
     /// Returns the result for the expected signature of the job at an index, or `None` if it expects none. A path that was not read counts
@@ -136,11 +136,11 @@ impl Plan {
     pub fn reference(&self, i: usize) -> Option<&Kept>
         requires { i < length self.now.jobs }
         ensures { (d : AJob) → option_map (λ k. k.now) result
-            ≡ option_map (result_for_path self.now.answers)
+            ≡ option_map (result_or_unreadable self.now.answers)
             (slice_index_or self.now.jobs i d).expect_signature }
     {
         match reference_path(self.job(i)) {
-            Some(_) => Some(self.kept_or_unread(self.found[i].reference)),
+            Some(_) => Some(self.result_or_unread(self.found[i].reference)),
             None => None,
         }
     }
@@ -150,20 +150,20 @@ impl Plan {
     pub fn console_reference(&self, i: usize) -> Option<&Kept>
         requires { i < length self.now.jobs }
         ensures { (d : AJob) → option_map (λ k. k.now) result
-            ≡ option_map (result_for_path self.now.answers)
+            ≡ option_map (result_or_unreadable self.now.answers)
             (console_path (slice_index_or self.now.jobs i d).expect_console) }
     {
         match console_path(self.job(i)) {
-            Some(_) => Some(self.kept_or_unread(self.found[i].console)),
+            Some(_) => Some(self.result_or_unread(self.found[i].console)),
             None => None,
         }
     }
 
     // Returns the result at an index, or an unreadable result if there is no index.
-    fn kept_or_unread(&self, at: Option<usize>) -> &Kept
+    fn result_or_unread(&self, at: Option<usize>) -> &Kept
         requires { IfSome at (λ k. k < length self.now.answers) }
         ensures { (path : List ℕ) → index_in (paths_of self.now.answers) path ≡ at
-            → result.now ≡ result_for_path self.now.answers path }
+            → result.now ≡ result_or_unreadable self.now.answers path }
     {
         match at {
             Some(place) => &self.answers[place],

@@ -4,7 +4,7 @@ use Rattle.std.specs.Prelude.{OnOk, Result, Ok, Err, codes, count_by, if◌then�
 use Rattle.std.specs.Result.{is_ok}
 use Rattle.std.proofs.KnownBytes.{Appends-nil}
 use Rattle.rv_stream.specs.declared_row.Row.{Row}
-use Rattle.rv_stream.specs.Sinks.{AppendsBeginning}
+use Rattle.rv_stream.specs.Sinks.{AppendsPrefix}
 use Rattle.rv_job_text.specs.Judgement.{Judging, judgement}
 use Rattle.rv_stream.specs.Streams.{row_text_list, joined_row_texts}
 use Rattle.rv_job_text.specs.declared_xml.Within.TheVariants.{Element}
@@ -62,7 +62,7 @@ written (Ok x) new whole same is = is
 written (Err e) new whole same is = tt
 
 -- nothing went out yet
-pub nothing_out : (a : Option (List ℕ)) (text : List ℕ) → AppendsBeginning a a text
+pub nothing_out : (a : Option (List ℕ)) (text : List ℕ) → AppendsPrefix a a text
 nothing_out a text = record { part = []; rest = text; whole = refl; appended = Appends-nil a }
 
 module _ (class : List ℕ) (judging : Judging) (line : ℕ → Row → List ℕ) where

@@ -7,12 +7,12 @@ use Rattle.std.specs.List.{AllByRecursion, flat_map}
 use Rattle.hex.specs.Hex.{IsBytes}
 use Rattle.rv_stream.specs.declared_row.Row.{Row}
 use Rattle.rv_job_text.specs.Verdict.{did_run}
-use Rattle.rv_job_text.specs.Judgement.{Judged, Judging, failed, judged_by_known, judged_in_file, judged_unknown, judgement, known, now_passes, passed}
+use Rattle.rv_job_text.specs.Judgement.{Judged, Judging, failed, judgement_by_known, judged_in_file, judged_unknown, judgement, known, now_passes, passed}
 use Rattle.rv_job_text.specs.Passing.{has_passed}
 use Rattle.rv_job_text.specs.KnownJobs.{known_job_of, reason_of}
 use Rattle.rv_job_text.specs.declared_known_jobs.KnownJob.{KnownJob}
 use Rattle.rv_job_text.specs.declared_known_jobs.KnownJobs.{KnownJobs}
-use Rattle.rv_job_text.specs.ConsoleTail.{is_feed}
+use Rattle.rv_job_text.specs.ConsoleTail.{is_line_feed}
 use Rattle.rv_job_text.specs.TotalsLine.{known_count}
 use Rattle.rv_job_text.specs.declared_xml.Within.TheVariants.{Attribute, Element}
 use Rattle.rv_junit.specs.Pieces.{attribute, number_attribute}
@@ -68,7 +68,7 @@ xml_problem row lines are =
     xml_append _ _ (xml_append _ _ (xml_append _ _ (xml_append _ _ (xml_append _ _ (xml_append _ _ (xml_append _ _
     (xml_plain (codes "<") refl) (xml_problem_name row))
     (xml_attribute (codes "message") (first_line lines) (xml_plain (codes "message") refl)
-    (bytes_up_to (position is_feed lines) lines are)))
+    (bytes_up_to (position is_line_feed lines) lines are)))
     (xml_plain (codes ">") refl)) (xml_escaped Element lines are)) (xml_plain (codes "</") refl))
     (xml_problem_name row)) (xml_plain (codes ">\n") refl)
 
@@ -109,7 +109,7 @@ in_file_for_bytes path false (Some reason) are = are
 
 known_for_bytes : (known : Option KnownJobs) (has_passed : Bool) (name : List ℕ)
     → IfSome known (λ file. AllByRecursion HasBytesAsReason file.jobs)
-    → IsForBytes (judged_by_known known has_passed name)
+    → IsForBytes (judgement_by_known known has_passed name)
 known_for_bytes None has_passed name are = unknown_for_bytes has_passed
 known_for_bytes (Some file) has_passed name are =
     in_file_for_bytes file.path has_passed (reason_of file.jobs name) (reason_found file.jobs name are)

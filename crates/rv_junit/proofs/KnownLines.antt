@@ -7,7 +7,7 @@ use Rattle.std.proofs.lemmas.List.{get_or-map, get_or_append_left, length-append
 use Rattle.std.proofs.Math.Seq.{get_or-append_seam}
 use Rattle.rv_job_text.specs.Judgement.{Judging, fails}
 use Rattle.rv_stream.specs.declared_row.Row.{Row}
-use Rattle.rv_stream.specs.Seen.{HasSeenRows, IsReportOf}
+use Rattle.rv_stream.specs.Seen.{HasSeenRows, IsReportAt}
 use Rattle.rv_stream.specs.declared.reported_row.ReportedRow.{ReportedRow}
 use Rattle.rv_junit.specs.KnownLines.{AreFailureTexts, AreLinesOf, IsFailureText}
 
@@ -50,7 +50,7 @@ one_more judging texts text reported made is are =
     }
 
 lines_at : (line lines : ℕ → Row → List ℕ) (judging : Judging) (index : ℕ) (row : Row) (reported : ReportedRow) (text : Option (Vec ℕ Global))
-    → ((place : ℕ) (row : Row) → fails judging row ≡ true → line place row ≡ lines place row) → IsReportOf line index reported
+    → ((place : ℕ) (row : Row) → fails judging row ≡ true → line place row ≡ lines place row) → IsReportAt line index reported
     → row ≡ reported.row → IfSome text (λ text. IsFailureText judging reported text.items)
     → IfSome text (λ text. text.items ≡ lines index row)
 lines_at line lines judging index row reported None same report is kept = tt

@@ -6,7 +6,7 @@ use Rattle.hex.specs.Hex.{IsBytes}
 use Rattle.rv_job_text.specs.declared_known_jobs.KnownJob.{KnownJob}
 use Rattle.rv_stream.specs.declared_row.Row.{Row}
 use Rattle.rv_job_text.specs.Verdict.{did_run}
-use Rattle.rv_job_text.specs.ConsoleTail.{is_feed}
+use Rattle.rv_job_text.specs.ConsoleTail.{is_line_feed}
 use Rattle.rv_job_text.specs.Judgement.{Judged, Judging, failed, judgement, known, now_passes, passed}
 use Rattle.rv_job_text.specs.TotalsLine.{known_count}
 use Rattle.rv_job_text.specs.Problem.{is_error, is_failure}
@@ -24,7 +24,7 @@ text_up_to None text = text
 
 -- the first line of a text, without its line feed
 abbrev pub first_line : List ℕ → List ℕ
-first_line text = text_up_to (position is_feed text) text
+first_line text = text_up_to (position is_line_feed text) text
 
 -- the name of the XML element for a failed row: `failure`, or `error` if the job did not run
 abbrev pub problem_element_name : Row → List ℕ

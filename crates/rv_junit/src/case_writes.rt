@@ -1,12 +1,12 @@
 //! The cases of a document, written in few large writes.
 
 ghost use Rattle.std.specs.Prelude.{◌≡◌, ◌++◌, ◌<◌, ◌≤◌, IfErr, IfSome, OnErr, OnOk, length, slice_index_or};
-ghost use Rattle.rv_job_text.specs.Judgement.{judging_of};
+ghost use Rattle.rv_job_text.specs.Judgement.{judge_view};
 ghost use Rattle.rv_junit.specs.Junit.{case_text};
 ghost use Rattle.rv_junit.specs.KnownLines.{AreLinesOf};
 ghost use Rattle.rv_stream.specs.Counts.{one_more};
 ghost use Rattle.rv_stream.specs.declared_row.Row.{Row as ARow};
-ghost use Rattle.rv_stream.specs.Sinks.{AppendsBeginning, IsPartlySent};
+ghost use Rattle.rv_stream.specs.Sinks.{AppendsPrefix, IsPartlyWritten};
 ghost use Rattle.rv_stream.specs.Streams.{joined_row_texts};
 
 use crate::junit::push_test_case;
@@ -58,7 +58,7 @@ impl<T: RowReporter> Cases<'_, T> {
         requires number { number < length self.now.rows.now }
         requires known { AreLinesOf (T.line self.now.reporter.now) self.now.places.now self.now.rows.now self.now.texts.now }
         ensures { OnOk result ((any : ARow) → text.new.items ≡ text.old.items
-            ++ case_text suite.now.name.now (judging_of suite.now.judge) (T.line self.now.reporter.now)
+            ++ case_text suite.now.name.now (judge_view suite.now.judge) (T.line self.now.reporter.now)
             (slice_index_or self.now.places.now number 0) (slice_index_or self.now.rows.now number any)) }
     {
         let row = &self.rows[number];
@@ -86,12 +86,12 @@ pub(crate) fn write_cases<T: RowReporter, W: Sink>(
     out: &mut W,
 ) -> Result<(), WriteError>
     requires known { AreLinesOf (T.line cases.now.reporter.now) cases.now.places.now cases.now.rows.now cases.now.texts.now }
-    ensures under_way { OnOk result (IsPartlySent (W.taken out.old) (W.taken out.new) text.new.items
-        (text.old.items ++ joined_row_texts (case_text suite.now.name.now (judging_of suite.now.judge) (T.line cases.now.reporter.now))
+    ensures under_way { OnOk result (IsPartlyWritten (W.taken out.old) (W.taken out.new) text.new.items
+        (text.old.items ++ joined_row_texts (case_text suite.now.name.now (judge_view suite.now.judge) (T.line cases.now.reporter.now))
         cases.now.places.now cases.now.rows.now)) }
     ensures counted { OnOk result (W.failed out.new ≡ W.failed out.old) }
-    ensures part { OnErr result (AppendsBeginning (W.taken out.old) (W.taken out.new)
-        (text.old.items ++ joined_row_texts (case_text suite.now.name.now (judging_of suite.now.judge) (T.line cases.now.reporter.now))
+    ensures part { OnErr result (AppendsPrefix (W.taken out.old) (W.taken out.new)
+        (text.old.items ++ joined_row_texts (case_text suite.now.name.now (judge_view suite.now.judge) (T.line cases.now.reporter.now))
         cases.now.places.now cases.now.rows.now)) }
     ensures failed { IfErr result (λ error. error ≡ WriteError.Failed
         → W.failed out.new ≡ one_more (W.failed out.old)) }
@@ -108,11 +108,11 @@ pub(crate) fn write_cases<T: RowReporter, W: Sink>(
 
 // Writes the buffered text if it is long enough for a large write.
 fn write_if_large<W: Sink>(text: &mut Vec<u8>, out: &mut W) -> Result<(), WriteError>
-    ensures under_way { OnOk result (IsPartlySent (W.taken out.old) (W.taken out.new)
+    ensures under_way { OnOk result (IsPartlyWritten (W.taken out.old) (W.taken out.new)
         text.new.items text.old.items) }
     ensures counted { OnOk result (W.failed out.new ≡ W.failed out.old) }
     ensures part { OnErr result
-        (AppendsBeginning (W.taken out.old) (W.taken out.new) text.old.items) }
+        (AppendsPrefix (W.taken out.old) (W.taken out.new) text.old.items) }
     ensures failed { IfErr result
         (λ error. (error ≡ WriteError.Failed) × (W.failed out.new ≡ one_more (W.failed out.old))) }
 {

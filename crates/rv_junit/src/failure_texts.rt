@@ -1,7 +1,7 @@
 //! The texts of failed jobs, kept while a run reports them.
 
 ghost use Rattle.std.specs.Prelude.{◌≡◌, [], IfSome, false, true};
-ghost use Rattle.rv_job_text.specs.Judgement.{judging_of};
+ghost use Rattle.rv_job_text.specs.Judgement.{judge_view};
 ghost use Rattle.rv_junit.specs.KnownLines.{AreFailureTexts, IsFailureText};
 
 use rv_job_text::Judge;
@@ -10,7 +10,7 @@ use std::alloc::Global;
 use std::marker::PhantomData;
 
 /// The maximum number of bytes that are kept.
-const MOST_KEPT: usize = 16_777_216;
+const MAX_KEPT_BYTES: usize = 16_777_216;
 
 /// Keeps the texts of failures, up to 16 MiB, so that a document need not make them again. A text that does not fit, or for which there is
 /// no memory, is not kept.
@@ -24,14 +24,14 @@ pub struct FailureTexts<'k, J: StreamSpec> {
     // Whether nothing is kept: texts are not needed, or an allocation failed.
     is_closed: bool,
     of: PhantomData<J>,
-    ghost judging: { judging_of judge ≡ J.judging },
+    ghost judging: { judge_view judge ≡ J.judging },
     ghost needed: { is_closed ≡ false → J.keeps ≡ true },
 }
 
 impl<'k, J: StreamSpec> FailureTexts<'k, J> {
     /// Returns an observer that has seen no rows. It keeps texts only if `is_needed` is true. Allocates nothing.
     pub fn new(alloc: Global, judge: Judge<'k>, is_needed: bool) -> FailureTexts<'k, J>
-        requires judging { judging_of judge ≡ J.judging }
+        requires judging { judge_view judge ≡ J.judging }
         requires needed { is_needed ≡ J.keeps }
         ensures { AreFailureTexts J.judging result.is_closed result.texts.items [] }
     {
@@ -39,7 +39,7 @@ impl<'k, J: StreamSpec> FailureTexts<'k, J> {
             alloc,
             judge,
             texts: Vec::new(alloc),
-            room: MOST_KEPT,
+            room: MAX_KEPT_BYTES,
             is_closed: !is_needed,
             of: PhantomData,
         }
@@ -54,7 +54,7 @@ impl<'k, J: StreamSpec> FailureTexts<'k, J> {
     }
 
     // Returns a copy of a row's text, or `None` if the row is not a failure, or there is no room or memory for the text.
-    fn text_to_keep(&self, made: &ReportedRow) -> Option<Vec<u8>>
+    fn text_if_kept(&self, made: &ReportedRow) -> Option<Vec<u8>>
         ensures { IfSome result (λ text. IsFailureText J.judging made.now text.items) }
     {
         if !self.judge.fails(&made.row) || made.text.len() > self.room {
@@ -74,9 +74,9 @@ impl<J: StreamSpec> Observer<ReportedRow> for FailureTexts<'_, J> {
     // Keeps the text of a row that is a failure. If an allocation fails, drops all texts and keeps no more.
     fn see(&mut self, made: &ReportedRow) -> Flow {
         if self.is_closed {
-            return Flow::GoOn;
+            return Flow::Continue;
         }
-        let text = self.text_to_keep(made);
+        let text = self.text_if_kept(made);
         if let Some(text) = &text {
             self.room = self.room.saturating_sub(text.len());
         }
@@ -84,11 +84,11 @@ impl<J: StreamSpec> Observer<ReportedRow> for FailureTexts<'_, J> {
             self.texts.clear();
             self.is_closed = true;
         }
-        Flow::GoOn
+        Flow::Continue
     }
 
     // Lets the run continue: keeping texts needs no pause.
     fn pause(&mut self) -> Flow {
-        Flow::GoOn
+        Flow::Continue
     }
 }

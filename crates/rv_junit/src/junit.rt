@@ -2,13 +2,13 @@
 
 ghost use Rattle.std.specs.Prelude.{◌≡◌, ◌++◌, IfOk, OnOk, codes, count_by, position, string_bytes};
 ghost use Rattle.std.specs.List.{flat_map};
-ghost use Rattle.rv_job_text.specs.ConsoleTail.{is_feed};
+ghost use Rattle.rv_job_text.specs.ConsoleTail.{is_line_feed};
 ghost use Rattle.rv_job_text.specs.Problem.{is_error, is_failure};
 ghost use Rattle.rv_junit.specs.Junit.{suite_begin_text, test_case_text, first_line, steps_properties, steps_property};
 ghost use Rattle.rv_junit.specs.Junit.{judged_text, problem_element_name, problem_text, reason_attribute, skipped_attribute, skipped_text};
-ghost use Rattle.rv_job_text.specs.Judgement.{judged_of, judging_of};
+ghost use Rattle.rv_job_text.specs.Judgement.{judgement_view, judge_view};
 
-use crate::pieces::{Piece, push_attribute, push_number_attribute, push_pieces};
+use crate::pieces::{Piece, push_attribute, push_number_attribute, push_xml_pieces};
 use crate::suite::Suite;
 use rv_job_text::{Judge, Judgement, did_run, is_error, is_failure, known_count, push_text};
 use rv_stream::Row;
@@ -22,11 +22,11 @@ pub(crate) fn push_suite_begin(
     rows: &[Row],
 ) -> Result<(), AllocError>
     ensures { OnOk result (string_bytes text.new
-        ≡ string_bytes text.old ++ suite_begin_text suite.now.name.now (judging_of suite.now.judge) rows.now) }
+        ≡ string_bytes text.old ++ suite_begin_text suite.now.name.now (judge_view suite.now.judge) rows.now) }
 {
     let failures = failure_count(&suite.judge, rows);
     let errors = error_count(&suite.judge, rows);
-    push_pieces(
+    push_xml_pieces(
         alloc,
         text,
         &[
@@ -82,7 +82,7 @@ fn push_steps_property(alloc: Global, text: &mut String, row: &Row) -> Result<()
 {
     let name = steps_name(alloc, row)?;
     let steps = row.steps;
-    push_pieces(
+    push_xml_pieces(
         alloc,
         text,
         &[
@@ -106,14 +106,14 @@ fn steps_name(alloc: Global, row: &Row) -> Result<Vec<u8>, AllocError>
 
 // Returns the number of rows that count as failures and whose jobs ran.
 fn failure_count(judge: &Judge<'_>, rows: &[Row]) -> usize
-    ensures { result ≡ count_by (is_failure (judging_of judge.now)) rows.now }
+    ensures { result ≡ count_by (is_failure (judge_view judge.now)) rows.now }
 {
     rows.iter().filter(|row| is_failure(judge, row)).count()
 }
 
 // Returns the number of rows that count as failures and whose jobs were refused.
 fn error_count(judge: &Judge<'_>, rows: &[Row]) -> usize
-    ensures { result ≡ count_by (is_error (judging_of judge.now)) rows.now }
+    ensures { result ≡ count_by (is_error (judge_view judge.now)) rows.now }
 {
     rows.iter().filter(|row| is_error(judge, row)).count()
 }
@@ -127,9 +127,9 @@ pub(crate) fn push_test_case<'a>(
     lines: &[u8],
 ) -> Result<(), AllocError>
     ensures { OnOk result (string_bytes text.new
-        ≡ string_bytes text.old ++ test_case_text suite.now.name.now (judging_of suite.now.judge) row.now lines.now) }
+        ≡ string_bytes text.old ++ test_case_text suite.now.name.now (judge_view suite.now.judge) row.now lines.now) }
 {
-    push_pieces(
+    push_xml_pieces(
         alloc,
         text,
         &[
@@ -139,9 +139,9 @@ pub(crate) fn push_test_case<'a>(
             Piece::Text(">\n"),
         ],
     )?;
-    push_judged(alloc, text, suite.judge.judgement(row), row, lines)?;
+    push_judgement(alloc, text, suite.judge.judgement(row), row, lines)?;
     let steps = row.steps;
-    push_pieces(
+    push_xml_pieces(
         alloc,
         text,
         &[
@@ -156,7 +156,7 @@ pub(crate) fn push_test_case<'a>(
 
 // Appends the XML element with the judgement of a row: for a failure, for a job that passes although it is known to fail, or for a known
 // failure. Appends nothing if the row passed.
-fn push_judged(
+fn push_judgement(
     alloc: Global,
     text: &mut String,
     judgement: Judgement<'_>,
@@ -164,7 +164,7 @@ fn push_judged(
     lines: &[u8],
 ) -> Result<(), AllocError>
     ensures { OnOk result (string_bytes text.new
-        ≡ string_bytes text.old ++ judged_text (judged_of judgement.entry) row.now lines.now) }
+        ≡ string_bytes text.old ++ judged_text (judgement_view judgement.entry) row.now lines.now) }
 {
     match judgement {
         Judgement::Passed => Ok(()),
@@ -200,7 +200,7 @@ fn push_problem(alloc: Global, text: &mut String, row: &Row, lines: &[u8]) -> Re
         ≡ string_bytes text.old ++ problem_text row.now lines.now) }
 {
     let name = problem_element_name(row);
-    push_pieces(
+    push_xml_pieces(
         alloc,
         text,
         &[
@@ -231,15 +231,15 @@ fn problem_element_name(row: &Row) -> &'static str
 fn first_line(text: &[u8]) -> &[u8]
     ensures { result.now ≡ first_line text.now }
 {
-    match line_feed_place(text) {
+    match line_feed_offset(text) {
         Some(place) if place < text.len() => &text[..place],
         _ => text,
     }
 }
 
 // Returns the offset of the first line feed, or `None` if there is none.
-fn line_feed_place(text: &[u8]) -> Option<usize>
-    ensures { result ≡ position is_feed text.now }
+fn line_feed_offset(text: &[u8]) -> Option<usize>
+    ensures { result ≡ position is_line_feed text.now }
 {
     text.iter().position(|byte| *byte == b'\n')
 }

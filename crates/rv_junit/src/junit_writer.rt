@@ -2,10 +2,10 @@
 
 ghost use Rattle.std.specs.Prelude.{◌≡◌, IfErr, OnErr, OnOk};
 ghost use Rattle.std.specs.Io.KnownBytes.{Appends};
-ghost use Rattle.rv_stream.specs.Sinks.{AppendsBeginning};
+ghost use Rattle.rv_stream.specs.Sinks.{AppendsPrefix};
 ghost use Rattle.rv_stream.specs.Counts.{HasIncreased};
 ghost use Rattle.rv_stream.specs.Streams.{row_text_list};
-ghost use Rattle.rv_job_text.specs.Judgement.{judging_of};
+ghost use Rattle.rv_job_text.specs.Judgement.{judge_view};
 ghost use Rattle.rv_junit.specs.Junit.{junit_text};
 ghost use Rattle.rv_junit.specs.KnownLines.{AreLinesOf};
 
@@ -28,11 +28,11 @@ pub fn write_junit<T: RowReporter, W: Sink>(
 ) -> Result<(), WriteError>
     requires known { AreLinesOf (T.line cases.now.reporter.now) cases.now.places.now cases.now.rows.now cases.now.texts.now }
     ensures appended { OnOk result (Appends (W.taken out.old) (W.taken out.new)
-        (junit_text suite.now.name.now (judging_of suite.now.judge)
+        (junit_text suite.now.name.now (judge_view suite.now.judge)
         (row_text_list (T.line cases.now.reporter.now) cases.now.places.now cases.now.rows.now) cases.now.rows.now)) }
     ensures counted { OnOk result (W.failed out.new ≡ W.failed out.old) }
-    ensures part { OnErr result (AppendsBeginning (W.taken out.old) (W.taken out.new)
-        (junit_text suite.now.name.now (judging_of suite.now.judge)
+    ensures part { OnErr result (AppendsPrefix (W.taken out.old) (W.taken out.new)
+        (junit_text suite.now.name.now (judge_view suite.now.judge)
         (row_text_list (T.line cases.now.reporter.now) cases.now.places.now cases.now.rows.now) cases.now.rows.now)) }
     ensures failed { IfErr result (λ error. error ≡ WriteError.Failed
         → HasIncreased (W.failed out.old) (W.failed out.new)) }

@@ -25,7 +25,7 @@ pub(crate) enum Piece<'a> {
 }
 
 /// Appends pieces one after another.
-pub(crate) fn push_pieces(
+pub(crate) fn push_xml_pieces(
     alloc: Global,
     text: &mut String,
     pieces: &[Piece<'_>],
@@ -46,7 +46,7 @@ fn push_piece(alloc: Global, text: &mut String, piece: Piece<'_>) -> Result<(), 
 {
     match piece {
         Piece::Text(words) => text.push_str(words),
-        Piece::Count(number, noun) => push_count(text, number, noun),
+        Piece::Count(number, noun) => push_file_reply_prefix(text, number, noun),
         Piece::Attribute(name, value) => push_attribute(alloc, text, name, value),
         Piece::NumberAttribute(name, number) => push_number_attribute(text, name, number),
         Piece::Element(bytes) => push_xml_text(alloc, text, Within::Element, bytes),
@@ -55,7 +55,7 @@ fn push_piece(alloc: Global, text: &mut String, piece: Piece<'_>) -> Result<(), 
 
 // Appends a number and a noun, in the singular for 1 and in the plural otherwise.
 #[tactic(auto, unfolding(rv_text::specs::Words::count_text))]
-fn push_count(text: &mut String, number: u64, noun: &str) -> Result<(), AllocError>
+fn push_file_reply_prefix(text: &mut String, number: u64, noun: &str) -> Result<(), AllocError>
     ensures { OnOk result (string_bytes text.new ≡ string_bytes text.old ++ count_text number noun.now) }
 {
     write!(text, "{number} {noun}")?;

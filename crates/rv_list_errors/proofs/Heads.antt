@@ -7,9 +7,9 @@ use Rattle.toml.specs.Data.{Items, Members}
 use Rattle.toml.specs.Parse.{parse_document}
 use Rattle.rv_lists.specs.JobList.{document_of}
 use Rattle.rv_lists.specs.declared.error.JobError.{JobError}
-use Rattle.rv_list_errors.specs.FaultHeads.{elements_of_job, fault_head, fault_place, job_names, place_in_document}
-use Rattle.rv_list_errors.specs.FaultsTold.{TellsFaultIn, TellsFaultOfText}
-use Rattle.rv_list_errors.specs.JobFaults.{EndsSo, TellsJobFault, element_at}
+use Rattle.rv_list_errors.specs.FaultHeads.{elements_of_job, fault_head, fault_location, job_names, location_in_document}
+use Rattle.rv_list_errors.specs.FaultsTold.{ExplainsFaultIn, IsFaultLineOfText}
+use Rattle.rv_list_errors.specs.JobFaults.{HasHeadAndTail, ExplainsJobFault, element_at}
 use Rattle.rv_list_errors.specs.Lines.{BeginsWith}
 use Rattle.rv_list_locations.specs.JobLocations.{job_lines}
 
@@ -20,10 +20,10 @@ read_document text ms valid parsed =
 -- in a document
 pub head_in_list : (file text : List ℕ) (ms : Members) (lines : List ℕ) (names : List (Option (List ℕ))) (fault : JobError)
     → IsUtf8 text → parse_document text ≡ Some ms → lines ≡ job_lines text → names ≡ job_names ms
-    → file ++ fault_place lines names fault.job ≡ fault_head file text fault
+    → file ++ fault_location lines names fault.job ≡ fault_head file text fault
 head_in_list file text ms lines names fault valid parsed these those =
-    (λ i. file ++ fault_place (these i) (those i) fault.job)
-    ∙ ap (λ document. file ++ place_in_document text document fault.job) (sym (read_document text ms valid parsed))
+    (λ i. file ++ fault_location (these i) (those i) fault.job)
+    ∙ ap (λ document. file ++ location_in_document text document fault.job) (sym (read_document text ms valid parsed))
 
 pub refused_document : (text : List ℕ) → (IsUtf8 text → parse_document text ≡ None) → document_of text ≡ None
 refused_document text refused = of_test (is_utf8 text) refl
@@ -36,12 +36,12 @@ refused_document text refused = of_test (is_utf8 text) refl
 pub head_without_document : (file text : List ℕ) (fault : JobError) → (IsUtf8 text → parse_document text ≡ None)
     → file ++ [] ≡ fault_head file text fault
 head_without_document file text fault refused =
-    ap (λ document. file ++ place_in_document text document fault.job) (sym (refused_document text refused))
+    ap (λ document. file ++ location_in_document text document fault.job) (sym (refused_document text refused))
 
 -- ---- and what is told behind them
 
 -- a message that ends so begins with its head
-pub begins_of_ends : (IsSo : List ℕ → Type 0) (head other message : List ℕ) → head ≡ other → EndsSo IsSo head message
+pub begins_of_ends : (IsSo : List ℕ → Type 0) (head other message : List ℕ) → head ≡ other → HasHeadAndTail IsSo head message
     → BeginsWith other message
 begins_of_ends IsSo head other message same (told, is, e) = (told, e ∙ ap (λ h. h ++ told) same)
 
@@ -49,21 +49,21 @@ begins_of_ends IsSo head other message same (told, is, e) = (told, e ∙ ap (λ 
 pub told_in_list : (file text : List ℕ) (ms : Members) (lines : List ℕ) (names : List (Option (List ℕ))) (jobs : Items)
     (fault : JobError) (message : List ℕ) → IsUtf8 text → parse_document text ≡ Some ms → lines ≡ job_lines text
     → names ≡ job_names ms → jobs ≡ elements_of_job ms
-    → EndsSo (λ told. 0 < fault.job → TellsJobFault names (element_at jobs (fault.job - 1)) fault.what told)
-    (file ++ fault_place lines names fault.job) message → TellsFaultOfText file text fault message
+    → HasHeadAndTail (λ told. 0 < fault.job → ExplainsJobFault names (element_at jobs (fault.job - 1)) fault.what told)
+    (file ++ fault_location lines names fault.job) message → IsFaultLineOfText file text fault message
 told_in_list file text ms lines names jobs fault message valid parsed these those them (told, is, e) =
-    subst (λ (document : Option Members). EndsSo (TellsFaultIn document fault) (file ++ place_in_document text document fault.job) message)
+    subst (λ (document : Option Members). HasHeadAndTail (ExplainsFaultIn document fault) (file ++ location_in_document text document fault.job) message)
     (sym (read_document text ms valid parsed)) (
       told,
-      λ some. subst (λ (ns : List (Option (List ℕ))). TellsJobFault ns (element_at (elements_of_job ms) (fault.job - 1)) fault.what told)
-          those (subst (λ (js : Items). TellsJobFault names (element_at js (fault.job - 1)) fault.what told) them (is some)),
-      e ∙ (λ i. (file ++ fault_place (these i) (those i) fault.job) ++ told),
+      λ some. subst (λ (ns : List (Option (List ℕ))). ExplainsJobFault ns (element_at (elements_of_job ms) (fault.job - 1)) fault.what told)
+          those (subst (λ (js : Items). ExplainsJobFault names (element_at js (fault.job - 1)) fault.what told) them (is some)),
+      e ∙ (λ i. (file ++ fault_location (these i) (those i) fault.job) ++ told),
     )
 
 -- where there is none
 pub told_without_document : (file text : List ℕ) (fault : JobError) (message : List ℕ)
-    → (IsUtf8 text → parse_document text ≡ None) → EndsSo (λ told. ⊤) (file ++ []) message
-    → TellsFaultOfText file text fault message
+    → (IsUtf8 text → parse_document text ≡ None) → HasHeadAndTail (λ told. ⊤) (file ++ []) message
+    → IsFaultLineOfText file text fault message
 told_without_document file text fault message refused (told, is, e) =
-    subst (λ (document : Option Members). EndsSo (TellsFaultIn document fault) (file ++ place_in_document text document fault.job) message)
+    subst (λ (document : Option Members). HasHeadAndTail (ExplainsFaultIn document fault) (file ++ location_in_document text document fault.job) message)
     (sym (refused_document text refused)) (told, tt, e)

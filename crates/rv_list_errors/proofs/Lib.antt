@@ -1,6 +1,6 @@
 pub mod Heads
 pub mod OneMore
-pub mod PlacedLines
+pub mod FaultLineWriter
 pub mod NearestNames
 pub mod NamesTold
 pub mod ElementNames

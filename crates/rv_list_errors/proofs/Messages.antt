@@ -4,7 +4,7 @@ use Rattle.std.specs.Prelude.{IsOk, OnOk, codes}
 use Rattle.std.specs.Fmt.{decimal}
 use Rattle.rv_list_errors.specs.NearNames.{Adds}
 use Rattle.rv_list_locations.specs.LinesAndColumns.{column_at, line_at}
-use Rattle.rv_list_errors.specs.Explanation.{AddsSome}
+use Rattle.rv_list_errors.specs.Explanation.{AppendsTextThat}
 use Rattle.rv_list_errors.specs.declared.message.Message.{Message}
 
 both_grown : {E : Type 0} (first second : Result (Unit {0}) E) (A B C : Type 0) → OnOk first A → OnOk second (IsOk first × B)
@@ -23,7 +23,7 @@ adds_then a b c xs ys p q =
 
 -- a text behind a look for the name that is nearest to another
 pub look_then : (a b c : Message) (A : Type 0) (IsSo : List ℕ → Type 0) (text : List ℕ) → OnOk b.grown (IsOk a.grown × A)
-    → b.bytes ≡ a.bytes → Adds b c text → (A → IsSo text) → AddsSome a c IsSo
+    → b.bytes ≡ a.bytes → Adds b c text → (A → IsSo text) → AppendsTextThat a c IsSo
 look_then a b c A IsSo text p e q f =
     both_grown b.grown c.grown _ _ _ p q (λ first second. (
       first.0,
@@ -39,12 +39,12 @@ grown_so (Err e) A B p f = tt
 grown_so (Ok u) A B p f = f p
 
 -- a text of which something is so
-pub adds_some : (a b : Message) (xs : List ℕ) (IsSo : List ℕ → Type 0) → Adds a b xs → IsSo xs → AddsSome a b IsSo
+pub adds_some : (a b : Message) (xs : List ℕ) (IsSo : List ℕ → Type 0) → Adds a b xs → IsSo xs → AppendsTextThat a b IsSo
 adds_some a b xs IsSo p is = grown_so b.grown _ _ p (λ both. (both.0, (xs, is, both.1)))
 
 -- a text of which something is so, and one behind it
-pub some_then : (a b c : Message) (Is IsSo : List ℕ → Type 0) (more : List ℕ) → AddsSome a b Is → Adds b c more
-    → ((text : List ℕ) → Is text → IsSo (text ++ more)) → AddsSome a c IsSo
+pub some_then : (a b c : Message) (Is IsSo : List ℕ → Type 0) (more : List ℕ) → AppendsTextThat a b Is → Adds b c more
+    → ((text : List ℕ) → Is text → IsSo (text ++ more)) → AppendsTextThat a c IsSo
 some_then a b c Is IsSo more p q f = both_grown b.grown c.grown _ _ _ p q joined
   where
     joined : IsOk a.grown × ((text : List ℕ) × Is text × (b.bytes.items ≡ a.bytes.items ++ text))
@@ -54,8 +54,8 @@ some_then a b c Is IsSo more p q f = both_grown b.grown c.grown _ _ _ p q joined
         (grown, (text ++ more, f text is, next ∙ ap (λ l. l ++ more) e ∙ append_assoc a.bytes.items text more))
 
 -- a text, and one behind it of which something is so
-pub then_some : (a b c : Message) (Is IsSo : List ℕ → Type 0) (text : List ℕ) → Adds a b text → AddsSome b c Is
-    → ((more : List ℕ) → Is more → IsSo (text ++ more)) → AddsSome a c IsSo
+pub then_some : (a b c : Message) (Is IsSo : List ℕ → Type 0) (text : List ℕ) → Adds a b text → AppendsTextThat b c Is
+    → ((more : List ℕ) → Is more → IsSo (text ++ more)) → AppendsTextThat a c IsSo
 then_some a b c Is IsSo text p q f = both_grown b.grown c.grown _ _ _ p q joined
   where
     joined : IsOk a.grown × (b.bytes.items ≡ a.bytes.items ++ text)
@@ -65,8 +65,8 @@ then_some a b c Is IsSo text p q f = both_grown b.grown c.grown _ _ _ p q joined
         (grown, (text ++ more, f more is, next ∙ ap (λ l. l ++ more) e ∙ append_assoc a.bytes.items text more))
 
 -- two texts of which something is so
-pub some_some : (a b c : Message) (Is Next IsSo : List ℕ → Type 0) → AddsSome a b Is → AddsSome b c Next
-    → ((text more : List ℕ) → Is text → Next more → IsSo (text ++ more)) → AddsSome a c IsSo
+pub some_some : (a b c : Message) (Is Next IsSo : List ℕ → Type 0) → AppendsTextThat a b Is → AppendsTextThat b c Next
+    → ((text more : List ℕ) → Is text → Next more → IsSo (text ++ more)) → AppendsTextThat a c IsSo
 some_some a b c Is Next IsSo p q f = both_grown b.grown c.grown _ _ _ p q joined
   where
     joined : IsOk a.grown × ((text : List ℕ) × Is text × (b.bytes.items ≡ a.bytes.items ++ text))
@@ -76,8 +76,8 @@ some_some a b c Is Next IsSo p q f = both_grown b.grown c.grown _ _ _ p q joined
         (grown, (text ++ more, f text more is so, next ∙ ap (λ l. l ++ more) e ∙ append_assoc a.bytes.items text more))
 
 -- the same text, of which something else is so too
-pub some_so : (a b : Message) (Is IsSo : List ℕ → Type 0) → AddsSome a b Is → ((text : List ℕ) → Is text → IsSo text)
-    → AddsSome a b IsSo
+pub some_so : (a b : Message) (Is IsSo : List ℕ → Type 0) → AppendsTextThat a b Is → ((text : List ℕ) → Is text → IsSo text)
+    → AppendsTextThat a b IsSo
 some_so a b Is IsSo p f = grown_so b.grown _ _ p again
   where
     again : IsOk a.grown × ((text : List ℕ) × Is text × (b.bytes.items ≡ a.bytes.items ++ text))

@@ -9,7 +9,7 @@ use Rattle.std.specs.Fmt.{decimal}
 use Rattle.std.specs.Prelude.{codes, Err, IsOk, Ok, OnOk, Result, is_some}
 use Rattle.rv_list_errors.specs.FaultHeads.{borrowed_name, borrowed_names}
 use Rattle.std.specs.Borrow.{Bor}
-use Rattle.rv_list_errors.specs.NearNames.{Adds, left_text, most_listed_names, names_text, names_from, present, quoted, separator}
+use Rattle.rv_list_errors.specs.NearNames.{Adds, more_names_text, max_listed_names, names_text, names_from, present, quoted, separator}
 use Rattle.rv_list_errors.specs.declared.message.Message.{Message}
 
 -- ---- a message that grows
@@ -132,9 +132,9 @@ module _ (names : List (Option (Bor (List ℕ)))) (i : ℕ) (low : i < length na
       ∙ ap (λ name. take i (borrowed_names names) ++ name ∷ []) (borrowed_at names i))
       ∙ present_more (take i (borrowed_names names)) (borrowed_name (get_or names i None))
 
-  pub count_next : (told after : ℕ) → told ≡ min (length (present (take i (borrowed_names names)))) most_listed_names
-      → after ≡ min (told + length (present (borrowed_name (get_or names i None) ∷ []))) most_listed_names
-      → after ≡ min (length (present (take (i + 1) (borrowed_names names)))) most_listed_names
+  pub count_next : (told after : ℕ) → told ≡ min (length (present (take i (borrowed_names names)))) max_listed_names
+      → after ≡ min (told + length (present (borrowed_name (get_or names i None) ∷ []))) max_listed_names
+      → after ≡ min (length (present (take (i + 1) (borrowed_names names)))) max_listed_names
   count_next told after is then =
       rw present_next (omega (
         arith,
@@ -144,24 +144,24 @@ module _ (names : List (Option (Bor (List ℕ)))) (i : ℕ) (low : i < length na
       ))
 
 abbrev left_of : ℕ → List ℕ
-left_of count = codes " and " ++ (decimal (count - most_listed_names) ++ codes " more")
+left_of count = codes " and " ++ (decimal (count - max_listed_names) ++ codes " more")
 
 -- none is left
 pub none_left : (first second : Message) (names : List (List ℕ)) (count told : ℕ) → count ≡ length names
-    → told ≡ min (length names) most_listed_names → count ≤ told → Adds first second (names_from count 0 (take most_listed_names names))
+    → told ≡ min (length names) max_listed_names → count ≤ told → Adds first second (names_from count 0 (take max_listed_names names))
     → Adds first second (names_text names)
 none_left first second names count told counted is all adds =
-    let few : left_text (length names) ≡ [] =
-    ap (λ test. cond test (left_of (length names)) []) (le-ltb most_listed_names (length names) (omega arith)) in
-    rw (few, append-nil (names_from (length names) 0 (take most_listed_names names))) (rw counted at adds)
+    let few : more_names_text (length names) ≡ [] =
+    ap (λ test. cond test (left_of (length names)) []) (le-ltb max_listed_names (length names) (omega arith)) in
+    rw (few, append-nil (names_from (length names) 0 (take max_listed_names names))) (rw counted at adds)
 
 -- the number of those that are left is told
 pub some_left : (first second third : Message) (names : List (List ℕ)) (count told : ℕ) → count ≡ length names
-    → told ≡ min (length names) most_listed_names → told < count → Adds first second (names_from count 0 (take most_listed_names names))
+    → told ≡ min (length names) max_listed_names → told < count → Adds first second (names_from count 0 (take max_listed_names names))
     → Adds second third (codes " and " ++ (decimal (count - told) ++ codes " more")) → Adds first third (names_text names)
 some_left first second third names count told counted is more adds behind =
-    let left : left_text (length names) ≡ left_of (length names) =
-    ap (λ test. cond test (left_of (length names)) []) (lt-ltb most_listed_names (length names) (omega arith)) in
-    let few : count - told ≡ length names - most_listed_names = omega arith in
-    rw left (adds_more first second third (names_from (length names) 0 (take most_listed_names names)) (left_of (length names))
+    let left : more_names_text (length names) ≡ left_of (length names) =
+    ap (λ test. cond test (left_of (length names)) []) (lt-ltb max_listed_names (length names) (omega arith)) in
+    let few : count - told ≡ length names - max_listed_names = omega arith in
+    rw left (adds_more first second third (names_from (length names) 0 (take max_listed_names names)) (left_of (length names))
     (rw counted at adds) (rw few at behind))

@@ -5,7 +5,7 @@ use Rattle.std.specs.Prelude.{Err, Ok, OnOk, Result}
 use Rattle.std.proofs.lemmas.List.Concat.{flat_map-append}
 use Rattle.rv_lists.specs.declared.error.JobError.{JobError}
 use Rattle.rv_text.specs.Printable.{printable_text}
-use Rattle.rv_list_errors.specs.Lines.{AppendsLineOfEach, AppendsLines, TellEach, printable_line}
+use Rattle.rv_list_errors.specs.Lines.{AppendsLineOfEach, AppendsLines, EachFaultHasMessage, printable_line}
 
 -- no line
 pub no_lines : (Is : JobError → List ℕ → Type 0) (bytes : List ℕ) → AppendsLineOfEach Is [] bytes bytes
@@ -13,8 +13,8 @@ no_lines Is bytes = ([], tt, sym (append-nil bytes))
 
 -- one message more
 one_message_more : (Is : JobError → List ℕ → Type 0) (faults : List JobError) (messages : List (List ℕ)) (fault : JobError)
-    (message : List ℕ) → TellEach Is faults messages → Is fault message
-    → TellEach Is (faults ++ fault ∷ []) (messages ++ message ∷ [])
+    (message : List ℕ) → EachFaultHasMessage Is faults messages → Is fault message
+    → EachFaultHasMessage Is (faults ++ fault ∷ []) (messages ++ message ∷ [])
 one_message_more Is [] [] fault message told so = (so, tt)
 one_message_more Is (f ∷ faults) (m ∷ messages) fault message told so =
     (told.0, one_message_more Is faults messages fault message told.1 so)
@@ -35,8 +35,8 @@ one_line_more Is faults i d before bytes after message low (messages, told, is) 
 
 -- of each message something else is so too
 each_so : (Is Other : JobError → List ℕ → Type 0) (faults : List JobError) (messages : List (List ℕ))
-    → ((fault : JobError) (message : List ℕ) → Is fault message → Other fault message) → TellEach Is faults messages
-    → TellEach Other faults messages
+    → ((fault : JobError) (message : List ℕ) → Is fault message → Other fault message) → EachFaultHasMessage Is faults messages
+    → EachFaultHasMessage Other faults messages
 each_so Is Other [] [] so told = tt
 each_so Is Other (fault ∷ faults) (message ∷ messages) so told =
     (so fault message told.0, each_so Is Other faults messages so told.1)
@@ -52,7 +52,7 @@ lines_so (Err error) Is Other faults before after so puts = tt
 
 -- there are as many lines as faults
 count_each : (Is : JobError → List ℕ → Type 0) (faults : List JobError) (messages : List (List ℕ))
-    → TellEach Is faults messages → length messages ≡ length faults
+    → EachFaultHasMessage Is faults messages → length messages ≡ length faults
 count_each Is [] [] told = refl
 count_each Is (fault ∷ faults) (message ∷ messages) told = ap suc (count_each Is faults messages told.1)
 count_each Is [] (message ∷ messages) told = elim told [ ]

@@ -7,7 +7,7 @@ use Rattle.std.specs.List.{find}
 use Rattle.toml.specs.Data.{Members, get_member}
 use Rattle.rv_lists.specs.declared.keys.Kind.{Kind}
 use Rattle.rv_list_errors.specs.JobFaults.{BeginsWithRegion, BeginsWithValue, ExplainsSameAs, ExplainsName, ExplainsExpectedValue}
-use Rattle.rv_list_errors.specs.JobFaults.{is_known_of_other_kind, is_of_other_kind, key_and_kind}
+use Rattle.rv_list_errors.specs.JobFaults.{has_wrong_type_at_key, has_wrong_type_at, key_and_type}
 use Rattle.rv_list_errors.specs.Lines.{BeginsWith}
 use Rattle.rv_list_errors.specs.Explanation.{IsKeyAndValue, IsExpectedValue, region_number_text}
 use Rattle.rv_list_errors.specs.declared.explanations.Expected.{Expected}
@@ -28,15 +28,15 @@ region_of_number key ms place told (rest, so) =
     inr (decimal (place + 1) ++ rest, so ∙ append_assoc (codes "region ") (decimal (place + 1)) rest)
 
 names_of : (found : Option (Bor (Bor (List ℕ) × Kind)))
-    → option_map (λ known. key_and_kind known.now) found ≡ option_map key_and_kind (option_map (λ known. known.now) found)
+    → option_map (λ known. key_and_type known.now) found ≡ option_map key_and_type (option_map (λ known. known.now) found)
 names_of None = refl
 names_of (Some known) = refl
 
 pub found_in_names : (ms : Members) (keys : List (Bor (List ℕ) × Kind)) (found : Option (Bor (Bor (List ℕ) × Kind)))
-    → option_map (λ known. known.now) found ≡ find (is_known_of_other_kind ms) keys
-    → option_map (λ known. key_and_kind known.now) found ≡ find (is_of_other_kind ms) (map key_and_kind keys)
+    → option_map (λ known. known.now) found ≡ find (has_wrong_type_at_key ms) keys
+    → option_map (λ known. key_and_type known.now) found ≡ find (has_wrong_type_at ms) (map key_and_type keys)
 found_in_names ms keys found is =
-    names_of found ∙ ap (option_map key_and_kind) is ∙ sym (find_of_map (is_of_other_kind ms) key_and_kind keys)
+    names_of found ∙ ap (option_map key_and_type) is ∙ sym (find_of_map (has_wrong_type_at ms) key_and_type keys)
 
 -- ---- names
 

@@ -6,19 +6,19 @@ use Rattle.std.specs.List.{starts_with}
 use Rattle.std.specs.Str.{bytes_eq}
 use Rattle.toml.specs.Data.{Members, get_member}
 use Rattle.rv_lists.specs.Keys.{number_at_key, text_at_key}
-use Rattle.rv_lists.specs.Limits.{most_console, most_path}
+use Rattle.rv_lists.specs.Limits.{max_console_len, max_path_len}
 use Rattle.rv_lists.specs.MachineFaults.{fault_kinds}
-use Rattle.rv_list_errors.specs.Explanation.{first_kinds_text, letters_words, sets_words}
+use Rattle.rv_list_errors.specs.Explanation.{first_fault_kinds_text, unknown_letters_text, known_isas_text}
 
 -- ---- expectations
 
 -- the text that says what is expected of a path
-abbrev pub path_words : List ℕ
-path_words = codes "expected a path of 1 to " ++ (decimal most_path ++ codes " bytes")
+abbrev pub path_text : List ℕ
+path_text = codes "expected a path of 1 to " ++ (decimal max_path_len ++ codes " bytes")
 
--- whether a text may not be a path: it is empty, or longer than `most_path`
+-- whether a text may not be a path: it is empty, or longer than `max_path_len`
 abbrev pub is_invalid_path : List ℕ → Bool
-is_invalid_path path = (length path == 0) || nat_lt most_path (length path)
+is_invalid_path path = (length path == 0) || nat_lt max_path_len (length path)
 
 -- whether there is a number, and it is below 0
 abbrev pub is_negative : Option ℤ → Bool
@@ -26,31 +26,31 @@ is_negative None = false
 is_negative (Some number) = int_lt number (pos 0)
 
 -- how a list must write a negative exit code, which is an unsigned number there; nothing if the code is not negative
-abbrev pub negative_words : Bool → List ℕ
-negative_words false = codes ""
-negative_words true = codes "; write -1 as 4294967295"
+abbrev pub negative_exit_text : Bool → List ℕ
+negative_exit_text false = codes ""
+negative_exit_text true = codes "; write -1 as 4294967295"
 
 -- the explanation of a bad `expect_exit`, given its number, if it is one: the key whose value is shown, and the words
 abbrev pub exit_explanation : Option ℤ → Option (List ℕ) × List ℕ
 exit_explanation number = (
   Some (codes "expect_exit"),
-  codes "expected an integer from 0 to " ++ (decimal 0xffff_ffff ++ negative_words (is_negative number)),
+  codes "expected an integer from 0 to " ++ (decimal 0xffff_ffff ++ negative_exit_text (is_negative number)),
 )
 
 -- the explanation of a bad `expect_end`: the key whose value is shown, and the words, which list all kinds of faults
-abbrev pub kinds_explanation : Option (List ℕ) × List ℕ
-kinds_explanation = (
+abbrev pub expected_end_explanation : Option (List ℕ) × List ℕ
+expected_end_explanation = (
   Some (codes "expect_end"),
-  codes "expected \"budget\" or a fault kind: " ++ first_kinds_text (length fault_kinds),
+  codes "expected \"budget\" or a fault kind: " ++ first_fault_kinds_text (length fault_kinds),
 )
 
 -- the explanation of a bad `expect_end`, given its text: the key whose value is shown, or `None`, and the words; for `exit`, they say that
 -- `expect_exit` is the key to use
 abbrev pub end_explanation : Option (List ℕ) → Option (List ℕ) × List ℕ
-end_explanation None = kinds_explanation
+end_explanation None = expected_end_explanation
 end_explanation (Some end) =
     if bytes_eq end (codes "exit")
-    then (None, codes "expect_end = \"exit\": to expect an exit, set \"expect_exit\" to its code") else kinds_explanation
+    then (None, codes "expect_end = \"exit\": to expect an exit, set \"expect_exit\" to its code") else expected_end_explanation
 
 -- the explanation of a bad `expect_console`, `expect_console_file` or `expect_end`, given the texts at these keys: the key whose value is
 -- shown, or `None`, and the words
@@ -58,10 +58,10 @@ abbrev pub console_explanation : Option (List ℕ) → Option (List ℕ) → Opt
 console_explanation (Some text) (Some path) end =
     (None, codes "\"expect_console\" and \"expect_console_file\" cannot both be set")
 console_explanation (Some text) None end =
-    if nat_lt most_console (length text)
-    then (Some (codes "expect_console"), codes "expected at most " ++ (decimal most_console ++ codes " bytes")) else end_explanation end
+    if nat_lt max_console_len (length text)
+    then (Some (codes "expect_console"), codes "expected at most " ++ (decimal max_console_len ++ codes " bytes")) else end_explanation end
 console_explanation None (Some path) end =
-    if is_invalid_path path then (Some (codes "expect_console_file"), path_words) else end_explanation end
+    if is_invalid_path path then (Some (codes "expect_console_file"), path_text) else end_explanation end
 console_explanation None None end = end_explanation end
 
 -- the explanation of a bad `expect_signature`, given its text: the key whose value is shown, and the words; `asked` is whether the job has
@@ -69,7 +69,7 @@ console_explanation None None end = end_explanation end
 abbrev pub reference_explanation : Bool → Option (List ℕ) → Option (List ℕ) × List ℕ → Option (List ℕ) × List ℕ
 reference_explanation asked None rest = rest
 reference_explanation asked (Some path) rest =
-    if asked then if is_invalid_path path then (Some (codes "expect_signature"), path_words) else rest
+    if asked then if is_invalid_path path then (Some (codes "expect_signature"), path_text) else rest
     else (
       Some (codes "expect_signature"),
       codes "cannot be used without \"signature\"",
@@ -88,24 +88,24 @@ reference_explanation_of ms = reference_explanation (is_some (get_member (codes 
 
 -- `told`, the key whose value is shown and the words, explains the first bad expectation of the job: `expect_exit`, if the job has this
 -- key, or another expectation
-abbrev pub IsExpectationTold : Members → Option (List ℕ) × List ℕ → Type 0
-IsExpectationTold ms told =
+abbrev pub IsExpectationExplanation : Members → Option (List ℕ) × List ℕ → Type 0
+IsExpectationExplanation ms told =
     ((is_some (get_member (codes "expect_exit") ms) ≡ true) × (told ≡ exit_explanation (number_at_key (codes "expect_exit") ms)))
     ⊎ (told ≡ reference_explanation_of ms)
 
 -- ---- instruction sets
 
 -- the explanation of an unknown instruction set: which part of it is not simulated, if it is a common one, and the known sets
-abbrev pub set_words : List ℕ → List ℕ
-set_words isa =
-    if starts_with nat_eq isa (codes "rv64") then codes "RV64 is not simulated: " ++ sets_words
-    else if starts_with nat_eq isa (codes "rv32") then letters_words (drop 4 isa) else sets_words
+abbrev pub unknown_isa_text : List ℕ → List ℕ
+unknown_isa_text isa =
+    if starts_with nat_eq isa (codes "rv64") then codes "RV64 is not simulated: " ++ known_isas_text
+    else if starts_with nat_eq isa (codes "rv32") then unknown_letters_text (drop 4 isa) else known_isas_text
 
 -- the explanation of a bad `isa`, given its text, if it has one
-abbrev pub isa_words : Option (List ℕ) → List ℕ
-isa_words None = sets_words
-isa_words (Some isa) = set_words isa
+abbrev pub isa_text : Option (List ℕ) → List ℕ
+isa_text None = known_isas_text
+isa_text (Some isa) = unknown_isa_text isa
 
 -- the explanation of a job's bad `isa`: the key whose value is shown, and the words
 abbrev pub isa_explanation : Members → Option (List ℕ) × List ℕ
-isa_explanation ms = (Some (codes "isa"), isa_words (text_at_key (codes "isa") ms))
+isa_explanation ms = (Some (codes "isa"), isa_text (text_at_key (codes "isa") ms))

@@ -6,7 +6,7 @@ use Rattle.std.specs.List.{find, starts_with}
 use Rattle.toml.specs.Data.{Data, Members, no_members, member, as_str}
 use Rattle.toml.specs.Text.{IsValueText}
 use Rattle.rv_lists.specs.Keys.{is_job_key, is_list_key, is_region_key}
-use Rattle.rv_lists.specs.Limits.{most_budget, most_jobs, most_name, most_path, most_symbol}
+use Rattle.rv_lists.specs.Limits.{max_budget, max_jobs, most_name, max_path_len, max_symbol_len}
 use Rattle.rv_lists.specs.declared.error.What.{What}
 use Rattle.rv_lists.specs.declared.error.What.TheVariants as what
 use Rattle.rv_lists.specs.MachineFaults.{fault_kinds, fault_name}
@@ -25,8 +25,8 @@ use Rattle.rv_list_errors.specs.declared.message.Message.{Message}
 -- ---- a message that grows by a text that is only partly known
 
 -- either an allocation failed, or the message went from `before` to `after` by appending a text that satisfies the predicate
-abbrev pub AddsSome : Message → Message → (List ℕ → Type 0) → Type 0
-AddsSome before after IsSo = OnOk after.grown
+abbrev pub AppendsTextThat : Message → Message → (List ℕ → Type 0) → Type 0
+AppendsTextThat before after IsSo = OnOk after.grown
     (IsOk before.grown × ((text : List ℕ) × IsSo text × (after.bytes.items ≡ before.bytes.items ++ text)))
 
 -- ---- actual values
@@ -54,8 +54,8 @@ IsExpectedValue key value wanted told =
 
 -- `told` is the explanation of a text that is not TOML: the line and column of the byte at the index `place`, where the error is, and a
 -- reason
-abbrev pub IsNotToml : List ℕ → ℕ → List ℕ → Type 0
-IsNotToml text place told = (reason : List ℕ) × (told
+abbrev pub ExplainsNotToml : List ℕ → ℕ → List ℕ → Type 0
+ExplainsNotToml text place told = (reason : List ℕ) × (told
     ≡ codes ":" ++ (decimal (line_at place text) ++ (codes ":" ++ (decimal (column_at place text)
     ++ (codes ": error: invalid TOML: " ++ reason)))))
 
@@ -73,7 +73,7 @@ elf_file_text = codes ": error: this is an ELF file, not a job list"
 
 -- the explanation that a list has too many jobs: the limit, and how many it has
 abbrev pub too_many_jobs_text : ℕ → List ℕ
-too_many_jobs_text count = (codes "too many jobs: expected at most " ++ (decimal most_jobs ++ codes ", found ")) ++ decimal count
+too_many_jobs_text count = (codes "too many jobs: expected at most " ++ (decimal max_jobs ++ codes ", found ")) ++ decimal count
 
 -- ---- keys
 
@@ -106,8 +106,8 @@ nearest_job_text names (Some name) = codes "; a similar name exists: " ++ quoted
 nearest_job_text names None = codes "; the earlier jobs are " ++ names_text (present names)
 
 -- `told` suggests the name that is probably meant by the job name `wanted`, or else all of these names
-abbrev pub IsNearestJob : List (Option (List ℕ)) → List ℕ → List ℕ → Type 0
-IsNearestJob names wanted told =
+abbrev pub IsJobNameSuggestion : List (Option (List ℕ)) → List ℕ → List ℕ → Type 0
+IsJobNameSuggestion names wanted told =
     (near : Option (List ℕ)) × IsNearName names wanted near × (told ≡ nearest_job_text names near)
 
 -- ---- expected values
@@ -119,50 +119,50 @@ kind_text place =
     ++ quoted (fault_name (slice_index_or fault_kinds place fault.FetchAccess))
 
 -- the names of the first kinds of faults, as a sentence lists them; the number is how many there are
-unfoldable pub first_kinds_text : ℕ → List ℕ
-first_kinds_text zero = []
-first_kinds_text (suc count) = first_kinds_text count ++ kind_text count
+unfoldable pub first_fault_kinds_text : ℕ → List ℕ
+first_fault_kinds_text zero = []
+first_fault_kinds_text (suc count) = first_fault_kinds_text count ++ kind_text count
 
 -- the text that completes the words of an explanation: a maximum, or the names of all kinds of faults
-abbrev pub rest_words : Rest → List ℕ
-rest_words rest.Nothing = []
-rest_words (rest.Most most) = decimal most
-rest_words rest.FaultKinds = first_kinds_text (length fault_kinds)
+abbrev pub inserted_text : Rest → List ℕ
+inserted_text rest.Nothing = []
+inserted_text (rest.Most most) = decimal most
+inserted_text rest.FaultKinds = first_fault_kinds_text (length fault_kinds)
 
 -- the words of an explanation, without the key and its value
-abbrev pub explained_words : Explanation → List ℕ
-explained_words (told.Text text) = text.now
-explained_words (told.Expected wanted) = wanted.now.before.now ++ (rest_words wanted.now.rest ++ wanted.now.behind.now)
+abbrev pub explained_text : Explanation → List ℕ
+explained_text (told.Text text) = text.now
+explained_text (told.Expected wanted) = wanted.now.before.now ++ (inserted_text wanted.now.rest ++ wanted.now.behind.now)
 
 -- the text that says what is expected of the bad value, given the error, or `None` if it depends on more than the error
-abbrev pub key_words : What → Option (List ℕ)
-key_words what.Name =
+abbrev pub expected_of_error : What → Option (List ℕ)
+expected_of_error what.Name =
     Some (codes "expected 1 to " ++ (decimal most_name ++ codes " ASCII letters, digits, \".\", \"_\" or \"-\""))
-key_words what.Image = Some (codes "expected a path of 1 to " ++ (decimal most_path ++ codes " bytes"))
-key_words what.Budget = Some (codes "expected an integer from 1 to " ++ (decimal most_budget ++ codes ""))
-key_words what.Load = Some (codes "expected \"physical\" or \"virtual\"")
-key_words what.Signature =
-    Some (codes "expected two symbol names of 1 to " ++ (decimal most_symbol ++ codes " bytes each, without NUL bytes"))
-key_words what.Misaligned = Some (codes "expected \"fault\" or \"allow\"")
-key_words _ = None
+expected_of_error what.Image = Some (codes "expected a path of 1 to " ++ (decimal max_path_len ++ codes " bytes"))
+expected_of_error what.Budget = Some (codes "expected an integer from 1 to " ++ (decimal max_budget ++ codes ""))
+expected_of_error what.Load = Some (codes "expected \"physical\" or \"virtual\"")
+expected_of_error what.Signature =
+    Some (codes "expected two symbol names of 1 to " ++ (decimal max_symbol_len ++ codes " bytes each, without NUL bytes"))
+expected_of_error what.Misaligned = Some (codes "expected \"fault\" or \"allow\"")
+expected_of_error _ = None
 
 -- ---- instruction sets
 
 -- the text that lists the known instruction sets
-abbrev pub sets_words : List ℕ
-sets_words = codes "expected \"rv32i\", \"rv32im\", \"rv32ic\" or \"rv32imc\""
+abbrev pub known_isas_text : List ℕ
+known_isas_text = codes "expected \"rv32i\", \"rv32im\", \"rv32ic\" or \"rv32imc\""
 
 -- whether a letter of an instruction set is neither `i`, the base, nor `m` or `c`, the simulated extensions
 abbrev pub is_unsimulated : ℕ → Bool
 is_unsimulated letter = not (letter == 105 || letter == 109 || letter == 99)
 
 -- the explanation of an unknown instruction set, given its first letter that is not simulated, if any: the A, F and D extensions are named
-abbrev pub letter_words : Option ℕ → List ℕ
-letter_words None = sets_words
-letter_words (Some letter) =
-    if letter == 97 then codes "the A extension is not simulated: " ++ sets_words
-    else if letter == 102 || letter == 100 then codes "the F and D extensions are not simulated: " ++ sets_words else sets_words
+abbrev pub unknown_letter_text : Option ℕ → List ℕ
+unknown_letter_text None = known_isas_text
+unknown_letter_text (Some letter) =
+    if letter == 97 then codes "the A extension is not simulated: " ++ known_isas_text
+    else if letter == 102 || letter == 100 then codes "the F and D extensions are not simulated: " ++ known_isas_text else known_isas_text
 
 -- the explanation of an unknown instruction set, given the letters after `rv32`
-abbrev pub letters_words : List ℕ → List ℕ
-letters_words letters = letter_words (find is_unsimulated letters)
+abbrev pub unknown_letters_text : List ℕ → List ℕ
+unknown_letters_text letters = unknown_letter_text (find is_unsimulated letters)

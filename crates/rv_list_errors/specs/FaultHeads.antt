@@ -50,23 +50,23 @@ abbrev pub job_number_and_name : List (Option (List ℕ)) → ℕ → List ℕ
 job_number_and_name names number =
     codes ": error: job " ++ (decimal number ++ (name_text (slice_index_or names (number - 1) None) ++ codes ": "))
 
--- `:LINE: error: job NUMBER "NAME": ` for the job with this number, given the lines on which the jobs begin and their names
+-- `:WORD_LINE_LEN: error: job NUMBER "NAME": ` for the job with this number, given the lines on which the jobs begin and their names
 abbrev pub job_heading : List ℕ → List (Option (List ℕ)) → ℕ → List ℕ
 job_heading lines names number = line_text (slice_get lines (number - 1)) ++ job_number_and_name names number
 
 -- the text between the path and the explanation of an error: the heading of the job with this number, or `: error: ` if the number is 0
-abbrev pub fault_place : List ℕ → List (Option (List ℕ)) → ℕ → List ℕ
-fault_place lines names number = if number == 0 then codes ": error: " else job_heading lines names number
+abbrev pub fault_location : List ℕ → List (Option (List ℕ)) → ℕ → List ℕ
+fault_location lines names number = if number == 0 then codes ": error: " else job_heading lines names number
 
 -- the text between the path and the explanation of an error of the job with this number, given the list's text and its document; empty if
 -- the text is not a document
-abbrev pub place_in_document : List ℕ → Option Members → ℕ → List ℕ
-place_in_document text None number = []
-place_in_document text (Some ms) number = fault_place (job_lines text) (job_names ms) number
+abbrev pub location_in_document : List ℕ → Option Members → ℕ → List ℕ
+location_in_document text None number = []
+location_in_document text (Some ms) number = fault_location (job_lines text) (job_names ms) number
 
 -- the path of the list and the location of this error, with which the line that reports the error begins
 abbrev pub fault_head : List ℕ → List ℕ → JobError → List ℕ
-fault_head path text fault = path ++ place_in_document text (document_of text) fault.job
+fault_head path text fault = path ++ location_in_document text (document_of text) fault.job
 
 -- ---- values of the code
 
@@ -81,4 +81,4 @@ borrowed_names names = map borrowed_name names
 -- the text between the path and the explanation of an error of the job with this number, given the list as it was parsed again
 abbrev pub location_in_view : FaultView → ℕ → List ℕ
 location_in_view (look.NoToml text error) number = []
-location_in_view (look.List list) number = fault_place list.lines.items (borrowed_names list.names.items) number
+location_in_view (look.List list) number = fault_location list.lines.items (borrowed_names list.names.items) number

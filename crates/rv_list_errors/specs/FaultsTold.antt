@@ -4,19 +4,19 @@ use Rattle.toml.specs.Data.{Members}
 use Rattle.rv_lists.specs.JobList.{document_of}
 use Rattle.rv_lists.specs.declared.error.JobError.{JobError}
 use Rattle.rv_list_errors.specs.FaultHeads.{elements_of_job, fault_head, job_names}
-use Rattle.rv_list_errors.specs.JobFaults.{EndsSo, TellsJobFault, element_at}
+use Rattle.rv_list_errors.specs.JobFaults.{HasHeadAndTail, ExplainsJobFault, element_at}
 
 -- `told` explains this error of a document from the values of the bad job; an error of the whole list may have any explanation
-abbrev pub TellsFaultOfDocument : Members → JobError → List ℕ → Type 0
-TellsFaultOfDocument ms fault told = 0 < fault.job → TellsJobFault
+abbrev pub ExplainsFaultOfDocument : Members → JobError → List ℕ → Type 0
+ExplainsFaultOfDocument ms fault told = 0 < fault.job → ExplainsJobFault
     (job_names ms) (element_at (elements_of_job ms) (fault.job - 1)) fault.what told
 
 -- `told` explains this error of a document from the values of the bad job; without a document, any text will do
-abbrev pub TellsFaultIn : Option Members → JobError → List ℕ → Type 0
-TellsFaultIn None fault told = ⊤
-TellsFaultIn (Some ms) fault told = TellsFaultOfDocument ms fault told
+abbrev pub ExplainsFaultIn : Option Members → JobError → List ℕ → Type 0
+ExplainsFaultIn None fault told = ⊤
+ExplainsFaultIn (Some ms) fault told = ExplainsFaultOfDocument ms fault told
 
 -- the message is the beginning of the error's line, followed by an explanation of the error
-abbrev pub TellsFaultOfText : List ℕ → List ℕ → JobError → List ℕ → Type 0
-TellsFaultOfText path text fault message =
-    EndsSo (TellsFaultIn (document_of text) fault) (fault_head path text fault) message
+abbrev pub IsFaultLineOfText : List ℕ → List ℕ → JobError → List ℕ → Type 0
+IsFaultLineOfText path text fault message =
+    HasHeadAndTail (ExplainsFaultIn (document_of text) fault) (fault_head path text fault) message

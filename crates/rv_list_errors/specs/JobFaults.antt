@@ -8,21 +8,21 @@ use Rattle.std.specs.Str.{bytes_eq}
 use Rattle.std.specs.Borrow.{Bor}
 use Rattle.toml.specs.Data.{Data, Items, Members, get_member, item, no_items, table}
 use Rattle.toml.specs.View.{items_view}
-use Rattle.rv_lists.specs.Keys.{absent_or, is_number, is_region_array, is_text, is_text_array, text_at_key}
+use Rattle.rv_lists.specs.Keys.{is_absent_or, is_number, is_region_array, is_text, is_text_array, text_at_key}
 use Rattle.rv_lists.specs.declared.keys.Kind.{Kind}
 use Rattle.rv_lists.specs.declared.keys.Kind.TheVariants as kind
-use Rattle.rv_lists.specs.Limits.{most_script}
-use Rattle.rv_lists.specs.Faults.{what_name}
+use Rattle.rv_lists.specs.Limits.{max_script_len}
+use Rattle.rv_lists.specs.Faults.{job_error_name}
 use Rattle.rv_lists.specs.declared.error.JobError.{JobError}
 use Rattle.rv_lists.specs.declared.error.What.{What}
 use Rattle.rv_lists.specs.declared.error.What.TheVariants as what
 use Rattle.rv_lists.specs.declared_map.Region.{Region}
 use Rattle.rv_text.specs.Words.{word_digits}
 use Rattle.rv_list_errors.specs.Lines.{BeginsWith}
-use Rattle.rv_list_errors.specs.Expectations.{IsExpectationTold, isa_explanation}
+use Rattle.rv_list_errors.specs.Expectations.{IsExpectationExplanation, isa_explanation}
 use Rattle.rv_list_errors.specs.FaultHeads.{borrowed_names}
-use Rattle.rv_list_errors.specs.Explanation.{IsKeyAndValue, IsShownValue, key_words, region_number_text, rest_words, explained_words}
-use Rattle.rv_list_errors.specs.UnknownKeys.{TellsUnknownKey}
+use Rattle.rv_list_errors.specs.Explanation.{IsKeyAndValue, IsShownValue, expected_of_error, region_number_text, inserted_text, explained_text}
+use Rattle.rv_list_errors.specs.UnknownKeys.{ExplainsUnknownKey}
 use Rattle.rv_list_errors.specs.declared.fault_text.FaultView.{FaultView}
 use Rattle.rv_list_errors.specs.declared.fault_text.FaultView.TheVariants as look
 use Rattle.rv_list_errors.specs.declared.list.List as listed
@@ -57,7 +57,7 @@ abbrev pub AreApart : Region → Region → Type 0
 AreApart one other = (address : ℕ) → HasAddress one address → HasAddress other address → ⊥
 
 -- `address` is the first address that the two regions share
-pub record IsFirstShared (one other : Region) (address : ℕ) : Type 0 where
+pub record IsFirstSharedAddress (one other : Region) (address : ℕ) : Type 0 where
   pub of_one : HasAddress one address
   pub of_other : HasAddress other address
   pub first : (earlier : ℕ) → HasAddress one earlier → HasAddress other earlier → address ≤ earlier
@@ -74,7 +74,7 @@ region_at regions place = slice_index_or regions place no_region
 pub record IsOverlap (regions : List Region) (place later address : ℕ) : Type 0 where
   pub before : place < later
   pub within : later < length regions
-  pub shared : IsFirstShared (region_at regions place) (region_at regions later) address
+  pub shared : IsFirstSharedAddress (region_at regions place) (region_at regions later) address
 
 -- no region at a greater index shares an address with the region at the index `place`
 abbrev pub IsDisjointFromRest : List Region → ℕ → Type 0
@@ -119,16 +119,16 @@ abbrev pub are_digit_pairs : List ℕ → Bool
 are_digit_pairs digits = list_all is_ascii_hexdigit digits && length digits % 2 == 0
 
 -- the text of the maximum length of a script
-abbrev pub most_script_words : List ℕ
-most_script_words = codes "expected at most " ++ (decimal most_script ++ codes " bytes")
+abbrev pub max_script_text : List ℕ
+max_script_text = codes "expected at most " ++ (decimal max_script_len ++ codes " bytes")
 
 -- the explanation of a bad script, given the texts of `input` and `input_hex`: the key whose value is shown, or `None`, and the words
 abbrev pub script_explanation : Option (List ℕ) → Option (List ℕ) → Option (List ℕ) × List ℕ
 script_explanation (Some text) (Some digits) = (None, codes "\"input\" and \"input_hex\" cannot both be set")
-script_explanation (Some text) None = (Some (codes "input"), most_script_words)
+script_explanation (Some text) None = (Some (codes "input"), max_script_text)
 script_explanation None (Some digits) = (
   Some (codes "input_hex"),
-  if are_digit_pairs digits then most_script_words else codes "expected pairs of hexadecimal digits",
+  if are_digit_pairs digits then max_script_text else codes "expected pairs of hexadecimal digits",
 )
 script_explanation None None = (None, codes "input")
 
@@ -160,19 +160,19 @@ text_length None = 0
 text_length (Some text) = length text
 
 -- the text that says what is expected of the value of a key
-abbrev pub expected_words : Expected → List ℕ
-expected_words wanted = wanted.before.now ++ (rest_words wanted.rest ++ wanted.behind.now)
+abbrev pub expected_text : Expected → List ℕ
+expected_text wanted = wanted.before.now ++ (inserted_text wanted.rest ++ wanted.behind.now)
 
 -- `told` is the key with its value, or that it is missing, then the number of bytes if there are too many, and then what is expected
 abbrev pub ExplainsExpectedValue : Expected → Members → List ℕ → Type 0
 ExplainsExpectedValue wanted ms told = (met : List ℕ) × IsKeyAndValue wanted.key.now (get_member wanted.key.now ms) met
     × (told ≡ met ++ (bytes_text wanted.rest (shown_byte_count wanted.bytes (text_length (text_at_key wanted.key.now ms)))
-    ++ (codes ": " ++ expected_words wanted)))
+    ++ (codes ": " ++ expected_text wanted)))
 
 -- `told` is the text of an explanation, given the values of the job
-abbrev pub ExplainsKey : Explanation → Members → List ℕ → Type 0
-ExplainsKey (told.Text text) ms told = told ≡ text.now
-ExplainsKey (told.Expected wanted) ms told = ExplainsExpectedValue wanted.now ms told
+abbrev pub IsTextOfExplanation : Explanation → Members → List ℕ → Type 0
+IsTextOfExplanation (told.Text text) ms told = told ≡ text.now
+IsTextOfExplanation (told.Expected wanted) ms told = ExplainsExpectedValue wanted.now ms told
 
 -- the key whose value is bad, given the error, or `None` if it depends on more than the error
 abbrev pub key_of : What → Option (List ℕ)
@@ -200,8 +200,8 @@ ExplainsWrongType key kind.Regions ms told = BeginsWithRegion key ms told
 ExplainsWrongType key _ ms told = BeginsWithValue key ms told
 
 -- the keys of a job in the order of the format, each with the type of its value
-abbrev pub kinds_of_keys : List (List ℕ × Kind)
-kinds_of_keys =
+abbrev pub types_of_keys : List (List ℕ × Kind)
+types_of_keys =
     (codes "name", kind.Text)
     ∷ (codes "image", kind.Text)
     ∷ (codes "budget", kind.Number)
@@ -228,25 +228,25 @@ is_of_kind kind.Texts = is_text_array
 is_of_kind kind.Regions = is_region_array
 
 -- whether the job has this key, with a value that does not have the type of the key
-abbrev pub is_of_other_kind : Members → List ℕ × Kind → Bool
-is_of_other_kind ms known = not (absent_or (is_of_kind known.1) known.0 ms)
+abbrev pub has_wrong_type_at : Members → List ℕ × Kind → Bool
+has_wrong_type_at ms known = not (is_absent_or (is_of_kind known.1) known.0 ms)
 
 -- a key and its type in the code's table, as contracts see them
-abbrev pub key_and_kind : Bor (List ℕ) × Kind → List ℕ × Kind
-key_and_kind known = (known.0.now, known.1)
+abbrev pub key_and_type : Bor (List ℕ) × Kind → List ℕ × Kind
+key_and_type known = (known.0.now, known.1)
 
 -- whether the job has this key of the code's table, with a value that does not have the type of the key
-abbrev pub is_known_of_other_kind : Members → Bor (List ℕ) × Kind → Bool
-is_known_of_other_kind ms known = is_of_other_kind ms (key_and_kind known)
+abbrev pub has_wrong_type_at_key : Members → Bor (List ℕ) × Kind → Bool
+has_wrong_type_at_key ms known = has_wrong_type_at ms (key_and_type known)
 
 -- `told` explains that the value of this key has the wrong type; without a key, that some type is invalid
-abbrev pub ExplainsWrongKey : Members → Option (List ℕ × Kind) → List ℕ → Type 0
-ExplainsWrongKey ms None told = told ≡ codes "invalid type"
-ExplainsWrongKey ms (Some known) told = ExplainsWrongType known.0 known.1 ms told
+abbrev pub ExplainsWrongTypeOfKey : Members → Option (List ℕ × Kind) → List ℕ → Type 0
+ExplainsWrongTypeOfKey ms None told = told ≡ codes "invalid type"
+ExplainsWrongTypeOfKey ms (Some known) told = ExplainsWrongType known.0 known.1 ms told
 
 -- `told` explains the first key of the job, in the order of the format, whose value has the wrong type
-abbrev pub ExplainsWrongRegionType : Members → List ℕ → Type 0
-ExplainsWrongRegionType ms told = ExplainsWrongKey ms (find (is_of_other_kind ms) kinds_of_keys) told
+abbrev pub ExplainsFirstWrongType : Members → List ℕ → Type 0
+ExplainsFirstWrongType ms told = ExplainsWrongTypeOfKey ms (find (has_wrong_type_at ms) types_of_keys) told
 
 -- ---- errors of a job
 
@@ -261,8 +261,8 @@ ExplainsName names key wanted ms told = (met : List ℕ) × IsKeyAndValue key (g
     × (told ≡ met ++ (codes ": " ++ (wanted ++ job_of_name_text (number_of_name names (text_at_key key ms)))))
 
 -- the text that says what is expected of a job's name that an earlier job has
-abbrev pub free_words : List ℕ
-free_words = codes "expected a unique name"
+abbrev pub unique_name_text : List ℕ
+unique_name_text = codes "expected a unique name"
 
 -- `told` begins with `same_as` and its value, what is expected of it, and the number of the first job with this name, if any
 abbrev pub ExplainsSameAs : List (Option (List ℕ)) → Members → List ℕ → Type 0
@@ -270,38 +270,38 @@ ExplainsSameAs names ms told = (head : List ℕ)
     × ExplainsName names (codes "same_as") (codes "expected the name of an earlier job") ms head × BeginsWith head told
 
 -- this explanation of a bad value belongs to this error of the job
-pub record IsToldOf (wrong : What) (ms : Members) (explained : Explanation) : Type 0 where
+pub record IsExplanationOf (wrong : What) (ms : Members) (explained : Explanation) : Type 0 where
   -- the words are those of the error, if they depend on nothing else
-  pub words : IfSome (key_words wrong) (λ words. explained_words explained ≡ words)
+  pub words : IfSome (expected_of_error wrong) (λ words. explained_text explained ≡ words)
   -- the key is that of the error, if it depends on nothing else
   pub key : IfSome (key_of wrong) (λ key. explained_key explained ≡ Some key)
-  pub script : wrong ≡ what.Input → (explained_key explained, explained_words explained) ≡ script_explanation_of ms
-  pub expectation : wrong ≡ what.Expect → IsExpectationTold ms (explained_key explained, explained_words explained)
-  pub isa : wrong ≡ what.Isa → (explained_key explained, explained_words explained) ≡ isa_explanation ms
+  pub script : wrong ≡ what.Input → (explained_key explained, explained_text explained) ≡ script_explanation_of ms
+  pub expectation : wrong ≡ what.Expect → IsExpectationExplanation ms (explained_key explained, explained_text explained)
+  pub isa : wrong ≡ what.Isa → (explained_key explained, explained_text explained) ≡ isa_explanation ms
 
 -- `told` explains this error of a job, which does not depend on the other jobs
-abbrev pub TellsOwnFault : What → Members → List ℕ → Type 0
-TellsOwnFault what.WrongType ms told = ExplainsWrongRegionType ms told
-TellsOwnFault what.UnknownKey ms told = TellsUnknownKey ms told
-TellsOwnFault what.Region ms told = ExplainsRegions told
-TellsOwnFault wrong ms told = (explained : Explanation) × IsToldOf wrong ms explained × ExplainsKey explained ms told
+abbrev pub ExplainsOwnFault : What → Members → List ℕ → Type 0
+ExplainsOwnFault what.WrongType ms told = ExplainsFirstWrongType ms told
+ExplainsOwnFault what.UnknownKey ms told = ExplainsUnknownKey ms told
+ExplainsOwnFault what.Region ms told = ExplainsRegions told
+ExplainsOwnFault wrong ms told = (explained : Explanation) × IsExplanationOf wrong ms explained × IsTextOfExplanation explained ms told
 
 -- `told` explains this error of a job that is a table, in a list whose jobs have these names
-abbrev pub TellsFaultOfTable : List (Option (List ℕ)) → Members → What → List ℕ → Type 0
-TellsFaultOfTable names ms what.Duplicate told = ExplainsName names (codes "name") free_words ms told
-TellsFaultOfTable names ms what.SameAs told = ExplainsSameAs names ms told
-TellsFaultOfTable names ms wrong told = TellsOwnFault wrong ms told
+abbrev pub ExplainsFaultOfTable : List (Option (List ℕ)) → Members → What → List ℕ → Type 0
+ExplainsFaultOfTable names ms what.Duplicate told = ExplainsName names (codes "name") unique_name_text ms told
+ExplainsFaultOfTable names ms what.SameAs told = ExplainsSameAs names ms told
+ExplainsFaultOfTable names ms wrong told = ExplainsOwnFault wrong ms told
 
 -- `told` explains that an element of `job` is not a table
-abbrev pub TellsNoTable : Data → List ℕ → Type 0
-TellsNoTable value told = (shown : List ℕ) × IsShownValue value shown × (told ≡ codes "expected a table, found " ++ shown)
+abbrev pub ExplainsNonTable : Data → List ℕ → Type 0
+ExplainsNonTable value told = (shown : List ℕ) × IsShownValue value shown × (told ≡ codes "expected a table, found " ++ shown)
 
 -- `told` explains this error of an element of `job`, in a list whose jobs have these names; for a missing element it is only the error's
 -- name
-abbrev pub TellsJobFault : List (Option (List ℕ)) → Option Data → What → List ℕ → Type 0
-TellsJobFault names None wrong told = told ≡ what_name wrong
-TellsJobFault names (Some (table ms)) wrong told = TellsFaultOfTable names ms wrong told
-TellsJobFault names (Some value) wrong told = TellsNoTable value told
+abbrev pub ExplainsJobFault : List (Option (List ℕ)) → Option Data → What → List ℕ → Type 0
+ExplainsJobFault names None wrong told = told ≡ job_error_name wrong
+ExplainsJobFault names (Some (table ms)) wrong told = ExplainsFaultOfTable names ms wrong told
+ExplainsJobFault names (Some value) wrong told = ExplainsNonTable value told
 
 -- the element at an index, or `None` if there are too few elements
 abbrev pub element_at : Items → ℕ → Option Data
@@ -310,15 +310,15 @@ element_at (item d ds) zero = Some d
 element_at (item d ds) (suc place) = element_at ds place
 
 -- `told` explains this error of a list, if it is an error of a job, by the values of that job
-abbrev pub TellsFaultOfList : listed.List → JobError → List ℕ → Type 0
-TellsFaultOfList list fault told = 0 < fault.job → TellsJobFault
+abbrev pub ExplainsFaultOfList : listed.List → JobError → List ℕ → Type 0
+ExplainsFaultOfList list fault told = 0 < fault.job → ExplainsJobFault
     (borrowed_names list.names.items) (element_at (items_view list.jobs.now) (fault.job - 1)) fault.what told
 
 -- `told` explains this error of a list that was parsed again; if it is not a document, any text will do
-abbrev pub TellsFoundFault : FaultView → JobError → List ℕ → Type 0
-TellsFoundFault (look.NoToml text error) fault told = ⊤
-TellsFoundFault (look.List list) fault told = TellsFaultOfList list fault told
+abbrev pub ExplainsFaultInView : FaultView → JobError → List ℕ → Type 0
+ExplainsFaultInView (look.NoToml text error) fault told = ⊤
+ExplainsFaultInView (look.List list) fault told = ExplainsFaultOfList list fault told
 
 -- the message is `head`, followed by a text that satisfies the predicate
-abbrev pub EndsSo : (List ℕ → Type 0) → List ℕ → List ℕ → Type 0
-EndsSo IsSo head message = (told : List ℕ) × IsSo told × (message ≡ head ++ told)
+abbrev pub HasHeadAndTail : (List ℕ → Type 0) → List ℕ → List ℕ → Type 0
+HasHeadAndTail IsSo head message = (told : List ℕ) × IsSo told × (message ≡ head ++ told)

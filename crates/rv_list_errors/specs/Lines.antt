@@ -13,14 +13,14 @@ abbrev pub BeginsWith : List ℕ → List ℕ → Type 0
 BeginsWith head message = (rest : List ℕ) × (message ≡ head ++ rest)
 
 -- there is one message for each error, in order, and each error with its message satisfies the predicate
-abbrev pub TellEach : (JobError → List ℕ → Type 0) → List JobError → List (List ℕ) → Type 0
-TellEach Is [] [] = ⊤
-TellEach Is (fault ∷ faults) (message ∷ messages) = Is fault message × TellEach Is faults messages
-TellEach Is _ _ = ⊥
+abbrev pub EachFaultHasMessage : (JobError → List ℕ → Type 0) → List JobError → List (List ℕ) → Type 0
+EachFaultHasMessage Is [] [] = ⊤
+EachFaultHasMessage Is (fault ∷ faults) (message ∷ messages) = Is fault message × EachFaultHasMessage Is faults messages
+EachFaultHasMessage Is _ _ = ⊥
 
 -- there is one message for each error, in order, and each begins with the result of `head` for its error
-abbrev pub TellFaults : (JobError → List ℕ) → List JobError → List (List ℕ) → Type 0
-TellFaults head faults messages = TellEach (λ fault message. BeginsWith (head fault) message) faults messages
+abbrev pub EachMessageBeginsWith : (JobError → List ℕ) → List JobError → List (List ℕ) → Type 0
+EachMessageBeginsWith head faults messages = EachFaultHasMessage (λ fault message. BeginsWith (head fault) message) faults messages
 
 -- the text went from `before` to `after` by appending this many lines
 abbrev pub AppendsLines : ℕ → List ℕ → List ℕ → Type 0
@@ -31,7 +31,7 @@ AppendsLines count before after =
 -- the text went from `before` to `after` by appending a line for each error, in order, whose message satisfies the predicate
 abbrev pub AppendsLineOfEach : (JobError → List ℕ → Type 0) → List JobError → List ℕ → List ℕ → Type 0
 AppendsLineOfEach Is faults before after =
-    (messages : List (List ℕ)) × TellEach Is faults messages
+    (messages : List (List ℕ)) × EachFaultHasMessage Is faults messages
     × (after ≡ before ++ flat_map printable_line messages)
 
 -- the text went from `before` to `after` by appending a line for each error, in order, whose message begins with the result of `head` for

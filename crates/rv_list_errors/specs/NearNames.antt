@@ -61,8 +61,8 @@ present (None ∷ names) = present names
 present (Some name ∷ names) = name ∷ present names
 
 -- the maximum number of names that are listed
-abbrev pub most_listed_names : ℕ
-most_listed_names = 20
+abbrev pub max_listed_names : ℕ
+max_listed_names = 20
 
 -- a name in quotes, as it is shown
 abbrev pub quoted : List ℕ → List ℕ
@@ -78,9 +78,9 @@ names_from count place [] = []
 names_from count place (name ∷ names) = separator count place ++ (quoted name ++ names_from count (place + 1) names)
 
 -- ` and COUNT more` for the names that are not listed, or nothing if all are listed
-abbrev pub left_text : ℕ → List ℕ
-left_text count = if nat_lt most_listed_names count then codes " and " ++ (decimal (count - most_listed_names) ++ codes " more") else []
+abbrev pub more_names_text : ℕ → List ℕ
+more_names_text count = if nat_lt max_listed_names count then codes " and " ++ (decimal (count - max_listed_names) ++ codes " more") else []
 
 -- the first names in quotes, up to the maximum, as a sentence lists them, and then how many more there are
 abbrev pub names_text : List (List ℕ) → List ℕ
-names_text names = names_from (length names) 0 (take most_listed_names names) ++ left_text (length names)
+names_text names = names_from (length names) 0 (take max_listed_names names) ++ more_names_text (length names)

@@ -17,7 +17,7 @@ job_name_distance text jobs place =
     levenshtein_row nat_eq (chars text) (chars name) (length (chars name))
 
 -- the job at the index `place` has the first of the names that are nearest to the text
-pub record IsNearestJob (jobs : List Job) (text : List ℕ) (place : ℕ) : Type 0 where
+pub record IsJobNameSuggestion (jobs : List Job) (text : List ℕ) (place : ℕ) : Type 0 where
   pub within : place < length jobs
   pub least : (other : ℕ) → other < length jobs →
       job_name_distance text jobs place ≤ job_name_distance text jobs other

@@ -6,14 +6,14 @@ use Rattle.rv_list_errors.specs.Explanation.{first_unknown_key, is_key_of_owner,
 use Rattle.rv_list_errors.specs.declared.keys.Owner.TheVariants as owner
 
 -- `told` explains which region of the job has an unknown key, or only says that there is one
-abbrev pub TellsUnknownRegionKey : List ℕ → Type 0
-TellsUnknownRegionKey told = BeginsWith (codes "region ") told ⊎ (told ≡ codes "unknown key")
+abbrev pub ExplainsUnknownRegionKey : List ℕ → Type 0
+ExplainsUnknownRegionKey told = BeginsWith (codes "region ") told ⊎ (told ≡ codes "unknown key")
 
 -- `told` explains that this key of the job is unknown; without a key, that a region has an unknown key
-abbrev pub TellsUnknown : Option (List ℕ) → List ℕ → Type 0
-TellsUnknown None told = TellsUnknownRegionKey told
-TellsUnknown (Some key) told = BeginsWith (unknown_key_text key) told
+abbrev pub ExplainsUnknownJobOrRegionKey : Option (List ℕ) → List ℕ → Type 0
+ExplainsUnknownJobOrRegionKey None told = ExplainsUnknownRegionKey told
+ExplainsUnknownJobOrRegionKey (Some key) told = BeginsWith (unknown_key_text key) told
 
 -- `told` explains the first key of the job that jobs do not have, or that a region has an unknown key
-abbrev pub TellsUnknownKey : Members → List ℕ → Type 0
-TellsUnknownKey ms told = TellsUnknown (first_unknown_key (is_key_of_owner owner.Job) ms) told
+abbrev pub ExplainsUnknownKey : Members → List ℕ → Type 0
+ExplainsUnknownKey ms told = ExplainsUnknownJobOrRegionKey (first_unknown_key (is_key_of_owner owner.Job) ms) told

@@ -4,12 +4,12 @@ ghost use Rattle.std.specs.Prelude.{◌≡◌, ◌<◌, ◌++◌, IfOk, OnOk, co
 ghost use Rattle.std.specs.Fmt.{decimal};
 ghost use Rattle.rv_list_errors.specs.FaultHeads.{borrowed_names};
 ghost use Rattle.rv_list_errors.specs.Lines.{BeginsWith, printable_line};
-ghost use Rattle.rv_list_errors.specs.PlacedFaults.{IsPlacedMessage, IsToldFault, IsToldInList, AppendsEachFault, AppendsLinesThat};
-ghost use Rattle.rv_list_errors.specs.PlacedFaults.{placed_head};
+ghost use Rattle.rv_list_errors.specs.PlacedFaults.{IsLocatedMessage, IsFaultMessage, IsFaultMessageInList, AppendsLinesOfEach, AppendsSomeLines};
+ghost use Rattle.rv_list_errors.specs.PlacedFaults.{located_head};
 
 use crate::fault_text::{list_fault_message, push_job_number_and_name};
 use crate::faults::{push_faults, suggestion_for_fault};
-use crate::found_faults::{FoundFault, faults_of_job};
+use crate::found_faults::{LocatedFault, faults_of_job};
 use crate::list::List;
 use crate::names::Suggestion;
 use rv_list_locations::{Cursor, Location, job_texts};
@@ -27,14 +27,14 @@ pub fn push_all_faults<'a>(
     text: &'a [u8],
     faults: &[JobError],
 ) -> Result<(), AllocError>
-    ensures { OnOk result (AppendsEachFault (IsToldFault file.now text.now) faults.now
+    ensures { OnOk result (AppendsLinesOfEach (IsFaultMessage file.now text.now) faults.now
         bytes.old.items bytes.new.items) }
 {
     match toml::table_from_slice(alloc, text) {
         Ok(table) => {
             let list = List::from_table(alloc, text, &table)?;
             let jobs = job_texts(alloc, str::from_utf8(text).unwrap_or(""))?;
-            let mut lines = PlacedLines {
+            let mut lines = FaultLineWriter {
                 file,
                 list,
                 jobs,
@@ -54,7 +54,7 @@ pub fn push_all_faults<'a>(
 
 // The values that the lines of errors are made of.
 #[derive(Drop)]
-struct PlacedLines<'a> {
+struct FaultLineWriter<'a> {
     file: &'a str,
     list: List<'a>,
     // The text from each job on.
@@ -62,7 +62,7 @@ struct PlacedLines<'a> {
     cursor: Cursor<'a>,
 }
 
-impl<'a> PlacedLines<'a> {
+impl<'a> FaultLineWriter<'a> {
     // Appends the lines of each error in `faults`, in order: one line for an error of the whole list, and one or more for a bad job.
     fn push_fault_lines(
         &mut self,
@@ -70,8 +70,8 @@ impl<'a> PlacedLines<'a> {
         bytes: &mut Vec<u8>,
         faults: &[JobError],
     ) -> Result<(), AllocError>
-        ensures { OnOk result (AppendsEachFault
-            (IsToldInList self.old.file.now self.old.cursor.text.now (borrowed_names self.old.list.names.items))
+        ensures { OnOk result (AppendsLinesOfEach
+            (IsFaultMessageInList self.old.file.now self.old.cursor.text.now (borrowed_names self.old.list.names.items))
             faults.now bytes.old.items bytes.new.items) }
     {
         for (at, fault) in faults.iter().enumerate() {
@@ -92,8 +92,8 @@ impl<'a> PlacedLines<'a> {
         ensures file { self.new.file ≡ self.old.file }
         ensures list { self.new.list ≡ self.old.list }
         ensures text { self.new.cursor.text.now ≡ self.old.cursor.text.now }
-        ensures told { OnOk result (AppendsLinesThat
-            (IsToldInList self.old.file.now self.old.cursor.text.now (borrowed_names self.old.list.names.items) fault)
+        ensures told { OnOk result (AppendsSomeLines
+            (IsFaultMessageInList self.old.file.now self.old.cursor.text.now (borrowed_names self.old.list.names.items) fault)
             bytes.old.items bytes.new.items) }
     {
         if fault.job == 0 {
@@ -101,28 +101,28 @@ impl<'a> PlacedLines<'a> {
             return push_message_line(bytes, message.as_slice());
         }
         let found = faults_of_job(alloc, &self.list, self.jobs.as_slice(), fault, suggestion)?;
-        self.push_found_faults(alloc, bytes, fault.job, found.as_slice())
+        self.push_located_faults(alloc, bytes, fault.job, found.as_slice())
     }
 
     // Appends a line for each error in `found`, all of which are errors of the job with this number, counted from 1.
-    fn push_found_faults(
+    fn push_located_faults(
         &mut self,
         alloc: Global,
         bytes: &mut Vec<u8>,
         number: u32,
-        found: &[FoundFault],
+        found: &[LocatedFault],
     ) -> Result<(), AllocError>
         requires numbered { 0 < number }
         requires some { 0 < length found.now }
         ensures file { self.new.file ≡ self.old.file }
         ensures list { self.new.list ≡ self.old.list }
         ensures text { self.new.cursor.text.now ≡ self.old.cursor.text.now }
-        ensures told { OnOk result (AppendsLinesThat
-            (IsPlacedMessage self.old.file.now self.old.cursor.text.now (borrowed_names self.old.list.names.items) number)
+        ensures told { OnOk result (AppendsSomeLines
+            (IsLocatedMessage self.old.file.now self.old.cursor.text.now (borrowed_names self.old.list.names.items) number)
             bytes.old.items bytes.new.items) }
     {
         for fault in found {
-            let message = self.placed_message(alloc, number, fault)?;
+            let message = self.located_message(alloc, number, fault)?;
             push_message_line(bytes, message.as_slice())?;
         }
         Ok(())
@@ -130,18 +130,18 @@ impl<'a> PlacedLines<'a> {
 
     // Returns the message on an error of the job with this number, counted from 1: the path, the line and column, the job's number and
     // name, and the explanation.
-    fn placed_message(
+    fn located_message(
         &mut self,
         alloc: Global,
         number: u32,
-        fault: &FoundFault,
+        fault: &LocatedFault,
     ) -> Result<Vec<u8>, AllocError>
         requires { 0 < number }
         ensures file { self.new.file ≡ self.old.file }
         ensures list { self.new.list ≡ self.old.list }
         ensures text { self.new.cursor.text.now ≡ self.old.cursor.text.now }
         ensures message { IfOk result (λ message. BeginsWith
-            (placed_head self.old.file.now self.old.cursor.text.now (borrowed_names self.old.list.names.items) number
+            (located_head self.old.file.now self.old.cursor.text.now (borrowed_names self.old.list.names.items) number
             fault.now.place) message.items) }
     {
         let place = self.cursor.location_at(fault.place);
@@ -154,7 +154,7 @@ impl<'a> PlacedLines<'a> {
     }
 }
 
-// Appends a location as `:LINE:COLUMN`.
+// Appends a location as `:WORD_LINE_LEN:COLUMN`.
 fn push_line_and_column(message: &mut Vec<u8>, place: Location) -> Result<(), AllocError>
     ensures { OnOk result (message.new.items ≡ message.old.items
         ++ (codes ":" ++ (decimal place.line ++ (codes ":" ++ decimal place.column)))) }

@@ -5,14 +5,14 @@ ghost use Rattle.toml.specs.View.{table_view};
 ghost use Rattle.rv_lists.specs.Keys.{text_at_key};
 ghost use Rattle.rv_lists.specs.MachineFaults.{fault_kinds};
 ghost use Rattle.rv_list_errors.specs.FaultHeads.{borrowed_name};
-ghost use Rattle.rv_list_errors.specs.JobFaults.{ExplainsKey, ExplainsExpectedValue, bytes_text, text_length, shown_byte_count, expected_words};
+ghost use Rattle.rv_list_errors.specs.JobFaults.{IsTextOfExplanation, ExplainsExpectedValue, bytes_text, text_length, shown_byte_count, expected_text};
 ghost use Rattle.rv_list_errors.specs.NearNames.{Adds};
-ghost use Rattle.rv_list_errors.specs.Explanation.{AddsSome, first_kinds_text, kind_text, rest_words};
+ghost use Rattle.rv_list_errors.specs.Explanation.{AppendsTextThat, first_fault_kinds_text, kind_text, inserted_text};
 
 use crate::message::Message;
 use crate::values::{push_key_and_value, text_at_key};
 use rv_lists::FaultKind;
-use rv_lists::limits::{MOST_BUDGET, MOST_CONSOLE, MOST_NAME, MOST_PATH, MOST_SCRIPT, MOST_SYMBOL};
+use rv_lists::limits::{MAX_BUDGET, MAX_CONSOLE_LEN, MOST_NAME, MAX_PATH_LEN, MAX_SCRIPT_LEN, MAX_SYMBOL_LEN};
 use toml::Table;
 
 /// The explanation of a bad value: what is expected of the value of one key, or a text about two keys.
@@ -61,7 +61,7 @@ pub(crate) const NAME: Expected = Expected {
 pub(crate) const IMAGE: Expected = Expected {
     key: "image",
     before: "expected a path of 1 to ",
-    rest: Rest::Most(MOST_PATH as u64),
+    rest: Rest::Most(MAX_PATH_LEN as u64),
     behind: " bytes",
     bytes: Bytes::Each,
 };
@@ -69,7 +69,7 @@ pub(crate) const IMAGE: Expected = Expected {
 pub(crate) const BUDGET: Expected = Expected {
     key: "budget",
     before: "expected an integer from 1 to ",
-    rest: Rest::Most(MOST_BUDGET as u64),
+    rest: Rest::Most(MAX_BUDGET as u64),
     behind: "",
     bytes: Bytes::Untold,
 };
@@ -77,7 +77,7 @@ pub(crate) const BUDGET: Expected = Expected {
 pub(crate) const INPUT: Expected = Expected {
     key: "input",
     before: "expected at most ",
-    rest: Rest::Most(MOST_SCRIPT as u64),
+    rest: Rest::Most(MAX_SCRIPT_LEN as u64),
     behind: " bytes",
     bytes: Bytes::Each,
 };
@@ -85,7 +85,7 @@ pub(crate) const INPUT: Expected = Expected {
 pub(crate) const INPUT_HEX: Expected = Expected {
     key: "input_hex",
     before: "expected at most ",
-    rest: Rest::Most(MOST_SCRIPT as u64),
+    rest: Rest::Most(MAX_SCRIPT_LEN as u64),
     behind: " bytes",
     bytes: Bytes::Pairs,
 };
@@ -109,7 +109,7 @@ pub(crate) const LOAD: Expected = Expected {
 pub(crate) const SIGNATURE: Expected = Expected {
     key: "signature",
     before: "expected two symbol names of 1 to ",
-    rest: Rest::Most(MOST_SYMBOL as u64),
+    rest: Rest::Most(MAX_SYMBOL_LEN as u64),
     behind: " bytes each, without NUL bytes",
     bytes: Bytes::Untold,
 };
@@ -130,7 +130,7 @@ pub(crate) const NEGATIVE_EXIT: Expected = Expected {
     bytes: Bytes::Untold,
 };
 
-pub(crate) const UNASKED: Expected = Expected {
+pub(crate) const WITHOUT_SIGNATURE: Expected = Expected {
     key: "expect_signature",
     before: "cannot be used without \"signature\"",
     rest: Rest::Nothing,
@@ -141,7 +141,7 @@ pub(crate) const UNASKED: Expected = Expected {
 pub(crate) const EXPECT_SIGNATURE: Expected = Expected {
     key: "expect_signature",
     before: "expected a path of 1 to ",
-    rest: Rest::Most(MOST_PATH as u64),
+    rest: Rest::Most(MAX_PATH_LEN as u64),
     behind: " bytes",
     bytes: Bytes::Each,
 };
@@ -149,7 +149,7 @@ pub(crate) const EXPECT_SIGNATURE: Expected = Expected {
 pub(crate) const EXPECT_CONSOLE: Expected = Expected {
     key: "expect_console",
     before: "expected at most ",
-    rest: Rest::Most(MOST_CONSOLE as u64),
+    rest: Rest::Most(MAX_CONSOLE_LEN as u64),
     behind: " bytes",
     bytes: Bytes::Each,
 };
@@ -157,7 +157,7 @@ pub(crate) const EXPECT_CONSOLE: Expected = Expected {
 pub(crate) const EXPECT_CONSOLE_FILE: Expected = Expected {
     key: "expect_console_file",
     before: "expected a path of 1 to ",
-    rest: Rest::Most(MOST_PATH as u64),
+    rest: Rest::Most(MAX_PATH_LEN as u64),
     behind: " bytes",
     bytes: Bytes::Each,
 };
@@ -211,7 +211,7 @@ pub(crate) const MISALIGNED: Expected = Expected {
 };
 
 /// Returns what is expected of the value of a key that accepts only a few texts, or `None` for any other key.
-pub(crate) fn taken_texts(key: &str) -> Option<&'static Expected>
+pub(crate) fn accepted_texts(key: &str) -> Option<&'static Expected>
     ensures { IfSome result (λ wanted. wanted.now.key.now ≡ key.now) }
 {
     match key {
@@ -225,7 +225,7 @@ pub(crate) fn taken_texts(key: &str) -> Option<&'static Expected>
 
 /// Appends the text of an explanation of a bad value. `table` is the job: its value at the key is shown.
 pub(crate) fn push_explanation(message: &mut Message, table: &Table, told: Explanation)
-    ensures { AddsSome message.old message.new (ExplainsKey told (table_view table.now)) }
+    ensures { AppendsTextThat message.old message.new (IsTextOfExplanation told (table_view table.now)) }
 {
     match told {
         Explanation::Text(text) => message.push(text),
@@ -235,15 +235,15 @@ pub(crate) fn push_explanation(message: &mut Message, table: &Table, told: Expla
 
 // Appends the key of `wanted` with the job's value, or that the key is missing, and then what is expected of the value.
 fn push_expected(message: &mut Message, table: &Table, wanted: &Expected)
-    ensures { AddsSome message.old message.new (ExplainsExpectedValue wanted.now (table_view table.now)) }
+    ensures { AppendsTextThat message.old message.new (ExplainsExpectedValue wanted.now (table_view table.now)) }
 {
     push_key_and_value(message, table, wanted.key);
-    push_expected_words(message, reported_byte_count(table, wanted), wanted);
+    push_expected_text(message, reported_byte_count(table, wanted), wanted);
 }
 
 // Appends the number of bytes in parentheses, if it exceeds the maximum, and then what is expected of the value.
-fn push_expected_words(message: &mut Message, bytes: u64, wanted: &Expected)
-    ensures { Adds message.old message.new (bytes_text wanted.now.rest bytes ++ (codes ": " ++ expected_words wanted.now)) }
+fn push_expected_text(message: &mut Message, bytes: u64, wanted: &Expected)
+    ensures { Adds message.old message.new (bytes_text wanted.now.rest bytes ++ (codes ": " ++ expected_text wanted.now)) }
 {
     push_byte_count(message, bytes, wanted.rest);
     message.push(": ");
@@ -264,7 +264,7 @@ fn push_byte_count(message: &mut Message, bytes: u64, rest: Rest)
 
 // Appends the text that completes what is expected of a value: nothing, a maximum, or the names of all kinds of faults.
 fn push_rest(message: &mut Message, rest: Rest)
-    ensures { Adds message.old message.new (rest_words rest) }
+    ensures { Adds message.old message.new (inserted_text rest) }
 {
     match rest {
         Rest::Nothing => {}
@@ -275,7 +275,7 @@ fn push_rest(message: &mut Message, rest: Rest)
 
 // Appends the names of all kinds of faults in quotes, as a sentence lists them.
 fn push_fault_kinds(message: &mut Message)
-    ensures { Adds message.old message.new (first_kinds_text (length fault_kinds)) }
+    ensures { Adds message.old message.new (first_fault_kinds_text (length fault_kinds)) }
 {
     for place in 0..FaultKind::ALL.len() {
         push_fault_kind(message, place);

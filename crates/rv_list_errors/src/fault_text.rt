@@ -1,10 +1,10 @@
 //! The message on an error.
 
 ghost use Rattle.std.specs.Prelude.{◌≡◌, ◌++◌, ◌<◌, IfOk, IsTrue, None, OnOk, codes, slice_get, slice_index_or};
-ghost use Rattle.rv_list_errors.specs.FaultHeads.{borrowed_name, borrowed_names, fault_place, job_heading, line_text, location_in_view};
+ghost use Rattle.rv_list_errors.specs.FaultHeads.{borrowed_name, borrowed_names, fault_location, job_heading, line_text, location_in_view};
 ghost use Rattle.rv_list_errors.specs.FaultHeads.{job_number_and_name, name_text};
 ghost use Rattle.rv_list_errors.specs.Explanation.{elf_file_text, is_elf_file};
-ghost use Rattle.rv_list_errors.specs.JobFaults.{EndsSo, TellsFaultOfList, TellsFoundFault};
+ghost use Rattle.rv_list_errors.specs.JobFaults.{HasHeadAndTail, ExplainsFaultOfList, ExplainsFaultInView};
 ghost use Rattle.rv_list_errors.specs.Lines.{BeginsWith};
 
 use crate::job_fault::push_job_fault;
@@ -35,12 +35,12 @@ pub(crate) fn message_of_fault(
     suggestion: Suggestion,
 ) -> Result<Vec<u8>, AllocError>
     ensures head { IfOk result (λ message. BeginsWith (file.now ++ location_in_view look.now fault.job) message.items) }
-    ensures told { IfOk result (λ message. EndsSo (TellsFoundFault look.now fault)
+    ensures told { IfOk result (λ message. HasHeadAndTail (ExplainsFaultInView look.now fault)
         (file.now ++ location_in_view look.now fault.job) message.items) }
 {
     let mut message = Vec::new(alloc);
     push_text(&mut message, file)?;
-    push_fault_place(&mut message, look, fault.job)?;
+    push_fault_location(&mut message, look, fault.job)?;
     let explanation = fault_explanation(alloc, look, fault, suggestion)?;
     message.extend_from_slice(explanation.as_slice())?;
     Ok(message)
@@ -63,22 +63,22 @@ pub(crate) fn list_fault_message(
     Ok(message)
 }
 
-// Appends the text between the path and the explanation of an error of the job with this number, as `push_place_in_list` does, or nothing
+// Appends the text between the path and the explanation of an error of the job with this number, as `push_location_in_list` does, or nothing
 // if the list is not TOML.
-fn push_fault_place(message: &mut Vec<u8>, look: &FaultView<'_>, job: u32) -> Result<(), AllocError>
+fn push_fault_location(message: &mut Vec<u8>, look: &FaultView<'_>, job: u32) -> Result<(), AllocError>
     ensures { OnOk result (message.new.items ≡ message.old.items ++ location_in_view look.now job) }
 {
     match look {
         FaultView::NoToml(_, _) => Ok(()),
-        FaultView::List(list) => push_place_in_list(message, list, job),
+        FaultView::List(list) => push_location_in_list(message, list, job),
     }
 }
 
 // Appends `: error: ` if the number is 0, which stands for the whole list, and otherwise the line on which the job with this number begins,
 // its number, and its name.
-fn push_place_in_list(message: &mut Vec<u8>, list: &List<'_>, job: u32) -> Result<(), AllocError>
+fn push_location_in_list(message: &mut Vec<u8>, list: &List<'_>, job: u32) -> Result<(), AllocError>
     ensures { OnOk result (message.new.items ≡ message.old.items
-        ++ fault_place list.now.lines.items (borrowed_names list.now.names.items) job) }
+        ++ fault_location list.now.lines.items (borrowed_names list.now.names.items) job) }
 {
     if job == 0 {
         push_text(message, ": error: ")
@@ -161,7 +161,7 @@ fn fault_explanation(
     fault: JobError,
     suggestion: Suggestion,
 ) -> Result<Vec<u8>, AllocError>
-    ensures { IfOk result (λ told. TellsFoundFault look.now fault told.items) }
+    ensures { IfOk result (λ told. ExplainsFaultInView look.now fault told.items) }
 {
     match look {
         FaultView::NoToml(text, error) => not_toml_explanation(alloc, text, error),
@@ -206,7 +206,7 @@ fn explanation_in_list(
     fault: JobError,
     suggestion: Suggestion,
 ) -> Result<Vec<u8>, AllocError>
-    ensures { IfOk result (λ told. TellsFaultOfList list.now fault told.items) }
+    ensures { IfOk result (λ told. ExplainsFaultOfList list.now fault told.items) }
 {
     let mut message = Message::new(alloc);
     if fault.job == 0 {

@@ -2,8 +2,8 @@
 
 ghost use Rattle.std.specs.Prelude.{◌++◌, OnOk, length};
 ghost use Rattle.rv_list_errors.specs.FaultHeads.{fault_head, location_in_view};
-ghost use Rattle.rv_list_errors.specs.FaultsTold.{TellsFaultOfText};
-ghost use Rattle.rv_list_errors.specs.JobFaults.{EndsSo, TellsFoundFault};
+ghost use Rattle.rv_list_errors.specs.FaultsTold.{IsFaultLineOfText};
+ghost use Rattle.rv_list_errors.specs.JobFaults.{HasHeadAndTail, ExplainsFaultInView};
 ghost use Rattle.rv_list_errors.specs.Lines.{AppendsFaultLines, AppendsLineOfEach, AppendsLines};
 
 use crate::fault_text::{FaultView, message_of_fault};
@@ -14,7 +14,7 @@ use rv_text::{Span, push_spans};
 use std::alloc::{AllocError, Global};
 
 // The number of errors for which the nearest name or key is suggested. The search takes time in proportion to the number of names.
-const NEAR_TOLD: usize = 64;
+const MAX_SUGGESTIONS: usize = 64;
 
 /// Appends a line for each error of a list, in order. `file` is the path of the list as the user wrote it, and `faults` are the errors that
 /// `read_jobs` or `read_faults` of `rv_lists` returns for its text. The text is parsed again.
@@ -30,7 +30,7 @@ pub fn push_faults(
     ensures heads { OnOk result (AppendsFaultLines (fault_head file.now text.now) faults.now
         bytes.old.items bytes.new.items) }
     // The explanation of the error follows, based on the values of that job.
-    ensures told { OnOk result (AppendsLineOfEach (TellsFaultOfText file.now text.now) faults.now
+    ensures told { OnOk result (AppendsLineOfEach (IsFaultLineOfText file.now text.now) faults.now
         bytes.old.items bytes.new.items) }
 {
     match toml::table_from_slice(alloc, text) {
@@ -57,7 +57,7 @@ fn push_fault_lines(
     faults: &[JobError],
 ) -> Result<(), AllocError>
     ensures { OnOk result (AppendsLineOfEach
-        (λ fault message. EndsSo (TellsFoundFault look.now fault) (file.now ++ location_in_view look.now fault.job) message)
+        (λ fault message. HasHeadAndTail (ExplainsFaultInView look.now fault) (file.now ++ location_in_view look.now fault.job) message)
         faults.now bytes.old.items bytes.new.items) }
 {
     for (at, fault) in faults.iter().enumerate() {
@@ -67,9 +67,9 @@ fn push_fault_lines(
     Ok(())
 }
 
-/// Returns `Nearest` for the first `NEAR_TOLD` errors, which suggest the nearest name or key, and `Nothing` for later errors.
+/// Returns `Nearest` for the first `MAX_SUGGESTIONS` errors, which suggest the nearest name or key, and `Nothing` for later errors.
 pub(crate) fn suggestion_for_fault(place: usize) -> Suggestion {
-    if place < NEAR_TOLD {
+    if place < MAX_SUGGESTIONS {
         Suggestion::Nearest
     } else {
         Suggestion::Nothing

@@ -3,7 +3,7 @@
 ghost use Rattle.std.specs.Prelude.{◌<◌, IfOk, length};
 
 use crate::job_fault::push_job_fault;
-use crate::key_faults::{FaultyJob, FoundKeys, NEEDED, push_absent_key};
+use crate::key_faults::{FaultyJob, CheckedKeys, REQUIRED_KEYS, push_absent_key};
 use crate::list::List;
 use crate::message::Message;
 use crate::names::Suggestion;
@@ -14,11 +14,11 @@ use std::alloc::{AllocError, Global};
 use toml::Value;
 
 // The maximum number of errors reported for one job.
-const MOST_FAULTS: usize = 64;
+const MAX_FAULTS: usize = 64;
 
 /// An error of a job: its offset in the list's text, and its explanation.
 #[derive(Drop)]
-pub(crate) struct FoundFault {
+pub(crate) struct LocatedFault {
     pub(crate) place: usize,
     pub(crate) explanation: Vec<u8>,
 }
@@ -32,7 +32,7 @@ pub(crate) fn faults_of_job(
     jobs: &[&str],
     fault: JobError,
     suggestion: Suggestion,
-) -> Result<Vec<FoundFault>, AllocError>
+) -> Result<Vec<LocatedFault>, AllocError>
     requires { 0 < fault.job }
     ensures { IfOk result (λ found. 0 < length found.items) }
 {
@@ -46,14 +46,14 @@ pub(crate) fn faults_of_job(
             table,
             suggestion,
         };
-        job.find_absent_keys(alloc, list.place_of_rest(text), &mut found)?;
+        job.find_absent_keys(alloc, list.offset_of_suffix(text), &mut found)?;
         job.find_bad_keys(alloc, text, &mut found)?;
     }
     if found.is_empty() {
         let mut message = Message::new(alloc);
         push_job_fault(&mut message, list, at, fault.what, suggestion);
-        found.push(FoundFault {
-            place: list.place_of_rest(text),
+        found.push(LocatedFault {
+            place: list.offset_of_suffix(text),
             explanation: message.finish()?,
         })?;
     }
@@ -66,33 +66,33 @@ impl<'a> FaultyJob<'a> {
         &self,
         alloc: Global,
         place: usize,
-        found: &mut Vec<FoundFault>,
+        found: &mut Vec<LocatedFault>,
     ) -> Result<(), AllocError> {
-        for key in &NEEDED {
+        for key in &REQUIRED_KEYS {
             if value_at_key(self.table, key).is_none() {
                 let mut message = Message::new(alloc);
                 push_absent_key(&mut message, self.table, key);
                 let explanation = message.finish()?;
-                found.push(FoundFault { place, explanation })?;
+                found.push(LocatedFault { place, explanation })?;
             }
         }
         Ok(())
     }
 
-    // Adds to `found` the error of each bad key, at its first occurrence. After `MOST_FAULTS` errors, adds a note that the later keys are
+    // Adds to `found` the error of each bad key, at its first occurrence. After `MAX_FAULTS` errors, adds a note that the later keys are
     // not checked, and stops.
     fn find_bad_keys(
         &self,
         alloc: Global,
         text: &str,
-        found: &mut Vec<FoundFault>,
+        found: &mut Vec<LocatedFault>,
     ) -> Result<(), AllocError> {
         let keys = job_keys(alloc, text)?;
-        let mut met = FoundKeys::none(alloc);
+        let mut met = CheckedKeys::none(alloc);
         for key in keys.as_slice() {
             let name = key.name.as_str();
             if !met.has(name) {
-                if found.len() == MOST_FAULTS {
+                if found.len() == MAX_FAULTS {
                     return self.stop_at_key(alloc, key, found);
                 }
                 self.find_key_fault(alloc, key, &met, found)?;
@@ -107,13 +107,13 @@ impl<'a> FaultyJob<'a> {
         &self,
         alloc: Global,
         key: &JobKey<'_>,
-        found: &mut Vec<FoundFault>,
+        found: &mut Vec<LocatedFault>,
     ) -> Result<(), AllocError> {
         let mut message = Message::new(alloc);
         message.push("too many errors: the rest of the keys of this job are not checked");
         let explanation = message.finish()?;
-        let place = self.list.place_of_rest(key.text);
-        found.push(FoundFault { place, explanation })?;
+        let place = self.list.offset_of_suffix(key.text);
+        found.push(LocatedFault { place, explanation })?;
         Ok(())
     }
 
@@ -122,14 +122,14 @@ impl<'a> FaultyJob<'a> {
         &self,
         alloc: Global,
         key: &JobKey<'_>,
-        met: &FoundKeys<'_>,
-        found: &mut Vec<FoundFault>,
+        met: &CheckedKeys<'_>,
+        found: &mut Vec<LocatedFault>,
     ) -> Result<(), AllocError> {
         let mut message = Message::new(alloc);
         if self.push_key_fault(&mut message, key.name.as_str(), met) {
             let explanation = message.finish()?;
-            let place = self.list.place_of_rest(key.text);
-            found.push(FoundFault { place, explanation })?;
+            let place = self.list.offset_of_suffix(key.text);
+            found.push(LocatedFault { place, explanation })?;
         }
         Ok(())
     }

@@ -5,11 +5,11 @@ ghost use Rattle.std.specs.Char.{is_ascii_hexdigit};
 ghost use Rattle.std.specs.List.{find, list_all};
 ghost use Rattle.toml.specs.View.{items_view, table_view, view};
 ghost use Rattle.rv_lists.specs.declared.error.What.TheVariants.{Expect, Input, Isa};
-ghost use Rattle.rv_list_errors.specs.Expectations.{IsExpectationTold, isa_explanation, set_words};
+ghost use Rattle.rv_list_errors.specs.Expectations.{IsExpectationExplanation, isa_explanation, unknown_isa_text};
 ghost use Rattle.rv_list_errors.specs.FaultHeads.{borrowed_name, borrowed_names};
-ghost use Rattle.rv_list_errors.specs.JobFaults.{TellsFaultOfTable, TellsJobFault, TellsNoTable, ExplainsName, TellsOwnFault, element_at, free_words};
+ghost use Rattle.rv_list_errors.specs.JobFaults.{ExplainsFaultOfTable, ExplainsJobFault, ExplainsNonTable, ExplainsName, ExplainsOwnFault, element_at, unique_name_text};
 ghost use Rattle.rv_list_errors.specs.JobFaults.{are_digit_pairs, key_of, script_explanation, script_explanation_of, explained_key};
-ghost use Rattle.rv_list_errors.specs.Explanation.{AddsSome, is_unsimulated, key_words, letters_words, explained_words};
+ghost use Rattle.rv_list_errors.specs.Explanation.{AppendsTextThat, is_unsimulated, expected_of_error, unknown_letters_text, explained_text};
 
 use crate::expectation_fault::expectation_explanation;
 use crate::explanations::{
@@ -18,7 +18,7 @@ use crate::explanations::{
 };
 use crate::key_faults::FaultyJob;
 use crate::keys::push_unknown_job_key;
-use crate::kinds::push_wrong_kind;
+use crate::kinds::push_wrong_type;
 use crate::list::List;
 use crate::message::Message;
 use crate::names::{Suggestion, push_name_fault, push_unknown_same_as};
@@ -35,7 +35,7 @@ pub(crate) fn push_job_fault(
     what: What,
     suggestion: Suggestion,
 )
-    ensures { AddsSome message.old message.new (TellsJobFault
+    ensures { AppendsTextThat message.old message.new (ExplainsJobFault
         (borrowed_names list.now.names.items) (element_at (items_view list.now.jobs.now) place) what) }
 {
     match element_at(list.jobs, place) {
@@ -49,7 +49,7 @@ pub(crate) fn push_job_fault(
                 };
                 push_fault_of_table(message, job, what)
             }
-            None => push_no_table(message, element),
+            None => push_not_a_table(message, element),
         },
         None => message.push(what.name()),
     }
@@ -63,8 +63,8 @@ fn element_at(elements: &[Value], place: usize) -> Option<&Value>
 }
 
 // Appends that a table was expected, and the element that was found instead.
-fn push_no_table(message: &mut Message, element: &Value)
-    ensures { AddsSome message.old message.new (TellsNoTable (view element.now)) }
+fn push_not_a_table(message: &mut Message, element: &Value)
+    ensures { AppendsTextThat message.old message.new (ExplainsNonTable (view element.now)) }
 {
     message.push("expected a table, found ");
     message.push_value(element);
@@ -72,11 +72,11 @@ fn push_no_table(message: &mut Message, element: &Value)
 
 // Appends the explanation of an error of a job that is a table.
 fn push_fault_of_table(message: &mut Message, job: FaultyJob<'_>, what: What)
-    ensures { AddsSome message.old message.new (TellsFaultOfTable
+    ensures { AppendsTextThat message.old message.new (ExplainsFaultOfTable
         (borrowed_names job.entry.list.now.names.items) (table_view job.entry.table.now) what) }
 {
     match what {
-        What::Duplicate => push_taken_name(message, job.list, job.table),
+        What::Duplicate => push_duplicate_name(message, job.list, job.table),
         What::SameAs => push_unknown_same_as(
             message,
             job.list,
@@ -89,9 +89,9 @@ fn push_fault_of_table(message: &mut Message, job: FaultyJob<'_>, what: What)
 }
 
 /// Appends that an earlier job has the name of the job.
-pub(crate) fn push_taken_name(message: &mut Message, list: &List<'_>, table: &Table)
-    ensures { AddsSome message.old message.new
-        (ExplainsName (borrowed_names list.now.names.items) (codes "name") free_words (table_view table.now)) }
+pub(crate) fn push_duplicate_name(message: &mut Message, list: &List<'_>, table: &Table)
+    ensures { AppendsTextThat message.old message.new
+        (ExplainsName (borrowed_names list.now.names.items) (codes "name") unique_name_text (table_view table.now)) }
 {
     push_name_fault(message, list, table, "name", FREE)
 }
@@ -100,11 +100,11 @@ const FREE: &str = "expected a unique name";
 
 // Appends the explanation of an error that does not depend on the other jobs.
 fn push_fault_within_job(message: &mut Message, table: &Table, what: What)
-    ensures { AddsSome message.old message.new (TellsOwnFault what (table_view table.now)) }
+    ensures { AppendsTextThat message.old message.new (ExplainsOwnFault what (table_view table.now)) }
 {
     match what {
         What::UnknownKey => push_unknown_job_key(message, table),
-        What::WrongType => push_wrong_kind(message, table),
+        What::WrongType => push_wrong_type(message, table),
         What::Region => push_region_fault(message, table),
         _ => push_explanation(message, table, key_explanation(table, what)),
     }
@@ -112,11 +112,11 @@ fn push_fault_within_job(message: &mut Message, table: &Table, what: What)
 
 // Returns the explanation of an error of a single value.
 fn key_explanation(table: &Table, what: What) -> Explanation
-    ensures words { IfSome (key_words what) (λ words. explained_words result ≡ words) }
+    ensures words { IfSome (expected_of_error what) (λ words. explained_text result ≡ words) }
     ensures key { IfSome (key_of what) (λ key. explained_key result ≡ Some key) }
-    ensures script { what ≡ Input → (explained_key result, explained_words result) ≡ script_explanation_of (table_view table.now) }
-    ensures expectation { what ≡ Expect → IsExpectationTold (table_view table.now) (explained_key result, explained_words result) }
-    ensures isa { what ≡ Isa → (explained_key result, explained_words result) ≡ isa_explanation (table_view table.now) }
+    ensures script { what ≡ Input → (explained_key result, explained_text result) ≡ script_explanation_of (table_view table.now) }
+    ensures expectation { what ≡ Expect → IsExpectationExplanation (table_view table.now) (explained_key result, explained_text result) }
+    ensures isa { what ≡ Isa → (explained_key result, explained_text result) ≡ isa_explanation (table_view table.now) }
 {
     match what {
         What::Name => Explanation::Expected(&NAME),
@@ -134,24 +134,24 @@ fn key_explanation(table: &Table, what: What) -> Explanation
 
 /// Returns the explanation of a job's bad `isa`: which part of the set is not simulated, if it is a common one, and the known sets.
 pub(crate) fn isa_explanation(table: &Table) -> Explanation
-    ensures { (explained_key result, explained_words result) ≡ isa_explanation (table_view table.now) }
+    ensures { (explained_key result, explained_text result) ≡ isa_explanation (table_view table.now) }
 {
     match text_at_key(table, "isa") {
-        Some(isa) => set_explanation(isa.as_bytes()),
+        Some(isa) => unknown_isa_explanation(isa.as_bytes()),
         None => Explanation::Expected(&ISA),
     }
 }
 
 // Returns the explanation of an unknown instruction set with this name: RV64 and unsimulated extensions are named, and the known sets are
 // listed.
-fn set_explanation(isa: &[u8]) -> Explanation
+fn unknown_isa_explanation(isa: &[u8]) -> Explanation
     ensures key { explained_key result ≡ Some (codes "isa") }
-    ensures words { explained_words result ≡ set_words isa.now }
+    ensures words { explained_text result ≡ unknown_isa_text isa.now }
 {
     if isa.starts_with(b"rv64") {
         Explanation::Expected(&ISA_OF_64_BITS)
     } else if isa.starts_with(b"rv32") {
-        letters_explanation(&isa[4..])
+        unknown_letters_explanation(&isa[4..])
     } else {
         Explanation::Expected(&ISA)
     }
@@ -159,9 +159,9 @@ fn set_explanation(isa: &[u8]) -> Explanation
 
 // Returns the explanation of an unknown instruction set with these letters after `rv32`: an A, F or D extension is named, and the known
 // sets are listed.
-fn letters_explanation(letters: &[u8]) -> Explanation
+fn unknown_letters_explanation(letters: &[u8]) -> Explanation
     ensures key { explained_key result ≡ Some (codes "isa") }
-    ensures words { explained_words result ≡ letters_words letters.now }
+    ensures words { explained_text result ≡ unknown_letters_text letters.now }
 {
     match unsimulated_letter(letters) {
         Some(b'a') => Explanation::Expected(&ISA_WITH_A),
@@ -186,14 +186,14 @@ fn is_unsimulated(letter: u8) -> bool
 
 // Returns the explanation of a job's bad script.
 fn input_explanation(table: &Table) -> Explanation
-    ensures { (explained_key result, explained_words result) ≡ script_explanation_of (table_view table.now) }
+    ensures { (explained_key result, explained_text result) ≡ script_explanation_of (table_view table.now) }
 {
     script_explanation(text_at_key(table, "input"), text_at_key(table, "input_hex"))
 }
 
 // Returns the explanation of a bad script, given the texts of `input` and `input_hex`.
 fn script_explanation(text: Option<&str>, digits: Option<&str>) -> Explanation
-    ensures { (explained_key result, explained_words result) ≡ script_explanation (borrowed_name text.entry) (borrowed_name digits.entry) }
+    ensures { (explained_key result, explained_text result) ≡ script_explanation (borrowed_name text.entry) (borrowed_name digits.entry) }
 {
     match (text, digits) {
         (Some(_), Some(_)) => Explanation::Text(BOTH_INPUTS),
@@ -205,7 +205,7 @@ fn script_explanation(text: Option<&str>, digits: Option<&str>) -> Explanation
 
 // Returns the explanation of a bad `input_hex`: that it is too long, if it consists of digit pairs, or else that digit pairs are expected.
 fn digits_explanation(digits: &str) -> Explanation
-    ensures { (explained_key result, explained_words result) ≡ script_explanation None (Some digits.now) }
+    ensures { (explained_key result, explained_text result) ≡ script_explanation None (Some digits.now) }
 {
     if are_hex_digit_pairs(digits) {
         Explanation::Expected(&INPUT_HEX)

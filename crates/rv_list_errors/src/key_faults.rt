@@ -5,17 +5,17 @@ ghost use Rattle.std.specs.Prelude.{◌<◌, IfSome};
 use crate::expectation_fault::{BOTH_CONSOLES, end_explanation, exit_explanation};
 use crate::explanations::{
     BUDGET, EXPECT_CONSOLE, EXPECT_CONSOLE_FILE, EXPECT_SIGNATURE, Explanation, IMAGE, INPUT,
-    INPUT_HEX, LOAD, MISALIGNED, NAME, PAIRS, SIGNATURE, UNASKED, push_explanation,
+    INPUT_HEX, LOAD, MISALIGNED, NAME, PAIRS, SIGNATURE, WITHOUT_SIGNATURE, push_explanation,
 };
-use crate::job_fault::{BOTH_INPUTS, are_hex_digit_pairs, isa_explanation, push_taken_name};
-use crate::keys::{push_unknown_key_of_job, push_unknown_region_key, region_with_unknown_key};
-use crate::kinds::{is_of_toml_kind, push_value_of_wrong_kind};
+use crate::job_fault::{BOTH_INPUTS, are_hex_digit_pairs, isa_explanation, push_duplicate_name};
+use crate::keys::{push_unknown_key_of_job, push_unknown_region_key, has_region_with_unknown_key};
+use crate::kinds::{is_of_toml_kind, push_value_of_wrong_type};
 use crate::list::List;
 use crate::message::Message;
 use crate::names::{Suggestion, push_unknown_same_as};
-use crate::regions::{are_map, push_region_fault};
+use crate::regions::{form_memory_map, push_region_fault};
 use crate::values::{elements_at_key, text_at_key, value_at_key};
-use rv_lists::limits::{MOST_BUDGET, MOST_CONSOLE, MOST_PATH, MOST_SCRIPT, MOST_SYMBOL};
+use rv_lists::limits::{MAX_BUDGET, MAX_CONSOLE_LEN, MAX_PATH_LEN, MAX_SCRIPT_LEN, MAX_SYMBOL_LEN};
 use rv_lists::{FaultKind, JOB_KEYS, Kind, is_name};
 use std::alloc::{AllocError, Global};
 use std::collections::BTreeMap;
@@ -23,14 +23,14 @@ use toml::{Table, Value};
 
 /// The keys of a job that have been checked.
 #[derive(Drop)]
-pub(crate) struct FoundKeys<'k> {
+pub(crate) struct CheckedKeys<'k> {
     names: BTreeMap<&'k str, ()>,
 }
 
-impl<'k> FoundKeys<'k> {
+impl<'k> CheckedKeys<'k> {
     /// Returns an empty set of checked keys. Does not allocate.
-    pub(crate) fn none(alloc: Global) -> FoundKeys<'k> {
-        FoundKeys {
+    pub(crate) fn none(alloc: Global) -> CheckedKeys<'k> {
+        CheckedKeys {
             names: BTreeMap::new(alloc),
         }
     }
@@ -48,7 +48,7 @@ impl<'k> FoundKeys<'k> {
 }
 
 // Returns the index of a key in `JOB_KEYS`, the keys that jobs may have, or `None` if it is not one of them.
-fn place_of_key(name: &str) -> Option<usize>
+fn index_of_key(name: &str) -> Option<usize>
     ensures { IfSome result (λ place. place < 16) }
 {
     for at in 0..16 {
@@ -76,7 +76,7 @@ enum KeyFault {
     UnknownInRegion,
     OtherKind(Kind),
     Expected(Explanation),
-    TakenName,
+    DuplicateName,
     NoEarlierJob,
     NoMap,
 }
@@ -88,7 +88,7 @@ impl<'a> FaultyJob<'a> {
         &self,
         message: &mut Message,
         key: &str,
-        met: &FoundKeys<'_>,
+        met: &CheckedKeys<'_>,
     ) -> bool {
         let Some(fault) = self.key_fault(key, met) else {
             return false;
@@ -96,9 +96,9 @@ impl<'a> FaultyJob<'a> {
         match fault {
             KeyFault::Unknown => push_unknown_key_of_job(message, key, self.suggestion),
             KeyFault::UnknownInRegion => push_unknown_region_key(message, self.table),
-            KeyFault::OtherKind(kind) => push_value_of_wrong_kind(message, self.table, key, kind),
+            KeyFault::OtherKind(kind) => push_value_of_wrong_type(message, self.table, key, kind),
             KeyFault::Expected(told) => push_explanation(message, self.table, told),
-            KeyFault::TakenName => push_taken_name(message, self.list, self.table),
+            KeyFault::DuplicateName => push_duplicate_name(message, self.list, self.table),
             KeyFault::NoEarlierJob => push_unknown_same_as(
                 message,
                 self.list,
@@ -112,14 +112,14 @@ impl<'a> FaultyJob<'a> {
     }
 
     // Returns the error of a key, or `None` if it is valid. `met` are the keys before it.
-    fn key_fault(&self, key: &str, met: &FoundKeys<'_>) -> Option<KeyFault> {
-        let Some(place) = place_of_key(key) else {
+    fn key_fault(&self, key: &str, met: &CheckedKeys<'_>) -> Option<KeyFault> {
+        let Some(place) = index_of_key(key) else {
             return Some(KeyFault::Unknown);
         };
         let kind = JOB_KEYS[place].1;
         match value_at_key(self.table, key) {
             Some(value) if is_of_toml_kind(kind, value) => self.value_fault(kind, key, value, met),
-            _ if key == "region" && region_with_unknown_key(self.table) => {
+            _ if key == "region" && has_region_with_unknown_key(self.table) => {
                 Some(KeyFault::UnknownInRegion)
             }
             Some(_) => Some(KeyFault::OtherKind(kind)),
@@ -133,20 +133,20 @@ impl<'a> FaultyJob<'a> {
         kind: Kind,
         key: &str,
         value: &Value,
-        met: &FoundKeys<'_>,
+        met: &CheckedKeys<'_>,
     ) -> Option<KeyFault> {
         match kind {
             Kind::Text => self.text_fault(key, value.as_str().unwrap_or(""), met),
             Kind::Number => wanted(number_fault(key, value.as_integer().unwrap_or(0))),
             Kind::Texts => wanted(signature_fault(elements_at_key(self.table, key))),
-            Kind::Regions if region_with_unknown_key(self.table) => Some(KeyFault::UnknownInRegion),
-            Kind::Regions if are_map(elements_at_key(self.table, key)) => None,
+            Kind::Regions if has_region_with_unknown_key(self.table) => Some(KeyFault::UnknownInRegion),
+            Kind::Regions if form_memory_map(elements_at_key(self.table, key)) => None,
             Kind::Regions => Some(KeyFault::NoMap),
         }
     }
 
     // Returns the error of the text at a key, or `None` if it is valid.
-    fn text_fault(&self, key: &str, text: &str, met: &FoundKeys<'_>) -> Option<KeyFault> {
+    fn text_fault(&self, key: &str, text: &str, met: &CheckedKeys<'_>) -> Option<KeyFault> {
         match key {
             "name" => self.name_fault(text),
             "same_as" if self.is_earlier_job(text) => None,
@@ -161,7 +161,7 @@ impl<'a> FaultyJob<'a> {
         if !is_name(name.as_bytes()) {
             Some(KeyFault::Expected(Explanation::Expected(&NAME)))
         } else if self.is_earlier_job(name) {
-            Some(KeyFault::TakenName)
+            Some(KeyFault::DuplicateName)
         } else {
             None
         }
@@ -176,16 +176,16 @@ impl<'a> FaultyJob<'a> {
     }
 
     // Returns the explanation of an invalid `input` or `input_hex`, or `None` if it is valid.
-    fn input_fault(&self, key: &str, text: &str, met: &FoundKeys<'_>) -> Option<Explanation> {
+    fn input_fault(&self, key: &str, text: &str, met: &CheckedKeys<'_>) -> Option<Explanation> {
         if key == "input" {
-            if MOST_SCRIPT < text.len() {
+            if MAX_SCRIPT_LEN < text.len() {
                 Some(Explanation::Expected(&INPUT))
             } else {
                 self.both_set_explanation("input_hex", met, BOTH_INPUTS)
             }
         } else if !are_hex_digit_pairs(text) {
             Some(Explanation::Expected(&PAIRS))
-        } else if MOST_SCRIPT < text.len() / 2 {
+        } else if MAX_SCRIPT_LEN < text.len() / 2 {
             Some(Explanation::Expected(&INPUT_HEX))
         } else {
             self.both_set_explanation("input", met, BOTH_INPUTS)
@@ -197,7 +197,7 @@ impl<'a> FaultyJob<'a> {
     fn both_set_explanation(
         &self,
         other: &str,
-        met: &FoundKeys,
+        met: &CheckedKeys,
         both: &'static str,
     ) -> Option<Explanation> {
         if met.has(other) && text_at_key(self.table, other).is_some() {
@@ -213,11 +213,11 @@ impl<'a> FaultyJob<'a> {
         &self,
         key: &str,
         text: &str,
-        met: &FoundKeys<'_>,
+        met: &CheckedKeys<'_>,
     ) -> Option<Explanation> {
         match key {
             "expect_signature" => self.reference_fault(text),
-            "expect_console" if MOST_CONSOLE < text.len() => Some(Explanation::Expected(
+            "expect_console" if MAX_CONSOLE_LEN < text.len() => Some(Explanation::Expected(
                 &EXPECT_CONSOLE,
             )),
             "expect_console" => self.both_set_explanation(
@@ -225,7 +225,7 @@ impl<'a> FaultyJob<'a> {
                 met,
                 BOTH_CONSOLES,
             ),
-            "expect_console_file" if !is_path(text) => Some(Explanation::Expected(
+            "expect_console_file" if !is_same_path(text) => Some(Explanation::Expected(
                 &EXPECT_CONSOLE_FILE,
             )),
             "expect_console_file" => self.both_set_explanation(
@@ -233,7 +233,7 @@ impl<'a> FaultyJob<'a> {
                 met,
                 BOTH_CONSOLES,
             ),
-            "image" if !is_path(text) => Some(Explanation::Expected(&IMAGE)),
+            "image" if !is_same_path(text) => Some(Explanation::Expected(&IMAGE)),
             _ => self.choice_fault(key, text),
         }
     }
@@ -242,8 +242,8 @@ impl<'a> FaultyJob<'a> {
     // be one.
     fn reference_fault(&self, path: &str) -> Option<Explanation> {
         if value_at_key(self.table, "signature").is_none() {
-            Some(Explanation::Expected(&UNASKED))
-        } else if !is_path(path) {
+            Some(Explanation::Expected(&WITHOUT_SIGNATURE))
+        } else if !is_same_path(path) {
             Some(Explanation::Expected(&EXPECT_SIGNATURE))
         } else {
             None
@@ -274,7 +274,7 @@ fn wanted(told: Option<Explanation>) -> Option<KeyFault> {
 
 // Returns the explanation of an invalid number at a key, or `None` if it is valid.
 fn number_fault(key: &str, number: i64) -> Option<Explanation> {
-    if key == "budget" && (number < 1 || i64::from(MOST_BUDGET) < number) {
+    if key == "budget" && (number < 1 || i64::from(MAX_BUDGET) < number) {
         Some(Explanation::Expected(&BUDGET))
     } else if key == "expect_exit" && (number < 0 || 0xffff_ffff < number) {
         Some(exit_explanation(Some(number)))
@@ -297,15 +297,15 @@ fn signature_fault(names: &[Value]) -> Option<Explanation> {
 fn is_symbol(name: &Value) -> bool {
     match name.as_str() {
         Some(name) => {
-            1 <= name.len() && name.len() <= MOST_SYMBOL && !name.as_bytes().contains(&0)
+            1 <= name.len() && name.len() <= MAX_SYMBOL_LEN && !name.as_bytes().contains(&0)
         }
         None => false,
     }
 }
 
 // Whether a text may be a path: it is 1 to 4,096 bytes long.
-fn is_path(text: &str) -> bool {
-    1 <= text.len() && text.len() <= MOST_PATH
+fn is_same_path(text: &str) -> bool {
+    1 <= text.len() && text.len() <= MAX_PATH_LEN
 }
 
 // Whether a text is the name of a simulated instruction set.
@@ -319,7 +319,7 @@ fn is_end(text: &str) -> bool {
 }
 
 /// The keys that every job must have.
-pub(crate) const NEEDED: [&str; 3] = ["name", "image", "budget"];
+pub(crate) const REQUIRED_KEYS: [&str; 3] = ["name", "image", "budget"];
 
 /// Appends that the job lacks this required key, and what is expected of its value.
 pub(crate) fn push_absent_key(message: &mut Message, table: &Table, key: &str) {

@@ -7,8 +7,8 @@ ghost use Rattle.toml.specs.View.{table_view};
 ghost use Rattle.rv_lists.specs.Keys.{is_job_key, is_region_key};
 ghost use Rattle.rv_list_errors.specs.Lines.{BeginsWith};
 ghost use Rattle.rv_list_errors.specs.NearNames.{Adds};
-ghost use Rattle.rv_list_errors.specs.Explanation.{AddsSome, first_unknown_key, is_key_of_owner, region_number_text, unknown_key_text};
-ghost use Rattle.rv_list_errors.specs.UnknownKeys.{TellsUnknownKey, TellsUnknownRegionKey};
+ghost use Rattle.rv_list_errors.specs.Explanation.{AppendsTextThat, first_unknown_key, is_key_of_owner, region_number_text, unknown_key_text};
+ghost use Rattle.rv_list_errors.specs.UnknownKeys.{ExplainsUnknownKey, ExplainsUnknownRegionKey};
 
 use crate::message::Message;
 use crate::names::{Suggestion, near_name, push_names};
@@ -96,7 +96,7 @@ pub(crate) fn push_unknown_key(message: &mut Message, key: &str)
 /// Appends the first unknown key of a job with the nearest known key, or all known keys if none is near; or, if a region has an unknown
 /// key, that key with the known keys of regions.
 pub(crate) fn push_unknown_job_key(message: &mut Message, table: &Table)
-    ensures { AddsSome message.old message.new (TellsUnknownKey (table_view table.now)) }
+    ensures { AppendsTextThat message.old message.new (ExplainsUnknownKey (table_view table.now)) }
 {
     match unknown_key(table, Owner::Job) {
         Some(key) => push_unknown_key_of_job(message, key, Suggestion::Nearest),
@@ -106,7 +106,7 @@ pub(crate) fn push_unknown_job_key(message: &mut Message, table: &Table)
 
 /// Appends that a job has this unknown key. If suggestions are requested, adds the nearest known key, or all known keys if none is near.
 pub(crate) fn push_unknown_key_of_job(message: &mut Message, key: &str, suggestion: Suggestion)
-    ensures { AddsSome message.old message.new (BeginsWith (unknown_key_text key.now)) }
+    ensures { AppendsTextThat message.old message.new (BeginsWith (unknown_key_text key.now)) }
 {
     push_unknown_key(message, key);
     match suggestion {
@@ -117,7 +117,7 @@ pub(crate) fn push_unknown_key_of_job(message: &mut Message, key: &str, suggesti
 
 // Appends the key of jobs that is nearest to a text, or all keys if none is near.
 fn push_nearest_key(message: &mut Message, text: &str)
-    ensures { AddsSome message.old message.new (BeginsWith []) }
+    ensures { AppendsTextThat message.old message.new (BeginsWith []) }
 {
     let mut names = [None; 16];
     for at in 0..names.len() {
@@ -137,7 +137,7 @@ fn push_nearest_key(message: &mut Message, text: &str)
 
 /// Appends the first unknown key of a job's regions, and the known keys of regions.
 pub(crate) fn push_unknown_region_key(message: &mut Message, table: &Table)
-    ensures { AddsSome message.old message.new TellsUnknownRegionKey }
+    ensures { AppendsTextThat message.old message.new ExplainsUnknownRegionKey }
 {
     let regions = elements_at_key(table, "region");
     match first_unknown_region_key(regions) {
@@ -170,7 +170,7 @@ fn push_unknown_key_of_region(message: &mut Message, at: usize, key: &str)
 }
 
 /// Whether at least one region of a job has an unknown key.
-pub(crate) fn region_with_unknown_key(table: &Table) -> bool {
+pub(crate) fn has_region_with_unknown_key(table: &Table) -> bool {
     for region in elements_at_key(table, "region") {
         if unknown_region_key(region).is_some() {
             return true;

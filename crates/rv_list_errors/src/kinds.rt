@@ -4,14 +4,14 @@ ghost use Rattle.std.specs.Prelude.{◌≡◌, ◌+◌, ◌^◌, ◌<◌, IfSome
 ghost use Rattle.std.specs.List.{find, list_all, position};
 ghost use Rattle.std.specs.Option.{option_map_or};
 ghost use Rattle.toml.specs.View.{table_view, view};
-ghost use Rattle.rv_lists.specs.Keys.{absent_or, has_kinds_of_keys, is_boolean, is_number, is_region, is_region_array, is_text};
+ghost use Rattle.rv_lists.specs.Keys.{is_absent_or, has_key_types, is_boolean, is_number, is_region, is_region_array, is_text};
 ghost use Rattle.rv_lists.specs.Keys.{is_text_array, region_keys};
-ghost use Rattle.rv_list_errors.specs.JobFaults.{BeginsWithRegion, BeginsWithValue, ExplainsWrongType, ExplainsWrongRegionType, is_known_of_other_kind};
-ghost use Rattle.rv_list_errors.specs.JobFaults.{is_of_kind, is_of_other_kind, key_and_kind};
+ghost use Rattle.rv_list_errors.specs.JobFaults.{BeginsWithRegion, BeginsWithValue, ExplainsWrongType, ExplainsFirstWrongType, has_wrong_type_at_key};
+ghost use Rattle.rv_list_errors.specs.JobFaults.{is_of_kind, has_wrong_type_at, key_and_type};
 ghost use Rattle.rv_list_errors.specs.Lines.{BeginsWith};
-ghost use Rattle.rv_list_errors.specs.Explanation.{AddsSome, region_number_text};
+ghost use Rattle.rv_list_errors.specs.Explanation.{AppendsTextThat, region_number_text};
 
-use crate::explanations::{Explanation, push_explanation, taken_texts};
+use crate::explanations::{Explanation, push_explanation, accepted_texts};
 use crate::message::Message;
 use crate::regions::push_region_number;
 use crate::values::{elements_at_key, push_expected_value, value_at_key};
@@ -19,32 +19,32 @@ use rv_lists::{JOB_KEYS, Kind};
 use toml::{Table, Value};
 
 /// Appends the first key of a job, in the order of the format, whose value has the wrong type, and the expected type.
-pub(crate) fn push_wrong_kind(message: &mut Message, table: &Table)
-    ensures { AddsSome message.old message.new (ExplainsWrongRegionType (table_view table.now)) }
+pub(crate) fn push_wrong_type(message: &mut Message, table: &Table)
+    ensures { AppendsTextThat message.old message.new (ExplainsFirstWrongType (table_view table.now)) }
 {
-    match wrong_key(table, &JOB_KEYS) {
-        Some(known) => push_value_of_wrong_kind(message, table, known.0, known.1),
+    match key_of_wrong_type(table, &JOB_KEYS) {
+        Some(known) => push_value_of_wrong_type(message, table, known.0, known.1),
         None => message.push("invalid type"),
     }
 }
 
 // Returns the first of these keys whose value has the wrong type, or `None` if there is none.
-fn wrong_key<'k>(
+fn key_of_wrong_type<'k>(
     table: &Table,
     keys: &'k [(&'static str, Kind)],
 ) -> Option<&'k (&'static str, Kind)>
-    ensures { option_map (λ known. key_and_kind known.now) result
-        ≡ find (is_of_other_kind (table_view table.now)) (map key_and_kind keys.now) }
+    ensures { option_map (λ known. key_and_type known.now) result
+        ≡ find (has_wrong_type_at (table_view table.now)) (map key_and_type keys.now) }
 {
-    first_key_of_other_kind(table, keys)
+    first_key_of_wrong_type(table, keys)
 }
 
 // Returns the first of these keys whose value has the wrong type, or `None` if there is none.
-fn first_key_of_other_kind<'k>(
+fn first_key_of_wrong_type<'k>(
     table: &Table,
     keys: &'k [(&'static str, Kind)],
 ) -> Option<&'k (&'static str, Kind)>
-    ensures { option_map (λ known. known.now) result ≡ find (is_known_of_other_kind (table_view table.now)) keys.now }
+    ensures { option_map (λ known. known.now) result ≡ find (has_wrong_type_at_key (table_view table.now)) keys.now }
 {
     keys.iter()
         .find(|known| is_value_of_other_kind(table, known.0, known.1))
@@ -52,7 +52,7 @@ fn first_key_of_other_kind<'k>(
 
 // Whether there is a value at a key and it does not have this type.
 fn is_value_of_other_kind(table: &Table, key: &str, kind: Kind) -> bool
-    ensures { result ≡ not (absent_or (is_of_kind kind) key.now (table_view table.now)) }
+    ensures { result ≡ not (is_absent_or (is_of_kind kind) key.now (table_view table.now)) }
 {
     match value_at_key(table, key) {
         Some(value) => !is_of_toml_kind(kind, value),
@@ -111,20 +111,20 @@ fn is_region(value: &Value) -> bool
     ensures { result ≡ is_region (view value.now) }
 {
     match value.as_table() {
-        Some(table) => region_key_of_wrong_kind(table).is_none(),
+        Some(table) => region_key_of_wrong_type(table).is_none(),
         None => false,
     }
 }
 
 // Returns the first key of a region whose value has the wrong type, and what is expected of it, or `None` if there is none.
-fn region_key_of_wrong_kind(table: &Table) -> Option<(&'static str, &'static str)>
-    ensures { is_some result ≡ not (has_kinds_of_keys region_keys (table_view table.now)) }
+fn region_key_of_wrong_type(table: &Table) -> Option<(&'static str, &'static str)>
+    ensures { is_some result ≡ not (has_key_types region_keys (table_view table.now)) }
 {
-    if is_other_than_number(value_at_key(table, "base")) {
+    if is_not_number(value_at_key(table, "base")) {
         Some(("base", NUMBER))
-    } else if is_other_than_number(value_at_key(table, "size")) {
+    } else if is_not_number(value_at_key(table, "size")) {
         Some(("size", NUMBER))
-    } else if is_other_than_boolean(value_at_key(table, "write")) {
+    } else if is_not_boolean(value_at_key(table, "write")) {
         Some(("write", "expected true or false"))
     } else {
         None
@@ -132,7 +132,7 @@ fn region_key_of_wrong_kind(table: &Table) -> Option<(&'static str, &'static str
 }
 
 // Whether there is a value, and it is not an integer.
-fn is_other_than_number(value: Option<&Value>) -> bool
+fn is_not_number(value: Option<&Value>) -> bool
     ensures { result ≡ not (option_map_or is_number (option_map (λ v. view v.now) value.entry) true) }
 {
     match value {
@@ -142,7 +142,7 @@ fn is_other_than_number(value: Option<&Value>) -> bool
 }
 
 // Whether there is a value, and it is not a Boolean.
-fn is_other_than_boolean(value: Option<&Value>) -> bool
+fn is_not_boolean(value: Option<&Value>) -> bool
     ensures { result ≡ not (option_map_or is_boolean (option_map (λ v. view v.now) value.entry) true) }
 {
     match value {
@@ -154,34 +154,34 @@ fn is_other_than_boolean(value: Option<&Value>) -> bool
 const NUMBER: &str = "expected an integer";
 
 /// Appends a key whose value does not have this type, its value, and the expected type. For regions, appends the bad region.
-pub(crate) fn push_value_of_wrong_kind(message: &mut Message, table: &Table, key: &str, kind: Kind)
-    ensures { AddsSome message.old message.new (ExplainsWrongType key.now kind (table_view table.now)) }
+pub(crate) fn push_value_of_wrong_type(message: &mut Message, table: &Table, key: &str, kind: Kind)
+    ensures { AppendsTextThat message.old message.new (ExplainsWrongType key.now kind (table_view table.now)) }
 {
     match kind {
-        Kind::Text => push_text_of_wrong_kind(message, table, key),
+        Kind::Text => push_text_of_wrong_type(message, table, key),
         Kind::Number => push_expected_value(message, table, key, NUMBER),
         Kind::Texts => push_expected_value(message, table, key, "expected an array of strings"),
-        Kind::Regions => push_regions_of_wrong_kind(message, table, key),
+        Kind::Regions => push_regions_of_wrong_type(message, table, key),
     }
 }
 
 // Appends a key whose value should be a text, its value, and what is expected: the accepted texts, if they are few.
-fn push_text_of_wrong_kind(message: &mut Message, table: &Table, key: &str)
-    ensures { AddsSome message.old message.new (BeginsWithValue key.now (table_view table.now)) }
+fn push_text_of_wrong_type(message: &mut Message, table: &Table, key: &str)
+    ensures { AppendsTextThat message.old message.new (BeginsWithValue key.now (table_view table.now)) }
 {
-    match taken_texts(key) {
+    match accepted_texts(key) {
         Some(wanted) => push_explanation(message, table, Explanation::Expected(wanted)),
         None => push_expected_value(message, table, key, "expected a string"),
     }
 }
 
 // Appends the first bad region of `region`, or the key and its value if it is not an array.
-fn push_regions_of_wrong_kind(message: &mut Message, table: &Table, key: &str)
-    ensures { AddsSome message.old message.new (BeginsWithRegion key.now (table_view table.now)) }
+fn push_regions_of_wrong_type(message: &mut Message, table: &Table, key: &str)
+    ensures { AppendsTextThat message.old message.new (BeginsWithRegion key.now (table_view table.now)) }
 {
     let regions = elements_at_key(table, key);
     match index_of_first_non_region(regions) {
-        Some(place) => push_region_of_wrong_kind(message, place, &regions[place]),
+        Some(place) => push_region_of_wrong_type(message, place, &regions[place]),
         None => push_expected_value(message, table, key, "expected an array of tables"),
     }
 }
@@ -195,12 +195,12 @@ fn index_of_first_non_region(elements: &[Value]) -> Option<usize>
 }
 
 // Appends the number of a region that is not a table, or that has a value of the wrong type, and what was expected.
-fn push_region_of_wrong_kind(message: &mut Message, place: usize, region: &Value)
-    ensures { place + 1 < 2 ^ 64 → AddsSome message.old message.new (BeginsWith (region_number_text place)) }
+fn push_region_of_wrong_type(message: &mut Message, place: usize, region: &Value)
+    ensures { place + 1 < 2 ^ 64 → AppendsTextThat message.old message.new (BeginsWith (region_number_text place)) }
 {
     push_region_number(message, place);
     match region {
-        Value::Table(table) => push_region_table_of_wrong_kind(message, table),
+        Value::Table(table) => push_region_table_of_wrong_type(message, table),
         _ => {
             message.push(" = ");
             message.push_value(region);
@@ -210,11 +210,11 @@ fn push_region_of_wrong_kind(message: &mut Message, place: usize, region: &Value
 }
 
 // Appends the first key of a region whose value has the wrong type, its value, and what is expected.
-fn push_region_table_of_wrong_kind(message: &mut Message, table: &Table)
-    ensures { AddsSome message.old message.new (BeginsWith (codes ": ")) }
+fn push_region_table_of_wrong_type(message: &mut Message, table: &Table)
+    ensures { AppendsTextThat message.old message.new (BeginsWith (codes ": ")) }
 {
     message.push(": ");
-    match region_key_of_wrong_kind(table) {
+    match region_key_of_wrong_type(table) {
         Some((key, wanted)) => push_expected_value(message, table, key, wanted),
         None => message.push("invalid type"),
     }

@@ -51,7 +51,7 @@ impl<'a> List<'a> {
     }
 
     /// Returns the offset in the list's text at which `rest`, a suffix of it, begins.
-    pub(crate) fn place_of_rest(&self, rest: &str) -> usize {
+    pub(crate) fn offset_of_suffix(&self, rest: &str) -> usize {
         self.len.saturating_sub(rest.len())
     }
 
@@ -60,24 +60,24 @@ impl<'a> List<'a> {
         ensures { result ≡ number_of_name (borrowed_names self.now.names.items) (borrowed_name name.entry) }
     {
         match name {
-            Some(name) => number_of_present_name(self.names.as_slice(), name),
+            Some(name) => number_of_given_name(self.names.as_slice(), name),
             None => None,
         }
     }
 }
 
 // Returns the number, counted from 1, of the first job with this name, or `None` if no job has it.
-fn number_of_present_name(names: &[Option<&str>], name: &str) -> Option<u64>
+fn number_of_given_name(names: &[Option<&str>], name: &str) -> Option<u64>
     ensures { result ≡ number_of_name (borrowed_names names.now) (Some name.now) }
 {
-    match place_of_name(names, name) {
+    match index_of_name(names, name) {
         Some(place) => Some(place as u64 + 1),
         None => None,
     }
 }
 
 // Returns the index of the first name that equals this one, or `None` if none does.
-fn place_of_name(names: &[Option<&str>], name: &str) -> Option<usize>
+fn index_of_name(names: &[Option<&str>], name: &str) -> Option<usize>
     ensures within { IfSome result (λ place. place < length names.now) }
     ensures named { result ≡ position (λ other. is_name_of name.now (borrowed_name other)) names.now }
 {

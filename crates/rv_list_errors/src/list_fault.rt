@@ -3,7 +3,7 @@
 ghost use Rattle.std.specs.Prelude.{◌++◌, codes};
 ghost use Rattle.toml.specs.Errors.{IsMemory, span_start};
 ghost use Rattle.rv_list_errors.specs.NearNames.{Adds};
-ghost use Rattle.rv_list_errors.specs.Explanation.{AddsSome, IsNotToml, too_many_jobs_text};
+ghost use Rattle.rv_list_errors.specs.Explanation.{AppendsTextThat, ExplainsNotToml, too_many_jobs_text};
 
 use crate::keys::{Owner, push_unknown_key, unknown_key};
 use crate::list::List;
@@ -12,7 +12,7 @@ use crate::names::near_name;
 use crate::values::{push_expected_value, value_at_key};
 use rv_list_locations::{RepeatedKey, line_and_column, repeated_key};
 use rv_lists::What;
-use rv_lists::limits::MOST_JOBS;
+use rv_lists::limits::MAX_JOBS;
 use std::alloc::{AllocError, Global};
 use toml::Table;
 use toml::de::Error;
@@ -20,7 +20,7 @@ use toml::de::Error;
 /// Appends the line and column of a TOML error, and its reason; only the reason if the error has no location.
 pub(crate) fn push_not_toml(message: &mut Message, text: &[u8], error: &Error)
     ensures { (IsMemory error.now → ⊥)
-        → AddsSome message.old message.new (IsNotToml text.now (span_start error.now)) }
+        → AppendsTextThat message.old message.new (ExplainsNotToml text.now (span_start error.now)) }
 {
     let Some(span) = error.span() else {
         return push_reason(message, error.message());
@@ -74,7 +74,7 @@ pub(crate) fn push_list_fault(message: &mut Message, list: &List<'_>, what: What
         What::NoJobs => push_no_jobs(message, list.table),
         What::TooMany => push_too_many_jobs(message, list.jobs.len()),
         What::UnknownKey => push_unknown_list_key(message, list.table),
-        What::WrongType => push_other_than_tables(message, list.table),
+        What::WrongType => push_not_an_array(message, list.table),
         _ => message.push(what.name()),
     }
 }
@@ -82,7 +82,7 @@ pub(crate) fn push_list_fault(message: &mut Message, list: &List<'_>, what: What
 const TABLES: &str = "expected an array of tables, [[job]]";
 
 // Appends that `job` is not an array. The contents of a table are not shown: its header, `[job]`, lacks a pair of brackets.
-fn push_other_than_tables(message: &mut Message, table: &Table) {
+fn push_not_an_array(message: &mut Message, table: &Table) {
     match value_at_key(table, "job") {
         Some(value) if value.is_table() => {
             message.push("\"job\" is a table: ");
@@ -114,7 +114,7 @@ fn push_too_many_jobs(message: &mut Message, jobs: usize)
 {
     message.push_number_between(
         "too many jobs: expected at most ",
-        MOST_JOBS as u64,
+        MAX_JOBS as u64,
         ", found ",
     );
     message.push_number(jobs as u64);

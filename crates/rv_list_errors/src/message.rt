@@ -5,7 +5,7 @@ ghost use Rattle.std.specs.Fmt.{decimal};
 ghost use Rattle.toml.specs.Text.{IsValueText};
 ghost use Rattle.toml.specs.View.{view};
 ghost use Rattle.rv_list_errors.specs.NearNames.{Adds, quoted, text_distance};
-ghost use Rattle.rv_list_errors.specs.Explanation.{AddsSome, IsShownValue};
+ghost use Rattle.rv_list_errors.specs.Explanation.{AppendsTextThat, IsShownValue};
 ghost use Rattle.rv_text.specs.Printable.{printable_value};
 ghost use Rattle.rv_text.specs.Words.{word_digits};
 
@@ -84,7 +84,7 @@ impl Message {
 
     /// Appends a value: a text in quotes, as [`push_printable`](Message::push_printable) shows it, or another value as in TOML.
     pub(crate) fn push_value(&mut self, value: &Value)
-        ensures { AddsSome self.old self.new (IsShownValue (view value.now)) }
+        ensures { AppendsTextThat self.old self.new (IsShownValue (view value.now)) }
     {
         match value.as_str() {
             Some(text) => self.push_quoted(text),
@@ -94,7 +94,7 @@ impl Message {
 
     // Appends a value as in TOML.
     fn push_value_in_toml(&mut self, value: &Value)
-        ensures { AddsSome self.old self.new
+        ensures { AppendsTextThat self.old self.new
             (λ shown. (text : List ℕ) × IsValueText false (view value.now) text × (shown ≡ printable_value text)) }
     {
         if self.grown.is_err() {

@@ -1,7 +1,7 @@
 //! The job whose name is nearest to a text: the one that the user probably meant.
 
 ghost use Rattle.std.specs.Prelude.{◌≡◌, ◌↔◌, ◌<◌, ℕ, IfOk, IsTrue, MatchOption, length};
-ghost use Rattle.rv_list_errors.specs.NearestJob.{IsNear, IsNearJob, IsNearestJob, job_name, job_name_distance};
+ghost use Rattle.rv_list_errors.specs.NearestJob.{IsNear, IsNearJob, IsJobNameSuggestion, job_name, job_name_distance};
 
 use rv_lists::Job;
 use rv_lists::limits::MOST_NAME;
@@ -12,8 +12,8 @@ use strsim::levenshtein;
 /// at most a third of the characters of that name differ. A text longer than a name may be is near no name, which bounds the search time.
 pub fn near_job(alloc: Global, jobs: &[Job], text: &str) -> Result<Option<usize>, AllocError>
     ensures { IfOk result (λ near. MatchOption near
-        ((place : ℕ) → IsNearestJob jobs.now text.now place → IsNearJob jobs.now text.now place → ⊥)
-        (λ place. IsNearestJob jobs.now text.now place × IsNearJob jobs.now text.now place)) }
+        ((place : ℕ) → IsJobNameSuggestion jobs.now text.now place → IsNearJob jobs.now text.now place → ⊥)
+        (λ place. IsJobNameSuggestion jobs.now text.now place × IsNearJob jobs.now text.now place)) }
 {
     if text.len() > MOST_NAME {
         return Ok(None);
@@ -44,7 +44,7 @@ pub(crate) fn is_near(distance: usize, name: &str) -> bool
 // Returns the index of the first job with the nearest name to a text, by the edit distance, or `None` if there are no jobs.
 fn nearest_job(alloc: Global, jobs: &[Job], text: &str) -> Result<Option<usize>, AllocError>
     ensures { IfOk result (λ nearest. MatchOption nearest (length jobs.now ≡ 0)
-        (λ place. IsNearestJob jobs.now text.now place)) }
+        (λ place. IsJobNameSuggestion jobs.now text.now place)) }
 {
     if jobs.is_empty() {
         return Ok(None);

@@ -3,13 +3,13 @@
 ghost use Rattle.std.specs.Prelude.{◌≡◌, ◌++◌, ◌∷◌, ◌+◌, ◌-◌, ◌<◌, ◌≤◌, [], IsOk, MatchOption, OnOk, is_some, length, min, take};
 ghost use Rattle.std.specs.List.{count_by};
 ghost use Rattle.rv_list_errors.specs.FaultHeads.{borrowed_name, borrowed_names};
-ghost use Rattle.rv_list_errors.specs.NearNames.{Adds, IsNearName, most_listed_names, name_distance, names_from, names_text, present};
+ghost use Rattle.rv_list_errors.specs.NearNames.{Adds, IsNearName, max_listed_names, name_distance, names_from, names_text, present};
 ghost use Rattle.rv_list_errors.specs.NearestJob.{IsNear};
 ghost use Rattle.toml.specs.View.{table_view};
 ghost use Rattle.rv_list_errors.specs.JobFaults.{ExplainsName, ExplainsSameAs, job_of_name_text};
 ghost use Rattle.rv_list_errors.specs.Lines.{BeginsWith};
 ghost use Rattle.rv_list_errors.specs.NearNames.{quoted, separator};
-ghost use Rattle.rv_list_errors.specs.Explanation.{AddsSome, IsNearestJob};
+ghost use Rattle.rv_list_errors.specs.Explanation.{AppendsTextThat, IsJobNameSuggestion};
 
 use crate::list::List;
 use crate::message::Message;
@@ -27,7 +27,7 @@ pub(crate) fn push_name_fault(
     key: &str,
     wanted: &str,
 )
-    ensures { AddsSome message.old message.new
+    ensures { AppendsTextThat message.old message.new
         (ExplainsName (borrowed_names list.now.names.items) key.now wanted.now (table_view table.now)) }
 {
     push_key_and_value(message, table, key);
@@ -62,7 +62,7 @@ pub(crate) fn push_unknown_same_as(
     place: usize,
     suggestion: Suggestion,
 )
-    ensures { AddsSome message.old message.new
+    ensures { AppendsTextThat message.old message.new
         (ExplainsSameAs (borrowed_names list.now.names.items) (table_view table.now)) }
 {
     push_name_fault(
@@ -86,7 +86,7 @@ pub(crate) fn push_unknown_same_as(
 // Appends the name of a job before an index that is nearest to an unknown name, or all names of these jobs if none is near. Appends nothing
 // if some job has the name.
 fn push_nearest_job(message: &mut Message, list: &List<'_>, wanted: Option<&str>, place: usize)
-    ensures { AddsSome message.old message.new (BeginsWith []) }
+    ensures { AppendsTextThat message.old message.new (BeginsWith []) }
 {
     if list.job_number_of_name(wanted).is_some() {
         return;
@@ -106,7 +106,7 @@ fn first_names<'n, 'a>(names: &'n [Option<&'a str>], count: usize) -> &'n [Optio
 
 // Appends the name that is nearest to an unknown one, or all names if none is near.
 fn push_nearest_name(message: &mut Message, names: &[Option<&str>], wanted: &str)
-    ensures { AddsSome message.old message.new (IsNearestJob (borrowed_names names.now) wanted.now) }
+    ensures { AppendsTextThat message.old message.new (IsJobNameSuggestion (borrowed_names names.now) wanted.now) }
 {
     match near_name(message, names, wanted) {
         Some(name) => {
@@ -158,7 +158,7 @@ fn name_if_near(name: &str, distance: usize) -> Option<&str>
 }
 
 // The maximum number of names listed.
-const MOST_TOLD: usize = 20;
+const MAX_LISTED_NAMES: usize = 20;
 
 /// Appends the names that are not `None`, in quotes: only the first ones if there are many, and then how many more there are.
 pub(crate) fn push_names(message: &mut Message, names: &[Option<&str>])
@@ -181,8 +181,8 @@ fn present_count(names: &[Option<&str>]) -> usize
 // Appends the first names that are not `None`, up to the maximum, and returns how many were appended. `count` is the number of all names
 // that are not `None`.
 fn push_first_names(message: &mut Message, names: &[Option<&str>], count: usize) -> usize
-    ensures told { result ≡ min (length (present (borrowed_names names.now))) most_listed_names }
-    ensures text { Adds message.old message.new (names_from count 0 (take most_listed_names (present (borrowed_names names.now)))) }
+    ensures told { result ≡ min (length (present (borrowed_names names.now))) max_listed_names }
+    ensures text { Adds message.old message.new (names_from count 0 (take max_listed_names (present (borrowed_names names.now)))) }
 {
     let mut told = 0;
     for name in names {
@@ -193,33 +193,33 @@ fn push_first_names(message: &mut Message, names: &[Option<&str>], count: usize)
 
 // Appends a name, if it exists and the maximum has not been reached, and returns how many have been appended.
 fn push_next_name(message: &mut Message, name: Option<&str>, told: usize, count: usize) -> usize
-    requires { told ≤ most_listed_names }
-    ensures told { result ≡ min (told + length (present (borrowed_name name.entry ∷ []))) most_listed_names }
+    requires { told ≤ max_listed_names }
+    ensures told { result ≡ min (told + length (present (borrowed_name name.entry ∷ []))) max_listed_names }
     ensures text { Adds message.old message.new
-        (names_from count told (take (most_listed_names - told) (present (borrowed_name name.entry ∷ [])))) }
+        (names_from count told (take (max_listed_names - told) (present (borrowed_name name.entry ∷ [])))) }
 {
     match name {
-        Some(name) => push_name_if_few(message, name, told, count),
+        Some(name) => push_name_if_listed(message, name, told, count),
         None => told,
     }
 }
 
 // Appends a name unless the maximum has been reached, and returns how many have been appended.
-fn push_name_if_few(message: &mut Message, name: &str, told: usize, count: usize) -> usize
-    requires { told ≤ most_listed_names }
-    ensures told { result ≡ min (told + 1) most_listed_names }
-    ensures text { Adds message.old message.new (names_from count told (take (most_listed_names - told) (name.now ∷ []))) }
+fn push_name_if_listed(message: &mut Message, name: &str, told: usize, count: usize) -> usize
+    requires { told ≤ max_listed_names }
+    ensures told { result ≡ min (told + 1) max_listed_names }
+    ensures text { Adds message.old message.new (names_from count told (take (max_listed_names - told) (name.now ∷ []))) }
 {
-    if told == MOST_TOLD {
+    if told == MAX_LISTED_NAMES {
         return told;
     }
-    push_name_of_many(message, name, told, count);
+    push_listed_name(message, name, told, count);
     told + 1
 }
 
 // Appends the separator before the name at an index, and the name in quotes.
-fn push_name_of_many(message: &mut Message, name: &str, place: usize, count: usize)
-    requires { place < most_listed_names }
+fn push_listed_name(message: &mut Message, name: &str, place: usize, count: usize)
+    requires { place < max_listed_names }
     ensures { Adds message.old message.new (separator count place ++ quoted name.now) }
 {
     message.push(match place {

@@ -1,10 +1,10 @@
 //! Regions that overlap one another or the console.
 
 ghost use Rattle.std.specs.Prelude.{◌≡◌, ◌+◌, ◌^◌, ◌<◌, IfSome, MatchOption, length};
-ghost use Rattle.rv_list_errors.specs.JobFaults.{AreAllApart, AreApart, IsApartBefore, IsDisjointFromRest, IsFirstOverlap, IsFirstShared};
+ghost use Rattle.rv_list_errors.specs.JobFaults.{AreAllApart, AreApart, IsApartBefore, IsDisjointFromRest, IsFirstOverlap, IsFirstSharedAddress};
 ghost use Rattle.rv_list_errors.specs.JobFaults.{IsOverlap, ExplainsOverlap, ExplainsRegions, overlap_text};
 ghost use Rattle.rv_list_errors.specs.NearNames.{Adds};
-ghost use Rattle.rv_list_errors.specs.Explanation.{AddsSome};
+ghost use Rattle.rv_list_errors.specs.Explanation.{AppendsTextThat};
 
 use crate::message::Message;
 use crate::regions::push_region_number;
@@ -26,7 +26,7 @@ pub(crate) fn region_end(region: &Region) -> u64
 
 // Returns the first address that two regions share, or `None` if they share none.
 fn shared_address(region: &Region, other: &Region) -> Option<u32>
-    ensures { MatchOption result (AreApart region.now other.now) (λ address. IsFirstShared region.now other.now address) }
+    ensures { MatchOption result (AreApart region.now other.now) (λ address. IsFirstSharedAddress region.now other.now address) }
 {
     let first = region.base.max(other.base);
     if u64::from(first) < region_end(region).min(region_end(other)) {
@@ -47,8 +47,8 @@ struct Overlap {
 /// Appends the numbers of the first two regions that overlap, and the first address that they share.
 pub(crate) fn push_region_overlap(message: &mut Message, regions: &[Region])
     ensures overlap { length regions.now < 2 ^ 64 → (AreAllApart regions.now → ⊥)
-        → AddsSome message.old message.new (ExplainsOverlap regions.now) }
-    ensures regions { length regions.now < 2 ^ 64 → AddsSome message.old message.new ExplainsRegions }
+        → AppendsTextThat message.old message.new (ExplainsOverlap regions.now) }
+    ensures regions { length regions.now < 2 ^ 64 → AppendsTextThat message.old message.new ExplainsRegions }
 {
     match first_overlap(regions) {
         Some(overlap) => push_overlap(message, overlap),
@@ -99,7 +99,7 @@ fn overlap_with_later(regions: &[Region], at: usize) -> Option<Overlap>
 
 /// Appends the number of the first region that has an address of the console, and the first such address.
 pub(crate) fn push_console_overlap(message: &mut Message, regions: &[Region])
-    ensures { length regions.now < 2 ^ 64 → AddsSome message.old message.new ExplainsRegions }
+    ensures { length regions.now < 2 ^ 64 → AppendsTextThat message.old message.new ExplainsRegions }
 {
     match first_shared_with_console(regions) {
         Some((place, address)) => push_shared_with_console(message, place, address),
@@ -121,7 +121,7 @@ fn first_shared_with_console(regions: &[Region]) -> Option<(usize, u32)>
 
 // Appends that the region at an index overlaps the console at an address.
 fn push_shared_with_console(message: &mut Message, at: usize, address: u32)
-    ensures { at + 1 < 2 ^ 64 → AddsSome message.old message.new ExplainsRegions }
+    ensures { at + 1 < 2 ^ 64 → AppendsTextThat message.old message.new ExplainsRegions }
 {
     push_region_number(message, at);
     message.push(" overlaps the console at 0x");

@@ -3,7 +3,7 @@
 ghost use Rattle.std.specs.Prelude.{◌+◌, ◌^◌, ◌<◌, IfSome, length};
 ghost use Rattle.rv_list_errors.specs.JobFaults.{ExplainsRegions};
 ghost use Rattle.rv_list_errors.specs.NearNames.{Adds};
-ghost use Rattle.rv_list_errors.specs.Explanation.{AddsSome, region_number_text};
+ghost use Rattle.rv_list_errors.specs.Explanation.{AppendsTextThat, region_number_text};
 
 use crate::message::Message;
 use crate::overlaps::{push_console_overlap, push_region_overlap, region_end};
@@ -23,7 +23,7 @@ pub(crate) fn push_region_number(message: &mut Message, at: usize)
 }
 
 /// Whether the elements of `region` form a memory map.
-pub(crate) fn are_map(elements: &[Value]) -> bool {
+pub(crate) fn form_memory_map(elements: &[Value]) -> bool {
     for element in elements {
         if region_of_element(element).is_none() {
             return false;
@@ -45,17 +45,17 @@ fn first_regions(elements: &[Value]) -> [Region; 4] {
 
 /// Appends why the regions of a job do not form a memory map.
 pub(crate) fn push_region_fault(message: &mut Message, table: &Table)
-    ensures { AddsSome message.old message.new ExplainsRegions }
+    ensures { AppendsTextThat message.old message.new ExplainsRegions }
 {
     let elements = elements_at_key(table, "region");
-    match place_of_unreadable_region(elements) {
+    match index_of_malformed_region(elements) {
         Some(place) => push_bad_base_or_size(message, place, &elements[place]),
         None => push_fault_of_regions(message, elements),
     }
 }
 
 // Returns the index of the first element whose base and size are not both 32-bit numbers, or `None` if there is none.
-fn place_of_unreadable_region(elements: &[Value]) -> Option<usize>
+fn index_of_malformed_region(elements: &[Value]) -> Option<usize>
     ensures { IfSome result (λ place. place < length elements.now) }
 {
     elements
@@ -65,7 +65,7 @@ fn place_of_unreadable_region(elements: &[Value]) -> Option<usize>
 
 // Appends why elements, each of which is a region, do not form a memory map.
 fn push_fault_of_regions(message: &mut Message, elements: &[Value])
-    ensures { AddsSome message.old message.new ExplainsRegions }
+    ensures { AppendsTextThat message.old message.new ExplainsRegions }
 {
     let regions = first_regions(elements);
     if elements.len() <= regions.len() {
@@ -105,7 +105,7 @@ fn region_of_element(element: &Value) -> Option<Region> {
 
 // Appends what is wrong with the region at an index: its base if that is not a 32-bit number, else its size; or that it is not a table.
 fn push_bad_base_or_size(message: &mut Message, at: usize, element: &Value)
-    ensures { at + 1 < 2 ^ 64 → AddsSome message.old message.new ExplainsRegions }
+    ensures { at + 1 < 2 ^ 64 → AppendsTextThat message.old message.new ExplainsRegions }
 {
     push_region_number(message, at);
     message.push(": ");
@@ -120,7 +120,7 @@ fn push_bad_base_or_size(message: &mut Message, at: usize, element: &Value)
 
 // Appends why these regions do not form a memory map.
 fn push_map_error(message: &mut Message, regions: &[Region])
-    ensures { AddsSome message.old message.new ExplainsRegions }
+    ensures { AppendsTextThat message.old message.new ExplainsRegions }
 {
     match Map::of(regions) {
         Ok(_) => message.push(What::Region.name()),
@@ -134,23 +134,23 @@ fn push_map_error(message: &mut Message, regions: &[Region])
 
 // Appends how many regions there are, and how many are expected.
 fn push_region_count(message: &mut Message, count: usize)
-    ensures { AddsSome message.old message.new ExplainsRegions }
+    ensures { AppendsTextThat message.old message.new ExplainsRegions }
 {
     message.push_number_between("region has ", count as u64, " tables: expected 1 to 4");
 }
 
 // Appends the first base or size that is not a multiple of 4.
 fn push_unaligned_region(message: &mut Message, regions: &[Region])
-    ensures { AddsSome message.old message.new ExplainsRegions }
+    ensures { AppendsTextThat message.old message.new ExplainsRegions }
 {
-    match place_of_unaligned_region(regions) {
+    match index_of_unaligned_region(regions) {
         Some(place) => push_unaligned(message, place, &regions[place]),
         None => message.push(What::Region.name()),
     }
 }
 
 // Returns the index of the first region whose base or size is not a multiple of 4, or `None` if there is none.
-fn place_of_unaligned_region(regions: &[Region]) -> Option<usize>
+fn index_of_unaligned_region(regions: &[Region]) -> Option<usize>
     ensures { IfSome result (λ place. place < length regions.now) }
 {
     regions
@@ -160,7 +160,7 @@ fn place_of_unaligned_region(regions: &[Region]) -> Option<usize>
 
 // Appends the base or the size of the region at an index that is not a multiple of 4.
 fn push_unaligned(message: &mut Message, at: usize, region: &Region)
-    ensures { at + 1 < 2 ^ 64 → AddsSome message.old message.new ExplainsRegions }
+    ensures { at + 1 < 2 ^ 64 → AppendsTextThat message.old message.new ExplainsRegions }
 {
     if region.base % 4 != 0 {
         push_region_base(message, at, region.base);
@@ -173,29 +173,29 @@ fn push_unaligned(message: &mut Message, at: usize, region: &Region)
 
 // Appends the first region that is too small or extends past the last address, or that the sizes add up to too much.
 fn push_region_size_fault(message: &mut Message, regions: &[Region])
-    ensures { AddsSome message.old message.new ExplainsRegions }
+    ensures { AppendsTextThat message.old message.new ExplainsRegions }
 {
-    match place_of_region_without_room(regions) {
-        Some(place) => push_region_without_room(message, place, &regions[place]),
+    match index_of_badly_sized_region(regions) {
+        Some(place) => push_badly_sized_region(message, place, &regions[place]),
         None => push_total_size(message, total_size(regions)),
     }
 }
 
 // Returns the index of the first region that is smaller than 4 bytes or extends past the last address, or `None` if there is none.
-fn place_of_region_without_room(regions: &[Region]) -> Option<usize>
+fn index_of_badly_sized_region(regions: &[Region]) -> Option<usize>
     ensures { IfSome result (λ place. place < length regions.now) }
 {
     regions
         .iter()
-        .position(|region| region.size < 4 || region_end(region) > ADDRESSES)
+        .position(|region| region.size < 4 || region_end(region) > ADDRESS_COUNT)
 }
 
 // The number of addresses.
-const ADDRESSES: u64 = 0x1_0000_0000;
+const ADDRESS_COUNT: u64 = 0x1_0000_0000;
 
 // Appends that the region at an index is too small, or extends past the last address.
-fn push_region_without_room(message: &mut Message, at: usize, region: &Region)
-    ensures { at + 1 < 2 ^ 64 → AddsSome message.old message.new ExplainsRegions }
+fn push_badly_sized_region(message: &mut Message, at: usize, region: &Region)
+    ensures { at + 1 < 2 ^ 64 → AppendsTextThat message.old message.new ExplainsRegions }
 {
     if region.size < 4 {
         push_wrong_region_size(message, at, region.size);
@@ -215,7 +215,7 @@ fn total_size(regions: &[Region]) -> u64 {
 
 // Appends that the sizes of the regions add up to too much.
 fn push_total_size(message: &mut Message, total: u64)
-    ensures { AddsSome message.old message.new ExplainsRegions }
+    ensures { AppendsTextThat message.old message.new ExplainsRegions }
 {
     message.push_number_between(
         "the sizes of the regions add up to ",
@@ -226,7 +226,7 @@ fn push_total_size(message: &mut Message, total: u64)
 
 // Appends that the region at an index extends past the last address.
 fn push_region_past_end(message: &mut Message, at: usize, region: &Region)
-    ensures { at + 1 < 2 ^ 64 → AddsSome message.old message.new ExplainsRegions }
+    ensures { at + 1 < 2 ^ 64 → AppendsTextThat message.old message.new ExplainsRegions }
 {
     push_region_base(message, at, region.base);
     let wanted = ": the region extends past 0xffffffff";
@@ -235,7 +235,7 @@ fn push_region_past_end(message: &mut Message, at: usize, region: &Region)
 
 // Appends the number of the region at an index, and its base.
 fn push_region_base(message: &mut Message, at: usize, base: u32)
-    ensures { at + 1 < 2 ^ 64 → AddsSome message.old message.new ExplainsRegions }
+    ensures { at + 1 < 2 ^ 64 → AppendsTextThat message.old message.new ExplainsRegions }
 {
     push_region_number(message, at);
     message.push(": base = 0x");
@@ -244,7 +244,7 @@ fn push_region_base(message: &mut Message, at: usize, base: u32)
 
 // Appends the number of the region at an index, its size, and what is expected of a size.
 fn push_wrong_region_size(message: &mut Message, at: usize, size: u32)
-    ensures { at + 1 < 2 ^ 64 → AddsSome message.old message.new ExplainsRegions }
+    ensures { at + 1 < 2 ^ 64 → AppendsTextThat message.old message.new ExplainsRegions }
 {
     push_region_number(message, at);
     message.push_number_between(": size = ", u64::from(size), ": ");

@@ -4,7 +4,7 @@ ghost use Rattle.std.specs.Prelude.{◌≡◌, Some, option_map, unwrap_or};
 ghost use Rattle.toml.specs.Data.{get_member, no_items};
 ghost use Rattle.toml.specs.View.{items_view, table_view, view};
 ghost use Rattle.rv_lists.specs.Keys.{array_at_key, number_at_key, text_at_key};
-ghost use Rattle.rv_list_errors.specs.Explanation.{AddsSome, IsKeyAndValue, IsExpectedValue, missing_key_text};
+ghost use Rattle.rv_list_errors.specs.Explanation.{AppendsTextThat, IsKeyAndValue, IsExpectedValue, missing_key_text};
 ghost use Rattle.rv_list_errors.specs.NearNames.{Adds};
 
 use crate::message::Message;
@@ -57,7 +57,7 @@ pub(crate) fn elements_at_key<'a>(table: &'a Table, key: &str) -> &'a [Value]
 
 /// Appends a key and its value, or that it is missing.
 pub(crate) fn push_key_and_value(message: &mut Message, table: &Table, key: &str)
-    ensures { AddsSome message.old message.new
+    ensures { AppendsTextThat message.old message.new
         (IsKeyAndValue key.now (get_member key.now (table_view table.now))) }
 {
     match value_at_key(table, key) {
@@ -68,7 +68,7 @@ pub(crate) fn push_key_and_value(message: &mut Message, table: &Table, key: &str
 
 // Appends a key and its value.
 fn push_key_with_value(message: &mut Message, key: &str, value: &Value)
-    ensures { AddsSome message.old message.new (IsKeyAndValue key.now (Some (view value.now))) }
+    ensures { AppendsTextThat message.old message.new (IsKeyAndValue key.now (Some (view value.now))) }
 {
     message.push(key);
     message.push(" = ");
@@ -86,7 +86,7 @@ fn push_missing_key(message: &mut Message, key: &str)
 
 /// Appends a key and its value, or that it is missing, and what is expected of the value.
 pub(crate) fn push_expected_value(message: &mut Message, table: &Table, key: &str, wanted: &str)
-    ensures { AddsSome message.old message.new
+    ensures { AppendsTextThat message.old message.new
         (IsExpectedValue key.now (get_member key.now (table_view table.now)) wanted.now) }
 {
     push_key_and_value(message, table, key);

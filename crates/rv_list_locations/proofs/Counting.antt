@@ -7,17 +7,17 @@ use Rattle.std.proofs.lemmas.List.Sorted.{IsNonDecreasingBy-push}
 use Rattle.std.proofs.lemmas.List.Sums.{sum_by-append}
 use Rattle.std.specs.List.{All}
 use Rattle.std.specs.List.Sorted.{IsNonDecreasing}
-use Rattle.rv_list_locations.specs.LinesAndColumns.{is_feed, line_at}
+use Rattle.rv_list_locations.specs.LinesAndColumns.{is_line_feed, line_at}
 
 line_behind : (text : List ℕ) (place n : ℕ)
-    → line_at place text + count_by is_feed (take n (drop place text)) ≡ line_at (place + n) text
+    → line_at place text + count_by is_line_feed (take n (drop place text)) ≡ line_at (place + n) text
 line_behind text place n =
-    rw (take-add place n text, sum_by-append (λ b. cond (is_feed b) 1 0) (take place text) (take n (drop place text)))
+    rw (take-add place n text, sum_by-append (λ b. cond (is_line_feed b) 1 0) (take place text) (take n (drop place text)))
     (omega arith)
 
 -- the line at a later place is behind it by the line feeds in between
 pub line_later : (text : List ℕ) (place later : ℕ) → place ≤ later
-    → line_at place text + count_by is_feed (take (later - place) (drop place text)) ≡ line_at later text
+    → line_at place text + count_by is_line_feed (take (later - place) (drop place text)) ≡ line_at later text
 line_later text place later before =
     let e : place + (later - place) ≡ later = omega arith in
     line_behind text place (later - place) ∙ ap (λ k. line_at k text) e

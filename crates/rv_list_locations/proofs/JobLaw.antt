@@ -14,10 +14,10 @@ use Rattle.toml.specs.Parse.{expression, header_key, key_equals, skip_bom}
 use Rattle.rv_list_locations.specs.declared.scan.Next.{Next}
 use Rattle.rv_list_locations.specs.declared.scan.Next.TheVariants.{Element, Table, Top}
 use Rattle.rv_list_locations.specs.JobBegins.{BeginsWithElement, BeginsWithJobHeader, IsInJobArray, IsLineOfJob, behind, opened}
-use Rattle.rv_list_locations.specs.JobLocations.{Step, array_header, after_comma, after_equals, after_line, after_value, element}
-use Rattle.rv_list_locations.specs.JobLocations.{header, is_job, is_top, job_lines, jobs_from, jobs_of_step, keyed_entry}
-use Rattle.rv_list_locations.specs.JobLocations.{jobs_of_text, line_of_rest, step, table_header}
-use Rattle.rv_list_locations.proofs.Tails.{IsEnd, LeavesEnd, after_comma-end, after_equals-end, after_line-end, after_value-end}
+use Rattle.rv_list_locations.specs.JobLocations.{Step, array_header, after_comma, after_equals, text_after_line, after_value, element}
+use Rattle.rv_list_locations.specs.JobLocations.{header, is_job, is_top, job_lines, job_texts_from, job_texts_of_step, keyed_entry}
+use Rattle.rv_list_locations.specs.JobLocations.{jobs_of_text, line_of_suffix, step, table_header}
+use Rattle.rv_list_locations.proofs.Tails.{IsValidEnd, LeavesEnd, after_comma-end, after_equals-end, text_after_line-end, after_value-end}
 use Rattle.rv_list_locations.proofs.Tails.{end_drop, end_of_end, key-end, skip_bom-end, skip_from-end, skip_ws-end}
 use Rattle.rv_list_locations.proofs.Tails.{some_either, some_map, some_then}
 
@@ -34,7 +34,7 @@ Comes list Table text = Unit {0}
 record StepIs (list text : List ℕ) (found : Step) : Type 0 where
   job : found.0 ≡ true → BeginsJob list text
   next : Comes list found.1 found.2
-  rest : IsEnd text found.2
+  rest : IsValidEnd text found.2
 
 job_name : (name : Key) → is_job name ≡ true → name ≡ ([], codes "job")
 job_name (path, last) is =
@@ -61,17 +61,17 @@ array_header-is list text one two =
     let near = end_of_end text (drop 2 text) inside (end_drop 2 text) (skip_ws-end (drop 2 text)) in
     some_then (LeavesEnd inside) (StepIs list text) (key inside)
     (λ name. cond (first name.1 == right_bracket && slice_index name.1 1 == right_bracket)
-    (Some (is_job name.0, Table, after_line (drop 2 name.1))) None)
+    (Some (is_job name.0, Table, text_after_line (drop 2 name.1))) None)
     (key-end inside)
     (λ name read far.
     let rest = drop 2 name.1 in
     some_either (StepIs list text) (first name.1 == right_bracket && slice_index name.1 1 == right_bracket)
-    (Some (is_job name.0, Table, after_line rest)) None
+    (Some (is_job name.0, Table, text_after_line rest)) None
     (λ closed. record {
       job = λ is. inl (header_begins text name one two read closed (job_name name.0 is));
       next = tt;
-      rest = end_of_end text rest (after_line rest)
-          (end_of_end text name.1 rest (end_of_end text inside name.1 near far) (end_drop 2 name.1)) (after_line-end rest);
+      rest = end_of_end text rest (text_after_line rest)
+          (end_of_end text name.1 rest (end_of_end text inside name.1 near far) (end_drop 2 name.1)) (text_after_line-end rest);
     })
     (λ _. tt))
 
@@ -81,16 +81,16 @@ table_header-is list text =
     let inside = skip_ws (drop 1 text) in
     let near = end_of_end text (drop 1 text) inside (end_drop 1 text) (skip_ws-end (drop 1 text)) in
     some_then (LeavesEnd inside) (StepIs list text) (key inside)
-    (λ name. cond (first name.1 == right_bracket) (Some (false, Table, after_line (drop 1 name.1))) None)
+    (λ name. cond (first name.1 == right_bracket) (Some (false, Table, text_after_line (drop 1 name.1))) None)
     (key-end inside)
     (λ name read far.
     let rest = drop 1 name.1 in
-    some_either (StepIs list text) (first name.1 == right_bracket) (Some (false, Table, after_line rest)) None
+    some_either (StepIs list text) (first name.1 == right_bracket) (Some (false, Table, text_after_line rest)) None
     (λ closed. record {
       job = λ is. absurd (false≢true is);
       next = tt;
-      rest = end_of_end text rest (after_line rest)
-          (end_of_end text name.1 rest (end_of_end text inside name.1 near far) (end_drop 1 name.1)) (after_line-end rest);
+      rest = end_of_end text rest (text_after_line rest)
+          (end_of_end text name.1 rest (end_of_end text inside name.1 near far) (end_drop 1 name.1)) (text_after_line-end rest);
     })
     (λ _. tt))
 
@@ -111,7 +111,7 @@ equals_read text name read is open_now =
       | inr none ↦ absurd (false≢true (rw none at open_now))
     ]
 
-entry-is : (list text : List ℕ) (next : Next) → ((rest : List ℕ) → Comes list next rest) → IsEnd list text →
+entry-is : (list text : List ℕ) (next : Next) → ((rest : List ℕ) → Comes list next rest) → IsValidEnd list text →
     IfSome (keyed_entry next text) (StepIs list text)
 unfolding keyed_entry
 entry-is list text next comes ends =
@@ -119,14 +119,14 @@ entry-is list text next comes ends =
     (λ name. let value = after_equals name.1 in
     cond ((is_job name.0 && is_top next) && first value == left_bracket)
     (Some (false, Element, skip_blank (drop 1 value)))
-    (option_map (λ rest. (false, next, after_line rest)) (after_value value)))
+    (option_map (λ rest. (false, next, text_after_line rest)) (after_value value)))
     (key-end text)
     (λ name read far.
     let value = after_equals name.1 in
     let near = end_of_end text name.1 value far (after_equals-end name.1) in
     some_either (StepIs list text) ((is_job name.0 && is_top next) && first value == left_bracket)
     (Some (false, Element, skip_blank (drop 1 value)))
-    (option_map (λ rest. (false, next, after_line rest)) (after_value value))
+    (option_map (λ rest. (false, next, text_after_line rest)) (after_value value))
     (λ both.
     let (top, open_now) = and_parts (is_job name.0 && is_top next) (first value == left_bracket) both in
     let job = (and_parts (is_job name.0) (is_top next) top).0 in
@@ -137,12 +137,12 @@ entry-is list text next comes ends =
       rest = end_of_end text (drop 1 value) (skip_blank (drop 1 value)) (end_of_end text value (drop 1 value) near (end_drop 1 value))
           (skip_from-end true false (drop 1 value));
     })
-    (λ _. some_map (IsEnd value) (StepIs list text) (after_value value) (λ rest. (false, next, after_line rest))
+    (λ _. some_map (IsValidEnd value) (StepIs list text) (after_value value) (λ rest. (false, next, text_after_line rest))
     (after_value-end value)
     (λ rest is far_rest. record {
       job = λ is. absurd (false≢true is);
-      next = comes (after_line rest);
-      rest = end_of_end text rest (after_line rest) (end_of_end text value rest near far_rest) (after_line-end rest);
+      next = comes (text_after_line rest);
+      rest = end_of_end text rest (text_after_line rest) (end_of_end text value rest near far_rest) (text_after_line-end rest);
     })))
 
 -- ---- elements
@@ -150,14 +150,14 @@ entry-is list text next comes ends =
 element-is : (list text : List ℕ) → IsInJobArray list text → IfSome (element text) (StepIs list text)
 unfolding element
 element-is list text inside =
-    some_either (StepIs list text) (first text == right_bracket) (Some (false, Top, after_line (drop 1 text)))
+    some_either (StepIs list text) (first text == right_bracket) (Some (false, Top, text_after_line (drop 1 text)))
     (option_map (λ rest. (true, Element, after_comma rest)) (after_value text))
     (λ _. record {
       job = λ is. absurd (false≢true is);
       next = tt;
-      rest = end_of_end text (drop 1 text) (after_line (drop 1 text)) (end_drop 1 text) (after_line-end (drop 1 text));
+      rest = end_of_end text (drop 1 text) (text_after_line (drop 1 text)) (end_drop 1 text) (text_after_line-end (drop 1 text));
     })
-    (λ other. some_map (IsEnd text) (StepIs list text) (after_value text) (λ rest. (true, Element, after_comma rest))
+    (λ other. some_map (IsValidEnd text) (StepIs list text) (after_value text) (λ rest. (true, Element, after_comma rest))
     (after_value-end text)
     (λ rest is far. record {
       job = λ _. inr (inside, eqb-false (first text) right_bracket other);
@@ -167,7 +167,7 @@ element-is list text inside =
 
 -- ---- all steps
 
-step-is : (list text : List ℕ) (next : Next) → IsEnd list text → Comes list next text → IfSome (step next text) (StepIs list text)
+step-is : (list text : List ℕ) (next : Next) → IsValidEnd list text → Comes list next text → IfSome (step next text) (StepIs list text)
 unfolding step
 step-is list text Element ends comes = element-is list text comes
 step-is list text Top ends comes =
@@ -179,28 +179,28 @@ step-is list text Table ends comes =
 
 -- the end of a list at which a job begins
 abbrev IsJobText : List ℕ → List ℕ → Type 0
-IsJobText list text = IsEnd list text × BeginsJob list text
+IsJobText list text = IsValidEnd list text × BeginsJob list text
 
-jobs_of_step-are : (list text : List ℕ) (jobs : Next → List ℕ → List (List ℕ)) →
-    ((next : Next) (rest : List ℕ) → IsEnd list rest → Comes list next rest → All (IsJobText list) (jobs next rest)) →
-    IsEnd list text → (found : Option Step) → IfSome found (StepIs list text) →
-    All (IsJobText list) (jobs_of_step jobs text found)
-jobs_of_step-are list text jobs are ends None is = All-nil (IsJobText list)
-jobs_of_step-are list text jobs are ends (Some found) is =
+job_texts_of_step-are : (list text : List ℕ) (jobs : Next → List ℕ → List (List ℕ)) →
+    ((next : Next) (rest : List ℕ) → IsValidEnd list rest → Comes list next rest → All (IsJobText list) (jobs next rest)) →
+    IsValidEnd list text → (found : Option Step) → IfSome found (StepIs list text) →
+    All (IsJobText list) (job_texts_of_step jobs text found)
+job_texts_of_step-are list text jobs are ends None is = All-nil (IsJobText list)
+job_texts_of_step-are list text jobs are ends (Some found) is =
     let more = are found.1 found.2 (end_of_end list text found.2 ends is.rest) is.next in
     cond_both found.0 (text ∷ jobs found.1 found.2) (jobs found.1 found.2) (All (IsJobText list))
     (λ job. All-cons (IsJobText list) text (jobs found.1 found.2) (ends, is.job job) more) (λ _. more)
 
-jobs-are : (list : List ℕ) (n : ℕ) (next : Next) (text : List ℕ) → IsEnd list text → Comes list next text →
-    All (IsJobText list) (jobs_from n next text)
-unfolding jobs_from
+jobs-are : (list : List ℕ) (n : ℕ) (next : Next) (text : List ℕ) → IsValidEnd list text → Comes list next text →
+    All (IsJobText list) (job_texts_from n next text)
+unfolding job_texts_from
 jobs-are list zero next text ends comes = All-nil (IsJobText list)
 jobs-are list (suc n) next text ends comes =
-    cond_both (length text == 0) [] (jobs_of_step (jobs_from n) text (step next text)) (All (IsJobText list))
+    cond_both (length text == 0) [] (job_texts_of_step (job_texts_from n) text (step next text)) (All (IsJobText list))
     (λ _. All-nil (IsJobText list))
-    (λ _. jobs_of_step-are list text (jobs_from n) (jobs-are list n) ends (step next text) (step-is list text next ends comes))
+    (λ _. job_texts_of_step-are list text (job_texts_from n) (jobs-are list n) ends (step next text) (step-is list text next ends comes))
 
-jobs_of_text-are : (list text : List ℕ) → IsEnd list text → All (IsJobText list) (jobs_of_text text)
+jobs_of_text-are : (list text : List ℕ) → IsValidEnd list text → All (IsJobText list) (jobs_of_text text)
 unfolding jobs_of_text
 jobs_of_text-are list text ends =
     jobs-are list (suc (length text)) Top (skip_blank text)
@@ -209,7 +209,7 @@ jobs_of_text-are list text ends =
 -- ---- lines
 
 -- an end of a text stands where it begins
-at_end : (text rest : List ℕ) → IsEnd text rest → drop (length text - length rest) text ≡ rest
+at_end : (text rest : List ℕ) → IsValidEnd text rest → drop (length text - length rest) text ≡ rest
 at_end text rest (n, is) =
     elim (cases_lt n (length text)) [
       | inl within ↦
@@ -220,7 +220,7 @@ at_end text rest (n, is) =
           drop_all (length text - length rest) text (omega (arith, ap length none)) ∙ sym none
     ]
 
-line_is : (list text : List ℕ) → IsJobText list text → IsLineOfJob list (line_of_rest list text)
+line_is : (list text : List ℕ) → IsJobText list text → IsLineOfJob list (line_of_suffix list text)
 line_is list text (ends, begins) = (
   length list - length text,
   refl,
@@ -229,6 +229,6 @@ line_is list text (ends, begins) = (
 
 pub lines-are : (list : List ℕ) → All (IsLineOfJob list) (job_lines list)
 lines-are list =
-    All-map (IsLineOfJob list) (line_of_rest list) (jobs_of_text (skip_bom list))
-    (All-weaker (IsJobText list) (λ text. IsLineOfJob list (line_of_rest list text)) (λ text. line_is list text)
+    All-map (IsLineOfJob list) (line_of_suffix list) (jobs_of_text (skip_bom list))
+    (All-weaker (IsJobText list) (λ text. IsLineOfJob list (line_of_suffix list text)) (λ text. line_is list text)
     (jobs_of_text (skip_bom list)) (jobs_of_text-are list (skip_bom list) (skip_bom-end list)))

@@ -16,29 +16,29 @@ use Rattle.toml.specs.Parse.{skip_bom}
 use Rattle.toml_parser.specs.declared.error.ParseError.{ParseError}
 use Rattle.toml_parser.specs.declared.error.ParseError.TheVariants.{OutOfMemory}
 use Rattle.std.proofs.lemmas.List.{map-append}
-use Rattle.rv_list_locations.specs.Steps.{UnlessMemory, now_texts}
+use Rattle.rv_list_locations.specs.Steps.{UnlessOutOfMemory, texts_of_references}
 use Rattle.rv_list_locations.specs.declared.scan.Next.{Next}
-use Rattle.rv_list_locations.specs.JobLocations.{after_brackets, after_letters, after_token, after_word, depth_after}
-use Rattle.rv_list_locations.specs.JobLocations.{is_in_word, jobs_from, step}
+use Rattle.rv_list_locations.specs.JobLocations.{after_brackets, after_word_bytes, after_token, after_word, depth_after}
+use Rattle.rv_list_locations.specs.JobLocations.{is_in_word, job_texts_from, step}
 
 -- ---- words
 
 pub letters_more : (text : List ℕ) → is_in_word (first text) (slice_index text 1) ≡ true →
-    after_letters text ≡ after_letters (drop 1 text)
+    after_word_bytes text ≡ after_word_bytes (drop 1 text)
 letters_more [] is = absurd (false≢true is)
 letters_more (byte ∷ rest) is = rw is refl
 
-letters_end : (text : List ℕ) → is_in_word (first text) (slice_index text 1) ≡ false → after_letters text ≡ text
+letters_end : (text : List ℕ) → is_in_word (first text) (slice_index text 1) ≡ false → after_word_bytes text ≡ text
 letters_end [] is = refl
 letters_end (byte ∷ rest) is = rw is refl
 
 -- letters were passed over
-pub word_ends : (text rest : List ℕ) → after_letters rest ≡ after_letters text →
+pub word_ends : (text rest : List ℕ) → after_word_bytes rest ≡ after_word_bytes text →
     is_in_word (first rest) (slice_index rest 1) ≡ false → (length rest ≡ length text → ⊥) →
     after_word text ≡ Some rest
 unfolding after_word
 word_ends text rest same ended moved =
-    let is : after_letters text ≡ rest = sym same ∙ letters_end rest ended in
+    let is : after_word_bytes text ≡ rest = sym same ∙ letters_end rest ended in
     elim (cases_Bool (is_in_word (first text) (slice_index text 1))) [
       | inl some ↦ rw some (ap Some is)
       | inr none ↦ absurd (moved (ap length (sym is ∙ letters_end text none)))
@@ -76,13 +76,13 @@ depth_after-le depth byte = grind (arith, nat_tests)
 
 -- ---- steps
 
-pub jobs_end : (m : ℕ) (next : Next) (text : List ℕ) → length text ≡ 0 → jobs_from m next text ≡ []
-unfolding jobs_from
+pub jobs_end : (m : ℕ) (next : Next) (text : List ℕ) → length text ≡ 0 → job_texts_from m next text ≡ []
+unfolding job_texts_from
 jobs_end zero next text none = refl
 jobs_end (suc m) next text none = rw none refl
 
-pub jobs_refused : (m : ℕ) (next : Next) (text : List ℕ) → step next text ≡ None → jobs_from m next text ≡ []
-unfolding jobs_from
+pub jobs_refused : (m : ℕ) (next : Next) (text : List ℕ) → step next text ≡ None → job_texts_from m next text ≡ []
+unfolding job_texts_from
 jobs_refused zero next text none = refl
 jobs_refused (suc m) next text none =
     elim (cases_Bool (length text == 0)) [
@@ -91,16 +91,16 @@ jobs_refused (suc m) next text none =
     ]
 
 pub jobs_job : (m : ℕ) (next what : Next) (text rest : List ℕ) → 0 < m → 0 < length text →
-    step next text ≡ Some (true, what, rest) → jobs_from m next text ≡ text ∷ jobs_from (m - 1) what rest
-unfolding jobs_from
+    step next text ≡ Some (true, what, rest) → job_texts_from m next text ≡ text ∷ job_texts_from (m - 1) what rest
+unfolding job_texts_from
 jobs_job zero next what text rest some more is = absurd (omega arith)
 jobs_job (suc m) next what text rest some more is =
     let less : suc m - 1 ≡ m = omega arith in
     rw (ne_eqb (length text) 0 (omega arith), is, less) refl
 
 pub jobs_other : (m : ℕ) (next what : Next) (text rest : List ℕ) → 0 < m → 0 < length text →
-    step next text ≡ Some (false, what, rest) → jobs_from m next text ≡ jobs_from (m - 1) what rest
-unfolding jobs_from
+    step next text ≡ Some (false, what, rest) → job_texts_from m next text ≡ job_texts_from (m - 1) what rest
+unfolding job_texts_from
 jobs_other zero next what text rest some more is = absurd (omega arith)
 jobs_other (suc m) next what text rest some more is =
     let less : suc m - 1 ≡ m = omega arith in
@@ -113,10 +113,10 @@ noted_more line here jobs n before after noted is = rw (noted, is) (sym (append_
 
 -- the text from one more job on
 pub texts_more : (here : Bor (List ℕ)) (jobs : List (List ℕ)) (before after : List (Bor (List ℕ))) →
-    after ≡ before ++ here ∷ [] → now_texts before ++ (here.now ∷ jobs) ≡ now_texts after ++ jobs
+    after ≡ before ++ here ∷ [] → texts_of_references before ++ (here.now ∷ jobs) ≡ texts_of_references after ++ jobs
 texts_more here jobs before after noted =
     rw (noted, map-append (λ (text : Bor (List ℕ)). text.now) before (here ∷ []))
-    (sym (append_assoc (now_texts before) (here.now ∷ []) jobs))
+    (sym (append_assoc (texts_of_references before) (here.now ∷ []) jobs))
 
 -- ---- the byte order mark
 
@@ -158,6 +158,6 @@ without_mark text (Some rest) found =
 
 -- at an error that a `?` passes on
 pub unless_err : {A : Type 0} (r : Result A ParseError) (P : Type 0) (e : ParseError) (Q : ParseError → Type 0) →
-    IsErrAnd r Q → ((y : ParseError) → Q y → y ≡ e) → ((e ≡ OutOfMemory → ⊥) → P) → UnlessMemory r P
+    IsErrAnd r Q → ((y : ParseError) → Q y → y ≡ e) → ((e ≡ OutOfMemory → ⊥) → P) → UnlessOutOfMemory r P
 unless_err (Ok a) P e Q h same holds = absurd h
 unless_err (Err y) P e Q h same holds = λ other. holds (λ m. other (same y h ∙ m))

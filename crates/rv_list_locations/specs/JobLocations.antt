@@ -26,13 +26,13 @@ abbrev pub is_in_word : ℕ → ℕ → Bool
 is_in_word byte next = is_word byte || (byte == space && is_ascii_digit next)
 
 -- the text without the leading bytes that belong to a word
-abbrev pub after_letters : List ℕ → List ℕ
-after_letters [] = []
-after_letters (byte ∷ rest) = if is_in_word byte (first rest) then after_letters rest else byte ∷ rest
+abbrev pub after_word_bytes : List ℕ → List ℕ
+after_word_bytes [] = []
+after_word_bytes (byte ∷ rest) = if is_in_word byte (first rest) then after_word_bytes rest else byte ∷ rest
 
 -- the text after a word, which is an unquoted key or a value that is not a string, or `None` if the text begins with no word
 unfoldable pub after_word : List ℕ → Option (List ℕ)
-after_word text = if is_in_word (first text) (slice_index text 1) then Some (after_letters text) else None
+after_word text = if is_in_word (first text) (slice_index text 1) then Some (after_word_bytes text) else None
 
 -- the text after a string or a word, or `None` if the text begins with neither
 unfoldable pub after_string_or_word : List ℕ → Option (List ℕ)
@@ -47,12 +47,12 @@ abbrev pub is_closing : ℕ → Bool
 is_closing byte = byte == right_bracket || byte == right_brace
 
 -- whether a byte is a bracket, a brace, a comma or an equals sign
-abbrev pub is_sign : ℕ → Bool
-is_sign byte = is_opening byte || is_closing byte || byte == comma || byte == equals
+abbrev pub is_punctuation : ℕ → Bool
+is_punctuation byte = is_opening byte || is_closing byte || byte == comma || byte == equals
 
 -- the text after a punctuation sign, a string or a word, or `None` if the text begins with none of them
 unfoldable pub after_token : List ℕ → Option (List ℕ)
-after_token text = if is_sign (first text) then Some (drop 1 text) else after_string_or_word text
+after_token text = if is_punctuation (first text) then Some (drop 1 text) else after_string_or_word text
 
 -- the number of open brackets and braces after a byte, if `depth` are open before it
 abbrev pub depth_after : ℕ → ℕ → ℕ
@@ -74,8 +74,8 @@ after_value text =
 -- ---- after a line
 
 -- the suffix of a text that begins with the next header or entry; empty if something other than a comment is left on the line
-unfoldable pub after_line : List ℕ → List ℕ
-after_line text = let rest = skip_ws text in
+unfoldable pub text_after_line : List ℕ → List ℕ
+text_after_line text = let rest = skip_ws text in
     if first rest == hash || first rest == line_feed || first rest == carriage_return then skip_blank rest else []
 
 -- the suffix of a text that begins with the next element, or with the bracket after the last element
@@ -101,12 +101,12 @@ Step = Bool × Next × List ℕ
 unfoldable pub array_header : List ℕ → Option Step
 array_header inside = key (skip_ws inside) >>= (λ name.
     if first name.1 == right_bracket && slice_index name.1 1 == right_bracket
-    then Some (is_job name.0, Table, after_line (drop 2 name.1)) else None)
+    then Some (is_job name.0, Table, text_after_line (drop 2 name.1)) else None)
 
 -- the result of scanning the header of a table, whose opening bracket is already skipped, or `None` if it is malformed
 unfoldable pub table_header : List ℕ → Option Step
 table_header inside = key (skip_ws inside) >>= (λ name.
-    if first name.1 == right_bracket then Some (false, Table, after_line (drop 1 name.1)) else None)
+    if first name.1 == right_bracket then Some (false, Table, text_after_line (drop 1 name.1)) else None)
 
 -- the result of scanning the header with which the text begins, or `None` if it is malformed
 abbrev pub header : List ℕ → Option Step
@@ -125,12 +125,12 @@ unfoldable pub keyed_entry : Next → List ℕ → Option Step
 keyed_entry next text = key text >>= (λ name. let value = after_equals name.1 in
     if (is_job name.0 && is_top next) && first value == left_bracket
     then Some (false, Element, skip_blank (drop 1 value))
-    else option_map (λ rest. (false, next, after_line rest)) (after_value value))
+    else option_map (λ rest. (false, next, text_after_line rest)) (after_value value))
 
 -- the result of scanning the element with which the text begins, or the bracket after the last element; `None` if it is malformed
 unfoldable pub element : List ℕ → Option Step
 element text =
-    if first text == right_bracket then Some (false, Top, after_line (drop 1 text))
+    if first text == right_bracket then Some (false, Top, text_after_line (drop 1 text))
     else option_map (λ rest. (true, Element, after_comma rest)) (after_value text)
 
 -- the result of scanning the header or the entry with which the text begins, or `None` if it is malformed
@@ -148,25 +148,25 @@ step Table text = header_or_entry Table text
 
 -- for each job, the suffix of the list's text that begins with it, given the result of scanning the beginning of this text; `jobs` returns
 -- the later ones
-abbrev pub jobs_of_step : (Next → List ℕ → List (List ℕ)) → List ℕ → Option Step → List (List ℕ)
-jobs_of_step jobs text None = []
-jobs_of_step jobs text (Some found) =
+abbrev pub job_texts_of_step : (Next → List ℕ → List (List ℕ)) → List ℕ → Option Step → List (List ℕ)
+job_texts_of_step jobs text None = []
+job_texts_of_step jobs text (Some found) =
     if found.0 then text ∷ jobs found.1 found.2 else jobs found.1 found.2
 
 -- for each job, the suffix of the list's text that begins with it, if at most `n` headers, entries and elements are scanned
-unfoldable pub jobs_from : ℕ → Next → List ℕ → List (List ℕ)
-jobs_from zero next text = []
-jobs_from (suc n) next text =
-    if length text == 0 then [] else jobs_of_step (jobs_from n) text (step next text)
+unfoldable pub job_texts_from : ℕ → Next → List ℕ → List (List ℕ)
+job_texts_from zero next text = []
+job_texts_from (suc n) next text =
+    if length text == 0 then [] else job_texts_of_step (job_texts_from n) text (step next text)
 
 -- for each job, the suffix of the list's text that begins with it; the text has no byte order mark
 unfoldable pub jobs_of_text : List ℕ → List (List ℕ)
-jobs_of_text text = jobs_from (suc (length text)) Top (skip_blank text)
+jobs_of_text text = job_texts_from (suc (length text)) Top (skip_blank text)
 
 -- the line of a text, counted from 1, on which its suffix `rest` begins
-abbrev pub line_of_rest : List ℕ → List ℕ → ℕ
-line_of_rest text rest = line_at (length text - length rest) text
+abbrev pub line_of_suffix : List ℕ → List ℕ → ℕ
+line_of_suffix text rest = line_at (length text - length rest) text
 
 -- the lines, counted from 1, on which the jobs of a list's text begin
 abbrev pub job_lines : List ℕ → List ℕ
-job_lines text = map (line_of_rest text) (jobs_of_text (skip_bom text))
+job_lines text = map (line_of_suffix text) (jobs_of_text (skip_bom text))

@@ -21,9 +21,9 @@ abbrev pub GivesStep : Result code.Step ParseError → Option Step → Type 0
 GivesStep result expected = Gives step_view result expected
 
 -- `P` is true, or the result is that memory ran out
-abbrev pub UnlessMemory : {A : Type 0} → Result A ParseError → Type 0 → Type 0
-UnlessMemory result P = MatchResult result (λ _. P) (λ e. (e ≡ OutOfMemory → ⊥) → P)
+abbrev pub UnlessOutOfMemory : {A : Type 0} → Result A ParseError → Type 0 → Type 0
+UnlessOutOfMemory result P = MatchResult result (λ _. P) (λ e. (e ≡ OutOfMemory → ⊥) → P)
 
 -- the texts that the references in a list point to
-abbrev pub now_texts : List (Bor (List ℕ)) → List (List ℕ)
-now_texts texts = map (λ text. text.now) texts
+abbrev pub texts_of_references : List (Bor (List ℕ)) → List (List ℕ)
+texts_of_references texts = map (λ text. text.now) texts

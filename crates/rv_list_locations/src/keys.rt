@@ -60,7 +60,7 @@ fn push_job_keys<'a>(
     requires { All IsNamedKey keys.old.items }
     ensures { All IsNamedKey keys.new.items }
 {
-    let (mut inside, mut here) = open_job(alloc, job)?;
+    let (mut inside, mut here) = skip_job_start(alloc, job)?;
     'keys: while !here.is_empty() {
         let KeyStep {
             name,
@@ -78,7 +78,7 @@ fn push_job_keys<'a>(
 
 // Skips the header or brace with which a job begins. Returns whether the job is a table or an inline table, and the text after what was
 // skipped.
-fn open_job(alloc: Global, job: &str) -> Result<(Inside, &str), ParseError> {
+fn skip_job_start(alloc: Global, job: &str) -> Result<(Inside, &str), ParseError> {
     if first(job) == b'{' {
         return Ok((Inside::Braces, skip_blank_lines(skip(job, 1))));
     }

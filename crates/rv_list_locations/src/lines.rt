@@ -3,7 +3,7 @@
 ghost use Rattle.std.specs.Prelude.{◌≡◌, ◌≤◌, ◌<◌, ◌-◌, [], ◌∷◌, ◌++◌, OnOk, count_by, length, max};
 ghost use Rattle.std.specs.List.{All, after_last};
 ghost use Rattle.std.specs.List.Sorted.{IsNonDecreasing};
-ghost use Rattle.rv_list_locations.specs.LinesAndColumns.{begins_character, column_at, is_feed, line_at, text_line_count};
+ghost use Rattle.rv_list_locations.specs.LinesAndColumns.{begins_character, column_at, is_line_feed, line_at, text_line_count};
 
 use std::alloc::{AllocError, Global};
 
@@ -84,7 +84,7 @@ pub fn line_and_column(text: &[u8], count: usize) -> Location
 
 // Returns the number of characters after the last line feed.
 fn character_count_of_last_line(text: &[u8]) -> usize
-    ensures characters { result ≡ count_by begins_character (after_last is_feed text.now) }
+    ensures characters { result ≡ count_by begins_character (after_last is_line_feed text.now) }
     ensures within { result ≤ length text.now }
 {
     let mut count = 0;
@@ -100,7 +100,7 @@ fn character_count_of_last_line(text: &[u8]) -> usize
 
 // Returns the number of line feeds in a text.
 fn line_feed_count(text: &[u8]) -> usize
-    ensures { result ≡ count_by is_feed text.now }
+    ensures { result ≡ count_by is_line_feed text.now }
 {
     let mut count = 0;
     for byte in text {

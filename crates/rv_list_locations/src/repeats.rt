@@ -51,7 +51,7 @@ fn find_repeated_key<'a>(
     'steps: while !here.is_empty() {
         let Step { next, rest, .. } = scan_step(alloc, here, what)?;
         if rest.len() < left {
-            return repeated_in_step(alloc, table, here, left);
+            return repeated_key_in_step(alloc, table, here, left);
         }
         if first(here) == b'[' {
             table = rest;
@@ -64,14 +64,14 @@ fn find_repeated_key<'a>(
 
 // Returns the key that a header, an entry or an element repeats: its own key if it begins where `left` bytes remain, or else a key of an
 // inline table in it.
-fn repeated_in_step<'a>(
+fn repeated_key_in_step<'a>(
     alloc: Global,
     table: &'a str,
     step: &'a str,
     left: usize,
 ) -> Result<Option<RepeatedKey<'a>>, ParseError> {
     if left < step.len() {
-        return repeated_in_braces(alloc, step, left);
+        return repeated_key_in_inline_table(alloc, step, left);
     }
     if first(step) == b'[' {
         let (key, _) = dotted_key(alloc, after_brackets(step))?;
@@ -81,11 +81,11 @@ fn repeated_in_step<'a>(
         text: table,
         inside: Inside::Table,
     };
-    Ok(Some(repeated_entry(alloc, entries, step)?))
+    Ok(Some(repeated_key_of_entry(alloc, entries, step)?))
 }
 
 // Returns the key that is repeated in the innermost inline table that is open where `left` bytes remain, or `None` if there is none.
-fn repeated_in_braces<'a>(
+fn repeated_key_in_inline_table<'a>(
     alloc: Global,
     step: &'a str,
     left: usize,
@@ -109,14 +109,14 @@ fn repeated_in_braces<'a>(
                 text: *text,
                 inside: Inside::Braces,
             };
-            Ok(Some(repeated_entry(alloc, entries, here)?))
+            Ok(Some(repeated_key_of_entry(alloc, entries, here)?))
         }
         None => Ok(None),
     }
 }
 
 // Returns the key of an entry, with the first entry of its table whose key begins with all parts of the entry's key.
-fn repeated_entry<'a>(
+fn repeated_key_of_entry<'a>(
     alloc: Global,
     entries: Entries<'a>,
     entry: &'a str,

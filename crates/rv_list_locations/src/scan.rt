@@ -9,7 +9,7 @@ ghost use Rattle.toml_parser.specs.Strings.{key};
 ghost use Rattle.toml.specs.Parse.{skip_bom};
 ghost use Rattle.rv_list_locations.specs.JobLocations as spec;
 ghost use Rattle.rv_list_locations.specs.LinesAndColumns.{text_line_count};
-ghost use Rattle.rv_list_locations.specs.Steps.{GivesStep, UnlessMemory, now_texts};
+ghost use Rattle.rv_list_locations.specs.Steps.{GivesStep, UnlessOutOfMemory, texts_of_references};
 
 use crate::lines::Lines;
 use crate::values::{skip_blank_lines, skip_value};
@@ -61,7 +61,7 @@ pub(crate) struct Step<'a> {
 
 /// Returns, for each job of a list, the suffix of the list's text that begins with the job.
 pub fn job_texts<'a>(alloc: Global, text: &'a str) -> Result<Vec<&'a str>, AllocError>
-    ensures { IfOk result (λ jobs. now_texts jobs.items ≡ spec.jobs_of_text (skip_bom text.now)) }
+    ensures { IfOk result (λ jobs. texts_of_references jobs.items ≡ spec.jobs_of_text (skip_bom text.now)) }
 {
     let mut jobs = Vec::new(alloc);
     match push_job_texts(alloc, skip_byte_order_mark(text), &mut jobs) {
@@ -76,8 +76,8 @@ fn push_job_texts<'a>(
     text: &'a str,
     jobs: &mut Vec<&'a str>,
 ) -> Result<(), ParseError>
-    ensures { UnlessMemory result (now_texts jobs.new.items
-        ≡ now_texts jobs.old.items ++ spec.jobs_of_text text.now) }
+    ensures { UnlessOutOfMemory result (texts_of_references jobs.new.items
+        ≡ texts_of_references jobs.old.items ++ spec.jobs_of_text text.now) }
 {
     let mut here = skip_blank_lines(text);
     let mut what = Next::Top;
@@ -96,8 +96,8 @@ fn push_job_texts<'a>(
 fn push_job_lines(alloc: Global, text: &str, lines: &mut Lines<'_>) -> Result<(), ParseError>
     requires { lines.old.counted + length text.now ≤ length lines.old.text.now }
     ensures text { lines.new.text.now ≡ lines.old.text.now }
-    ensures noted { UnlessMemory result (lines.new.noted.items ≡ lines.old.noted.items
-        ++ map (spec.line_of_rest lines.old.text.now) (spec.jobs_of_text text.now)) }
+    ensures noted { UnlessOutOfMemory result (lines.new.noted.items ≡ lines.old.noted.items
+        ++ map (spec.line_of_suffix lines.old.text.now) (spec.jobs_of_text text.now)) }
 {
     let mut here = skip_blank_lines(text);
     let mut what = Next::Top;
@@ -250,9 +250,9 @@ pub(crate) fn skip_comma(text: &str) -> &str
 
 // Returns the suffix of a text that begins with the next header or entry, or an empty text if something other than a comment is left on the
 // line.
-#[tactic(auto, unfolding(crate::specs::JobLocations::after_line))]
+#[tactic(auto, unfolding(crate::specs::JobLocations::text_after_line))]
 fn skip_line_end(text: &str) -> &str
-    ensures text { result.now ≡ spec.after_line text.now }
+    ensures text { result.now ≡ spec.text_after_line text.now }
     ensures within { length result.now ≤ length text.now }
 {
     let end = skip_ws(text);

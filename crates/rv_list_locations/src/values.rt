@@ -93,7 +93,7 @@ fn skip_word(text: &str) -> Result<&str, ParseError>
     ensures shorter { IfOk result (λ rest. length rest.now < length text.now) }
 {
     let mut rest = text;
-    'letters: while bare_word_continues(rest) {
+    'letters: while begins_with_word_byte(rest) {
         rest = skip(rest, 1);
     }
     if rest.len() == text.len() {
@@ -103,7 +103,7 @@ fn skip_word(text: &str) -> Result<&str, ParseError>
 }
 
 // Whether the text begins with a byte of a word. A space may separate a date from a time.
-fn bare_word_continues(text: &str) -> bool
+fn begins_with_word_byte(text: &str) -> bool
     ensures { result ≡ is_in_word (slice_index text.now 0) (slice_index text.now 1) }
 {
     is_word(first(text)) || (first(text) == b' ' && byte_at(text, 1).is_ascii_digit())

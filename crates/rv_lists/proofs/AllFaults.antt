@@ -12,14 +12,14 @@ use Rattle.rv_lists.specs.declared.error.What.{What}
 use Rattle.rv_lists.specs.declared.error.What.TheVariants as what
 use Rattle.rv_lists.specs.declared.error.JobError.{JobError}
 use Rattle.rv_lists.specs.declared.job.Job.{Job}
-use Rattle.rv_lists.specs.Keys.{has_unknown_job_or_region_key, has_wrong_kind}
-use Rattle.rv_lists.specs.Reading.{◌>>=◌, fault_if, numbered_reading}
+use Rattle.rv_lists.specs.Keys.{has_unknown_job_or_region_key, has_wrong_type}
+use Rattle.rv_lists.specs.Reading.{◌>>=◌, fault_if, with_job_number}
 use Rattle.rv_lists.specs.JobList.{job_from_table, name_from_table, image_from_table, budget_from_table, script_from_table, map_from_table, load_from_table}
 use Rattle.rv_base.specs.Names.{index_in}
 use Rattle.rv_lists.specs.JobList.{signature_from_table, exit_from_table, reference_from_table, console_from_table, end_from_table, same_as_from_table, isa_from_table}
 use Rattle.rv_lists.specs.JobList.{misaligned_from_table, job_from_element, jobs_of_elements, job_elements, jobs_of_document, job_list_of, document_of}
 use Rattle.rv_lists.specs.JobList.{names_of_jobs}
-use Rattle.rv_lists.specs.ListFaults.{numbered_fault, unused_name, name_taken_by_element, names_with_taken, faults_of_elements, faults_or_list_fault, faults_of_document}
+use Rattle.rv_lists.specs.ListFaults.{fault_of_job, unused_name, reserved_name, with_reserved_name, faults_of_elements, faults_or_list_fault, faults_of_document}
 use Rattle.rv_lists.specs.ListFaults.{list_faults}
 
 reads : {A : Type 0} (P : Job → Type 0) (r : Result A What) (f : A → Result Job What)
@@ -42,7 +42,7 @@ unfolding job_from_table
 job_takes names ms =
     let P : Job → Type 0 = λ job. unused_name names (name_from_table ms) ≡ Some job.name in
     reads P (fault_if (has_unknown_job_or_region_key ms) what.UnknownKey) _ (λ known is1.
-    reads P (fault_if (has_wrong_kind ms) what.WrongType) _ (λ typed is2.
+    reads P (fault_if (has_wrong_type ms) what.WrongType) _ (λ typed is2.
     reads P (name_from_table ms) _ (λ name named.
     reads P (fault_if (is_some (index_in names name)) what.Duplicate) _ (λ fresh free.
     reads P (image_from_table ms) _ (λ image is5.
@@ -60,28 +60,28 @@ job_takes names ms =
     reads P (misaligned_from_table ms) _ (λ choice is17.
     new_name names (name_from_table ms) name named (none_there (index_in names name) fresh free))))))))))))))))))
 
-takes : (names : List (List ℕ)) (d : Data) → IfOk (job_from_element names d) (λ job. name_taken_by_element names d ≡ Some job.name)
-unfolding job_from_element name_taken_by_element
+takes : (names : List (List ℕ)) (d : Data) → IfOk (job_from_element names d) (λ job. reserved_name names d ≡ Some job.name)
+unfolding job_from_element reserved_name
 takes names (table ms) = job_takes names ms
 takes names _ = tt
 
 -- the name of a good element is taken by its job
 pub good_takes : (names : List (List ℕ)) (d : Data) (job : Job) → job_from_element names d ≡ Ok job
-    → name_taken_by_element names d ≡ Some job.name
+    → reserved_name names d ≡ Some job.name
 good_takes names d job e = rw e at (takes names d)
 
 -- ---- one element more
 
 -- the names behind a good element
 pub good_named : (js new : List Job) (job : Job) (d : Data) → job_from_element (names_of_jobs js) d ≡ Ok job
-    → new ≡ js ++ job ∷ [] → names_of_jobs new ≡ names_with_taken (names_of_jobs js) (name_taken_by_element (names_of_jobs js) d)
+    → new ≡ js ++ job ∷ [] → names_of_jobs new ≡ with_reserved_name (names_of_jobs js) (reserved_name (names_of_jobs js) d)
 good_named js new job d good pushed =
     rw (pushed, map-append (λ (j : Job). j.name) js (job ∷ []), good_takes (names_of_jobs js) d job good) refl
 
 -- the faults behind an element are those before it, and its own
 pub faults_more : (front new : List JobError) (n : ℕ) (names next : List (List ℕ)) (vs : List Value) (i : ℕ)
-    (d : Value) → i < length vs → new ≡ front ++ numbered_fault n (job_from_element names (view (get_or vs i d)))
-    → next ≡ names_with_taken names (name_taken_by_element names (view (get_or vs i d)))
+    (d : Value) → i < length vs → new ≡ front ++ fault_of_job n (job_from_element names (view (get_or vs i d)))
+    → next ≡ with_reserved_name names (reserved_name names (view (get_or vs i d)))
     → new ++ faults_of_elements (n + 1) next (items_view (drop (i + 1) vs))
     ≡ front ++ faults_of_elements n names (items_view (drop i vs))
 unfolding faults_of_elements
@@ -102,13 +102,13 @@ fault_kept (Ok xs) x = refl
 fault_kept (Err e) x = refl
 
 first_at : (n : ℕ) (names : List (List ℕ)) (d : Data) (ds : Items) (r : Result Job What) → job_from_element names d ≡ r
-    → slice_get (faults_of_elements (n + 1) (names_with_taken names (name_taken_by_element names d)) ds) 0
-    ≡ result_err (jobs_of_elements (n + 1) (names_with_taken names (name_taken_by_element names d)) ds)
+    → slice_get (faults_of_elements (n + 1) (with_reserved_name names (reserved_name names d)) ds) 0
+    ≡ result_err (jobs_of_elements (n + 1) (with_reserved_name names (reserved_name names d)) ds)
     → slice_get (faults_of_elements n names (item d ds)) 0 ≡ result_err (jobs_of_elements n names (item d ds))
 unfolding faults_of_elements jobs_of_elements
 first_at n names d ds (Ok job) e later =
     rw e (later
-    ∙ ap (λ o. result_err (jobs_of_elements (n + 1) (names_with_taken names o) ds)) (good_takes names d job e)
+    ∙ ap (λ o. result_err (jobs_of_elements (n + 1) (with_reserved_name names o) ds)) (good_takes names d job e)
     ∙ fault_kept (jobs_of_elements (n + 1) (names ++ job.name ∷ []) ds) job)
 first_at n names d ds (Err w) e later = rw e refl
 
@@ -117,9 +117,9 @@ first_from : (n : ℕ) (names : List (List ℕ)) (ds : Items)
 unfolding faults_of_elements jobs_of_elements
 first_from n names no_items = refl
 first_from n names (item d ds) = first_at n names d ds (job_from_element names d) refl
-    (first_from (n + 1) (names_with_taken names (name_taken_by_element names d)) ds)
+    (first_from (n + 1) (with_reserved_name names (reserved_name names d)) ds)
 
-first_of : (r : Result Items What) → slice_get (faults_or_list_fault r) 0 ≡ result_err (numbered_reading 0 r >>= jobs_of_elements 1 [])
+first_of : (r : Result Items What) → slice_get (faults_or_list_fault r) 0 ≡ result_err (with_job_number 0 r >>= jobs_of_elements 1 [])
 first_of (Ok ds) = first_from 1 [] ds
 first_of (Err w) = refl
 

@@ -12,8 +12,8 @@ use Rattle.std.proofs.lemmas.List.{map-append, length-map, get_or-map}
 use Rattle.std.proofs.Math.ListN.{get_or-append}
 use Rattle.std.proofs.Math.Seq.{get_or-append_seam}
 use Rattle.rv_lists.specs.declared.job.Job.{Job}
-use Rattle.rv_lists.specs.Jobs.{IsJob, AreJobs}
-use Rattle.rv_base.specs.Limits.{most_jobs}
+use Rattle.rv_lists.specs.Jobs.{IsValidJobAt, AreValidJobs}
+use Rattle.rv_base.specs.Limits.{max_jobs}
 use Rattle.rv_base.specs.Names.{index_in}
 use Rattle.rv_base.proofs.Public.{place_below, texts_more}
 use Rattle.rv_lists.specs.JobList.{names_of_jobs}
@@ -29,11 +29,11 @@ within_names js t o e = subst (λ p. IfSome p (λ k. k < length js)) (sym e)
     (within_length (index_in (names_of_jobs js) t) (length (names_of_jobs js)) (length js) (length-map js (λ (j : Job). j.name))
     (place_below (names_of_jobs js) t))
 
-pub no_jobs_are : (js : List Job) → js ≡ [] → AreJobs js
+pub no_jobs_are : (js : List Job) → js ≡ [] → AreValidJobs js
 no_jobs_are js e = rw e record { few = omega arith; each = λ k d l. absurd (omega arith) }
 
-pub jobs_more : (js new : List Job) (job : Job) → AreJobs js → IsJob (length js) job → length js < most_jobs
-    → new ≡ js ++ job ∷ [] → AreJobs new
+pub jobs_more : (js new : List Job) (job : Job) → AreValidJobs js → IsValidJobAt (length js) job → length js < max_jobs
+    → new ≡ js ++ job ∷ [] → AreValidJobs new
 jobs_more js new job are good room pushed = record {
   few = rw pushed (omega (arith, length-append js (job ∷ [])));
   each = λ k d l. elim (cases_lt k (length js)) [
@@ -41,7 +41,7 @@ jobs_more js new job are good room pushed = record {
     | inr past ↦
         let inside : k < length (js ++ job ∷ []) = subst (λ x. k < length x) pushed l in
         let is : k ≡ length js = omega (arith, length-append js (job ∷ []), inside) in
-        rw pushed (subst (λ i. IsJob i (get_or (js ++ job ∷ []) i d)) (sym is)
+        rw pushed (subst (λ i. IsValidJobAt i (get_or (js ++ job ∷ []) i d)) (sym is)
         (rw (get_or-append_seam js job [] d) good))
   ];
 }
@@ -56,8 +56,8 @@ names_more m n js new job key at updates is_key is before fresh pushed =
     (ap names_of_jobs pushed ∙ map-append (λ (j : Job). j.name) js (job ∷ []))
 
 -- jobs that are changed one by one are still those of a list, where each change keeps what is known of a job at its place
-pub jobs_changed : (f : Job → Job) → ((k : ℕ) (job : Job) → IsJob k job → IsJob k (f job))
-    → (js : List Job) → AreJobs js → AreJobs (map f js)
+pub jobs_changed : (f : Job → Job) → ((k : ℕ) (job : Job) → IsValidJobAt k job → IsValidJobAt k (f job))
+    → (js : List Job) → AreValidJobs js → AreValidJobs (map f js)
 jobs_changed f keeps js are = record {
   few = rw (length-map js f) are.few;
   each = λ k d l. let below : k < length js = subst (λ n. k < n) (length-map js f) l in

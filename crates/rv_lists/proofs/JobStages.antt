@@ -13,12 +13,12 @@ use Rattle.rv_lists.specs.declared.results.Results.{Results}
 use Rattle.rv_lists.specs.declared.setup.Setup.{Setup}
 use Rattle.rv_elf.specs.declared.loading.LoadAt.{LoadAt}
 use Rattle.rv_machine.specs.declared_map.Region.{Region}
-use Rattle.rv_lists.specs.Keys.{has_unknown_job_or_region_key, has_wrong_kind}
+use Rattle.rv_lists.specs.Keys.{has_unknown_job_or_region_key, has_wrong_type}
 use Rattle.rv_lists.specs.JobList.{job_from_table, name_from_table, image_from_table, budget_from_table, script_from_table, map_from_table, load_from_table}
 use Rattle.rv_base.specs.Names.{index_in}
 use Rattle.rv_lists.specs.JobList.{signature_from_table, exit_from_table, reference_from_table, console_from_table, end_from_table, same_as_from_table, isa_from_table}
 use Rattle.rv_lists.specs.JobList.{misaligned_from_table}
-use Rattle.rv_lists.specs.JobSteps.{job_from_remaining_keys, run_options_from_table, setup_from_table, results_from_table}
+use Rattle.rv_lists.specs.JobSteps.{job_from_remaining_keys, run_options_from_table, setup_from_table, expected_results_from_table}
 use Rattle.rv_lists.specs.Reading.{◌>>=◌}
 
 under : {A B : Type 0} (r : Result A What) (f g : A → Result B What) → ((x : A) → f x ≡ g x) → (r >>= f) ≡ (r >>= g)
@@ -71,10 +71,10 @@ result_steps (Ok s) (Ok e) reference console k = on_reference (reference s)
 
 -- a job whose keys and kinds are in order is the one that is described, where no earlier job has its name
 pub job_described : (earlier : List (List ℕ)) (ms : Members) (name image : List ℕ) (budget : ℕ)
-    → has_unknown_job_or_region_key ms ≡ false → has_wrong_kind ms ≡ false → name_from_table ms ≡ Ok name
+    → has_unknown_job_or_region_key ms ≡ false → has_wrong_type ms ≡ false → name_from_table ms ≡ Ok name
     → is_some (index_in earlier name) ≡ false → image_from_table ms ≡ Ok image → budget_from_table ms ≡ Ok budget
     → job_from_table earlier ms ≡ job_from_remaining_keys earlier name image budget ms
-unfolding job_from_table job_from_remaining_keys run_options_from_table setup_from_table results_from_table
+unfolding job_from_table job_from_remaining_keys run_options_from_table setup_from_table expected_results_from_table
 job_described earlier ms name image budget known typed named fresh imaged budgeted =
     let described : Setup → Results → RunOptions → Result Job What
     = λ setup results manner. Ok (record {
@@ -105,6 +105,6 @@ job_described earlier ms name image budget known typed named fresh imaged budget
     ∙ under (setup_from_table ms) _ _ (λ setup.
     result_steps (signature_from_table ms) (exit_from_table ms) (λ signature. reference_from_table (is_some signature) ms) (console_from_table ms)
     (judged setup)
-    ∙ under (results_from_table ms) _ _ (λ results.
+    ∙ under (expected_results_from_table ms) _ _ (λ results.
     four_steps (end_from_table ms) (same_as_from_table earlier ms) (isa_from_table ms) (misaligned_from_table ms) (described setup results)))
     )

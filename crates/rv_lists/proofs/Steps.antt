@@ -13,7 +13,7 @@ use Rattle.toml.proofs.Views.{items_view-drop}
 use Rattle.rv_machine.specs.declared_map.Region.{Region}
 use Rattle.rv_lists.specs.declared.error.What.{What}
 use Rattle.rv_lists.specs.declared.job.Job.{Job}
-use Rattle.rv_base.specs.Limits.{most_jobs}
+use Rattle.rv_base.specs.Limits.{max_jobs}
 use Rattle.rv_lists.specs.Reading.{◌>>=◌, with_front}
 use Rattle.rv_lists.specs.JobList.{document_of, has_no_jobs, has_too_many_jobs, job_from_element, jobs_of_elements, names_of_jobs, region_from_element}
 use Rattle.rv_lists.specs.JobList.{regions_from_elements, is_signature_symbol, signature_symbol, symbols_from_names}
@@ -23,11 +23,11 @@ use Rattle.std.proofs.lemmas.Bool.{leb-true, and_parts}
 use Rattle.rv_lists.specs.declared.error.What.TheVariants.{Signature}
 use Rattle.rv_lists.proofs.Entries.{count_items, is_array}
 
-too_many_array : (vs : List Value) → nat_lt most_jobs (length vs) ≡ has_too_many_jobs (Some (array (items_view vs)))
+too_many_array : (vs : List Value) → nat_lt max_jobs (length vs) ≡ has_too_many_jobs (Some (array (items_view vs)))
 too_many_array vs = rw (count_items vs) refl
 
 pub too_many : (vs : List Value) (d : Data) → Some (items_view vs) ≡ as_array d
-    → nat_lt most_jobs (length vs) ≡ has_too_many_jobs (Some d)
+    → nat_lt max_jobs (length vs) ≡ has_too_many_jobs (Some d)
 too_many vs d e = rw (is_array d (items_view vs) e) (too_many_array vs)
 
 no_jobs_array : (vs : List Value) → (length vs == 0) ≡ has_no_jobs (Some (array (items_view vs)))
@@ -38,9 +38,9 @@ pub no_jobs : (vs : List Value) (d : Data) → Some (items_view vs) ≡ as_array
 no_jobs vs d e = rw (is_array d (items_view vs) e) (no_jobs_array vs)
 
 pub few_items : (vs : List Value) (d : Data) → Some (items_view vs) ≡ as_array d → has_too_many_jobs (Some d) ≡ false
-    → length vs ≤ most_jobs
+    → length vs ≤ max_jobs
 few_items vs d e below =
-    let test : nat_lt most_jobs (length vs) ≡ false = too_many vs d e ∙ below in
+    let test : nat_lt max_jobs (length vs) ≡ false = too_many vs d e ∙ below in
     ltb-false _ _ test
 
 front_more : {F A : Type 0} (front : List A) (j : A) (r : Result (List A) F)

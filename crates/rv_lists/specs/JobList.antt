@@ -32,27 +32,27 @@ use Rattle.rv_lists.specs.declared.job.ExpectedEnd.{ExpectedEnd}
 use Rattle.rv_lists.specs.declared.job.ExpectedEnd.TheVariants as expected
 use Rattle.rv_machine.specs.declared.ending.FaultKind.{FaultKind}
 use Rattle.rv_machine.specs.Faults.{fault_named}
-use Rattle.rv_base.specs.Limits.{is_within, most_budget, most_symbol}
-use Rattle.rv_base.specs.Limits.{most_console, most_jobs, most_path, most_script}
+use Rattle.rv_base.specs.Limits.{is_within, max_budget, max_symbol_len}
+use Rattle.rv_base.specs.Limits.{max_console_len, max_jobs, max_path_len, max_script_len}
 use Rattle.rv_base.specs.Names.{is_name, index_in}
 use Rattle.rv_lists.specs.Jobs.{default_regions}
-use Rattle.rv_lists.specs.Reading.{◌>>=◌, fault_if, passing_value, reading_or_default, numbered_reading}
+use Rattle.rv_lists.specs.Reading.{◌>>=◌, fault_if, valid_value, parsed_or_default, with_job_number}
 use Rattle.rv_lists.specs.Keys.{any_unknown_key, is_list_key, item_count, text_at_key, number_at_key}
-use Rattle.rv_lists.specs.Keys.{boolean_at_key, array_at_key, has_wrong_kind, has_unknown_job_or_region_key}
+use Rattle.rv_lists.specs.Keys.{boolean_at_key, array_at_key, has_wrong_type, has_unknown_job_or_region_key}
 
 -- ---- name, image, budget
 
 -- whether a text may be a path of a list: it is 1 to 4,096 bytes long
-abbrev pub is_path : List ℕ → Bool
-is_path t = is_within 1 most_path (length t)
+abbrev pub is_same_path : List ℕ → Bool
+is_same_path t = is_within 1 max_path_len (length t)
 
 -- the name of a job, or an error if it is missing or invalid
 unfoldable pub name_from_table : Members → Result (List ℕ) What
-name_from_table ms = passing_value is_name what.Name (text_at_key (codes "name") ms)
+name_from_table ms = valid_value is_name what.Name (text_at_key (codes "name") ms)
 
 -- the path of a job's image, or an error if it is missing or invalid
 unfoldable pub image_from_table : Members → Result (List ℕ) What
-image_from_table ms = passing_value is_path what.Image (text_at_key (codes "image") ms)
+image_from_table ms = valid_value is_same_path what.Image (text_at_key (codes "image") ms)
 
 -- an integer if it is from `low` to `high`, or else the error `fault`
 abbrev pub number_or_fault : ℕ → ℕ → What → ℤ → Result ℕ What
@@ -60,20 +60,20 @@ number_or_fault low high fault (pos n) = if is_within low high n then Ok n else 
 number_or_fault low high fault (negsuc n) = Err fault
 
 -- the result of `f` for the value, or the error `fault` if the value is missing
-abbrev pub required_value : {X Y : Type 0} → (X → Result Y What) → What → Option X → Result Y What
-required_value f fault None = Err fault
-required_value f fault (Some x) = f x
+abbrev pub parsed_or_fault : {X Y : Type 0} → (X → Result Y What) → What → Option X → Result Y What
+parsed_or_fault f fault None = Err fault
+parsed_or_fault f fault (Some x) = f x
 
 -- the budget of a job, or an error if it is missing or invalid
 unfoldable pub budget_from_table : Members → Result ℕ What
 budget_from_table ms =
-    required_value (number_or_fault 1 most_budget what.Budget) what.Budget (number_at_key (codes "budget") ms)
+    parsed_or_fault (number_or_fault 1 max_budget what.Budget) what.Budget (number_at_key (codes "budget") ms)
 
 -- ---- the script
 
 -- the script that consists of these bytes, or an error if it is too long
 abbrev pub script_from_bytes : List ℕ → Result (List ℕ) What
-script_from_bytes bytes = if nat_le (length bytes) most_script then Ok bytes else Err what.Input
+script_from_bytes bytes = if nat_le (length bytes) max_script_len then Ok bytes else Err what.Input
 
 -- the script that consists of decoded bytes, or an error if the digits were invalid or it is too long
 abbrev pub script_from_decoded : Result (List ℕ) FromHexError → Result (List ℕ) What
@@ -95,7 +95,7 @@ script_from_table ms = script_from_either (text_at_key (codes "input") ms) (text
 
 -- the 32-bit number at a key of a region, or an error if it is missing or out of range
 abbrev pub region_word : List ℕ → Members → Result ℕ What
-region_word key ms = required_value (number_or_fault 0 0xffff_ffff what.Region) what.Region (number_at_key key ms)
+region_word key ms = parsed_or_fault (number_or_fault 0 0xffff_ffff what.Region) what.Region (number_at_key key ms)
 
 -- the region of a table; it is writable unless `write` is false
 unfoldable pub region_from_table : Members → Result Region What
@@ -128,7 +128,7 @@ map_from_elements ds = regions_from_elements ds >>= (λ regions. regions_if_map 
 
 -- the memory map of a job: the regions of `region`, or the default ones if there is no such key
 unfoldable pub map_from_table : Members → Result (List Region) What
-map_from_table ms = reading_or_default map_from_elements default_regions (array_at_key (codes "region") ms)
+map_from_table ms = parsed_or_default map_from_elements default_regions (array_at_key (codes "region") ms)
 
 -- ---- where the image is loaded
 
@@ -140,17 +140,17 @@ load_from_text t = if bytes_eq t (codes "physical") then Ok Physical
 
 -- the addresses at which a job's segments are loaded, physical or virtual; the default is physical
 unfoldable pub load_from_table : Members → Result LoadAt What
-load_from_table ms = reading_or_default load_from_text Physical (text_at_key (codes "load") ms)
+load_from_table ms = parsed_or_default load_from_text Physical (text_at_key (codes "load") ms)
 
 -- ---- the signature
 
 -- whether a text may name a symbol of a signature: it is 1 to 255 bytes long and has no zero byte
 unfoldable pub is_signature_symbol : List ℕ → Bool
-is_signature_symbol t = is_within 1 most_symbol (length t) && list_all (λ b. not (b == 0)) t
+is_signature_symbol t = is_within 1 max_symbol_len (length t) && list_all (λ b. not (b == 0)) t
 
 -- the name at the index `n` of the value of `signature`, or an error if it is missing or invalid
 abbrev pub signature_symbol : ℕ → Items → Result (List ℕ) What
-signature_symbol n ds = passing_value is_signature_symbol what.Signature (option_and_then as_str (get_item n ds))
+signature_symbol n ds = valid_value is_signature_symbol what.Signature (option_and_then as_str (get_item n ds))
 
 -- the two symbols of a signature from the value of `signature`, or an error if they are invalid
 unfoldable pub symbols_from_names : Items → Result (Option Symbols) What
@@ -162,7 +162,7 @@ symbols_from_names ds = do
 
 -- the symbols of a job's signature, or `None` if it has none
 unfoldable pub signature_from_table : Members → Result (Option Symbols) What
-signature_from_table ms = reading_or_default symbols_from_names None (array_at_key (codes "signature") ms)
+signature_from_table ms = parsed_or_default symbols_from_names None (array_at_key (codes "signature") ms)
 
 -- ---- the expected result
 
@@ -172,24 +172,24 @@ exit_from_number z = number_or_fault 0 0xffff_ffff what.Expect z >>= (λ n. Ok (
 
 -- the expected exit code of a job, or `None` if it expects none
 unfoldable pub exit_from_table : Members → Result (Option ℕ) What
-exit_from_table ms = reading_or_default exit_from_number None (number_at_key (codes "expect_exit") ms)
+exit_from_table ms = parsed_or_default exit_from_number None (number_at_key (codes "expect_exit") ms)
 
 -- the path of the expected signature, or an error if it is invalid or the job has no signature; `has_signature` is whether the job has one
 abbrev pub reference_from_path : Bool → List ℕ → Result (Option (List ℕ)) What
-reference_from_path has_signature path = if has_signature && is_path path then Ok (Some path) else Err what.Expect
+reference_from_path has_signature path = if has_signature && is_same_path path then Ok (Some path) else Err what.Expect
 
 -- the path of the expected signature of a job, or `None` if it expects none; `has_signature` is whether the job has a signature
 unfoldable pub reference_from_table : Bool → Members → Result (Option (List ℕ)) What
-reference_from_table has_signature ms = reading_or_default (reference_from_path has_signature) None (text_at_key (codes "expect_signature") ms)
+reference_from_table has_signature ms = parsed_or_default (reference_from_path has_signature) None (text_at_key (codes "expect_signature") ms)
 
 -- the expected console with this text, or an error if the text is longer than a console can be
 abbrev pub console_from_text : List ℕ → Result (Option ExpectedConsole) What
 console_from_text text =
-    if nat_le (length text) most_console then Ok (Some (Text text)) else Err what.Expect
+    if nat_le (length text) max_console_len then Ok (Some (Text text)) else Err what.Expect
 
 -- the expected console in the file at this path, or an error if the path is invalid
 abbrev pub console_from_path : List ℕ → Result (Option ExpectedConsole) What
-console_from_path path = if is_path path then Ok (Some (File path)) else Err what.Expect
+console_from_path path = if is_same_path path then Ok (Some (File path)) else Err what.Expect
 
 -- the expected console of a job from the values of `expect_console` and `expect_console_file`; it is an error if both are set
 abbrev pub console_from_either : Option (List ℕ) → Option (List ℕ) → Result (Option ExpectedConsole) What
@@ -214,7 +214,7 @@ end_from_text t = if bytes_eq t (codes "budget") then Ok (Some expected.Budget) 
 
 -- the expected end of a job's run, or `None` if it expects none
 unfoldable pub end_from_table : Members → Result (Option ExpectedEnd) What
-end_from_table ms = reading_or_default end_from_text None (text_at_key (codes "expect_end") ms)
+end_from_table ms = parsed_or_default end_from_text None (text_at_key (codes "expect_end") ms)
 
 -- the names of jobs, in order
 abbrev pub names_of_jobs : List Job → List (List ℕ)
@@ -232,7 +232,7 @@ same_as_from_name earlier t = same_as_from_index (index_in earlier t)
 -- the index of the job that `same_as` of a job names, or `None` if there is no `same_as`; `earlier` are the names of the earlier jobs, and
 -- it is an error if none has the name
 unfoldable pub same_as_from_table : List (List ℕ) → Members → Result (Option ℕ) What
-same_as_from_table earlier ms = reading_or_default (same_as_from_name earlier) None (text_at_key (codes "same_as") ms)
+same_as_from_table earlier ms = parsed_or_default (same_as_from_name earlier) None (text_at_key (codes "same_as") ms)
 
 -- ---- the hart
 
@@ -246,7 +246,7 @@ isa_from_text t = if bytes_eq t (codes "rv32i") then Ok isa.I
 
 -- the instruction set of a job; by default RV32IMC
 unfoldable pub isa_from_table : Members → Result Isa What
-isa_from_table ms = reading_or_default isa_from_text isa.Imc (text_at_key (codes "isa") ms)
+isa_from_table ms = parsed_or_default isa_from_text isa.Imc (text_at_key (codes "isa") ms)
 
 -- what misaligned accesses do, from the value of `misaligned`: `fault` or `allow`; any other text is an error
 abbrev pub misaligned_from_text : List ℕ → Result Choice What
@@ -256,7 +256,7 @@ misaligned_from_text t = if bytes_eq t (codes "fault") then Ok Fault
 
 -- what misaligned accesses do in a job's run: they are faults, unless `misaligned` allows them
 unfoldable pub misaligned_from_table : Members → Result Choice What
-misaligned_from_table ms = reading_or_default misaligned_from_text Fault (text_at_key (codes "misaligned") ms)
+misaligned_from_table ms = parsed_or_default misaligned_from_text Fault (text_at_key (codes "misaligned") ms)
 
 -- ---- a job
 
@@ -264,7 +264,7 @@ misaligned_from_table ms = reading_or_default misaligned_from_text Fault (text_a
 unfoldable pub job_from_table : List (List ℕ) → Members → Result Job What
 job_from_table earlier ms = do
   known ← fault_if (has_unknown_job_or_region_key ms) what.UnknownKey
-  typed ← fault_if (has_wrong_kind ms) what.WrongType
+  typed ← fault_if (has_wrong_type ms) what.WrongType
   name ← name_from_table ms
   fresh ← fault_if (is_some (index_in earlier name)) what.Duplicate
   image ← image_from_table ms
@@ -309,7 +309,7 @@ job_from_element earlier _ = Err what.WrongType
 unfoldable pub jobs_of_elements : ℕ → List (List ℕ) → Items → Result (List Job) JobError
 jobs_of_elements n earlier no_items = Ok []
 jobs_of_elements n earlier (item d ds) = do
-  job ← numbered_reading n (job_from_element earlier d)
+  job ← with_job_number n (job_from_element earlier d)
   jobs ← jobs_of_elements (n + 1) (earlier ++ job.name ∷ []) ds
   Ok (job ∷ jobs)
 
@@ -321,7 +321,7 @@ has_no_jobs _ = false
 
 -- whether `job` is an array of more than 4,096 elements
 abbrev pub has_too_many_jobs : Option Data → Bool
-has_too_many_jobs (Some (array ds)) = nat_lt most_jobs (item_count ds)
+has_too_many_jobs (Some (array ds)) = nat_lt max_jobs (item_count ds)
 has_too_many_jobs _ = false
 
 -- the elements of a value that is an array, or an error if it is not
@@ -340,7 +340,7 @@ job_elements ms = do
 -- the jobs of a TOML document, or the first error; `None` means that a text is not a TOML document
 unfoldable pub jobs_of_document : Option Members → Result (List Job) JobError
 jobs_of_document None = Err (record { job = 0; what = what.NotToml })
-jobs_of_document (Some ms) = numbered_reading 0 (job_elements ms) >>= jobs_of_elements 1 []
+jobs_of_document (Some ms) = with_job_number 0 (job_elements ms) >>= jobs_of_elements 1 []
 
 -- the TOML document that a text is, or `None` if it is not UTF-8 or not TOML
 abbrev pub document_of : List ℕ → Option Members

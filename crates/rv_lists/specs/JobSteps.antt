@@ -30,8 +30,8 @@ setup_from_table ms = do
   Ok (record { script = script; regions = regions; load = load })
 
 -- the signature of a job, and its expected exit code, signature and console, or the first error
-unfoldable pub results_from_table : Members → Result Results What
-results_from_table ms = do
+unfoldable pub expected_results_from_table : Members → Result Results What
+expected_results_from_table ms = do
   signature ← signature_from_table ms
   exit ← exit_from_table ms
   reference ← reference_from_table (is_some signature) ms
@@ -43,7 +43,7 @@ results_from_table ms = do
 unfoldable pub job_from_remaining_keys : List (List ℕ) → List ℕ → List ℕ → ℕ → Members → Result Job What
 job_from_remaining_keys earlier name image budget ms = do
   setup ← setup_from_table ms
-  results ← results_from_table ms
+  results ← expected_results_from_table ms
   manner ← run_options_from_table earlier ms
   Ok (record {
     name = name;

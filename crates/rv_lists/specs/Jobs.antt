@@ -8,7 +8,7 @@ use Rattle.rv_elf.specs.declared.loading.LoadAt.TheVariants.{Physical}
 use Rattle.rv_lists.specs.declared.job.Job.{Job}
 use Rattle.rv_lists.specs.declared.job.ExpectedConsole.{ExpectedConsole}
 use Rattle.rv_lists.specs.declared.job.ExpectedConsole.TheVariants.{Text, File}
-use Rattle.rv_base.specs.Limits.{most_jobs, most_script}
+use Rattle.rv_base.specs.Limits.{max_jobs, max_script_len}
 
 -- the path of the file with the expected console text, or `None` if no file is given
 abbrev pub console_path : Option ExpectedConsole → Option (List ℕ)
@@ -22,15 +22,15 @@ default_regions = record { base = 0x8000_0000; size = 0x10_0000; writable = true
 
 -- the job may be at the index `at` of a list: its script fits the console, the names of its signature's symbols are not empty, and the job
 -- of `same_as` is at an earlier index
-pub record IsJob (at : ℕ) (job : Job) : Type 0 where
-  pub script : length job.script ≤ most_script
+pub record IsValidJobAt (at : ℕ) (job : Job) : Type 0 where
+  pub script : length job.script ≤ max_script_len
   pub named : IfSome job.signature (λ s. (0 < length s.begin) × (0 < length s.end))
   pub earlier : IfSome job.same_as (λ k. k < at)
 
--- there are at most `most_jobs` jobs, and each satisfies `IsJob` at its index
-pub record AreJobs (jobs : List Job) : Type 0 where
-  pub few : length jobs ≤ most_jobs
-  pub each : (k : ℕ) (d : Job) → k < length jobs → IsJob k (slice_index_or jobs k d)
+-- there are at most `max_jobs` jobs, and each satisfies `IsValidJobAt` at its index
+pub record AreValidJobs (jobs : List Job) : Type 0 where
+  pub few : length jobs ≤ max_jobs
+  pub each : (k : ℕ) (d : Job) → k < length jobs → IsValidJobAt k (slice_index_or jobs k d)
 
 -- the job with its budget replaced by this one
 abbrev pub job_with_budget : ℕ → Job → Job

@@ -52,12 +52,12 @@ abbrev pub key : List ℕ → (Data → Bool) → Key
 key name is_of_kind = record { name = name; is_of_kind = is_of_kind }
 
 -- whether the key `k` is missing, or its value satisfies the predicate `p`
-abbrev pub absent_or : (Data → Bool) → List ℕ → Members → Bool
-absent_or p k ms = option_map_or p (get_member k ms) true
+abbrev pub is_absent_or : (Data → Bool) → List ℕ → Members → Bool
+is_absent_or p k ms = option_map_or p (get_member k ms) true
 
 -- whether each of these keys is missing, or its value has the required type
-abbrev pub has_kinds_of_keys : List Key → Members → Bool
-has_kinds_of_keys keys ms = list_all (λ (k : Key). absent_or k.is_of_kind k.name ms) keys
+abbrev pub has_key_types : List Key → Members → Bool
+has_key_types keys ms = list_all (λ (k : Key). is_absent_or k.is_of_kind k.name ms) keys
 
 -- whether `name` is one of these keys
 abbrev pub is_key_among : List Key → List ℕ → Bool
@@ -91,7 +91,7 @@ is_text_array _ = false
 
 -- whether a value is a table whose values have the types that the keys of a region require
 abbrev pub is_region : Data → Bool
-is_region (table ms) = has_kinds_of_keys region_keys ms
+is_region (table ms) = has_key_types region_keys ms
 is_region _ = false
 
 -- whether a value is an array of tables whose values have the types that the keys of a region require
@@ -121,8 +121,8 @@ job_keys =
     ∷ []
 
 -- whether a value of a job does not have the type that its key requires; this includes the values in regions and in a signature
-unfoldable pub has_wrong_kind : Members → Bool
-has_wrong_kind ms = not (has_kinds_of_keys job_keys ms)
+unfoldable pub has_wrong_type : Members → Bool
+has_wrong_type ms = not (has_key_types job_keys ms)
 
 -- ---- unknown keys
 

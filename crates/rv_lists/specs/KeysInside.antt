@@ -6,8 +6,8 @@ use Rattle.rv_lists.specs.declared.keys.Kind.TheVariants.{Text, Number, Texts, R
 use Rattle.rv_lists.specs.Keys.{is_text, is_number, is_text_array, is_region_array}
 
 -- whether a value has this type
-abbrev pub is_value_of_kind : Kind → Data → Bool
-is_value_of_kind Text = is_text
-is_value_of_kind Number = is_number
-is_value_of_kind Texts = is_text_array
-is_value_of_kind Regions = is_region_array
+abbrev pub is_value_of_type : Kind → Data → Bool
+is_value_of_type Text = is_text
+is_value_of_type Number = is_number
+is_value_of_type Texts = is_text_array
+is_value_of_type Regions = is_region_array

@@ -10,9 +10,9 @@ use Rattle.rv_lists.specs.JobList.{name_from_table, job_from_element, job_elemen
 use Rattle.rv_base.specs.Names.{index_in}
 
 -- a list with the error of the job with the number `n`, or an empty list if there is no error
-abbrev pub numbered_fault : {A : Type 0} → ℕ → Result A What → List JobError
-numbered_fault n (Ok x) = []
-numbered_fault n (Err w) = record { job = n; what = w } ∷ []
+abbrev pub fault_of_job : {A : Type 0} → ℕ → Result A What → List JobError
+fault_of_job n (Ok x) = []
+fault_of_job n (Err w) = record { job = n; what = w } ∷ []
 
 -- the name, or `None` if it is invalid or already among these names
 abbrev pub unused_name : List (List ℕ) → Result (List ℕ) What → Option (List ℕ)
@@ -20,21 +20,21 @@ unused_name names (Ok name) = if is_some (index_in names name) then None else So
 unused_name names (Err fault) = None
 
 -- the name that an element reserves, whether its job is good or bad, or `None` if its name is missing, invalid or already reserved
-unfoldable pub name_taken_by_element : List (List ℕ) → Data → Option (List ℕ)
-name_taken_by_element names (table ms) = unused_name names (name_from_table ms)
-name_taken_by_element names _ = None
+unfoldable pub reserved_name : List (List ℕ) → Data → Option (List ℕ)
+reserved_name names (table ms) = unused_name names (name_from_table ms)
+reserved_name names _ = None
 
 -- the reserved names with one more name appended, or unchanged if there is no name
-abbrev pub names_with_taken : List (List ℕ) → Option (List ℕ) → List (List ℕ)
-names_with_taken names None = names
-names_with_taken names (Some name) = names ++ name ∷ []
+abbrev pub with_reserved_name : List (List ℕ) → Option (List ℕ) → List (List ℕ)
+with_reserved_name names None = names
+with_reserved_name names (Some name) = names ++ name ∷ []
 
 -- the first error of each bad element; `n` is the number of the first element, and `names` are the names that earlier elements reserve
 unfoldable pub faults_of_elements : ℕ → List (List ℕ) → Items → List JobError
 faults_of_elements n names no_items = []
 faults_of_elements n names (item d ds) =
-    numbered_fault n (job_from_element names d)
-    ++ faults_of_elements (n + 1) (names_with_taken names (name_taken_by_element names d)) ds
+    fault_of_job n (job_from_element names d)
+    ++ faults_of_elements (n + 1) (with_reserved_name names (reserved_name names d)) ds
 
 -- the errors of the elements of `job`, or the single error of the whole list
 abbrev pub faults_or_list_fault : Result Items What → List JobError

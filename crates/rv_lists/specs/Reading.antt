@@ -17,19 +17,19 @@ abbrev pub fault_if : Bool → What → Result (Unit {0}) What
 fault_if b fault = if b then Err fault else Ok tt
 
 -- the value if it exists and satisfies `p`, or else the error `fault`
-abbrev pub passing_value : {X : Type 0} → (X → Bool) → What → Option X → Result X What
-passing_value p fault None = Err fault
-passing_value p fault (Some x) = if p x then Ok x else Err fault
+abbrev pub valid_value : {X : Type 0} → (X → Bool) → What → Option X → Result X What
+valid_value p fault None = Err fault
+valid_value p fault (Some x) = if p x then Ok x else Err fault
 
 -- the result of `f` for the value, or the default `y` if the value is missing
-abbrev pub reading_or_default : {X Y : Type 0} → (X → Result Y What) → Y → Option X → Result Y What
-reading_or_default f y None = Ok y
-reading_or_default f y (Some x) = f x
+abbrev pub parsed_or_default : {X Y : Type 0} → (X → Result Y What) → Y → Option X → Result Y What
+parsed_or_default f y None = Ok y
+parsed_or_default f y (Some x) = f x
 
 -- the value, or the error with the number `n` of its job
-abbrev pub numbered_reading : {A : Type 0} → ℕ → Result A What → Result A JobError
-numbered_reading n (Ok x) = Ok x
-numbered_reading n (Err w) = Err (record { job = n; what = w })
+abbrev pub with_job_number : {A : Type 0} → ℕ → Result A What → Result A JobError
+with_job_number n (Ok x) = Ok x
+with_job_number n (Err w) = Err (record { job = n; what = w })
 
 -- the list with the elements `front` before its own, or the error
 abbrev pub with_front : {F A : Type 0} → List A → Result (List A) F → Result (List A) F
@@ -41,5 +41,5 @@ abbrev pub Gives : {X : Type 0} → Result X What → Result X What → Type 0
 Gives r read = MatchResult r (λ x. read ≡ Ok x) (λ e. (e ≡ OutOfMemory → ⊥) → read ≡ Err e)
 
 -- the result `r` is the specified result `read`, whose errors have the number of their job, or memory ran out
-abbrev pub GivesJobs : {X : Type 0} → Result X JobError → Result X JobError → Type 0
-GivesJobs r read = MatchResult r (λ x. read ≡ Ok x) (λ e. (e.what ≡ OutOfMemory → ⊥) → read ≡ Err e)
+abbrev pub MatchesJobsUnlessOutOfMemory : {X : Type 0} → Result X JobError → Result X JobError → Type 0
+MatchesJobsUnlessOutOfMemory r read = MatchResult r (λ x. read ≡ Ok x) (λ e. (e.what ≡ OutOfMemory → ⊥) → read ≡ Err e)

@@ -4,11 +4,11 @@ ghost use Rattle.std.specs.Prelude.{◌≡◌, ◌<◌, ◌≤◌, ◌+◌, ◌�
 ghost use Rattle.std.specs.Prelude.{None, Some, length, option_map, slice_get};
 ghost use Rattle.std.specs.Result.{result_err};
 ghost use Rattle.toml.specs.View.{view, table_view, items_view};
-ghost use Rattle.rv_base.specs.Limits.{most_jobs};
+ghost use Rattle.rv_base.specs.Limits.{max_jobs};
 ghost use Rattle.rv_lists.specs.JobList.{job_from_element, job_list_of, names_of_jobs};
 ghost use Rattle.rv_base.specs.Names.{index_in};
-ghost use Rattle.rv_lists.specs.ListFaults.{numbered_fault, faults_of_elements, faults_of_document, list_faults, name_taken_by_element};
-ghost use Rattle.rv_lists.specs.ListFaults.{names_with_taken};
+ghost use Rattle.rv_lists.specs.ListFaults.{fault_of_job, faults_of_elements, faults_of_document, list_faults, reserved_name};
+ghost use Rattle.rv_lists.specs.ListFaults.{with_reserved_name};
 
 use crate::earlier_jobs::EarlierJobs;
 use crate::error::{JobError, What};
@@ -60,7 +60,7 @@ fn faults_of_table(alloc: Global, table: &Table) -> Result<Vec<JobError>, AllocE
 
 // Returns the first error of each bad element, in order.
 fn faults_of_elements(alloc: Global, elements: &[Value]) -> Result<Vec<JobError>, AllocError>
-    requires { length elements.now ≤ most_jobs }
+    requires { length elements.now ≤ max_jobs }
     ensures { IfOk result (λ faults. faults.items ≡ faults_of_elements 1 [] (items_view elements.now)) }
 {
     let mut faults = Vec::new(alloc);
@@ -80,11 +80,11 @@ fn add_element_or_fault(
     element: &Value,
     faults: &mut Vec<JobError>,
 ) -> Result<EarlierJobs, AllocError>
-    requires { length earlier < most_jobs }
+    requires { length earlier < max_jobs }
     ensures faults { OnOk result (faults.new.items ≡ faults.old.items
-        ++ numbered_fault number (job_from_element (names_of_jobs earlier) (view element.now))) }
+        ++ fault_of_job number (job_from_element (names_of_jobs earlier) (view element.now))) }
     ensures names { IfOk result (λ jobs. names_of_jobs jobs
-        ≡ names_with_taken (names_of_jobs earlier) (name_taken_by_element (names_of_jobs earlier) (view element.now))) }
+        ≡ with_reserved_name (names_of_jobs earlier) (reserved_name (names_of_jobs earlier) (view element.now))) }
     ensures few { IfOk result (λ jobs. length jobs ≤ length earlier + 1) }
 {
     match job_from_element(alloc, &earlier, element) {
@@ -104,12 +104,12 @@ fn reserve_bad_job_name(
     earlier: EarlierJobs,
     element: &Value,
 ) -> Result<EarlierJobs, AllocError>
-    requires { length earlier < most_jobs }
+    requires { length earlier < max_jobs }
     ensures names { IfOk result (λ jobs. names_of_jobs jobs
-        ≡ names_with_taken (names_of_jobs earlier) (name_taken_by_element (names_of_jobs earlier) (view element.now))) }
+        ≡ with_reserved_name (names_of_jobs earlier) (reserved_name (names_of_jobs earlier) (view element.now))) }
     ensures few { IfOk result (λ jobs. length jobs ≤ length earlier + 1) }
 {
-    match name_taken_by_element(&earlier, element) {
+    match reserved_name(&earlier, element) {
         Some(name) => {
             let name = Text::copy(alloc, name)?;
             let no_image = Text::new(String::new(alloc));
@@ -122,10 +122,10 @@ fn reserve_bad_job_name(
 
 /// Returns the name that an element reserves, whether its job is good or bad, or `None` if its name is missing, invalid or already
 /// reserved.
-#[tactic(auto, unfolding(crate::specs::ListFaults::name_taken_by_element))]
-fn name_taken_by_element<'a>(earlier: &EarlierJobs, element: &'a Value) -> Option<&'a str>
+#[tactic(auto, unfolding(crate::specs::ListFaults::reserved_name))]
+fn reserved_name<'a>(earlier: &EarlierJobs, element: &'a Value) -> Option<&'a str>
     ensures value { option_map (λ name. name.now) result
-        ≡ name_taken_by_element (names_of_jobs earlier.now) (view element.now) }
+        ≡ reserved_name (names_of_jobs earlier.now) (view element.now) }
     ensures fresh { IfSome result (λ name. index_in (names_of_jobs earlier.now) name.now ≡ None) }
 {
     let name = match element.as_table() {

@@ -1,8 +1,8 @@
 //! The jobs of a list read so far, with the index of each name.
 
 ghost use Rattle.std.specs.Prelude.{◌≡◌, ◌<◌, ◌++◌, ◌∷◌, [], IfSome, IfOk, None, length};
-ghost use Rattle.rv_lists.specs.Jobs.{IsJob};
-ghost use Rattle.rv_base.specs.Limits.{most_jobs};
+ghost use Rattle.rv_lists.specs.Jobs.{IsValidJobAt};
+ghost use Rattle.rv_base.specs.Limits.{max_jobs};
 ghost use Rattle.rv_lists.specs.JobList.{names_of_jobs};
 ghost use Rattle.rv_base.specs.Names.{index_in};
 
@@ -24,11 +24,11 @@ impl Model for EarlierJobs {
 
     ghost Value = { List Job };
 
-    ghost use Rattle.rv_lists.specs.EarlierJobsInside.{IsEarlierJobsInside};
+    ghost use Rattle.rv_lists.specs.EarlierJobsInside.{IsValidEarlierJobs};
 
     ghost view = { λ g. g.jobs.items };
 
-    ghost invariant = { IsEarlierJobsInside };
+    ghost invariant = { IsValidEarlierJobs };
 }
 
 impl EarlierJobs {
@@ -54,8 +54,8 @@ impl EarlierJobs {
     /// Returns the jobs with one more job appended, whose name none of them has.
     pub(crate) fn append_job(self, alloc: Global, job: Job) -> Result<EarlierJobs, AllocError>
         requires fresh { index_in (names_of_jobs self) job.name ≡ None }
-        requires good { IsJob (length self) job }
-        requires room { length self < most_jobs }
+        requires good { IsValidJobAt (length self) job }
+        requires room { length self < max_jobs }
         ensures { IfOk result (λ g. g ≡ self ++ job ∷ []) }
     {
         let EarlierJobs {

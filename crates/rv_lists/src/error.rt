@@ -1,7 +1,7 @@
 //! Why a list is rejected.
 
 ghost use Rattle.std.specs.Prelude.{◌≡◌};
-ghost use Rattle.rv_lists.specs.Faults.{what_name};
+ghost use Rattle.rv_lists.specs.Faults.{job_error_name};
 ghost use Rattle.rv_lists.specs.declared.error.What.TheVariants.{OutOfMemory};
 
 use std::alloc::{AllocError, AllocFailed};
@@ -60,7 +60,7 @@ pub struct JobError {
 impl What {
     /// Returns the name of this kind of error in messages.
     pub fn name(self) -> &'static str
-        ensures { result.now ≡ what_name self }
+        ensures { result.now ≡ job_error_name self }
     {
         match self {
             What::NotToml => "not-toml",

@@ -10,8 +10,8 @@ ghost use Rattle.rv_lists.specs.JobList.{end_from_text, end_from_table};
 use crate::error::What;
 use crate::job::{ExpectedConsole, ExpectedEnd};
 use crate::keys::{number_at_key, text_at_key};
-use crate::texts::is_path;
-use rv_base::limits::MOST_CONSOLE;
+use crate::texts::is_same_path;
+use rv_base::limits::MAX_CONSOLE_LEN;
 use rv_base::{Bytes, Text};
 use rv_machine::FaultKind;
 use std::alloc::Global;
@@ -46,7 +46,7 @@ pub(crate) fn reference_from_table(
 {
     match text_at_key(table, "expect_signature") {
         Some(path) => {
-            if has_signature && is_path(path) {
+            if has_signature && is_same_path(path) {
                 Ok(Some(Text::copy(alloc, path)?))
             } else {
                 Err(What::Expect)
@@ -79,7 +79,7 @@ pub(crate) fn console_from_table(
 fn console_from_text(alloc: Global, text: &[u8]) -> Result<Option<ExpectedConsole>, What>
     ensures { Gives result (console_from_text text.now) }
 {
-    if text.len() <= MOST_CONSOLE {
+    if text.len() <= MAX_CONSOLE_LEN {
         let bytes = Bytes::new(text.to_vec(alloc)?);
         Ok(Some(ExpectedConsole::Text(bytes)))
     } else {
@@ -91,7 +91,7 @@ fn console_from_text(alloc: Global, text: &[u8]) -> Result<Option<ExpectedConsol
 fn console_from_path(alloc: Global, path: &str) -> Result<Option<ExpectedConsole>, What>
     ensures { Gives result (console_from_path path.now) }
 {
-    if is_path(path) {
+    if is_same_path(path) {
         Ok(Some(ExpectedConsole::File(Text::copy(alloc, path)?)))
     } else {
         Err(What::Expect)

@@ -1,8 +1,8 @@
 //! Jobs, and lists of them.
 
-ghost use Rattle.rv_base.specs.Limits.{most_budget, most_path, most_script};
+ghost use Rattle.rv_base.specs.Limits.{max_budget, max_path_len, max_script_len};
 ghost use Rattle.std.specs.Prelude.{◌≡◌, ◌≤◌, ◌<◌, ◌∷◌, [], IfOk, Some, length, map, option_map, vec_len};
-ghost use Rattle.rv_lists.specs.Jobs.{AreJobs, console_path, job_with_budget, single_job, with_budget, without_expectations};
+ghost use Rattle.rv_lists.specs.Jobs.{AreValidJobs, console_path, job_with_budget, single_job, with_budget, without_expectations};
 
 use rv_base::{Bytes, Text};
 use rv_elf::LoadAt;
@@ -107,7 +107,7 @@ impl Job {
     }
 
     // Removes the expectations of the job and its `same_as`.
-    fn drop_expectations(&mut self)
+    fn remove_expectations(&mut self)
         ensures { self.new ≡ without_expectations self.old }
     {
         self.expect_exit = None;
@@ -130,11 +130,11 @@ impl Model for JobList {
 
     ghost Value = { List Job };
 
-    ghost use Rattle.rv_lists.specs.Jobs.{AreJobs};
+    ghost use Rattle.rv_lists.specs.Jobs.{AreValidJobs};
 
     ghost view = { λ l. l.items.items };
 
-    ghost invariant = { λ l. AreJobs l.items.items };
+    ghost invariant = { λ l. AreValidJobs l.items.items };
 }
 
 impl JobList {
@@ -145,11 +145,11 @@ impl JobList {
         budget: u32,
         script: Vec<u8>,
     ) -> Result<JobList, AllocError>
-        requires path { length image.now ≤ most_path }
+        requires path { length image.now ≤ max_path_len }
         requires named { 0 < length image.now }
-        requires room { vec_len script ≤ most_script }
+        requires room { vec_len script ≤ max_script_len }
         requires some { 0 < budget }
-        requires bound { budget ≤ most_budget }
+        requires bound { budget ≤ max_budget }
         ensures { IfOk result (λ l. l ≡ single_job image.now budget script.items ∷ []) }
     {
         let name = Text::copy(alloc, "one")?;
@@ -161,7 +161,7 @@ impl JobList {
 
     /// Returns the list of these jobs, which form a valid list.
     pub(crate) fn new(items: Vec<Job>) -> JobList
-        requires { AreJobs items.items }
+        requires { AreValidJobs items.items }
         ensures { result ≡ items.items }
     {
         JobList { items }
@@ -192,7 +192,7 @@ impl JobList {
     /// Returns the jobs as a slice.
     pub fn as_slice(&self) -> &[Job]
         ensures value { result.now ≡ self.now }
-        ensures jobs { AreJobs self.now }
+        ensures jobs { AreValidJobs self.now }
     {
         &self.items
     }
@@ -203,7 +203,7 @@ impl JobList {
     {
         let mut items = self.items;
         for at in 0..items.len() {
-            items[at].drop_expectations();
+            items[at].remove_expectations();
         }
         JobList { items }
     }
@@ -211,7 +211,7 @@ impl JobList {
     /// Returns the underlying vector. Does not allocate.
     pub fn into_vec(self) -> Vec<Job>
         ensures value { result.items ≡ self }
-        ensures jobs { AreJobs self }
+        ensures jobs { AreValidJobs self }
     {
         self.items
     }

@@ -3,7 +3,7 @@
 ghost use Rattle.std.specs.Prelude.{◌≡◌, IfOk, None, length};
 ghost use Rattle.toml.specs.View.{view, table_view};
 ghost use Rattle.rv_lists.specs.Reading.{Gives};
-ghost use Rattle.rv_lists.specs.Jobs.{IsJob};
+ghost use Rattle.rv_lists.specs.Jobs.{IsValidJobAt};
 ghost use Rattle.rv_lists.specs.JobList.{name_from_table, image_from_table, budget_from_table, names_of_jobs, job_from_table, job_from_element};
 ghost use Rattle.rv_base.specs.Names.{index_in};
 ghost use Rattle.rv_lists.specs.JobSteps.{job_from_remaining_keys};
@@ -13,12 +13,12 @@ use crate::earlier_jobs::EarlierJobs;
 use crate::error::What;
 use crate::job::Job;
 use crate::keys::{number_at_key, text_at_key};
-use crate::kinds::{has_unknown_job_or_region_key, has_wrong_kind};
-use crate::results::{Results, results_from_table};
+use crate::kinds::{has_unknown_job_or_region_key, has_wrong_type};
+use crate::results::{Results, expected_results_from_table};
 use crate::run_keys::{RunOptions, run_options_from_table};
 use crate::setup::{Setup, setup_from_table};
-use crate::texts::is_path;
-use rv_base::limits::MOST_BUDGET;
+use crate::texts::is_same_path;
+use rv_base::limits::MAX_BUDGET;
 use rv_base::{Text, is_name};
 use std::alloc::Global;
 use toml::{Table, Value};
@@ -31,7 +31,7 @@ pub(crate) fn job_from_element(
     value: &Value,
 ) -> Result<Job, What>
     ensures value { Gives result (job_from_element (names_of_jobs earlier.now) (view value.now)) }
-    ensures good { IfOk result (IsJob (length earlier.now)) }
+    ensures good { IfOk result (IsValidJobAt (length earlier.now)) }
     ensures fresh { IfOk result (λ job. index_in (names_of_jobs earlier.now) job.name ≡ None) }
 {
     match value.as_table() {
@@ -44,13 +44,13 @@ pub(crate) fn job_from_element(
 #[tactic(auto, unfolding(crate::specs::JobList::job_from_table))]
 fn job_from_table(alloc: Global, earlier: &EarlierJobs, table: &Table) -> Result<Job, What>
     ensures value { Gives result (job_from_table (names_of_jobs earlier.now) (table_view table.now)) }
-    ensures good { IfOk result (IsJob (length earlier.now)) }
+    ensures good { IfOk result (IsValidJobAt (length earlier.now)) }
     ensures fresh { IfOk result (λ job. index_in (names_of_jobs earlier.now) job.name ≡ None) }
 {
     if has_unknown_job_or_region_key(table) {
         return Err(What::UnknownKey);
     }
-    if has_wrong_kind(table) {
+    if has_wrong_type(table) {
         return Err(What::WrongType);
     }
     let name = name_from_table(table)?;
@@ -77,11 +77,11 @@ impl EarlierJobs {
         requires { index_in (names_of_jobs self.now) name.now ≡ None }
         ensures value { Gives result
             (job_from_remaining_keys (names_of_jobs self.now) name.now image.now budget (table_view table.now)) }
-        ensures good { IfOk result (IsJob (length self.now)) }
+        ensures good { IfOk result (IsValidJobAt (length self.now)) }
         ensures fresh { IfOk result (λ job. index_in (names_of_jobs self.now) job.name ≡ None) }
     {
         let setup = setup_from_table(alloc, table)?;
-        let results = results_from_table(alloc, table)?;
+        let results = expected_results_from_table(alloc, table)?;
         let manner = run_options_from_table(self, table)?;
         let name = Text::copy(alloc, name)?;
         let image = Text::copy(alloc, image)?;
@@ -161,7 +161,7 @@ fn image_from_table(table: &Table) -> Result<&str, What>
 {
     match text_at_key(table, "image") {
         Some(text) => {
-            if is_path(text) {
+            if is_same_path(text) {
                 Ok(text)
             } else {
                 Err(What::Image)
@@ -178,7 +178,7 @@ fn budget_from_table(table: &Table) -> Result<u32, What>
 {
     match number_at_key(table, "budget") {
         Some(n) => {
-            if 1 <= n && n <= i64::from(MOST_BUDGET) {
+            if 1 <= n && n <= i64::from(MAX_BUDGET) {
                 Ok(n as u32)
             } else {
                 Err(What::Budget)

@@ -3,11 +3,11 @@
 ghost use Rattle.std.specs.Prelude.{◌≡◌, true, false};
 ghost use Rattle.std.specs.List.{list_all, list_any};
 ghost use Rattle.toml.specs.View.{view, table_view};
-ghost use Rattle.rv_lists.specs.Keys.{absent_or, has_kinds_of_keys, region_keys, job_keys, is_text};
+ghost use Rattle.rv_lists.specs.Keys.{is_absent_or, has_key_types, region_keys, job_keys, is_text};
 ghost use Rattle.rv_lists.specs.Keys.{is_number};
 ghost use Rattle.rv_lists.specs.Keys.{is_boolean, is_text_array, is_region, is_region_array, region_has_unknown_key};
-ghost use Rattle.rv_lists.specs.Keys.{regions_have_unknown_key, has_wrong_kind, has_unknown_job_or_region_key};
-ghost use Rattle.rv_lists.specs.KeysInside.{is_value_of_kind};
+ghost use Rattle.rv_lists.specs.Keys.{regions_have_unknown_key, has_wrong_type, has_unknown_job_or_region_key};
+ghost use Rattle.rv_lists.specs.KeysInside.{is_value_of_type};
 
 use crate::keys::{
     JOB_KEYS, Kind, array_at_key, has_unknown_job_key, has_unknown_region_key, value_at_key,
@@ -23,11 +23,11 @@ pub(crate) fn has_unknown_job_or_region_key(table: &Table) -> bool
 }
 
 /// Whether a value of a job does not have the type that its key requires; this includes the values in regions and in a signature.
-#[tactic(auto, unfolding(crate::specs::Keys::has_wrong_kind))]
-pub(crate) fn has_wrong_kind(table: &Table) -> bool
-    ensures { result ≡ has_wrong_kind (table_view table.now) }
+#[tactic(auto, unfolding(crate::specs::Keys::has_wrong_type))]
+pub(crate) fn has_wrong_type(table: &Table) -> bool
+    ensures { result ≡ has_wrong_type (table_view table.now) }
 {
-    !has_kinds_of_job_keys(table)
+    !has_job_key_types(table)
 }
 
 // Whether at least one region of a job has a key that regions may not have.
@@ -58,34 +58,34 @@ fn region_has_unknown_key(region: &Value) -> bool
 }
 
 // Whether each value of a job has the type that its key requires.
-fn has_kinds_of_job_keys(table: &Table) -> bool
-    ensures { result ≡ has_kinds_of_keys job_keys (table_view table.now) }
+fn has_job_key_types(table: &Table) -> bool
+    ensures { result ≡ has_key_types job_keys (table_view table.now) }
 {
-    has_kinds_of_keys(table, &JOB_KEYS)
+    has_key_types(table, &JOB_KEYS)
 }
 
 // Whether each of these keys is missing from a table, or its value has the required type.
-fn has_kinds_of_keys(table: &Table, keys: &[(&str, Kind)]) -> bool
+fn has_key_types(table: &Table, keys: &[(&str, Kind)]) -> bool
     ensures { result ≡ list_all
-        (λ key. absent_or (is_value_of_kind key.1) key.0.now (table_view table.now)) keys.now }
+        (λ key. is_absent_or (is_value_of_type key.1) key.0.now (table_view table.now)) keys.now }
 {
     keys.iter()
-        .all(|key| is_absent_or_kind(table, key.0, key.1))
+        .all(|key| is_absent_or_of_type(table, key.0, key.1))
 }
 
 // Whether the key is missing, or its value has this type.
-fn is_absent_or_kind(table: &Table, key: &str, kind: Kind) -> bool
-    ensures { result ≡ absent_or (is_value_of_kind kind) key.now (table_view table.now) }
+fn is_absent_or_of_type(table: &Table, key: &str, kind: Kind) -> bool
+    ensures { result ≡ is_absent_or (is_value_of_type kind) key.now (table_view table.now) }
 {
     match value_at_key(table, key) {
-        Some(value) => is_value_of_kind(kind, value),
+        Some(value) => is_value_of_type(kind, value),
         None => true,
     }
 }
 
 // Whether a value has this type.
-fn is_value_of_kind(kind: Kind, value: &Value) -> bool
-    ensures { result ≡ is_value_of_kind kind (view value.now) }
+fn is_value_of_type(kind: Kind, value: &Value) -> bool
+    ensures { result ≡ is_value_of_type kind (view value.now) }
 {
     match kind {
         Kind::Text => value.is_str(),
@@ -134,14 +134,14 @@ fn is_region(value: &Value) -> bool
     ensures { result ≡ is_region (view value.now) }
 {
     match value.as_table() {
-        Some(table) => has_kinds_of_region_keys(table),
+        Some(table) => has_region_key_types(table),
         None => false,
     }
 }
 
 // Whether each value of a region has the type that its key requires.
-fn has_kinds_of_region_keys(table: &Table) -> bool
-    ensures { result ≡ has_kinds_of_keys region_keys (table_view table.now) }
+fn has_region_key_types(table: &Table) -> bool
+    ensures { result ≡ has_key_types region_keys (table_view table.now) }
 {
     is_absent_or_number(table, "base")
         && is_absent_or_number(table, "size")
@@ -150,7 +150,7 @@ fn has_kinds_of_region_keys(table: &Table) -> bool
 
 // Whether the key is missing, or its value is an integer.
 fn is_absent_or_number(table: &Table, key: &str) -> bool
-    ensures { result ≡ absent_or is_number key.now (table_view table.now) }
+    ensures { result ≡ is_absent_or is_number key.now (table_view table.now) }
 {
     match value_at_key(table, key) {
         Some(value) => value.is_integer(),
@@ -160,7 +160,7 @@ fn is_absent_or_number(table: &Table, key: &str) -> bool
 
 // Whether the key is missing, or its value is a Boolean.
 fn is_absent_or_boolean(table: &Table, key: &str) -> bool
-    ensures { result ≡ absent_or is_boolean key.now (table_view table.now) }
+    ensures { result ≡ is_absent_or is_boolean key.now (table_view table.now) }
 {
     match value_at_key(table, key) {
         Some(value) => value.is_bool(),

@@ -4,8 +4,8 @@ ghost use Rattle.std.specs.Prelude.{◌≡◌, ◌≤◌, [], MatchResult, IfOk,
 ghost use Rattle.std.specs.Prelude.{vec_len, option_map};
 ghost use Rattle.toml.specs.View.{view, table_view, array_view, items_view};
 ghost use Rattle.rv_lists.specs.declared.error.What.TheVariants.{OutOfMemory};
-ghost use Rattle.rv_base.specs.Limits.{most_jobs};
-ghost use Rattle.rv_lists.specs.Reading.{GivesJobs};
+ghost use Rattle.rv_base.specs.Limits.{max_jobs};
+ghost use Rattle.rv_lists.specs.Reading.{MatchesJobsUnlessOutOfMemory};
 ghost use Rattle.rv_lists.specs.JobList.{has_no_jobs, has_too_many_jobs, job_elements, jobs_of_elements, jobs_of_document};
 ghost use Rattle.rv_lists.specs.JobList.{job_list_of};
 
@@ -14,7 +14,7 @@ use crate::error::{JobError, What};
 use crate::job::JobList;
 use crate::job_keys::job_from_element;
 use crate::keys::{has_unknown_list_key, value_at_key};
-use rv_base::limits::MOST_JOBS;
+use rv_base::limits::MAX_JOBS;
 use std::alloc::Global;
 use toml::value::Array;
 use toml::{Table, Value};
@@ -23,7 +23,7 @@ use toml::{Table, Value};
 /// in list order.
 #[tactic(auto, unfolding(crate::specs::JobList::job_list_of))]
 pub fn read_jobs(alloc: Global, bytes: &[u8]) -> Result<JobList, JobError>
-    ensures { GivesJobs result (job_list_of bytes.now) }
+    ensures { MatchesJobsUnlessOutOfMemory result (job_list_of bytes.now) }
 {
     match toml::table_from_slice(alloc, bytes) {
         Ok(table) => jobs_of_table(alloc, &table),
@@ -47,7 +47,7 @@ pub(crate) fn list_error(what: What) -> JobError
 // Returns the jobs of a list that is a TOML document, or the first error.
 #[tactic(auto, unfolding(crate::specs::JobList::jobs_of_document))]
 fn jobs_of_table(alloc: Global, table: &Table) -> Result<JobList, JobError>
-    ensures { GivesJobs result (jobs_of_document (Some (table_view table.now))) }
+    ensures { MatchesJobsUnlessOutOfMemory result (jobs_of_document (Some (table_view table.now))) }
 {
     match job_elements(table) {
         Ok(elements) => jobs_of_elements(alloc, elements.as_slice()),
@@ -61,7 +61,7 @@ pub(crate) fn job_elements(table: &Table) -> Result<&Array, What>
     ensures value { MatchResult result (λ a. job_elements (table_view table.now)
         ≡ Ok (array_view a.now))
         (λ e. job_elements (table_view table.now) ≡ Err e) }
-    ensures few { IfOk result (λ a. vec_len a.now ≤ most_jobs) }
+    ensures few { IfOk result (λ a. vec_len a.now ≤ max_jobs) }
 {
     let value = value_at_key(table, "job");
     if has_no_jobs(value) {
@@ -101,7 +101,7 @@ fn has_too_many_jobs(value: Option<&Value>) -> bool
 {
     match value {
         Some(value) => match value.as_array() {
-            Some(elements) => MOST_JOBS < elements.len(),
+            Some(elements) => MAX_JOBS < elements.len(),
             None => false,
         },
         None => false,
@@ -110,8 +110,8 @@ fn has_too_many_jobs(value: Option<&Value>) -> bool
 
 // Returns the jobs of the elements of `job`, or the error of the first bad job, with its number.
 fn jobs_of_elements(alloc: Global, elements: &[Value]) -> Result<JobList, JobError>
-    requires { length elements.now ≤ most_jobs }
-    ensures { GivesJobs result (jobs_of_elements 1 [] (items_view elements.now)) }
+    requires { length elements.now ≤ max_jobs }
+    ensures { MatchesJobsUnlessOutOfMemory result (jobs_of_elements 1 [] (items_view elements.now)) }
 {
     let mut jobs = EarlierJobs::new(alloc);
     for (at, element) in elements.iter().enumerate() {

@@ -2,7 +2,7 @@
 
 ghost use Rattle.std.specs.Prelude.{◌≡◌, ◌<◌, IfOk, IfSome, length};
 ghost use Rattle.toml.specs.View.{table_view};
-ghost use Rattle.rv_lists.specs.JobSteps.{results_from_table};
+ghost use Rattle.rv_lists.specs.JobSteps.{expected_results_from_table};
 ghost use Rattle.rv_lists.specs.Reading.{Gives};
 
 use crate::error::What;
@@ -23,9 +23,9 @@ pub(crate) struct Results {
 }
 
 /// Returns the signature of a job, and its expected exit code, signature and console, or the first error.
-#[tactic(auto, unfolding(crate::specs::JobSteps::results_from_table))]
-pub(crate) fn results_from_table(alloc: Global, table: &Table) -> Result<Results, What>
-    ensures value { Gives result (results_from_table (table_view table.now)) }
+#[tactic(auto, unfolding(crate::specs::JobSteps::expected_results_from_table))]
+pub(crate) fn expected_results_from_table(alloc: Global, table: &Table) -> Result<Results, What>
+    ensures value { Gives result (expected_results_from_table (table_view table.now)) }
     ensures named { IfOk result (λ results.
         IfSome results.signature (λ s. (0 < length s.begin) × (0 < length s.end))) }
 {

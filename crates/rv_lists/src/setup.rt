@@ -4,7 +4,7 @@ ghost use Rattle.std.specs.Prelude.{◌≡◌, ◌≤◌, ◌==◌, IfOk, length
 ghost use Rattle.hex.specs.Hex.{decode_of};
 ghost use Rattle.toml.specs.View.{table_view};
 ghost use Rattle.rv_lists.specs.declared.error.What.TheVariants.{OutOfMemory};
-ghost use Rattle.rv_base.specs.Limits.{most_script};
+ghost use Rattle.rv_base.specs.Limits.{max_script_len};
 ghost use Rattle.rv_lists.specs.JobList.{script_from_bytes, script_from_decoded, script_from_table, load_from_text, load_from_table};
 ghost use Rattle.rv_lists.specs.JobSteps.{setup_from_table};
 ghost use Rattle.rv_lists.specs.Reading.{Gives};
@@ -14,7 +14,7 @@ use crate::keys::text_at_key;
 use crate::regions::map_from_table;
 use hex::FromHexError;
 use rv_base::Bytes;
-use rv_base::limits::MOST_SCRIPT;
+use rv_base::limits::MAX_SCRIPT_LEN;
 use rv_elf::LoadAt;
 use rv_machine::Map;
 use std::alloc::Global;
@@ -32,7 +32,7 @@ pub(crate) struct Setup {
 #[tactic(auto, unfolding(crate::specs::JobSteps::setup_from_table))]
 pub(crate) fn setup_from_table(alloc: Global, table: &Table) -> Result<Setup, What>
     ensures value { Gives result (setup_from_table (table_view table.now)) }
-    ensures short { IfOk result (λ setup. length setup.script ≤ most_script) }
+    ensures short { IfOk result (λ setup. length setup.script ≤ max_script_len) }
 {
     let script = script_from_table(alloc, table)?;
     let regions = map_from_table(alloc, table)?;
@@ -48,7 +48,7 @@ pub(crate) fn setup_from_table(alloc: Global, table: &Table) -> Result<Setup, Wh
 #[tactic(auto, unfolding(crate::specs::JobList::script_from_table))]
 fn script_from_table(alloc: Global, table: &Table) -> Result<Bytes, What>
     ensures value { Gives result (script_from_table (table_view table.now)) }
-    ensures short { IfOk result (λ s. length s ≤ most_script) }
+    ensures short { IfOk result (λ s. length s ≤ max_script_len) }
 {
     match (text_at_key(table, "input"), text_at_key(table, "input_hex")) {
         (None, None) => Ok(Bytes::new(Vec::new(alloc))),
@@ -61,9 +61,9 @@ fn script_from_table(alloc: Global, table: &Table) -> Result<Bytes, What>
 // Returns the script that consists of these bytes, or an error if it is too long.
 fn script_from_bytes(alloc: Global, bytes: &[u8]) -> Result<Bytes, What>
     ensures value { Gives result (script_from_bytes bytes.now) }
-    ensures short { IfOk result (λ s. length s ≤ most_script) }
+    ensures short { IfOk result (λ s. length s ≤ max_script_len) }
 {
-    if bytes.len() <= MOST_SCRIPT {
+    if bytes.len() <= MAX_SCRIPT_LEN {
         Ok(Bytes::new(bytes.to_vec(alloc)?))
     } else {
         Err(What::Input)
@@ -73,11 +73,11 @@ fn script_from_bytes(alloc: Global, bytes: &[u8]) -> Result<Bytes, What>
 // Returns the script from its hexadecimal digits, or an error if they are invalid or it is too long.
 fn script_from_hex(alloc: Global, digits: &str) -> Result<Bytes, What>
     ensures value { Gives result (script_from_decoded (decode_of digits.now)) }
-    ensures short { IfOk result (λ s. length s ≤ most_script) }
+    ensures short { IfOk result (λ s. length s ≤ max_script_len) }
 {
     match hex::decode(alloc, digits) {
         Ok(bytes) => {
-            if bytes.len() <= MOST_SCRIPT {
+            if bytes.len() <= MAX_SCRIPT_LEN {
                 Ok(Bytes::new(bytes))
             } else {
                 Err(What::Input)

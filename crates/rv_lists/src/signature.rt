@@ -13,7 +13,7 @@ use crate::job::Symbols;
 use crate::keys::array_at_key;
 use crate::texts::is_in_bounds;
 use rv_base::Text;
-use rv_base::limits::MOST_SYMBOL;
+use rv_base::limits::MAX_SYMBOL_LEN;
 use std::alloc::Global;
 use toml::{Table, Value};
 
@@ -75,7 +75,7 @@ fn element_text<'a>(values: &'a [Value], at: usize) -> Option<&'a str>
 fn is_signature_symbol(text: &str) -> bool
     ensures { result ≡ is_signature_symbol text.now }
 {
-    is_in_bounds(1, MOST_SYMBOL, text.len()) && has_no_zero_byte(text)
+    is_in_bounds(1, MAX_SYMBOL_LEN, text.len()) && has_no_zero_byte(text)
 }
 
 // Whether a text has no zero byte.

@@ -4,7 +4,7 @@ ghost use Rattle.rv_isa.specs.Words.{IsWellFormed};
 ghost use Rattle.rv_memory.specs.Bus.{size_of};
 ghost use Rattle.rv_machine.specs.Effect.{address, load as load_of, load_value, store as store_of};
 ghost use Rattle.rv_machine.specs.DecodeCache.{with_range_invalidated};
-ghost use Rattle.rv_machine.specs.State.{at_pc};
+ghost use Rattle.rv_machine.specs.State.{with_pc};
 
 use crate::alu::add_offset;
 use crate::decode_cache::DecodeCache;
@@ -34,9 +34,9 @@ impl Hart {
         requires { IsWellFormed instr }
         ensures behind { self.new.pc ≡ self.old.pc }
         ensures effect { MatchResult result
-            (λ _. load_of width extend (at_pc self.old pc.old) instr next
-            ≡ Ok (at_pc self.new pc.new))
-            (λ _. (is_ok (load_of width extend (at_pc self.old pc.old) instr next) ≡ false)
+            (λ _. load_of width extend (with_pc self.old pc.old) instr next
+            ≡ Ok (with_pc self.new pc.new))
+            (λ _. (is_ok (load_of width extend (with_pc self.old pc.old) instr next) ≡ false)
             × (self.new ≡ self.old) × (pc.new ≡ pc.old)) }
     {
         let address = add_offset(self.registers[instr.rs1 as usize], instr.imm);
@@ -59,9 +59,9 @@ impl Hart {
         requires { IsWellFormed instr }
         ensures behind { self.new.pc ≡ self.old.pc }
         ensures effect { MatchResult result
-            (λ _. (store_of width (at_pc self.old pc.old) instr next ≡ Ok (at_pc self.new pc.new))
+            (λ _. (store_of width (with_pc self.old pc.old) instr next ≡ Ok (with_pc self.new pc.new))
             × (table.new ≡ with_range_invalidated table.old (address self.old instr) width))
-            (λ _. (is_ok (store_of width (at_pc self.old pc.old) instr next) ≡ false)
+            (λ _. (is_ok (store_of width (with_pc self.old pc.old) instr next) ≡ false)
             × (self.new ≡ self.old) × (pc.new ≡ pc.old) × (table.new ≡ table.old)) }
     {
         let address = add_offset(self.registers[instr.rs1 as usize], instr.imm);

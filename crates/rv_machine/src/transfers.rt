@@ -3,7 +3,7 @@ ghost use Rattle.std.specs.Prelude.{◌≡◌, ◌+◌, ◌%◌, ◌⊎◌, Matc
 ghost use Rattle.rv_isa.specs.Words.{IsWellFormed};
 ghost use Rattle.rv_machine.specs.Arithmetic.{even};
 ghost use Rattle.rv_machine.specs.Effect.{address, after_branch, after_jump};
-ghost use Rattle.rv_machine.specs.State.{at_pc};
+ghost use Rattle.rv_machine.specs.State.{with_pc};
 
 use crate::alu::add_offset;
 use crate::ending::Incomplete;
@@ -38,10 +38,10 @@ impl Hart {
         requires { IsWellFormed instr }
         ensures behind { self.new.pc ≡ self.old.pc }
         ensures effect { MatchResult result
-            (λ _. after_jump (at_pc self.old pc.old) instr next (even (address self.old instr))
-            ≡ Ok (at_pc self.new pc.new))
+            (λ _. after_jump (with_pc self.old pc.old) instr next (even (address self.old instr))
+            ≡ Ok (with_pc self.new pc.new))
             (λ _.
-            (is_ok (after_jump (at_pc self.old pc.old) instr next (even (address self.old instr)))
+            (is_ok (after_jump (with_pc self.old pc.old) instr next (even (address self.old instr)))
             ≡ false)
             × (self.new ≡ self.old) × (pc.new ≡ pc.old)) }
     {
@@ -61,8 +61,8 @@ impl Hart {
         requires { IsWellFormed instr }
         ensures behind { self.new.pc ≡ self.old.pc }
         ensures effect { MatchResult result
-            (λ _. after_jump (at_pc self.old pc.old) instr next target ≡ Ok (at_pc self.new pc.new))
-            (λ _. (is_ok (after_jump (at_pc self.old pc.old) instr next target) ≡ false)
+            (λ _. after_jump (with_pc self.old pc.old) instr next target ≡ Ok (with_pc self.new pc.new))
+            (λ _. (is_ok (after_jump (with_pc self.old pc.old) instr next target) ≡ false)
             × (self.new ≡ self.old) × (pc.new ≡ pc.old)) }
     {
         let refused = self.is_misaligned(target);
@@ -85,9 +85,9 @@ impl Hart {
         requires { here ≡ pc.old }
         ensures behind { self.new.pc ≡ self.old.pc }
         ensures effect { MatchResult result
-            (λ _. after_branch taken (at_pc self.old pc.old) instr next
-            ≡ Ok (at_pc self.new pc.new))
-            (λ _. (is_ok (after_branch taken (at_pc self.old pc.old) instr next) ≡ false)
+            (λ _. after_branch taken (with_pc self.old pc.old) instr next
+            ≡ Ok (with_pc self.new pc.new))
+            (λ _. (is_ok (after_branch taken (with_pc self.old pc.old) instr next) ≡ false)
             × (self.new ≡ self.old) × (pc.new ≡ pc.old)) }
     {
         if taken {

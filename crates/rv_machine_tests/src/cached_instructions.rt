@@ -138,7 +138,7 @@ fn check(alloc: Global, line: &str) -> Result<(), Fail> {
 
 // A machine caches the instructions that it executes, until FENCE.I after a store over them.
 #[test]
-fn machines_keep_instructions(rt: HostRuntime) -> Result<(), Fail> {
+fn machines_cache_instructions(rt: HostRuntime) -> Result<(), Fail> {
     has_lines(KEPT, 7)?;
     for line in KEPT.lines() {
         check(rt.alloc(), line)?;

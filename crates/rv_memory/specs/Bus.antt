@@ -15,7 +15,7 @@ use Rattle.rv_memory.specs.declared.access.Misaligned.{Misaligned as Choice}
 use Rattle.rv_memory.specs.declared.access.Misaligned.TheVariants.{Fault, Allow}
 use Rattle.rv_memory.specs.declared.faults.FetchFault.{FetchFault}
 use Rattle.rv_memory.specs.declared.faults.FetchFault.TheVariants.{Unmapped, Stale}
-use Rattle.rv_memory.specs.declared.limits.TheConstants.{CONSOLE_ROOM}
+use Rattle.rv_memory.specs.declared.limits.TheConstants.{CONSOLE_CAPACITY}
 use Rattle.rv_memory.specs.Regions.{in_one, is_in_writable_region, addresses, tabulate}
 
 -- the contents of a bus, as callers see it
@@ -109,7 +109,7 @@ console_store c a Byte v = Err Access
 console_store c a Half v = Err Access
 console_store c a Word v =
     if not (a == 0x1000_0000) then Err Access
-    else (if nat_lt (length c.output) CONSOLE_ROOM
+    else (if nat_lt (length c.output) CONSOLE_CAPACITY
     then Ok (record c { output = c.output ++ (v % 0x100) ∷ [] })
     else Err ConsoleFull)
 
@@ -143,8 +143,8 @@ abbrev pub is_clean_half : Contents → ℕ → Bool
 is_clean_half c a = is_ok (fetch_half_from c a)
 
 -- whether a fetch of each halfword in the `n` bytes (2 or 4) at the address `a` succeeds
-unfoldable pub clean_from : Contents → ℕ → ℕ → Bool
-clean_from c a n = is_clean_half c a && (not (n == 4) || is_clean_half c ((a + 2) % 0x1_0000_0000))
+unfoldable pub is_clean_range : Contents → ℕ → ℕ → Bool
+is_clean_range c a n = is_clean_half c a && (not (n == 4) || is_clean_half c ((a + 2) % 0x1_0000_0000))
 
 -- the contents after FENCE.I: no address counts as stored to
 abbrev pub without_stored : Contents → Contents

@@ -4,7 +4,7 @@ ghost use Rattle.std.specs.Prelude.{None, length};
 ghost use Rattle.rv_memory.specs.Regions.{in_one};
 ghost use Rattle.rv_memory.specs.Maps.{map_error};
 ghost use Rattle.rv_memory.specs.Inside.Places.{IsStoredAt};
-ghost use Rattle.rv_memory.specs.Bus.{size_of, load_from, store_to, fetch_half_from, fetch_word_from, clean_from};
+ghost use Rattle.rv_memory.specs.Bus.{size_of, load_from, store_to, fetch_half_from, fetch_word_from, is_clean_range};
 ghost use Rattle.rv_memory.specs.Bus.{put, without_stored, with_bytes};
 
 use crate::access::{Misaligned, Width, read_value, read_word, write_value};
@@ -43,11 +43,11 @@ impl Model for Bus {
 
     ghost coded = { contents_code };
 
-    ghost use Rattle.rv_memory.specs.Inside.Bus.{contents_of, IsBusInside};
+    ghost use Rattle.rv_memory.specs.Inside.Bus.{contents_of, IsValidBus};
 
     ghost view = { contents_of };
 
-    ghost invariant = { IsBusInside };
+    ghost invariant = { IsValidBus };
 }
 
 impl Bus {
@@ -75,7 +75,7 @@ impl Bus {
             (λ e. (load_from self.old addr width ≡ Err e) × (self.new ≡ self.old)) }
     {
         if width.divides(addr) {
-            if let Some(place) = self.map.index_in_first_region(addr, width) {
+            if let Some(place) = self.map.locate_in_first_region(addr, width) {
                 return Ok(read_value(&self.bytes, place.at, width));
             }
         }
@@ -97,7 +97,7 @@ impl Bus {
             (λ e. (store_to self.old addr width value ≡ Err e) × (self.new ≡ self.old)) }
     {
         if width.divides(addr) {
-            if let Some(place) = self.map.index_in_first_region(addr, width) {
+            if let Some(place) = self.map.locate_in_first_region(addr, width) {
                 if place.writable {
                     self.put(place, addr, width, value);
                     return Ok(());
@@ -163,10 +163,10 @@ impl Bus {
     }
 
     /// Whether [`Bus::fetch_half`] succeeds for each halfword in the 2 or 4 bytes at an address, which may be odd.
-    #[tactic(auto, unfolding(crate::specs::Bus::clean_from))]
+    #[tactic(auto, unfolding(crate::specs::Bus::is_clean_range))]
     pub fn clean(&self, addr: u32, len: u32) -> bool
         requires { (len ≡ 2) ⊎ (len ≡ 4) }
-        ensures { result ≡ clean_from self.now addr len }
+        ensures { result ≡ is_clean_range self.now addr len }
     {
         self.fetch_half(addr).is_ok() && (len != 4 || self.fetch_half(addr.wrapping_add(2)).is_ok())
     }

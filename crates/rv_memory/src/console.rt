@@ -5,13 +5,13 @@ ghost use Rattle.rv_memory.specs.Bus.{size_of, console_load, console_store, next
 use crate::access::Width;
 use crate::bus::Bus;
 use crate::faults::BusFault;
-use crate::limits::CONSOLE_ROOM;
+use crate::limits::CONSOLE_CAPACITY;
 
 // The address at which a word load reads a script byte, and a word store appends an output byte.
-const CONSOLE_BYTE: u32 = 0x1000_0000;
+const CONSOLE_DATA: u32 = 0x1000_0000;
 
 // The address at which a word load returns the number of script bytes left.
-const SCRIPT_LEFT: u32 = 0x1000_0004;
+const SCRIPT_REMAINING: u32 = 0x1000_0004;
 
 impl Bus {
     /// Returns the bytes that were written to the console so far.
@@ -33,10 +33,10 @@ impl Bus {
         let Width::Word = width else {
             return Err(BusFault::Access);
         };
-        if addr == CONSOLE_BYTE {
+        if addr == CONSOLE_DATA {
             return Ok(self.take_script_byte());
         }
-        if addr == SCRIPT_LEFT {
+        if addr == SCRIPT_REMAINING {
             return Ok((self.script.len() - self.script_position) as u32);
         }
         Err(BusFault::Access)
@@ -71,10 +71,10 @@ impl Bus {
         let Width::Word = width else {
             return Err(BusFault::Access);
         };
-        if addr != CONSOLE_BYTE {
+        if addr != CONSOLE_DATA {
             return Err(BusFault::Access);
         }
-        if self.console.len() >= CONSOLE_ROOM {
+        if self.console.len() >= CONSOLE_CAPACITY {
             return Err(BusFault::ConsoleFull);
         }
         self.console.push_reserved((value % 0x100) as u8);

@@ -3,7 +3,7 @@
 ghost use Rattle.std.specs.Prelude.{◌≡◌, IfOk};
 
 use crate::bus::Bus;
-use crate::limits::CONSOLE_ROOM;
+use crate::limits::CONSOLE_CAPACITY;
 use std::alloc::{AllocError, Global};
 
 impl Bus {
@@ -14,7 +14,7 @@ impl Bus {
         let bytes = Vec::from_slice(alloc, &self.bytes)?;
         let marks = Vec::from_slice(alloc, &self.marks)?;
         let script = Vec::from_slice(alloc, &self.script)?;
-        let mut console = Vec::with_capacity(alloc, CONSOLE_ROOM)?;
+        let mut console = Vec::with_capacity(alloc, CONSOLE_CAPACITY)?;
         console.extend_from_slice(&self.console)?;
         Ok(Bus {
             map: self.map,

@@ -4,7 +4,7 @@ ghost use Rattle.rv_memory.specs.Bus.{new_bus};
 
 use crate::access::Misaligned;
 use crate::bus::Bus;
-use crate::limits::CONSOLE_ROOM;
+use crate::limits::CONSOLE_CAPACITY;
 use crate::map::Map;
 use crate::marks::next_generation;
 use std::alloc::{AllocError, Global};
@@ -25,7 +25,7 @@ impl Bus {
         let total = map.total_size();
         let bytes = vec![in alloc; 0u8; total]?;
         let marks = vec![in alloc; 0u16; total]?;
-        let console = Vec::with_capacity(alloc, CONSOLE_ROOM)?;
+        let console = Vec::with_capacity(alloc, CONSOLE_CAPACITY)?;
         Ok(Bus {
             map,
             bytes,

@@ -2,7 +2,7 @@
 //! reset when the generations run out, so the cost per FENCE.I is small.
 ghost use Rattle.std.specs.Prelude.{◌≡◌, ◌+◌, ◌<◌, ◌≤◌, ℕ, length, slice_index};
 ghost use Rattle.rv_memory.specs.Bus.{size_of};
-ghost use Rattle.rv_memory.specs.Inside.View.{marked_at, any_marked};
+ghost use Rattle.rv_memory.specs.Inside.View.{with_marks_at, any_marked};
 
 use crate::access::Width;
 
@@ -10,7 +10,7 @@ use crate::access::Width;
 #[inline]
 pub(crate) fn mark(marks: &mut [u16], at: usize, width: Width, generation: u16)
     requires { at + size_of width ≤ length marks.old }
-    ensures { marks.new ≡ marked_at marks.old at width generation }
+    ensures { marks.new ≡ with_marks_at marks.old at width generation }
 {
     match width {
         Width::Byte => marks[at] = generation,

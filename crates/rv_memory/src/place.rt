@@ -2,12 +2,12 @@
 ghost use Rattle.std.specs.Prelude.{◌≡◌, ◌+◌, ◌%◌, ◌<◌, ◌≤◌, IfSome, MatchOption, false, true};
 ghost use Rattle.std.specs.List.{list_any, list_all};
 ghost use Rattle.rv_memory.specs.Bus.{size_of};
-ghost use Rattle.rv_memory.specs.Inside.Places.{IsStoredAt, search_index};
+ghost use Rattle.rv_memory.specs.Inside.Places.{IsStoredAt, located};
 ghost use Rattle.rv_memory.specs.Maps.{is_aligned, is_sized};
 ghost use Rattle.rv_memory.specs.Regions.{covers, total_size};
 
 use crate::access::Width;
-use crate::limits::MAP_ROOM;
+use crate::limits::MAX_MAP_SIZE;
 use crate::map::{Map, Region};
 
 /// Where the bytes of an access are in the concatenated bytes of all regions: the index of the first, and whether their region is writable.
@@ -40,7 +40,7 @@ impl Map {
     /// Returns where the bytes of an access are stored if they are in the first region. The address must be a multiple of the width:
     /// regions begin and end at multiples of 4, so one comparison decides.
     #[inline(always)]
-    pub(crate) fn index_in_first_region(&self, addr: u32, width: Width) -> Option<Place>
+    pub(crate) fn locate_in_first_region(&self, addr: u32, width: Width) -> Option<Place>
         requires { addr % size_of width ≡ 0 }
         ensures { IfSome result (λ p. IsStoredAt self.now addr (size_of width) p.at p.writable) }
     {
@@ -59,8 +59,8 @@ impl Map {
 fn search_regions(regions: &[Region], start: usize, addr: u32, len: u32) -> Option<Place>
     requires some { 0 < len }
     requires sized { list_all is_sized regions.now ≡ true }
-    requires room { start + total_size regions.now ≤ MAP_ROOM }
-    ensures { result ≡ search_index regions.now start addr len }
+    requires room { start + total_size regions.now ≤ MAX_MAP_SIZE }
+    ensures { result ≡ located regions.now start addr len }
 {
     let mut at = start;
     for region in regions {

@@ -10,15 +10,15 @@ use Rattle.std.proofs.lemmas.Option.{get_or_from_slice_get, same_Some, slice_get
 use Rattle.rv_rows.specs.declared_row.Row.{Row}
 use Rattle.rv_rows.specs.declared_saved.Extent.TheVariants as extent
 use Rattle.rv_rows.specs.declared_saved.Shard.{Shard}
-use Rattle.rv_rows.specs.Saved.{IsRow, are_new, row_names}
+use Rattle.rv_rows.specs.Saved.{IsValidRow, are_distinct, row_names}
 use Rattle.rv_merge.specs.declared.error.Flaw.{Flaw}
 use Rattle.rv_merge.specs.declared.error.Flaw.TheVariants as flaw
 use Rattle.rv_merge.specs.declared.error.MergeError.{MergeError}
 use Rattle.rv_merge.specs.declared.error.MergeError.TheVariants as error
-use Rattle.rv_merge.specs.GatheredParts.{HaveSources, Holds, IsComplete, IsTaken, IsUnfinished, IsWithout}
+use Rattle.rv_merge.specs.GatheredParts.{HaveSources, Holds, IsComplete, IsPartAdded, ExplainsIncomplete, LacksSource}
 use Rattle.rv_merge.specs.GatheredParts.{rows_from_slots}
-use Rattle.rv_merge.specs.Parts.{AreListed, AreParts, ArePartsIn, IsReportOf, IsPart, Run, run_of_shard, shard_in, nth_text}
-use Rattle.rv_merge.specs.Refusals.{HasNameTwice, IsMissing, IsNameTwice, IsRefused}
+use Rattle.rv_merge.specs.Parts.{AreValidRows, AreParts, ArePartsOfRun, IsReportAt, IsSearchedPart, Run, run_of_shard, shard_in, nth_text}
+use Rattle.rv_merge.specs.Refusals.{HasRepeatedName, IsMissingShard, IsRepeatedName, HasMergeError}
 use Rattle.rv_merge.proofs.OneList.{job_from_table, numbers_of_shard, one_shard_of, row_in, some_part}
 use Rattle.rv_merge.proofs.Slots.{get_or-some, map_agree, present_all, under}
 use Rattle.rv_merge.proofs.Stepping.{shard_at, stepped_has}
@@ -31,7 +31,7 @@ module _ (texts : List (List ℕ)) (shard : Shard) (sources : List (Option ℕ))
     (h : Holds texts (length texts) shard sources slots) where
   -- ---- a missing shard
 
-  pub is_missing : (n : ℕ) → 0 < length texts → IsWithout sources n → IsMissing n texts
+  pub is_missing : (n : ℕ) → 0 < length texts → LacksSource sources n → IsMissingShard n texts
   is_missing n some w = record {
     run = run_of_shard shard;
     low = w.low;
@@ -42,7 +42,7 @@ module _ (texts : List (List ℕ)) (shard : Shard) (sources : List (Option ℕ))
         false≢true
         (sym (ap is_some w.none) ∙ sym (ap (λ (k : ℕ). is_some (get_or sources (k - 1) None)) e) ∙ t.noted) in (
           t.n,
-          subst (λ (b : List ℕ). IsReportOf (extent.Shard (shard_in (run_of_shard shard) t.n)) b)
+          subst (λ (b : List ℕ). IsReportAt (extent.Shard (shard_in (run_of_shard shard) t.n)) b)
               (get_or_default texts at [] d within) t.of,
           differ,
         );
@@ -57,7 +57,7 @@ module _ (texts : List (List ℕ)) (shard : Shard) (sources : List (Option ℕ))
       at : ℕ
       there : get_or sources k None ≡ Some at
       within : at < length texts
-      taken : IsTaken (run_of_shard shard) sources slots (nth_text texts at)
+      taken : IsPartAdded (run_of_shard shard) sources slots (nth_text texts at)
       is : taken.n ≡ k + 1
 
     text_of : (k : ℕ) → k < length sources → HasText k
@@ -113,8 +113,8 @@ module _ (texts : List (List ℕ)) (shard : Shard) (sources : List (Option ℕ))
       slots_are : slots ≡ map Some (rows_from_slots slots)
       slots_are = present_all slots (λ k within. row_there k shards_some within)
 
-      is_part : (bytes : List ℕ) (t : IsTaken (run_of_shard shard) sources slots bytes)
-          → IsPart (rows_from_slots slots) (run_of_shard shard) t.n bytes
+      is_part : (bytes : List ℕ) (t : IsPartAdded (run_of_shard shard) sources slots bytes)
+          → IsSearchedPart (rows_from_slots slots) (run_of_shard shard) t.n bytes
       is_part bytes t = record {
         of = t.of;
         has = map_agree (λ (m : ℕ). slice_get (rows_from_slots slots) (m - 1)) (λ (m : ℕ). get_or slots (m - 1) None)
@@ -124,7 +124,7 @@ module _ (texts : List (List ℕ)) (shard : Shard) (sources : List (Option ℕ))
             ∙ t.has;
       }
 
-      any_part : (n : ℕ) → 0 < n → n ≤ shard.shards → Any (IsPart (rows_from_slots slots) (run_of_shard shard) n) texts
+      any_part : (n : ℕ) → 0 < n → n ≤ shard.shards → Any (IsSearchedPart (rows_from_slots slots) (run_of_shard shard) n) texts
       any_part n low high =
           let a = h.sources_long in
           let t = text_of (n - 1) (omega arith) in
@@ -134,19 +134,19 @@ module _ (texts : List (List ℕ)) (shard : Shard) (sources : List (Option ℕ))
             nth_text texts t.at,
             t.within,
             get_or_default texts t.at (nth_text texts t.at) [] t.within,
-            subst (λ (k : ℕ). IsPart (rows_from_slots slots) (run_of_shard shard) k (nth_text texts t.at)) number
+            subst (λ (k : ℕ). IsSearchedPart (rows_from_slots slots) (run_of_shard shard) k (nth_text texts t.at)) number
                 (is_part (nth_text texts t.at) t.taken),
           )
 
       -- the texts are the parts of the rows in the slots
-      pub are_parts : ArePartsIn (run_of_shard shard) (rows_from_slots slots) texts
+      pub are_parts : ArePartsOfRun (run_of_shard shard) (rows_from_slots slots) texts
       are_parts = record {
         jobs = sym h.slots_long ∙ ap length slots_are ∙ length-map (rows_from_slots slots) Some;
         some = shards_some;
         each = λ at d within.
             let t = h.taken at within in (
               t.n,
-              subst (λ (b : List ℕ). IsPart (rows_from_slots slots) (run_of_shard shard) t.n b)
+              subst (λ (b : List ℕ). IsSearchedPart (rows_from_slots slots) (run_of_shard shard) t.n b)
                   (get_or_default texts at [] d within)
                   (is_part (nth_text texts at) t),
             );
@@ -156,8 +156,8 @@ module _ (texts : List (List ℕ)) (shard : Shard) (sources : List (Option ℕ))
       -- ---- a name twice
 
       pub has_name_twice : (n at : ℕ) → 0 < n
-          → get_or sources ((n - 1) % length sources) None ≡ Some at → IsNameTwice (rows_from_slots slots) (n - 1)
-          → (at < length texts) × HasNameTwice texts (nth_text texts at) n
+          → get_or sources ((n - 1) % length sources) None ≡ Some at → IsRepeatedName (rows_from_slots slots) (n - 1)
+          → (at < length texts) × HasRepeatedName texts (nth_text texts at) n
       has_name_twice n at low there twice =
           let place = n - 1 in
           let s = shard_at shard.shards place shards_some in
@@ -172,7 +172,7 @@ module _ (texts : List (List ℕ)) (shard : Shard) (sources : List (Option ℕ))
           let is : t.at ≡ at =
           same_Some t.at at
           (sym t.there ∙ sym (ap (λ (k : ℕ). get_or sources (place % k) None) a) ∙ there) in
-          let P : ℕ → Type 0 = λ k. (k < length texts) × HasNameTwice texts (nth_text texts k) n in
+          let P : ℕ → Type 0 = λ k. (k < length texts) × HasRepeatedName texts (nth_text texts k) n in
           subst P is (
             t.within,
             record {
@@ -189,8 +189,8 @@ module _ (texts : List (List ℕ)) (shard : Shard) (sources : List (Option ℕ))
 
 -- ---- and they are rows of a list
 
-pub are_listed : (run : Run) (rows : List Row) (texts : List (List ℕ)) → ArePartsIn run rows texts
-    → are_new [] (row_names rows) ≡ true → AreListed rows
+pub are_listed : (run : Run) (rows : List Row) (texts : List (List ℕ)) → ArePartsOfRun run rows texts
+    → are_distinct [] (row_names rows) ≡ true → AreValidRows rows
 are_listed run rows texts parts new =
     let some = some_part run rows texts parts in
     let of = some.part.of in
@@ -199,19 +199,19 @@ are_listed run rows texts parts new =
     let long = parts.jobs in
     record {
       few = omega arith;
-      good = recursion_from_All IsRow rows good;
+      good = recursion_from_All IsValidRow rows good;
       new = new;
     }
   where
-    good : All IsRow rows
+    good : All IsValidRow rows
     good k d within =
         let job = job_from_table run rows texts k parts within in
         let row = row_in run rows texts k job in
         let report = job.part.of.report in
-        let every = All-from_recursion IsRow report.rows job.part.of.saved.rows in
+        let every = All-from_recursion IsValidRow report.rows job.part.of.saved.rows in
         let inside = slice_get_within report.rows job.q row.0 row.1 in
         let is : k + 1 - 1 ≡ k = omega arith in
-        subst IsRow
+        subst IsValidRow
         (get_or_from_slice_get report.rows job.q row.0 row.0 row.1
         ∙ sym (get_or_from_slice_get rows k row.0 d
         (subst (λ (i : ℕ). slice_get rows i ≡ Some row.0) is row.2)))
@@ -224,7 +224,7 @@ module _ (texts : List (List ℕ)) (shard : Shard) (sources : List (Option ℕ))
   pub complete : (rows : List Row) → IsComplete sources slots rows → AreParts rows texts
   complete rows whole =
       let parts = are_parts texts shard sources slots h whole.all some in
-      let new = subst (λ (x : List Row). are_new [] (row_names x) ≡ true) whole.are whole.new in
+      let new = subst (λ (x : List Row). are_distinct [] (row_names x) ≡ true) whole.are whole.new in
       let all : AreParts (rows_from_slots slots) texts = record {
         listed = are_listed (run_of_shard shard) (rows_from_slots slots) texts parts new;
         run = run_of_shard shard;
@@ -232,19 +232,19 @@ module _ (texts : List (List ℕ)) (shard : Shard) (sources : List (Option ℕ))
       } in
       subst (λ (x : List Row). AreParts x texts) (sym whole.are) all
 
-  flawed : (at : ℕ) (why : Flaw) → IsUnfinished sources slots (error.Text at why) → IsRefused texts (error.Text at why)
-  flawed at (flaw.NameTwice n) w =
+  flawed : (at : ℕ) (why : Flaw) → ExplainsIncomplete sources slots (error.Text at why) → HasMergeError texts (error.Text at why)
+  flawed at (flaw.RepeatedName n) w =
       has_name_twice texts shard sources slots h w.all some n at w.low w.there w.twice
   flawed at (flaw.Line line) w = absurd w
   flawed at flaw.CutOff w = absurd w
   flawed at flaw.Whole w = absurd w
   flawed at flaw.Choice w = absurd w
-  flawed at flaw.OtherShards w = absurd w
-  flawed at flaw.OtherJobs w = absurd w
-  flawed at flaw.OtherStamp w = absurd w
-  flawed at (flaw.OtherText earlier) w = absurd w
+  flawed at flaw.DifferentShardCount w = absurd w
+  flawed at flaw.DifferentJobCount w = absurd w
+  flawed at flaw.DifferentStamp w = absurd w
+  flawed at (flaw.DifferentText earlier) w = absurd w
 
-  pub unfinished : (e : MergeError) → IsUnfinished sources slots e → IsRefused texts e
+  pub unfinished : (e : MergeError) → ExplainsIncomplete sources slots e → HasMergeError texts e
   unfinished error.OutOfMemory w = tt
   unfinished error.NoTexts w = absurd w
   unfinished (error.Text at why) w = flawed at why w
@@ -263,7 +263,7 @@ module _ (texts : List (List ℕ)) (shard : Shard) (sources : List (Option ℕ))
   found_in (Ok rows) whole = complete rows whole
   found_in (Err e) w = tt
 
-  pub refused_job_count : (result : Result (List Row) MergeError) → IfErr result (IsUnfinished sources slots)
-      → IfErr result (IsRefused texts)
+  pub refused_job_count : (result : Result (List Row) MergeError) → IfErr result (ExplainsIncomplete sources slots)
+      → IfErr result (HasMergeError texts)
   refused_job_count (Ok rows) whole = tt
   refused_job_count (Err e) w = unfinished e w

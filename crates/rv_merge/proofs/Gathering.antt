@@ -7,21 +7,21 @@ use Rattle.std.proofs.lemmas.List.{get_or_default, get_or-set_same, get_or-set_o
 use Rattle.std.proofs.lemmas.List.Elements.{All-same}
 use Rattle.std.proofs.lemmas.Option.{same_Some, none-some, slice_get-get_or}
 use Rattle.std.specs.List.{All}
-use Rattle.rv_rows.specs.Limits.{most_jobs}
+use Rattle.rv_rows.specs.Limits.{max_jobs}
 use Rattle.rv_rows.specs.declared_row.Row.{Row}
 use Rattle.rv_rows.specs.declared_saved.Extent.TheVariants as extent
 use Rattle.rv_rows.specs.declared_saved.Shard.{Shard}
 use Rattle.rv_rows.specs.declared_saved.SavedReport.{SavedReport}
-use Rattle.rv_rows.specs.Saved.{IsSaved, saved_text}
+use Rattle.rv_rows.specs.Saved.{IsValidReport, saved_text}
 use Rattle.rv_rows.specs.declared_read.ReadError.{ReadError}
 use Rattle.rv_rows.specs.declared_read.ReadError.TheVariants as read
-use Rattle.rv_rows.specs.Differences.{IsSameReadError, BeginsAlike, first_read_error}
+use Rattle.rv_rows.specs.Differences.{IsSameReadError, AgreeBeforeError, first_read_error}
 use Rattle.rv_rows.specs.LenientReport.{lenient_report}
 use Rattle.rv_merge.specs.declared.error.Flaw.{Flaw}
 use Rattle.rv_merge.specs.declared.error.Flaw.TheVariants as flaw
-use Rattle.rv_merge.specs.GatheredParts.{Holds, IsOtherKind, IsOtherRun, IsSource, IsTaken, IsTextOf, filled_slots}
-use Rattle.rv_merge.specs.Parts.{IsReportOf, Run, run_of_shard, shard_in, nth_text}
-use Rattle.rv_merge.specs.Refusals.{AreTwo, HasFlaw, IsUnread}
+use Rattle.rv_merge.specs.GatheredParts.{Holds, IsExtentFlaw, IsRunFlaw, IsSource, IsPartAdded, IsTextOf, filled_slots}
+use Rattle.rv_merge.specs.Parts.{IsReportAt, Run, run_of_shard, shard_in, nth_text}
+use Rattle.rv_merge.specs.Refusals.{AreDifferentReports, HasFlaw, IsUnread}
 use Rattle.rv_merge.proofs.OneList.{HasNumbers, numbers_of_shard}
 use Rattle.rv_merge.proofs.Slots.{filled_has, filled_other, length-filled, map_agree}
 use Rattle.rv_merge.proofs.Stepping.{one_shard, stepped_at}
@@ -34,10 +34,10 @@ none_at X (suc count) zero = refl
 none_at X (suc count) (suc k) = none_at X count k
 
 pub holds_none : (texts : List (List ℕ)) (shard first : Shard) (sources : List (Option ℕ)) (slots : List (Option Row))
-    → IsReportOf (extent.Shard first) (nth_text texts 0) → shard ≡ first → sources ≡ replicate first.shards None
+    → IsReportAt (extent.Shard first) (nth_text texts 0) → shard ≡ first → sources ≡ replicate first.shards None
     → slots ≡ replicate first.jobs None → Holds texts 0 shard sources slots
 holds_none texts shard first sources slots of same a b = record {
-  first = subst (λ (s : Shard). IsReportOf (extent.Shard s) (nth_text texts 0)) (sym same) of;
+  first = subst (λ (s : Shard). IsReportAt (extent.Shard s) (nth_text texts 0)) (sym same) of;
   sources_long = ap length a ∙ length-replicate first.shards None ∙ sym (ap (λ (s : Shard). s.shards) same);
   slots_long = ap length b ∙ length-replicate first.jobs None ∙ sym (ap (λ (s : Shard). s.jobs) same);
   from = λ k at e.
@@ -61,8 +61,8 @@ module _ (texts : List (List ℕ)) (at : ℕ) (shard : Shard) (sources : List (O
     from = λ j a f. later j a (h.from j a f);
     taken = λ i within. elim (cases_eq i at) [
       | inl is ↦
-          subst (λ (j : ℕ). IsTaken (run_of_shard shard) sources slots (nth_text texts j)) (sym is)
-          (subst (λ (b : List ℕ). IsTaken (run_of_shard shard) sources slots b) same
+          subst (λ (j : ℕ). IsPartAdded (run_of_shard shard) sources slots (nth_text texts j)) (sym is)
+          (subst (λ (b : List ℕ). IsPartAdded (run_of_shard shard) sources slots b) same
           (h.taken earlier (h.from k earlier e).within))
       | inr other ↦ h.taken i (omega arith)
     ];
@@ -73,7 +73,7 @@ module _ (texts : List (List ℕ)) (at : ℕ) (shard : Shard) (sources : List (O
   module _ (part : Shard) (numbers : List ℕ) (rows : List Row)
       (is : IsTextOf (record { extent = extent.Shard part; numbers = numbers; rows = rows }) (nth_text texts at))
       (same : run_of_shard part ≡ run_of_shard shard) where
-    of : IsReportOf (extent.Shard (shard_in (run_of_shard shard) part.number)) (nth_text texts at)
+    of : IsReportAt (extent.Shard (shard_in (run_of_shard shard) part.number)) (nth_text texts at)
     of = record {
       report = record { extent = extent.Shard part; numbers = numbers; rows = rows };
       saved = is.saved;
@@ -81,20 +81,20 @@ module _ (texts : List (List ℕ)) (at : ℕ) (shard : Shard) (sources : List (O
       extent = ap (λ (run : Run). extent.Shard (shard_in run part.number)) same;
     }
 
-    row_has_word_numbers : HasNumbers part numbers
-    row_has_word_numbers =
+    prove_row_has_numbers : HasNumbers part numbers
+    prove_row_has_numbers =
         numbers_of_shard part (record { extent = extent.Shard part; numbers = numbers; rows = rows }) is.saved refl
 
     pub shard_within : (0 < part.number) × (part.number ≤ length sources)
     shard_within =
-        let good = row_has_word_numbers.good in
+        let good = prove_row_has_numbers.good in
         let a = ap (λ (run : Run). run.shards) same in
         let b = h.sources_long in
         (good.low, omega arith)
 
     pub number_within : (q n : ℕ) → slice_get numbers q ≡ Some n → (0 < n) × (n ≤ length slots)
     number_within q n at' =
-        let has = row_has_word_numbers in
+        let has = prove_row_has_numbers in
         let good = has.good in
         let p = stepped_at part.number part.shards part.jobs numbers q n has.stepped at' in
         let a = ap (λ (run : Run). run.jobs) same in
@@ -108,7 +108,7 @@ module _ (texts : List (List ℕ)) (at : ℕ) (shard : Shard) (sources : List (O
       noted : List (Option ℕ)
       noted = set sources (part.number - 1) (Some at)
 
-      new_taken : IsTaken (run_of_shard shard) (set sources (part.number - 1) (Some at)) (filled_slots numbers rows slots)
+      new_taken : IsPartAdded (run_of_shard shard) (set sources (part.number - 1) (Some at)) (filled_slots numbers rows slots)
           (nth_text texts at)
       unfolding of
       new_taken =
@@ -118,18 +118,18 @@ module _ (texts : List (List ℕ)) (at : ℕ) (shard : Shard) (sources : List (O
             n = part.number;
             of = of;
             noted = ap is_some (get_or-set_same sources (part.number - 1) (Some at) None (omega arith));
-            has = filled_has 0 most_jobs numbers rows slots listed.rising listed.counted number_within;
+            has = filled_has 0 max_jobs numbers rows slots listed.rising listed.counted number_within;
           }
 
-      other_shard : (bytes : List ℕ) (t : IsTaken (run_of_shard shard) sources slots bytes) → t.n - 1 ≡ part.number - 1 → ⊥
+      other_shard : (bytes : List ℕ) (t : IsPartAdded (run_of_shard shard) sources slots bytes) → t.n - 1 ≡ part.number - 1 → ⊥
       other_shard bytes t e =
           false≢true
           (sym (ap is_some none) ∙ sym (ap (λ (k : ℕ). is_some (get_or sources k None)) e) ∙ t.noted)
 
-      apart : (bytes : List ℕ) (t : IsTaken (run_of_shard shard) sources slots bytes) (q n : ℕ)
+      apart : (bytes : List ℕ) (t : IsPartAdded (run_of_shard shard) sources slots bytes) (q n : ℕ)
           → slice_get t.of.report.numbers q ≡ Some n → (j m : ℕ) → slice_get numbers j ≡ Some m → m - 1 ≡ n - 1 → ⊥
       apart bytes t q n there j m here e =
-          let mine = row_has_word_numbers in
+          let mine = prove_row_has_numbers in
           let good = mine.good in
           let has = numbers_of_shard (shard_in (run_of_shard shard) t.n) t.of.report t.of.saved t.of.extent in
           let other = has.good in
@@ -144,8 +144,8 @@ module _ (texts : List (List ℕ)) (at : ℕ) (shard : Shard) (sources : List (O
           one_shard shard.shards t.n part.number n other.low other.high good.low (omega arith) b.2 leaves in
           other_shard bytes t (ap (λ (k : ℕ). k - 1) is')
 
-      still_taken : (bytes : List ℕ) → IsTaken (run_of_shard shard) sources slots bytes
-          → IsTaken (run_of_shard shard) (set sources (part.number - 1) (Some at)) (filled_slots numbers rows slots) bytes
+      still_taken : (bytes : List ℕ) → IsPartAdded (run_of_shard shard) sources slots bytes
+          → IsPartAdded (run_of_shard shard) (set sources (part.number - 1) (Some at)) (filled_slots numbers rows slots) bytes
       still_taken bytes t =
           let ne : t.n - 1 ≢ part.number - 1 = other_shard bytes t in
           record {
@@ -171,8 +171,8 @@ module _ (texts : List (List ℕ)) (at : ℕ) (shard : Shard) (sources : List (O
             let mine = shard_in (run_of_shard shard) part.number in
             record {
               within = omega arith;
-              of = subst (λ (j : ℕ). IsReportOf (extent.Shard (shard_in (run_of_shard shard) j)) (nth_text texts a)) number
-                  (subst (λ (j : ℕ). IsReportOf (extent.Shard mine) (nth_text texts j)) found of);
+              of = subst (λ (j : ℕ). IsReportAt (extent.Shard (shard_in (run_of_shard shard) j)) (nth_text texts a)) number
+                  (subst (λ (j : ℕ). IsReportAt (extent.Shard mine) (nth_text texts j)) found of);
             }
         | inr other ↦
             later k a
@@ -187,7 +187,7 @@ module _ (texts : List (List ℕ)) (at : ℕ) (shard : Shard) (sources : List (O
         from = new_source;
         taken = λ i within. elim (cases_eq i at) [
           | inl here ↦
-              subst (λ (j : ℕ). IsTaken (run_of_shard shard) (set sources (part.number - 1) (Some at))
+              subst (λ (j : ℕ). IsPartAdded (run_of_shard shard) (set sources (part.number - 1) (Some at))
               (filled_slots numbers rows slots) (nth_text texts j)) (sym here) new_taken
           | inr other ↦ still_taken (nth_text texts i) (h.taken i (omega arith))
         ];
@@ -197,7 +197,7 @@ module _ (texts : List (List ℕ)) (at : ℕ) (shard : Shard) (sources : List (O
 
     pub are_two : (earlier : ℕ) → get_or sources (part.number - 1) None ≡ Some earlier
         → (nth_text texts earlier ≡ nth_text texts at → ⊥)
-        → (earlier < at) × AreTwo (nth_text texts earlier) (nth_text texts at)
+        → (earlier < at) × AreDifferentReports (nth_text texts earlier) (nth_text texts at)
     are_two earlier e differ =
         let source = h.from (part.number - 1) earlier e in
         let within = shard_within in
@@ -205,7 +205,7 @@ module _ (texts : List (List ℕ)) (at : ℕ) (shard : Shard) (sources : List (O
           source.within,
           record {
             shard = shard_in (run_of_shard shard) part.number;
-            is = subst (λ (j : ℕ). IsReportOf (extent.Shard (shard_in (run_of_shard shard) j)) (nth_text texts earlier)) number
+            is = subst (λ (j : ℕ). IsReportAt (extent.Shard (shard_in (run_of_shard shard) j)) (nth_text texts earlier)) number
                 source.of;
             of = of;
             differ = differ;
@@ -223,40 +223,40 @@ read_some xs k o x within read is = get_or_default xs k None o within ∙ sym re
 
 -- a part of another run
 pub has_other_run : (texts : List (List ℕ)) (at : ℕ) (first part : Shard) (why : Flaw)
-    → IsReportOf (extent.Shard first) (nth_text texts 0) → IsReportOf (extent.Shard part) (nth_text texts at)
-    → IsOtherRun why first part → HasFlaw texts at why
-has_other_run texts at first part flaw.OtherShards a b h =
+    → IsReportAt (extent.Shard first) (nth_text texts 0) → IsReportAt (extent.Shard part) (nth_text texts at)
+    → IsRunFlaw why first part → HasFlaw texts at why
+has_other_run texts at first part flaw.DifferentShardCount a b h =
     record { shard = first; other = part; is = a; of = b; differ = h }
-has_other_run texts at first part flaw.OtherJobs a b h =
+has_other_run texts at first part flaw.DifferentJobCount a b h =
     record { shard = first; other = part; is = a; of = b; differ = h }
-has_other_run texts at first part flaw.OtherStamp a b h =
+has_other_run texts at first part flaw.DifferentStamp a b h =
     record { shard = first; other = part; is = a; of = b; differ = h }
 has_other_run texts at first part (flaw.Line line) a b h = absurd h
 has_other_run texts at first part flaw.CutOff a b h = absurd h
 has_other_run texts at first part flaw.Whole a b h = absurd h
 has_other_run texts at first part flaw.Choice a b h = absurd h
-has_other_run texts at first part (flaw.OtherText earlier) a b h = absurd h
-has_other_run texts at first part (flaw.NameTwice n) a b h = absurd h
+has_other_run texts at first part (flaw.DifferentText earlier) a b h = absurd h
+has_other_run texts at first part (flaw.RepeatedName n) a b h = absurd h
 
 -- a report that is no part
 pub has_other_kind : (texts : List (List ℕ)) (at : ℕ) (report : SavedReport) (why : Flaw)
-    → IsTextOf report (nth_text texts at) → IsOtherKind why report.extent → HasFlaw texts at why
+    → IsTextOf report (nth_text texts at) → IsExtentFlaw why report.extent → HasFlaw texts at why
 has_other_kind texts at report flaw.Whole is h =
     record { report = report; saved = is.saved; text = is.text; extent = h }
 has_other_kind texts at report flaw.Choice is h =
     (h.0, record { report = report; saved = is.saved; text = is.text; extent = h.1 })
-has_other_kind texts at report flaw.OtherShards is h = absurd h
-has_other_kind texts at report flaw.OtherJobs is h = absurd h
-has_other_kind texts at report flaw.OtherStamp is h = absurd h
+has_other_kind texts at report flaw.DifferentShardCount is h = absurd h
+has_other_kind texts at report flaw.DifferentJobCount is h = absurd h
+has_other_kind texts at report flaw.DifferentStamp is h = absurd h
 has_other_kind texts at report (flaw.Line line) is h = absurd h
 has_other_kind texts at report flaw.CutOff is h = absurd h
-has_other_kind texts at report (flaw.OtherText earlier) is h = absurd h
-has_other_kind texts at report (flaw.NameTwice n) is h = absurd h
+has_other_kind texts at report (flaw.DifferentText earlier) is h = absurd h
+has_other_kind texts at report (flaw.RepeatedName n) is h = absurd h
 
 -- a text that is none of a report's
 pub is_unread : (place : ReadError) (bytes : List ℕ) → (place ≡ read.OutOfMemory → ⊥)
-    → ((report : SavedReport) → IsSaved report → saved_text report ≡ bytes → place ≡ read.OutOfMemory)
-    → (report : SavedReport) × IsSaved report × BeginsAlike place (saved_text report) bytes
+    → ((report : SavedReport) → IsValidReport report → saved_text report ≡ bytes → place ≡ read.OutOfMemory)
+    → (report : SavedReport) × IsValidReport report × AgreeBeforeError place (saved_text report) bytes
     → IsSameReadError place (first_read_error (saved_text (lenient_report bytes)) bytes) → IsUnread place bytes
 is_unread place bytes other only begins told = record {
   none = λ report saved text. other (only report saved text);

@@ -7,17 +7,17 @@ use Rattle.std.proofs.lemmas.Bool.{and_from, ltb-false}
 use Rattle.toml.specs.Data.{Data, Items, no_items, item, Members, table, array, get_member}
 use Rattle.rv_rows.specs.declared_lists_error.What.{What}
 use Rattle.rv_rows.specs.declared_job.Job.{Job}
-use Rattle.rv_rows.specs.Limits.{most_jobs}
+use Rattle.rv_rows.specs.Limits.{max_jobs}
 use Rattle.rv_rows.specs.declared_lists_error.What.TheVariants as what
-use Rattle.rv_rows.specs.Keys.{any_unknown_key, item_count, has_unknown_job_or_region_key, has_wrong_kind, is_list_key}
-use Rattle.rv_rows.specs.Reading.{◌>>=◌, fault_if, passing_value, numbered_reading}
+use Rattle.rv_rows.specs.Keys.{any_unknown_key, item_count, has_unknown_job_or_region_key, has_wrong_type, is_list_key}
+use Rattle.rv_rows.specs.Reading.{◌>>=◌, fault_if, valid_value, with_job_number}
 use Rattle.rv_rows.specs.JobList.{name_from_table, names_of_jobs, image_from_table, budget_from_table, script_from_table, map_from_table}
 use Rattle.rv_rows.specs.Names.{is_name, index_in}
 use Rattle.rv_rows.specs.JobList.{load_from_table, signature_from_table, exit_from_table, reference_from_table, console_from_table, end_from_table, same_as_from_table, isa_from_table}
 use Rattle.rv_rows.specs.JobList.{misaligned_from_table, job_from_table, job_from_element, jobs_of_elements, has_no_jobs, has_too_many_jobs, array_elements}
 use Rattle.rv_rows.specs.JobList.{job_elements, jobs_of_document}
 use Rattle.rv_rows.specs.JobList.{document_of, job_list_of}
-use Rattle.rv_rows.specs.Saved.{are_new}
+use Rattle.rv_rows.specs.Saved.{are_distinct}
 
 -- a step that found no fault had a value, with which the next one found none
 taken : {F A B : Type 0} (r : Result A F) (f : A → Result B F) (y : B) → (r >>= f) ≡ Ok y
@@ -32,7 +32,7 @@ passes : (b : Bool) (w : What) (u : Unit {0}) → fault_if b w ≡ Ok u → b �
 passes true w u e = cc
 passes false w u e = refl
 
-holds : (p : List ℕ → Bool) (w : What) (o : Option (List ℕ)) (text : List ℕ) → passing_value p w o ≡ Ok text → p text ≡ true
+holds : (p : List ℕ → Bool) (w : What) (o : Option (List ℕ)) (text : List ℕ) → valid_value p w o ≡ Ok text → p text ≡ true
 holds p w None text e = cc
 holds p w (Some x) text e = by_test (p x) refl e
   where
@@ -53,7 +53,7 @@ job_named : (earlier : List (List ℕ)) (ms : Members) (job : Job) → job_from_
 unfolding job_from_table
 job_named earlier ms job e =
     let known = taken (fault_if (has_unknown_job_or_region_key ms) what.UnknownKey) _ job e in
-    let typed = taken (fault_if (has_wrong_kind ms) what.WrongType) _ job known.1.1 in
+    let typed = taken (fault_if (has_wrong_type ms) what.WrongType) _ job known.1.1 in
     let name = taken (name_from_table ms) _ job typed.1.1 in
     let fresh = taken (fault_if (is_some (index_in earlier name.0)) what.Duplicate) _ job name.1.1 in
     let image = taken (image_from_table ms) _ job fresh.1.1 in
@@ -82,47 +82,47 @@ unfolding job_from_element
 element_named earlier (table ms) job e = job_named earlier ms job e
 element_named earlier d job e = cc
 
-unnumbered : {A : Type 0} (n : ℕ) (r : Result A What) (x : A) → numbered_reading n r ≡ Ok x → r ≡ Ok x
+unnumbered : {A : Type 0} (n : ℕ) (r : Result A What) (x : A) → with_job_number n r ≡ Ok x → r ≡ Ok x
 unnumbered n (Ok y) x e = ap Ok (same_Ok y x refl e)
 unnumbered n (Err w) x e = cc
 
 -- names by the rule, of which none is one of these or one before it, and as many as there are elements
-pub record AreNamed (earlier : List (List ℕ)) (count : ℕ) (jobs : List Job) : Type 0 where
+pub record HaveNames (earlier : List (List ℕ)) (count : ℕ) (jobs : List Job) : Type 0 where
   pub names : list_all is_name (names_of_jobs jobs) ≡ true
-  pub new : are_new earlier (names_of_jobs jobs) ≡ true
+  pub new : are_distinct earlier (names_of_jobs jobs) ≡ true
   pub many : length jobs ≡ count
 
 named_more : (earlier : List (List ℕ)) (count : ℕ) (job : Job) (jobs : List Job) → is_name job.name ≡ true
-    → not (is_some (index_in earlier job.name)) ≡ true → AreNamed (earlier ++ job.name ∷ []) count jobs
-    → AreNamed earlier (count + 1) (job ∷ jobs)
-unfolding are_new
+    → not (is_some (index_in earlier job.name)) ≡ true → HaveNames (earlier ++ job.name ∷ []) count jobs
+    → HaveNames earlier (count + 1) (job ∷ jobs)
+unfolding are_distinct
 named_more earlier count job jobs name new rest = record {
   names = and_from (is_name job.name) (list_all is_name (names_of_jobs jobs)) name rest.names;
-  new = and_from (not (is_some (index_in earlier job.name))) (are_new (earlier ++ job.name ∷ []) (names_of_jobs jobs))
+  new = and_from (not (is_some (index_in earlier job.name))) (are_distinct (earlier ++ job.name ∷ []) (names_of_jobs jobs))
       new rest.new;
   many = let h = rest.many in omega arith;
 }
 
 named_from : (n : ℕ) (earlier : List (List ℕ)) (ds : Items) (jobs : List Job) → jobs_of_elements n earlier ds ≡ Ok jobs
-    → AreNamed earlier (item_count ds) jobs
-unfolding jobs_of_elements are_new
+    → HaveNames earlier (item_count ds) jobs
+unfolding jobs_of_elements are_distinct
 named_from n earlier no_items jobs e =
-    subst (AreNamed earlier 0) (same_Ok [] jobs refl e) (record { names = refl; new = refl; many = refl })
+    subst (HaveNames earlier 0) (same_Ok [] jobs refl e) (record { names = refl; new = refl; many = refl })
 named_from n earlier (item d ds) jobs e =
-    let first = taken (numbered_reading n (job_from_element earlier d)) _ jobs e in
+    let first = taken (with_job_number n (job_from_element earlier d)) _ jobs e in
     let rest = taken (jobs_of_elements (n + 1) (earlier ++ first.0.name ∷ []) ds) _ jobs first.1.1 in
     let named = element_named earlier d first.0 (unnumbered n _ first.0 first.1.0) in
     let behind = named_from (n + 1) (earlier ++ first.0.name ∷ []) ds rest.0 rest.1.0 in
-    subst (AreNamed earlier (item_count (item d ds))) (same_Ok (first.0 ∷ rest.0) jobs refl rest.1.1)
+    subst (HaveNames earlier (item_count (item d ds))) (same_Ok (first.0 ∷ rest.0) jobs refl rest.1.1)
     (named_more earlier (item_count ds) first.0 rest.0 named.0 named.1 behind)
 
-few_elements : (o : Option Data) (ds : Items) → has_too_many_jobs o ≡ false → array_elements o ≡ Ok ds → item_count ds ≤ most_jobs
+few_elements : (o : Option Data) (ds : Items) → has_too_many_jobs o ≡ false → array_elements o ≡ Ok ds → item_count ds ≤ max_jobs
 few_elements (Some (array xs)) ds few e =
-    subst (λ (ys : Items). item_count ys ≤ most_jobs) (same_Ok xs ds refl e) (ltb-false _ _ few)
+    subst (λ (ys : Items). item_count ys ≤ max_jobs) (same_Ok xs ds refl e) (ltb-false _ _ few)
 few_elements None ds few e = cc
 few_elements (Some d) ds few e = cc
 
-few_in : (ms : Members) (ds : Items) → job_elements ms ≡ Ok ds → item_count ds ≤ most_jobs
+few_in : (ms : Members) (ds : Items) → job_elements ms ≡ Ok ds → item_count ds ≤ max_jobs
 unfolding job_elements
 few_in ms ds e =
     let some = taken (fault_if (has_no_jobs (get_member (codes "job") ms)) what.NoJobs) _ ds e in
@@ -132,15 +132,15 @@ few_in ms ds e =
 
 -- the jobs of a list that was read
 pub record AreRead (jobs : List Job) : Type 0 where
-  pub few : length jobs ≤ most_jobs
+  pub few : length jobs ≤ max_jobs
   pub names : list_all is_name (names_of_jobs jobs) ≡ true
-  pub new : are_new [] (names_of_jobs jobs) ≡ true
+  pub new : are_distinct [] (names_of_jobs jobs) ≡ true
 
 read_in : (o : Option Members) (jobs : List Job) → jobs_of_document o ≡ Ok jobs → AreRead jobs
 unfolding jobs_of_document
 read_in None jobs e = cc
 read_in (Some ms) jobs e =
-    let found = taken (numbered_reading 0 (job_elements ms)) _ jobs e in
+    let found = taken (with_job_number 0 (job_elements ms)) _ jobs e in
     let named = named_from 1 [] found.0 jobs found.1.1 in
     let few = few_in ms found.0 (unnumbered 0 _ found.0 found.1.0) in
     let many = named.many in

@@ -12,13 +12,13 @@ use Rattle.rv_rows.specs.declared_saved.Extent.{Extent}
 use Rattle.rv_rows.specs.declared_saved.Extent.TheVariants as extent
 use Rattle.rv_rows.specs.declared_saved.Shard.{Shard}
 use Rattle.rv_rows.specs.declared_saved.SavedReport.{SavedReport}
-use Rattle.rv_rows.specs.Saved.{are_new, are_evenly_spaced, row_names, saved_text}
+use Rattle.rv_rows.specs.Saved.{are_distinct, are_evenly_spaced, row_names, saved_text}
 use Rattle.rv_merge.specs.declared.error.Flaw.{Flaw}
 use Rattle.rv_merge.specs.declared.error.Flaw.TheVariants as flaw
 use Rattle.rv_merge.specs.declared.error.MergeError.{MergeError}
 use Rattle.rv_merge.specs.declared.error.MergeError.TheVariants as error
-use Rattle.rv_merge.specs.Parts.{AreParts, ArePartsIn, IsPart, Run, shard_in, nth_text}
-use Rattle.rv_merge.specs.Refusals.{AreTwo, Differ, HasFlaw, IsMissing, IsNameTwice, IsRefused, AnswersRows}
+use Rattle.rv_merge.specs.Parts.{AreParts, ArePartsOfRun, IsSearchedPart, Run, shard_in, nth_text}
+use Rattle.rv_merge.specs.Refusals.{AreDifferentReports, Differ, HasFlaw, IsMissingShard, IsRepeatedName, HasMergeError, IsRowsOrOutOfMemory}
 use Rattle.rv_merge.proofs.Named.{new_at}
 use Rattle.rv_merge.proofs.OneList.{each_part, numbers_of_shard, one_extent, one_list, one_shard_of, same_run}
 use Rattle.rv_merge.proofs.OneList.{some_part}
@@ -41,8 +41,8 @@ same_saved r t e f g =
     ∙ ap (λ (x : List ℕ). record { extent = t.extent; numbers = x; rows = r.rows }) f
     ∙ ap (λ (x : List Row). record { extent = t.extent; numbers = t.numbers; rows = x }) g
 
-same_part : (run : Run) (rows : List Row) (n m : ℕ) (bytes others : List ℕ) → IsPart rows run n bytes
-    → IsPart rows run m others → n ≡ m → bytes ≡ others
+same_part : (run : Run) (rows : List Row) (n m : ℕ) (bytes others : List ℕ) → IsSearchedPart rows run n bytes
+    → IsSearchedPart rows run m others → n ≡ m → bytes ≡ others
 same_part run rows n m bytes others x y is =
     let r = x.of.report in
     let t = y.of.report in
@@ -57,8 +57,8 @@ same_part run rows n m bytes others x y is =
     in
     sym x.of.text ∙ ap saved_text one ∙ y.of.text
 
-two_never : (run : Run) (rows : List Row) (n m : ℕ) (bytes others : List ℕ) → IsPart rows run n bytes
-    → IsPart rows run m others → AreTwo bytes others → ⊥
+two_never : (run : Run) (rows : List Row) (n m : ℕ) (bytes others : List ℕ) → IsSearchedPart rows run n bytes
+    → IsSearchedPart rows run m others → AreDifferentReports bytes others → ⊥
 two_never run rows n m bytes others x y two =
     let a = one_shard_of two.shard (shard_in run n) bytes two.is x.of in
     let b = one_shard_of two.shard (shard_in run m) others two.of y.of in
@@ -67,7 +67,7 @@ two_never run rows n m bytes others x y two =
 -- ---- other runs
 
 differ_never : {X : Type 0} (what : Shard → X) (run : Run) (rows : List Row) (n m : ℕ) (bytes others : List ℕ)
-    → ((k j : ℕ) → what (shard_in run k) ≡ what (shard_in run j)) → IsPart rows run n bytes → IsPart rows run m others
+    → ((k j : ℕ) → what (shard_in run k) ≡ what (shard_in run j)) → IsSearchedPart rows run n bytes → IsSearchedPart rows run m others
     → Differ what bytes others → ⊥
 differ_never what run rows n m bytes others alike x y d =
     let a = one_shard_of d.shard (shard_in run n) bytes d.is x.of in
@@ -76,7 +76,7 @@ differ_never what run rows n m bytes others alike x y d =
 
 -- ---- names
 
-named_never : (rows : List Row) (place : ℕ) → are_new [] (row_names rows) ≡ true → IsNameTwice rows place → ⊥
+named_never : (rows : List Row) (place : ℕ) → are_distinct [] (row_names rows) ≡ true → IsRepeatedName rows place → ⊥
 named_never rows place new h =
     let name = λ (row : Row). row.name in
     let there : slice_get (row_names rows) place ≡ Some h.row.name =
@@ -89,8 +89,8 @@ named_never rows place new h =
 
 -- ---- each flaw
 
-flaw_never : (run : Run) (rows : List Row) (texts : List (List ℕ)) (at : ℕ) (why : Flaw) → ArePartsIn run rows texts
-    → are_new [] (row_names rows) ≡ true → at < length texts → HasFlaw texts at why → ⊥
+flaw_never : (run : Run) (rows : List Row) (texts : List (List ℕ)) (at : ℕ) (why : Flaw) → ArePartsOfRun run rows texts
+    → are_distinct [] (row_names rows) ≡ true → at < length texts → HasFlaw texts at why → ⊥
 flaw_never run rows texts at (flaw.Line line) parts new within h =
     let p = each_part run rows texts at parts within in
     h.none p.1.of.report p.1.of.saved p.1.of.text
@@ -105,39 +105,39 @@ flaw_never run rows texts at flaw.Choice parts new within h =
     let p = each_part run rows texts at parts within in
     let e = one_extent (extent.Choice h.0) (extent.Shard (shard_in run p.0)) (nth_text texts at) h.1 p.1.of in
     cc
-flaw_never run rows texts at flaw.OtherShards parts new within h =
+flaw_never run rows texts at flaw.DifferentShardCount parts new within h =
     let p = each_part run rows texts 0 parts (omega arith) in
     let q = each_part run rows texts at parts within in
     differ_never (λ (s : Shard). s.shards) run rows p.0 q.0 (nth_text texts 0) (nth_text texts at) (λ k j. refl) p.1 q.1 h
-flaw_never run rows texts at flaw.OtherJobs parts new within h =
+flaw_never run rows texts at flaw.DifferentJobCount parts new within h =
     let p = each_part run rows texts 0 parts (omega arith) in
     let q = each_part run rows texts at parts within in
     differ_never (λ (s : Shard). s.jobs) run rows p.0 q.0 (nth_text texts 0) (nth_text texts at) (λ k j. refl) p.1 q.1 h
-flaw_never run rows texts at flaw.OtherStamp parts new within h =
+flaw_never run rows texts at flaw.DifferentStamp parts new within h =
     let p = each_part run rows texts 0 parts (omega arith) in
     let q = each_part run rows texts at parts within in
     differ_never (λ (s : Shard). s.stamp) run rows p.0 q.0 (nth_text texts 0) (nth_text texts at) (λ k j. refl) p.1 q.1 h
-flaw_never run rows texts at (flaw.OtherText earlier) parts new within h =
+flaw_never run rows texts at (flaw.DifferentText earlier) parts new within h =
     let low = h.0 in
     let p = each_part run rows texts earlier parts (omega arith) in
     let q = each_part run rows texts at parts within in
     two_never run rows p.0 q.0 (nth_text texts earlier) (nth_text texts at) p.1 q.1 h.1
-flaw_never run rows texts at (flaw.NameTwice n) parts new within h =
+flaw_never run rows texts at (flaw.RepeatedName n) parts new within h =
     let e = one_list run h.run rows h.rows texts parts h.parts in
-    named_never h.rows (n - 1) (subst (λ (x : List Row). are_new [] (row_names x) ≡ true) e new) h.twice
+    named_never h.rows (n - 1) (subst (λ (x : List Row). are_distinct [] (row_names x) ≡ true) e new) h.twice
 
 -- ---- a missing shard
 
-missing_any : (run : Run) (rows : List Row) (texts : List (List ℕ)) (n : ℕ) (m : IsMissing n texts)
-    → Any (IsPart rows run n) texts → ⊥
+missing_any : (run : Run) (rows : List Row) (texts : List (List ℕ)) (n : ℕ) (m : IsMissingShard n texts)
+    → Any (IsSearchedPart rows run n) texts → ⊥
 missing_any run rows texts n m (k, x, within, is, p) =
     let (other, of, differ) = m.each k x within in
-    let here = subst (λ (b : List ℕ). IsPart rows run n b) (sym is) p in
+    let here = subst (λ (b : List ℕ). IsSearchedPart rows run n b) (sym is) p in
     let one = one_shard_of (shard_in m.run other) (shard_in run n) (get_or texts k x) of here.of in
     differ (ap (λ (s : Shard). s.number) one)
 
-missing_never : (run : Run) (rows : List Row) (texts : List (List ℕ)) (n : ℕ) → ArePartsIn run rows texts
-    → IsMissing n texts → ⊥
+missing_never : (run : Run) (rows : List Row) (texts : List (List ℕ)) (n : ℕ) → ArePartsOfRun run rows texts
+    → IsMissingShard n texts → ⊥
 missing_never run rows texts n parts m =
     let p = each_part run rows texts 0 parts m.some in
     let (other, of, differ) = m.each 0 [] m.some in
@@ -149,7 +149,7 @@ missing_never run rows texts n parts m =
 -- ---- all errors
 
 pub refused_only : (rows : List Row) (texts : List (List ℕ)) (e : MergeError) → AreParts rows texts
-    → IsRefused texts e → e ≡ error.OutOfMemory
+    → HasMergeError texts e → e ≡ error.OutOfMemory
 refused_only rows texts error.OutOfMemory parts h = refl
 refused_only rows texts error.NoTexts parts h =
     let some = some_part parts.run rows texts parts.parts in
@@ -166,13 +166,13 @@ found_only rows found texts parts others =
 
 -- so where it answers, and where it refuses, the answer is that list's or memory ran out
 pub gives : (texts : List (List ℕ)) (result : Result (List Row) MergeError) → IfOk result (λ rows. AreParts rows texts)
-    → IfErr result (IsRefused texts) → (rows : List Row) → AreParts rows texts → AnswersRows rows result
+    → IfErr result (HasMergeError texts) → (rows : List Row) → AreParts rows texts → IsRowsOrOutOfMemory rows result
 gives texts (Ok found) parts refused rows these = found_only rows found texts these parts
 gives texts (Err e) parts refused rows these = refused_only rows texts e these refused
 
 -- the exit with an error
 pub gives_err : (texts : List (List ℕ)) (result : Result (List Row) MergeError) (e : MergeError)
-    → IsErrAnd result (λ error. error ≡ e) → IsRefused texts e → (rows : List Row) → AreParts rows texts
-    → AnswersRows rows result
+    → IsErrAnd result (λ error. error ≡ e) → HasMergeError texts e → (rows : List Row) → AreParts rows texts
+    → IsRowsOrOutOfMemory rows result
 gives_err texts (Ok found) e is refused rows these = absurd is
 gives_err texts (Err error) e is refused rows these = is ∙ refused_only rows texts e these refused

@@ -7,15 +7,15 @@ use Rattle.std.proofs.lemmas.Bool.{and_parts, cases_lt, leb-true}
 use Rattle.std.proofs.lemmas.Option.{same_Some, slice_get_past}
 use Rattle.std.proofs.lemmas.List.{get_or_default}
 use Rattle.rv_rows.specs.Names.{is_name}
-use Rattle.rv_rows.specs.Limits.{most_jobs}
+use Rattle.rv_rows.specs.Limits.{max_jobs}
 use Rattle.rv_rows.specs.declared_row.Row.{Row}
 use Rattle.rv_rows.specs.declared_saved.Extent.{Extent}
 use Rattle.rv_rows.specs.declared_saved.Extent.TheVariants as extent
 use Rattle.rv_rows.specs.declared_saved.Shard.{Shard}
 use Rattle.rv_rows.specs.declared_saved.SavedReport.{SavedReport}
-use Rattle.rv_rows.specs.Saved.{IsSaved, are_evenly_spaced, matches_job_numbers, is_valid_shard}
+use Rattle.rv_rows.specs.Saved.{IsValidReport, are_evenly_spaced, matches_job_numbers, is_valid_shard}
 use Rattle.rv_rows.proofs.Public.{same_reports}
-use Rattle.rv_merge.specs.Parts.{ArePartsIn, IsReportOf, IsPart, Run, run_of_shard, shard_in, nth_text}
+use Rattle.rv_merge.specs.Parts.{ArePartsOfRun, IsReportAt, IsSearchedPart, Run, run_of_shard, shard_in, nth_text}
 use Rattle.rv_merge.proofs.Slots.{same_by_get, under}
 use Rattle.rv_merge.proofs.Stepping.{shard_at, stepped_has}
 
@@ -25,25 +25,25 @@ use Rattle.rv_merge.proofs.Stepping.{shard_at, stepped_has}
 pub record IsGood (s : Shard) : Type 0 where
   pub low : 0 < s.number
   pub high : s.number ≤ s.shards
-  pub shards : s.shards ≤ most_jobs
-  pub jobs : s.jobs ≤ most_jobs
+  pub shards : s.shards ≤ max_jobs
+  pub jobs : s.jobs ≤ max_jobs
 
 pub good_shard : (s : Shard) → is_valid_shard s ≡ true → IsGood s
 unfolding is_valid_shard
 good_shard s h =
-    let jobs = nat_le s.jobs most_jobs && is_name s.stamp in
-    let shards = nat_le s.shards most_jobs && jobs in
+    let jobs = nat_le s.jobs max_jobs && is_name s.stamp in
+    let shards = nat_le s.shards max_jobs && jobs in
     let number = nat_le s.number s.shards && shards in
     let a = and_parts (nat_le 1 s.number) number h in
     let b = and_parts (nat_le s.number s.shards) shards a.1 in
-    let c = and_parts (nat_le s.shards most_jobs) jobs b.1 in
-    let d = and_parts (nat_le s.jobs most_jobs) (is_name s.stamp) c.1 in
+    let c = and_parts (nat_le s.shards max_jobs) jobs b.1 in
+    let d = and_parts (nat_le s.jobs max_jobs) (is_name s.stamp) c.1 in
     let low : 1 ≤ s.number = leb-true 1 s.number a.0 in
     record {
       low = omega arith;
       high = leb-true s.number s.shards b.0;
-      shards = leb-true s.shards most_jobs c.0;
-      jobs = leb-true s.jobs most_jobs d.0;
+      shards = leb-true s.shards max_jobs c.0;
+      jobs = leb-true s.jobs max_jobs d.0;
     }
 
 -- the numbers of a shard's report are those of its jobs
@@ -57,17 +57,17 @@ fits_shard s ns h =
     let p = and_parts (is_valid_shard s) (are_evenly_spaced s.number s.shards s.jobs ns) h in
     record { good = good_shard s p.0; stepped = p.1 }
 
-pub numbers_of_shard : (s : Shard) (r : SavedReport) → IsSaved r → r.extent ≡ extent.Shard s → HasNumbers s r.numbers
+pub numbers_of_shard : (s : Shard) (r : SavedReport) → IsValidReport r → r.extent ≡ extent.Shard s → HasNumbers s r.numbers
 numbers_of_shard s r saved is =
     fits_shard s r.numbers (subst (λ (e : Extent). matches_job_numbers e r.numbers ≡ true) is saved.listed.fits)
 
 -- ---- one text is that of one report
 
-pub one_report : (jobs others : Extent) (bytes : List ℕ) (x : IsReportOf jobs bytes) (y : IsReportOf others bytes)
+pub one_report : (jobs others : Extent) (bytes : List ℕ) (x : IsReportAt jobs bytes) (y : IsReportAt others bytes)
     → x.report ≡ y.report
 one_report jobs others bytes x y = same_reports x.report y.report x.saved y.saved (x.text ∙ sym y.text)
 
-pub one_extent : (jobs others : Extent) (bytes : List ℕ) → IsReportOf jobs bytes → IsReportOf others bytes
+pub one_extent : (jobs others : Extent) (bytes : List ℕ) → IsReportAt jobs bytes → IsReportAt others bytes
     → jobs ≡ others
 one_extent jobs others bytes x y =
     sym x.extent ∙ ap (λ (r : SavedReport). r.extent) (one_report jobs others bytes x y) ∙ y.extent
@@ -75,8 +75,8 @@ one_extent jobs others bytes x y =
 same_shard : (s t : Shard) → extent.Shard s ≡ extent.Shard t → s ≡ t
 same_shard s t e = cc
 
-pub one_shard_of : (s t : Shard) (bytes : List ℕ) → IsReportOf (extent.Shard s) bytes
-    → IsReportOf (extent.Shard t) bytes → s ≡ t
+pub one_shard_of : (s t : Shard) (bytes : List ℕ) → IsReportAt (extent.Shard s) bytes
+    → IsReportAt (extent.Shard t) bytes → s ≡ t
 one_shard_of s t bytes x y = same_shard s t (one_extent (extent.Shard s) (extent.Shard t) bytes x y)
 
 -- ---- the text that has a job
@@ -86,26 +86,26 @@ pub record HasJob (run : Run) (rows : List Row) (texts : List (List ℕ)) (place
   pub at : ℕ
   pub within : at < length texts
   pub n : ℕ
-  pub part : IsPart rows run n (nth_text texts at)
+  pub part : IsSearchedPart rows run n (nth_text texts at)
   pub q : ℕ
   pub there : slice_get part.of.report.numbers q ≡ Some (place + 1)
 
-part_has_job : (run : Run) (rows : List Row) (n place : ℕ) (bytes : List ℕ) (p : IsPart rows run n bytes)
+part_has_job : (run : Run) (rows : List Row) (n place : ℕ) (bytes : List ℕ) (p : IsSearchedPart rows run n bytes)
     → n ≤ place + 1 → place < run.jobs → (place + 1) % run.shards ≡ n % run.shards
     → (q : ℕ) × (slice_get p.of.report.numbers q ≡ Some (place + 1))
 part_has_job run rows n place bytes p low high same =
     let has = numbers_of_shard (shard_in run n) p.of.report p.of.saved p.of.extent in
     stepped_has n run.shards run.jobs p.of.report.numbers (place + 1) has.stepped low (omega arith) same
 
-any_job : (run : Run) (rows : List Row) (texts : List (List ℕ)) (n place : ℕ) → Any (IsPart rows run n) texts
+any_job : (run : Run) (rows : List Row) (texts : List (List ℕ)) (n place : ℕ) → Any (IsSearchedPart rows run n) texts
     → n ≤ place + 1 → place < run.jobs → (place + 1) % run.shards ≡ n % run.shards → HasJob run rows texts place
 any_job run rows texts n place (k, x, within, is, p) low high same =
     let here : x ≡ nth_text texts k = sym is ∙ get_or_default texts k x [] within in
-    let part : IsPart rows run n (nth_text texts k) = subst (λ (b : List ℕ). IsPart rows run n b) here p in
+    let part : IsSearchedPart rows run n (nth_text texts k) = subst (λ (b : List ℕ). IsSearchedPart rows run n b) here p in
     let there = part_has_job run rows n place (nth_text texts k) part low high same in
     record { at = k; within = within; n = n; part = part; q = there.0; there = there.1 }
 
-pub job_from_table : (run : Run) (rows : List Row) (texts : List (List ℕ)) (place : ℕ) → ArePartsIn run rows texts
+pub job_from_table : (run : Run) (rows : List Row) (texts : List (List ℕ)) (place : ℕ) → ArePartsOfRun run rows texts
     → place < length rows → HasJob run rows texts place
 job_from_table run rows texts place parts within =
     let shard = shard_at run.shards place parts.some in
@@ -127,9 +127,9 @@ pub record SomePart (run : Run) (rows : List Row) (texts : List (List ℕ)) : Ty
   pub at : ℕ
   pub within : at < length texts
   pub n : ℕ
-  pub part : IsPart rows run n (nth_text texts at)
+  pub part : IsSearchedPart rows run n (nth_text texts at)
 
-some_any : (run : Run) (rows : List Row) (texts : List (List ℕ)) (n : ℕ) → Any (IsPart rows run n) texts
+some_any : (run : Run) (rows : List Row) (texts : List (List ℕ)) (n : ℕ) → Any (IsSearchedPart rows run n) texts
     → SomePart run rows texts
 some_any run rows texts n (k, x, within, is, p) =
     let here : x ≡ nth_text texts k = sym is ∙ get_or_default texts k x [] within in
@@ -137,31 +137,31 @@ some_any run rows texts n (k, x, within, is, p) =
       at = k;
       within = within;
       n = n;
-      part = subst (λ (b : List ℕ). IsPart rows run n b) here p;
+      part = subst (λ (b : List ℕ). IsSearchedPart rows run n b) here p;
     }
 
-pub some_part : (run : Run) (rows : List Row) (texts : List (List ℕ)) → ArePartsIn run rows texts
+pub some_part : (run : Run) (rows : List Row) (texts : List (List ℕ)) → ArePartsOfRun run rows texts
     → SomePart run rows texts
 some_part run rows texts parts = some_any run rows texts 1 (parts.all 1 (omega arith) parts.some)
 
-pub each_part : (run : Run) (rows : List Row) (texts : List (List ℕ)) (at : ℕ) → ArePartsIn run rows texts
-    → at < length texts → (n : ℕ) × IsPart rows run n (nth_text texts at)
+pub each_part : (run : Run) (rows : List Row) (texts : List (List ℕ)) (at : ℕ) → ArePartsOfRun run rows texts
+    → at < length texts → (n : ℕ) × IsSearchedPart rows run n (nth_text texts at)
 each_part run rows texts at parts within = parts.each at [] within
 
 pub same_run : (run other : Run) (n m : ℕ) → shard_in run n ≡ shard_in other m → run ≡ other
 same_run run other n m e = ap run_of_shard e
 
 -- texts are those of one run
-pub one_run : (run other : Run) (rows others : List Row) (texts : List (List ℕ)) → ArePartsIn run rows texts
-    → ArePartsIn other others texts → run ≡ other
+pub one_run : (run other : Run) (rows others : List Row) (texts : List (List ℕ)) → ArePartsOfRun run rows texts
+    → ArePartsOfRun other others texts → run ≡ other
 one_run run other rows others texts parts more =
     let some = some_part run rows texts parts in
     let that = each_part other others texts some.at more some.within in
     same_run run other some.n that.0
     (one_shard_of (shard_in run some.n) (shard_in other that.0) (nth_text texts some.at) some.part.of that.1.of)
 
-same_row : (run other : Run) (rows others : List Row) (texts : List (List ℕ)) (place : ℕ) → ArePartsIn run rows texts
-    → ArePartsIn other others texts → place < length rows → slice_get rows place ≡ slice_get others place
+same_row : (run other : Run) (rows others : List Row) (texts : List (List ℕ)) (place : ℕ) → ArePartsOfRun run rows texts
+    → ArePartsOfRun other others texts → place < length rows → slice_get rows place ≡ slice_get others place
 same_row run other rows others texts place parts more within =
     let job = job_from_table run rows texts place parts within in
     let row = row_in run rows texts place job in
@@ -180,8 +180,8 @@ same_row run other rows others texts place parts more within =
     subst (λ (i : ℕ). slice_get rows i ≡ slice_get others i) k (row.2 ∙ ap Some one ∙ sym again.2)
 
 -- and of one list of rows
-pub one_list : (run other : Run) (rows others : List Row) (texts : List (List ℕ)) → ArePartsIn run rows texts
-    → ArePartsIn other others texts → rows ≡ others
+pub one_list : (run other : Run) (rows others : List Row) (texts : List (List ℕ)) → ArePartsOfRun run rows texts
+    → ArePartsOfRun other others texts → rows ≡ others
 one_list run other rows others texts parts more =
     let runs = one_run run other rows others texts parts more in
     let long : length rows ≡ length others = sym parts.jobs ∙ ap (λ (r : Run). r.jobs) runs ∙ more.jobs in

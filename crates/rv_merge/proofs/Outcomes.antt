@@ -11,7 +11,7 @@ use Rattle.rv_rows.specs.declared_elf_error.ImageError.{ImageError}
 use Rattle.rv_rows.specs.declared_elf_error.ImageError.TheVariants as image
 use Rattle.rv_rows.specs.declared_image.Segment.{Segment}
 use Rattle.rv_rows.specs.declared_loading.LoadAt.{LoadAt}
-use Rattle.rv_rows.specs.ElfRows.{RefusalRow, first_refusal, accepted}
+use Rattle.rv_rows.specs.ElfRows.{ErrorRow, first_error_of, accepted}
 use Rattle.rv_rows.specs.Image.{image_of, unchecked_image, refusals}
 use Rattle.rv_rows.specs.Loading.{map_check, map_rows}
 use Rattle.rv_rows.specs.Symbols.{symbol_of, symbol_rows, signature_check, is_bad_signature_range}
@@ -23,7 +23,7 @@ use Rattle.rv_rows.specs.declared_kept.Kept.TheVariants as kept
 use Rattle.rv_rows.specs.declared_row.Refusal.{Refusal}
 use Rattle.rv_rows.specs.declared_row.Refusal.TheVariants as refusal
 use Rattle.rv_rows.specs.declared.outcome.SignatureRange.{SignatureRange}
-use Rattle.rv_rows.specs.Outcome.{content_or_refusal, reference_or_refusal, image_file_or_refusal, end_of_signature, signature_range, range_if_asked}
+use Rattle.rv_rows.specs.Outcome.{content_or_refusal, reference_or_refusal, image_file_or_refusal, end_of_signature, signature_range, range_if_requested}
 use Rattle.rv_rows.specs.Outcome.{loadable_image, row_end, outcome_of_run, refused_outcome, outcome_if_loadable}
 use Rattle.rv_rows.specs.Outcome.{loaded_state, file_outcome_of, outcome_if_readable, outcome_of}
 use Rattle.rv_rows.specs.declared.outcome.Loadable.{Loadable}
@@ -35,7 +35,7 @@ use Rattle.rv_rows.specs.declared_ending.Ending.TheVariants as machine
 use Rattle.rv_rows.specs.Run.{Ran, run_of}
 use Rattle.rv_rows.specs.Bus.{word_at}
 use Rattle.rv_rows.specs.SignatureWords.{words_of}
-use Rattle.rv_rows.specs.Saved.{most_words}
+use Rattle.rv_rows.specs.Saved.{max_words}
 use Rattle.std.specs.FinMap as fin
 use Rattle.std.specs.List.{list_all}
 use Rattle.std.specs.Ordering.{nat_cmp}
@@ -75,12 +75,12 @@ lasting_row : {X : Type 0} (b : Bool) (why : ImageError) (next : Result X ImageE
 lasting_row true why next h n = h
 lasting_row false why next h n = n
 
-lasting_first : {X : Type 0} (rows : List RefusalRow) (next : Result X ImageError)
-    → list_all (λ (row : RefusalRow). lasts row.1) rows ≡ true → Errs Lasting next → Errs Lasting (first_refusal rows next)
+lasting_first : {X : Type 0} (rows : List ErrorRow) (next : Result X ImageError)
+    → list_all (λ (row : ErrorRow). lasts row.1) rows ≡ true → Errs Lasting next → Errs Lasting (first_error_of rows next)
 lasting_first [] next h n = n
 lasting_first (row ∷ rows) next h n =
-    let parts = and_parts (lasts row.1) (list_all (λ (row : RefusalRow). lasts row.1) rows) h in
-    lasting_row row.0 row.1 (first_refusal rows next) parts.0 (lasting_first rows next parts.1 n)
+    let parts = and_parts (lasts row.1) (list_all (λ (row : ErrorRow). lasts row.1) rows) h in
+    lasting_row row.0 row.1 (first_error_of rows next) parts.0 (lasting_first rows next parts.1 n)
 
 lasting_image : (set : Isa) (file : List ℕ) → Errs Lasting (image_of set file)
 unfolding image_of
@@ -101,7 +101,7 @@ lasting_check begin end regions =
     lasting_first ((is_bad_signature_range begin end regions, image.SignatureRange) ∷ []) accepted refl tt
 
 lasting_range : (file : List ℕ) (regions : List Region) (names : Option Symbols)
-    → Errs Lasting (range_if_asked file regions names)
+    → Errs Lasting (range_if_requested file regions names)
 unfolding signature_range
 lasting_range file regions None = tt
 lasting_range file regions (Some names) =
@@ -123,7 +123,7 @@ lasting_loadable job file =
     errs_on Lasting (image_of job.isa file) _ (lasting_image job.isa file) (λ found.
     errs_on Lasting (map_check found.segments job.regions job.load) _
     (lasting_map found.segments job.regions job.load) (λ unit.
-    errs_on Lasting (range_if_asked file job.regions job.signature) _
+    errs_on Lasting (range_if_requested file job.regions job.signature) _
     (lasting_range file job.regions job.signature) (λ range. tt)))
 
 lasting_content : (k : Kept) (unreadable long : Refusal) → IsLasting unreadable → IsLasting long
@@ -186,7 +186,7 @@ short_checked begin end regions u e = by_test (is_bad_signature_range begin end 
     by_test false is same = short_range begin end regions is
 
 short_asked : (file : List ℕ) (regions : List Region) (names : Option Symbols)
-    → Oks IsShort (range_if_asked file regions names)
+    → Oks IsShort (range_if_requested file regions names)
 unfolding signature_range
 short_asked file regions None = tt
 short_asked file regions (Some names) =
@@ -207,7 +207,7 @@ short_asked file regions (Some names) =
 -- it is no refusal for want of memory, and has at most 65,536 words
 pub record IsFine (o : Outcome) : Type 0 where
   pub end : (why : Refusal) → o.ending ≡ ending.Refused why → IsLasting why
-  pub words : (words : List ℕ) → o.signature ≡ Some words → length words ≤ most_words
+  pub words : (words : List ℕ) → o.signature ≡ Some words → length words ≤ max_words
 
 fine_refused : (why : Refusal) → IsLasting why → IsFine (refused_outcome why)
 fine_refused why h = record {
@@ -221,7 +221,7 @@ no_refusal (machine.Fault kind pc value) why e = cc
 no_refusal machine.Budget why e = cc
 
 few_words : (memory : fin.FinMap nat_cmp ℕ) (begin end : ℕ) → end - begin ≤ 0x4_0000
-    → length (words_of memory begin end) ≤ most_words
+    → length (words_of memory begin end) ≤ max_words
 unfolding words_of
 few_words memory begin end h =
     let many = length-map-range_with_len (λ k. word_at memory (begin + 4 * k)) 0 ((end - begin) / 4) in
@@ -235,7 +235,7 @@ fine_run ran None h = record {
 fine_run ran (Some range) h = record {
   end = λ why e. absurd (no_refusal ran.ending why e);
   words = λ words e.
-      subst (λ (ws : List ℕ). length ws ≤ most_words) (same_Some _ words e)
+      subst (λ (ws : List ℕ). length ws ≤ max_words) (same_Some _ words e)
       (few_words ran.state.bus.memory range.begin range.end h);
 }
 
@@ -251,7 +251,7 @@ short_loadable job file =
     let P : Loadable → Type 0 = λ l. IsShort l.range in
     oks_on P (image_of job.isa file) _ (λ found a.
     oks_on P (map_check found.segments job.regions job.load) _ (λ unit b.
-    on_range found (range_if_asked file job.regions job.signature) (short_asked file job.regions job.signature)))
+    on_range found (range_if_requested file job.regions job.signature) (short_asked file job.regions job.signature)))
   where
     on_range : (found : Image) (r : Result (Option SignatureRange) ImageError) → Oks IsShort r
         → Oks (λ (l : Loadable). IsShort l.range) (r >>= λ range. Ok (record { image = found; range = range }))

@@ -8,7 +8,7 @@ use Rattle.std.proofs.lemmas.Bool.{and_parts, cases_lt, false≢true}
 use Rattle.std.proofs.lemmas.List.{get_or_default, length-map}
 use Rattle.std.proofs.lemmas.List.Elements.{recursion_from_All}
 use Rattle.rv_rows.specs.declared_answers.Answer.{Answer}
-use Rattle.rv_rows.specs.Plans.{Planned, result_for_path}
+use Rattle.rv_rows.specs.Plans.{Planned, result_or_unreadable}
 use Rattle.rv_rows.specs.declared_job.Job.{Job}
 use Rattle.rv_rows.specs.Jobs.{console_path}
 use Rattle.rv_rows.specs.JobList.{job_list_of, names_of_jobs as job_names}
@@ -19,9 +19,9 @@ use Rattle.rv_rows.specs.declared_row.RowEnd.{RowEnd}
 use Rattle.rv_rows.specs.declared_row.RowEnd.TheVariants as ending
 use Rattle.rv_rows.specs.Rows.{row_of, rows_of}
 use Rattle.rv_rows.specs.Wholes.{plan_of_jobs}
-use Rattle.rv_rows.specs.Saved.{AreWords, IsEnd, IsRow, most_words, are_new, row_names}
-use Rattle.rv_merge.specs.Parts.{AreListed}
-use Rattle.rv_merge.specs.Numbers.{EndsInWords, HasNumbers, HasWords}
+use Rattle.rv_rows.specs.Saved.{IsValidSignature, IsValidEnd, IsValidRow, max_words, are_distinct, row_names}
+use Rattle.rv_merge.specs.Parts.{AreValidRows}
+use Rattle.rv_merge.specs.Numbers.{EndHasWordNumbers, HasNumbers, HasWords}
 use Rattle.rv_merge.proofs.ListNames.{are_read}
 use Rattle.rv_merge.proofs.Outcomes.{IsLasting, fine}
 
@@ -37,23 +37,23 @@ more rows i row is within has before k d h = elim (cases_lt k i) [
       (subst HasNumbers (is ∙ get_or_default rows i row d within) has)
 ]
 
-ends : (e : RowEnd) → EndsInWords e → ((why : Refusal) → e ≡ ending.Refused why → IsLasting why) → IsEnd e
+ends : (e : RowEnd) → EndHasWordNumbers e → ((why : Refusal) → e ≡ ending.Refused why → IsLasting why) → IsValidEnd e
 ends (ending.Exit code) h lasts = h
 ends (ending.Fault kind pc value) h lasts = h
 ends ending.Budget h lasts = tt
 ends (ending.Refused why) h lasts =
     λ e. absurd (false≢true (subst IsLasting e (lasts why refl)))
 
-words : (ws : Option (List ℕ)) → HasWords ws → ((found : List ℕ) → ws ≡ Some found → length found ≤ most_words)
-    → AreWords ws
+words : (ws : Option (List ℕ)) → HasWords ws → ((found : List ℕ) → ws ≡ Some found → length found ≤ max_words)
+    → IsValidSignature ws
 words None h few = tt
 words (Some found) h few = (few found refl, h)
 
-is_row : (plan : Planned) (job : Job) → is_name job.name ≡ true → HasNumbers (row_of plan job) → IsRow (row_of plan job)
+is_row : (plan : Planned) (job : Job) → is_name job.name ≡ true → HasNumbers (row_of plan job) → IsValidRow (row_of plan job)
 unfolding row_of
 is_row plan job name has =
-    let o = fine job (result_for_path plan.answers job.image) (option_map (result_for_path plan.answers) job.expect_signature)
-    (option_map (result_for_path plan.answers) (console_path job.expect_console)) in
+    let o = fine job (result_or_unreadable plan.answers job.image) (option_map (result_or_unreadable plan.answers) job.expect_signature)
+    (option_map (result_or_unreadable plan.answers) (console_path job.expect_console)) in
     record {
       name = name;
       ending = ends _ has.ending o.end;
@@ -63,7 +63,7 @@ is_row plan job name has =
     }
 
 are_rows : (plan : Planned) (jobs : List Job) → list_all is_name (job_names jobs) ≡ true
-    → AllByRecursion HasNumbers (map (row_of plan) jobs) → AllByRecursion IsRow (map (row_of plan) jobs)
+    → AllByRecursion HasNumbers (map (row_of plan) jobs) → AllByRecursion IsValidRow (map (row_of plan) jobs)
 are_rows plan [] names has = tt
 are_rows plan (job ∷ jobs) names has =
     let named = and_parts (is_name job.name) (list_all is_name (job_names jobs)) names in
@@ -75,16 +75,16 @@ same_names plan [] = refl
 same_names plan (job ∷ jobs) = ap (λ (ns : List (List ℕ)). job.name ∷ ns) (same_names plan jobs)
 
 pub listed : (bytes : List ℕ) (jobs : List Job) (answers : List Answer) (rows : List Row) → job_list_of bytes ≡ Ok jobs
-    → rows ≡ rows_of (plan_of_jobs jobs answers) → All HasNumbers rows → AreListed rows
+    → rows ≡ rows_of (plan_of_jobs jobs answers) → All HasNumbers rows → AreValidRows rows
 unfolding rows_of
 listed bytes jobs answers rows e is has =
     let plan = plan_of_jobs jobs answers in
     let read = are_read bytes jobs e in
     let few = read.few in
     let many = length-map jobs (row_of plan) in
-    subst AreListed (sym is) (record {
+    subst AreValidRows (sym is) (record {
       few = omega arith;
       good = are_rows plan jobs read.names
           (recursion_from_All HasNumbers _ (subst (All HasNumbers) is has));
-      new = subst (λ (ns : List (List ℕ)). are_new [] ns ≡ true) (same_names plan jobs) read.new;
+      new = subst (λ (ns : List (List ℕ)). are_distinct [] ns ≡ true) (same_names plan jobs) read.new;
     })

@@ -12,7 +12,7 @@ use Rattle.std.proofs.lemmas.Option.{get_or_from_slice_get, none-some, same_Some
 use Rattle.std.proofs.lemmas.Option.{slice_get_within}
 use Rattle.rv_rows.specs.declared_job.Job.{Job}
 use Rattle.rv_rows.specs.Names.{is_name}
-use Rattle.rv_rows.specs.Limits.{most_jobs}
+use Rattle.rv_rows.specs.Limits.{max_jobs}
 use Rattle.rv_rows.specs.Jobs.{single_job}
 use Rattle.rv_rows.specs.declared_answers.Answer.{Answer}
 use Rattle.rv_rows.specs.Choices.{selected_indices}
@@ -22,9 +22,9 @@ use Rattle.rv_rows.specs.Rows.{row_of, rows_at, rows_of}
 use Rattle.rv_rows.specs.Wholes.{HaveSameResults, plan_of_jobs}
 use Rattle.rv_rows.specs.declared_saved.Extent.TheVariants as extent
 use Rattle.rv_rows.specs.declared_saved.Shard.{Shard}
-use Rattle.rv_rows.specs.Saved.{IsRow, IsSaved, are_evenly_spaced, matches_job_numbers, is_valid_shard, row_names, saved_text}
-use Rattle.rv_merge.specs.Parts.{AreListed, AreParts, IsPart, Run, shard_in}
-use Rattle.rv_merge.specs.Shards.{AreTextsFrom, IsRunOf, IsTextFrom, is_in_shard, shard_places, shard_report}
+use Rattle.rv_rows.specs.Saved.{IsValidRow, IsValidReport, are_evenly_spaced, matches_job_numbers, is_valid_shard, row_names, saved_text}
+use Rattle.rv_merge.specs.Parts.{AreValidRows, AreParts, IsSearchedPart, Run, shard_in}
+use Rattle.rv_merge.specs.Shards.{AreShardTexts, IsRunOf, IsShardText, is_in_shard, shard_indices, shard_report}
 use Rattle.rv_merge.proofs.Sharing.{new_under, rising_from, stepped_from}
 
 -- ---- the places of marks
@@ -87,7 +87,7 @@ length_at plan places = length-map places (λ i. row_of plan (get_or plan.jobs i
 
 -- ---- rows of a list under rising numbers
 
-named : (rows : List Row) → AllByRecursion IsRow rows → list_all is_name (row_names rows) ≡ true
+named : (rows : List Row) → AllByRecursion IsValidRow rows → list_all is_name (row_names rows) ≡ true
 named [] h = refl
 named (row ∷ rows) h = and_from (is_name row.name) (list_all is_name (row_names rows)) h.0.name (named rows h.1)
 
@@ -106,12 +106,12 @@ module _ (rows some : List Row) (ns : List ℕ) (has : map (λ m. slice_get rows
       there None e is = absurd (none-some (Some row) is)
       there (Some n) e is = (n, e, same_Some (slice_get rows (n - 1)) (Some row) is)
 
-  good_under : All IsRow rows → All IsRow some
+  good_under : All IsValidRow rows → All IsValidRow some
   good_under good k d within =
       let row = get_or some k d in
       let at : slice_get some k ≡ Some row = slice_get-get_or some k d within in
       let r = number_of k row at in
-      subst IsRow (get_or_from_slice_get rows (r.0 - 1) row row r.2)
+      subst IsValidRow (get_or_from_slice_get rows (r.0 - 1) row row r.2)
       (good (r.0 - 1) row (slice_get_within rows (r.0 - 1) row r.2))
 
   name_under : (k : ℕ) (t : List ℕ) → slice_get (row_names some) k ≡ Some t
@@ -130,55 +130,55 @@ module _ (rows some : List Row) (ns : List ℕ) (has : map (λ m. slice_get rows
 
 -- ---- a shard's report
 
-is_shard_in : (run : Run) (n : ℕ) → 0 < n → n ≤ run.shards → run.shards ≤ most_jobs → run.jobs ≤ most_jobs
+is_shard_in : (run : Run) (n : ℕ) → 0 < n → n ≤ run.shards → run.shards ≤ max_jobs → run.jobs ≤ max_jobs
     → is_name run.stamp ≡ true → is_valid_shard (shard_in run n) ≡ true
 unfolding is_valid_shard
 is_shard_in run n low high few jobs stamp =
     let a : nat_le 1 n ≡ true = grind (arith, nat_tests) in
     let b : nat_le n run.shards ≡ true = grind (arith, nat_tests) in
-    let c : nat_le run.shards most_jobs ≡ true = grind (arith, nat_tests) in
-    let d : nat_le run.jobs most_jobs ≡ true = grind (arith, nat_tests) in
-    let last = nat_le run.jobs most_jobs && is_name run.stamp in
-    let then = nat_le run.shards most_jobs && last in
+    let c : nat_le run.shards max_jobs ≡ true = grind (arith, nat_tests) in
+    let d : nat_le run.jobs max_jobs ≡ true = grind (arith, nat_tests) in
+    let last = nat_le run.jobs max_jobs && is_name run.stamp in
+    let then = nat_le run.shards max_jobs && last in
     and_from (nat_le 1 n) (nat_le n run.shards && then) a
     (and_from (nat_le n run.shards) then b
-    (and_from (nat_le run.shards most_jobs) last c
-    (and_from (nat_le run.jobs most_jobs) (is_name run.stamp) d stamp)))
+    (and_from (nat_le run.shards max_jobs) last c
+    (and_from (nat_le run.jobs max_jobs) (is_name run.stamp) d stamp)))
 
 fits_in : (s : Shard) (ns : List ℕ) → is_valid_shard s ≡ true → are_evenly_spaced s.number s.shards s.jobs ns ≡ true
     → matches_job_numbers (extent.Shard s) ns ≡ true
 unfolding matches_job_numbers
 fits_in s ns a b = and_from (is_valid_shard s) (are_evenly_spaced s.number s.shards s.jobs ns) a b
 
-module _ (list : List Job) (answers : List Answer) (run : Run) (listed : AreListed (rows_of (plan_of_jobs list answers)))
+module _ (list : List Job) (answers : List Answer) (run : Run) (listed : AreValidRows (rows_of (plan_of_jobs list answers)))
     (is : IsRunOf list run) where
   plan : Planned
   plan = plan_of_jobs list answers
 
   has_rows : (n : ℕ)
       → map (λ m. slice_get (rows_of (plan_of_jobs list answers)) (m - 1))
-      (map (λ place. place + 1) (shard_places run.shards n run.jobs))
-      ≡ map Some (rows_at (plan_of_jobs list answers) (shard_places run.shards n run.jobs))
+      (map (λ place. place + 1) (shard_indices run.shards n run.jobs))
+      ≡ map Some (rows_at (plan_of_jobs list answers) (shard_indices run.shards n run.jobs))
   has_rows n =
       let jobs = is.jobs in
-      rows_there (plan_of_jobs list answers) (shard_places run.shards n run.jobs)
+      rows_there (plan_of_jobs list answers) (shard_indices run.shards n run.jobs)
       (places_within (is_in_shard run.shards n) 0 run.jobs (length list) (omega arith))
 
-  saved : (n : ℕ) → 0 < n → n ≤ run.shards → IsSaved (shard_report run n (plan_of_jobs list answers))
+  saved : (n : ℕ) → 0 < n → n ≤ run.shards → IsValidReport (shard_report run n (plan_of_jobs list answers))
   saved n low high =
       let rows = rows_of (plan_of_jobs list answers) in
-      let places = shard_places run.shards n run.jobs in
+      let places = shard_indices run.shards n run.jobs in
       let some = rows_at (plan_of_jobs list answers) places in
       let ns = map (λ place. place + 1) places in
       let few = listed.few in
       let long = length_rows (plan_of_jobs list answers) in
       let jobs = is.jobs in
-      let rises = rising_from (is_in_shard run.shards n) 0 most_jobs 0 run.jobs (omega arith) (omega arith) in
+      let rises = rising_from (is_in_shard run.shards n) 0 max_jobs 0 run.jobs (omega arith) (omega arith) in
       let stepped : are_evenly_spaced n run.shards (0 + run.jobs) ns ≡ true =
       stepped_from run.shards n n 0 run.jobs low high low (omega arith) refl in
       let last : 0 + run.jobs ≡ run.jobs = omega arith in
-      let good = good_under rows some ns (has_rows n) (All-from_recursion IsRow rows listed.good) in
-      let goods = recursion_from_All IsRow some good in
+      let good = good_under rows some ns (has_rows n) (All-from_recursion IsValidRow rows listed.good) in
+      let goods = recursion_from_All IsValidRow some good in
       record {
         listed = record {
           counted = length-map places (λ place. place + 1) ∙ sym (length_at (plan_of_jobs list answers) places);
@@ -187,7 +187,7 @@ module _ (list : List Job) (answers : List Answer) (run : Run) (listed : AreList
               (is_shard_in run n low high is.few (omega arith) is.stamp)
               (subst (λ (k : ℕ). are_evenly_spaced n run.shards k ns ≡ true) last stepped);
           names = named some goods;
-          new = new_under 0 most_jobs ns (row_names rows) (row_names some) listed.new rises
+          new = new_under 0 max_jobs ns (row_names rows) (row_names some) listed.new rises
               (name_under rows some ns (has_rows n));
         };
         rows = goods;
@@ -195,10 +195,10 @@ module _ (list : List Job) (answers : List Answer) (run : Run) (listed : AreList
 
   part_from : ((places : List ℕ) (some : List Answer) → All (HaveSameResults some answers) (jobs_needed_for list places)
       → rows_at (plan_of_jobs list some) places ≡ rows_at (plan_of_jobs list answers) places)
-      → (n : ℕ) (bytes : List ℕ) → IsTextFrom list answers run n bytes
-      → IsPart (rows_of (plan_of_jobs list answers)) run n bytes
+      → (n : ℕ) (bytes : List ℕ) → IsShardText list answers run n bytes
+      → IsSearchedPart (rows_of (plan_of_jobs list answers)) run n bytes
   part_from law n bytes t =
-      let places = shard_places run.shards n run.jobs in
+      let places = shard_indices run.shards n run.jobs in
       let same = law places t.kept t.same in
       let report = shard_report run n (plan_of_jobs list answers) in
       record {
@@ -207,7 +207,7 @@ module _ (list : List Job) (answers : List Answer) (run : Run) (listed : AreList
           saved = saved n t.low t.high;
           text = sym (t.text ∙ ap (λ (rows : List Row). saved_text (record {
             extent = extent.Shard (shard_in run n);
-            numbers = map (λ place. place + 1) (shard_places run.shards n run.jobs);
+            numbers = map (λ place. place + 1) (shard_indices run.shards n run.jobs);
             rows = rows;
           })) same);
           extent = refl;
@@ -215,15 +215,15 @@ module _ (list : List Job) (answers : List Answer) (run : Run) (listed : AreList
         has = has_rows n;
       }
 
-  any_from : ((bytes : List ℕ) (n : ℕ) → IsTextFrom list answers run n bytes
-      → IsPart (rows_of (plan_of_jobs list answers)) run n bytes)
-      → (n : ℕ) (texts : List (List ℕ)) → Any (IsTextFrom list answers run n) texts
-      → Any (IsPart (rows_of (plan_of_jobs list answers)) run n) texts
+  any_from : ((bytes : List ℕ) (n : ℕ) → IsShardText list answers run n bytes
+      → IsSearchedPart (rows_of (plan_of_jobs list answers)) run n bytes)
+      → (n : ℕ) (texts : List (List ℕ)) → Any (IsShardText list answers run n) texts
+      → Any (IsSearchedPart (rows_of (plan_of_jobs list answers)) run n) texts
   any_from f n texts (k, x, within, here, t) = (k, x, within, here, f x n t)
 
   pub parts_from : ((places : List ℕ) (some : List Answer) → All (HaveSameResults some answers) (jobs_needed_for list places)
       → rows_at (plan_of_jobs list some) places ≡ rows_at (plan_of_jobs list answers) places)
-      → (texts : List (List ℕ)) → AreTextsFrom list answers run texts
+      → (texts : List (List ℕ)) → AreShardTexts list answers run texts
       → AreParts (rows_of (plan_of_jobs list answers)) texts
   parts_from law texts from = record {
     listed = listed;

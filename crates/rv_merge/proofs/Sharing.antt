@@ -11,7 +11,7 @@ use Rattle.std.proofs.lemmas.Slice.Eq.{bytes_eq-Decides}
 use Rattle.std.proofs.lemmas.List.{append_assoc, append-nil}
 use Rattle.std.proofs.Math.Nat.{add-mod_right, mod-add-mod, mod-lt}
 use Rattle.rv_rows.specs.Names.{index_in}
-use Rattle.rv_rows.specs.Saved.{are_new, are_rising, are_evenly_spaced}
+use Rattle.rv_rows.specs.Saved.{are_distinct, are_increasing, are_evenly_spaced}
 use Rattle.rv_merge.specs.Shards.{is_in_shard}
 use Rattle.rv_merge.proofs.Named.{new_at}
 use Rattle.rv_merge.proofs.Stepping.{one_shard, rising_at, rising_parts, step_up}
@@ -81,26 +81,26 @@ stepped_from shards n next a (suc count) low high under over same =
 
 -- numbers of chosen places rise
 pub rising_from : (f : ℕ → Bool) (before last a count : ℕ) → before ≤ a → a + count ≤ last
-    → are_rising before last (numbers_in f a count) ≡ true
-unfolding are_rising
+    → are_increasing before last (numbers_in f a count) ≡ true
+unfolding are_increasing
 rising_from f before last a zero low high = refl
 rising_from f before last a (suc count) low high =
     let rest = filter f (range_with_len (a + 1) count) in
     elim (cases_Bool (f a)) [
       | inl hit ↦
-          ap (λ (b : Bool). are_rising before last (map (λ place. place + 1) (cond b (a ∷ rest) rest))) hit
+          ap (λ (b : Bool). are_increasing before last (map (λ place. place + 1) (cond b (a ∷ rest) rest))) hit
           ∙ and_from (nat_lt before (a + 1))
-          (nat_le (a + 1) last && are_rising (a + 1) last (map (λ place. place + 1) rest))
+          (nat_le (a + 1) last && are_increasing (a + 1) last (map (λ place. place + 1) rest))
           (grind (arith, nat_tests))
-          (and_from (nat_le (a + 1) last) (are_rising (a + 1) last (map (λ place. place + 1) rest))
+          (and_from (nat_le (a + 1) last) (are_increasing (a + 1) last (map (λ place. place + 1) rest))
           (grind (arith, nat_tests))
           (rising_from f (a + 1) last (a + 1) count (omega arith) (omega arith)))
       | inr miss ↦
-          ap (λ (b : Bool). are_rising before last (map (λ place. place + 1) (cond b (a ∷ rest) rest))) miss
+          ap (λ (b : Bool). are_increasing before last (map (λ place. place + 1) (cond b (a ∷ rest) rest))) miss
           ∙ rising_from f before last (a + 1) count (omega arith) (omega arith)
     ]
 
-rising_order : (before last : ℕ) (ns : List ℕ) (j k x y : ℕ) → are_rising before last ns ≡ true
+rising_order : (before last : ℕ) (ns : List ℕ) (j k x y : ℕ) → are_increasing before last ns ≡ true
     → slice_get ns j ≡ Some x → slice_get ns k ≡ Some y → j < k → x < y
 rising_order before last [] j k x y h at to low = absurd (none-some x at)
 rising_order before last (n ∷ ns) j zero x y h at to low = absurd (omega arith)
@@ -150,11 +150,11 @@ not_false b e = ap not e
 -- texts are all new where none is among those before it
 new_from : (earlier texts : List (List ℕ))
     → ((k : ℕ) (t : List ℕ) → slice_get texts k ≡ Some t → is_some (index_in (earlier ++ take k texts) t) ≡ false)
-    → are_new earlier texts ≡ true
-unfolding are_new
+    → are_distinct earlier texts ≡ true
+unfolding are_distinct
 new_from earlier [] h = refl
 new_from earlier (t ∷ ts) h =
-    and_from (not (is_some (index_in earlier t))) (are_new (earlier ++ t ∷ []) ts)
+    and_from (not (is_some (index_in earlier t))) (are_distinct (earlier ++ t ∷ []) ts)
     (ap not (ap (λ xs. is_some (index_in xs t)) (sym (append-nil earlier)) ∙ h 0 t refl))
     (new_from (earlier ++ t ∷ []) ts
     (λ k u at. ap (λ xs. is_some (index_in xs u)) (append_assoc earlier (t ∷ []) (take k ts)) ∙ h (suc k) u at))
@@ -174,11 +174,11 @@ take-slice_get (suc n) (y ∷ xs) zero x low at = at
 take-slice_get (suc n) (y ∷ xs) (suc k) x low at = take-slice_get n xs k x (omega arith) at
 
 -- of texts that are all different, those under rising numbers are
-pub new_under : (before last : ℕ) (ns : List ℕ) (names texts : List (List ℕ)) → are_new [] names ≡ true
-    → are_rising before last ns ≡ true
+pub new_under : (before last : ℕ) (ns : List ℕ) (names texts : List (List ℕ)) → are_distinct [] names ≡ true
+    → are_increasing before last ns ≡ true
     → ((k : ℕ) (t : List ℕ) → slice_get texts k ≡ Some t
     → (n : ℕ) × (slice_get ns k ≡ Some n) × (slice_get names (n - 1) ≡ Some t))
-    → are_new [] texts ≡ true
+    → are_distinct [] texts ≡ true
 new_under before last ns names texts new rises under =
     new_from [] texts (λ k t at. none k t at (is_some (index_in (take k texts) t)) refl)
   where

@@ -4,7 +4,7 @@ use Rattle.std.proofs.Common.{length, map, set, get_or, refl, sym, ap, arith, op
 use Rattle.std.specs.Prelude.{slice_get}
 use Rattle.std.proofs.lemmas.List.{get_or-set_same, get_or-set_other, length-set}
 use Rattle.std.proofs.lemmas.Option.{same_Some, none-some, slice_get-map}
-use Rattle.rv_rows.specs.Saved.{are_rising}
+use Rattle.rv_rows.specs.Saved.{are_increasing}
 use Rattle.rv_merge.specs.GatheredParts.{filled_slots, rows_from_slots}
 use Rattle.rv_merge.proofs.Stepping.{rising_at, rising_parts}
 
@@ -59,7 +59,7 @@ filled_other (n ∷ ns) (row ∷ rows) slots place h =
 
 -- and the rows stand in those of their numbers
 pub filled_has : {R : Type 0} (before last : ℕ) (ns : List ℕ) (rows : List R) (slots : List (Option R))
-    → are_rising before last ns ≡ true → length ns ≡ length rows
+    → are_increasing before last ns ≡ true → length ns ≡ length rows
     → ((q n : ℕ) → slice_get ns q ≡ Some n → (0 < n) × (n ≤ length slots))
     → map (λ n. get_or (filled_slots ns rows slots) (n - 1) None) ns ≡ map Some rows
 filled_has before last [] [] slots h even within = refl

@@ -5,7 +5,7 @@ use Rattle.std.specs.Prelude.{nat_le, nat_lt, slice_get}
 use Rattle.std.proofs.lemmas.Bool.{and_parts, eqb-true, leb-true, ltb-true, cases_lt, cases_eq}
 use Rattle.std.proofs.lemmas.Option.{same_Some, none-some}
 use Rattle.std.proofs.Math.Nat.{add-mod_right, mod-add-mod, div-add-mod', mul-le-mul_right, mod-lt, mod-le}
-use Rattle.rv_rows.specs.Saved.{are_rising, are_evenly_spaced}
+use Rattle.rv_rows.specs.Saved.{are_increasing, are_evenly_spaced}
 
 -- the first is next, and the others go on from there
 pub stepped_parts : (next step last n : ℕ) (ns : List ℕ) → are_evenly_spaced next step last (n ∷ ns) ≡ true
@@ -115,15 +115,15 @@ one_shard shards n m k low high low' high' is is' =
 
 -- ---- rising numbers
 
-pub rising_parts : (before last n : ℕ) (ns : List ℕ) → are_rising before last (n ∷ ns) ≡ true
-    → (before < n) × (n ≤ last) × (are_rising n last ns ≡ true)
-unfolding are_rising
+pub rising_parts : (before last n : ℕ) (ns : List ℕ) → are_increasing before last (n ∷ ns) ≡ true
+    → (before < n) × (n ≤ last) × (are_increasing n last ns ≡ true)
+unfolding are_increasing
 rising_parts before last n ns h =
-    let first = and_parts (nat_lt before n) (nat_le n last && are_rising n last ns) h in
-    let then = and_parts (nat_le n last) (are_rising n last ns) first.1 in
+    let first = and_parts (nat_lt before n) (nat_le n last && are_increasing n last ns) h in
+    let then = and_parts (nat_le n last) (are_increasing n last ns) first.1 in
     (ltb-true before n first.0, leb-true n last then.0, then.1)
 
-pub rising_at : (before last : ℕ) (ns : List ℕ) (q n : ℕ) → are_rising before last ns ≡ true
+pub rising_at : (before last : ℕ) (ns : List ℕ) (q n : ℕ) → are_increasing before last ns ≡ true
     → slice_get ns q ≡ Some n → before < n
 rising_at before last [] q n h at = absurd (none-some n at)
 rising_at before last (m ∷ ns) zero n h at =

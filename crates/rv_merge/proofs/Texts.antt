@@ -6,11 +6,11 @@ use Rattle.std.proofs.lemmas.Slice.Eq.{bytes_eq-Decides}
 use Rattle.rv_rows.specs.declared_read.ReadError.{ReadError}
 use Rattle.rv_rows.specs.declared_read.ReadError.TheVariants as read
 use Rattle.rv_rows.specs.declared_saved.SavedReport.{SavedReport}
-use Rattle.rv_rows.specs.Differences.{IsSameReadError, BeginsAlike, first_read_error}
+use Rattle.rv_rows.specs.Differences.{IsSameReadError, AgreeBeforeError, first_read_error}
 use Rattle.rv_rows.specs.LenientReport.{lenient_report}
-use Rattle.rv_rows.specs.Saved.{IsSaved, saved_text}
+use Rattle.rv_rows.specs.Saved.{IsValidReport, saved_text}
 use Rattle.rv_merge.specs.declared.error.Flaw.{Flaw}
-use Rattle.rv_merge.specs.GatheredParts.{IsOtherKind}
+use Rattle.rv_merge.specs.GatheredParts.{IsExtentFlaw}
 use Rattle.rv_merge.specs.Parts.{bytes_of_texts, nth_text}
 use Rattle.rv_merge.specs.Refusals.{HasFlaw, IsUnread}
 use Rattle.rv_merge.proofs.Gathering.{has_other_kind, is_unread}
@@ -37,9 +37,9 @@ same_texts texts at other d b within inside is =
 -- a text that was not read
 pub unread_at : (texts : List (Bor (List ℕ))) (at : ℕ) (d : Bor (List ℕ)) (error place : ReadError)
     → at < length texts → error ≡ place → (place ≡ read.OutOfMemory → ⊥)
-    → ((report : SavedReport) → IsSaved report → saved_text report ≡ (get_or texts at d).now
+    → ((report : SavedReport) → IsValidReport report → saved_text report ≡ (get_or texts at d).now
     → error ≡ read.OutOfMemory)
-    → (report : SavedReport) × IsSaved report × BeginsAlike error (saved_text report) (get_or texts at d).now
+    → (report : SavedReport) × IsValidReport report × AgreeBeforeError error (saved_text report) (get_or texts at d).now
     → IsSameReadError error (first_read_error (saved_text (lenient_report (get_or texts at d).now)) (get_or texts at d).now)
     → (at < length (bytes_of_texts texts)) × IsUnread place (nth_text (bytes_of_texts texts) at)
 unread_at texts at d error place within is other only begins told = (
@@ -51,8 +51,8 @@ unread_at texts at d error place within is other only begins told = (
 
 -- and one that was read, and is no part
 pub other_at : (texts : List (Bor (List ℕ))) (at : ℕ) (d : Bor (List ℕ)) (report : SavedReport) (why : Flaw)
-    → at < length texts → IsSaved report × (saved_text report ≡ (get_or texts at d).now)
-    → IsOtherKind why report.extent
+    → at < length texts → IsValidReport report × (saved_text report ≡ (get_or texts at d).now)
+    → IsExtentFlaw why report.extent
     → (at < length (bytes_of_texts texts)) × HasFlaw (bytes_of_texts texts) at why
 other_at texts at d report why within is h = (
   omega (arith, length-bytes_of texts),

@@ -6,15 +6,15 @@ use Rattle.rv_rows.specs.declared_saved.Extent.{Extent}
 use Rattle.rv_rows.specs.declared_saved.Extent.TheVariants as extent
 use Rattle.rv_rows.specs.declared_saved.Shard.{Shard}
 use Rattle.rv_rows.specs.declared_saved.SavedReport.{SavedReport}
-use Rattle.rv_rows.specs.Saved.{IsSaved, are_new, row_names, saved_text}
+use Rattle.rv_rows.specs.Saved.{IsValidReport, are_distinct, row_names, saved_text}
 use Rattle.rv_merge.specs.declared.error.Flaw.{Flaw}
 use Rattle.rv_merge.specs.declared.error.Flaw.TheVariants as flaw
 use Rattle.rv_merge.specs.declared.error.MergeError.{MergeError}
 use Rattle.rv_merge.specs.declared.error.MergeError.TheVariants as error
 use Rattle.rv_merge.specs.declared.gathered_parts.Gathered.{Gathered}
 use Rattle.rv_merge.specs.declared.part.Part.{Part}
-use Rattle.rv_merge.specs.Parts.{IsReportOf, Run, run_of_shard, shard_in, nth_text}
-use Rattle.rv_merge.specs.Refusals.{IsNameTwice}
+use Rattle.rv_merge.specs.Parts.{IsReportAt, Run, run_of_shard, shard_in, nth_text}
+use Rattle.rv_merge.specs.Refusals.{IsRepeatedName}
 
 -- ---- a part
 
@@ -28,21 +28,21 @@ report_of_part part = record {
 
 -- the report is valid, and the bytes are its text
 pub record IsTextOf (report : SavedReport) (bytes : List ℕ) : Type 0 where
-  pub saved : IsSaved report
+  pub saved : IsValidReport report
   pub text : saved_text report ≡ bytes
 
 -- the extent is not a shard, but a whole list or chosen jobs; `flaw` says which of these it is
-abbrev pub IsOtherKind : Flaw → Extent → Type 0
-IsOtherKind flaw.Whole jobs = jobs ≡ extent.Whole
-IsOtherKind flaw.Choice jobs = (count : ℕ) × (jobs ≡ extent.Choice count)
-IsOtherKind _ jobs = ⊥
+abbrev pub IsExtentFlaw : Flaw → Extent → Type 0
+IsExtentFlaw flaw.Whole jobs = jobs ≡ extent.Whole
+IsExtentFlaw flaw.Choice jobs = (count : ℕ) × (jobs ≡ extent.Choice count)
+IsExtentFlaw _ jobs = ⊥
 
 -- the two shards belong to different runs: their number of shards, their number of jobs or their stamp differs; the flaw says which
-abbrev pub IsOtherRun : Flaw → Shard → Shard → Type 0
-IsOtherRun flaw.OtherShards first shard = first.shards ≡ shard.shards → ⊥
-IsOtherRun flaw.OtherJobs first shard = first.jobs ≡ shard.jobs → ⊥
-IsOtherRun flaw.OtherStamp first shard = first.stamp ≡ shard.stamp → ⊥
-IsOtherRun _ first shard = ⊥
+abbrev pub IsRunFlaw : Flaw → Shard → Shard → Type 0
+IsRunFlaw flaw.DifferentShardCount first shard = first.shards ≡ shard.shards → ⊥
+IsRunFlaw flaw.DifferentJobCount first shard = first.jobs ≡ shard.jobs → ⊥
+IsRunFlaw flaw.DifferentStamp first shard = first.stamp ≡ shard.stamp → ⊥
+IsRunFlaw _ first shard = ⊥
 
 -- ---- slots
 
@@ -61,10 +61,10 @@ rows_from_slots (Some row ∷ slots) = row ∷ rows_from_slots slots
 -- ---- the gathered parts
 
 -- the bytes are the report of a shard of the run; the shard has a source, and each row of the report is in the slot of its job
-pub record IsTaken (run : Run) (sources : List (Option ℕ)) (slots : List (Option Row))
+pub record IsPartAdded (run : Run) (sources : List (Option ℕ)) (slots : List (Option Row))
     (bytes : List ℕ) : Type 0 where
   pub n : ℕ
-  pub of : IsReportOf (extent.Shard (shard_in run n)) bytes
+  pub of : IsReportAt (extent.Shard (shard_in run n)) bytes
   pub noted : is_some (slice_index_or sources (n - 1) None) ≡ true
   pub has :
       map (λ m. slice_index_or slots (m - 1) None) of.report.numbers ≡ map Some of.report.rows
@@ -72,23 +72,23 @@ pub record IsTaken (run : Run) (sources : List (Option ℕ)) (slots : List (Opti
 -- the text at the index `at` is one of the first `count` texts, and is the report of shard `k` + 1 of the run
 pub record IsSource (run : Run) (texts : List (List ℕ)) (count k at : ℕ) : Type 0 where
   pub within : at < count
-  pub of : IsReportOf (extent.Shard (shard_in run (k + 1))) (nth_text texts at)
+  pub of : IsReportAt (extent.Shard (shard_in run (k + 1))) (nth_text texts at)
 
 -- the first `count` texts have been added to `sources` and `slots`, and all belong to the run of `shard`, the shard of the first text
 pub record Holds (texts : List (List ℕ)) (count : ℕ) (shard : Shard)
     (sources : List (Option ℕ)) (slots : List (Option Row)) : Type 0 where
-  pub first : IsReportOf (extent.Shard shard) (nth_text texts 0)
+  pub first : IsReportAt (extent.Shard shard) (nth_text texts 0)
   pub sources_long : length sources ≡ shard.shards
   pub slots_long : length slots ≡ shard.jobs
   pub from :
       (k at : ℕ) → slice_index_or sources k None ≡ Some at
       → IsSource (run_of_shard shard) texts count k at
   pub taken :
-      (at : ℕ) → at < count → IsTaken (run_of_shard shard) sources slots (nth_text texts at)
+      (at : ℕ) → at < count → IsPartAdded (run_of_shard shard) sources slots (nth_text texts at)
 
 -- the first `count` texts have been added to `g`
-abbrev pub HoldsIn : List (List ℕ) → ℕ → Gathered → Type 0
-HoldsIn texts count g = Holds texts count g.first g.sources.items g.slots.items
+abbrev pub IsMergeStateAfter : List (List ℕ) → ℕ → Gathered → Type 0
+IsMergeStateAfter texts count g = Holds texts count g.first g.sources.items g.slots.items
 
 -- ---- the end
 
@@ -102,26 +102,26 @@ pub record IsComplete (sources : List (Option ℕ)) (slots : List (Option Row)) 
     : Type 0 where
   pub all : HaveSources sources
   pub are : rows ≡ rows_from_slots slots
-  pub new : are_new [] (row_names rows) ≡ true
+  pub new : are_distinct [] (row_names rows) ≡ true
 
 -- shard `n` has no source, that is, no text was found for it
-pub record IsWithout (sources : List (Option ℕ)) (n : ℕ) : Type 0 where
+pub record LacksSource (sources : List (Option ℕ)) (n : ℕ) : Type 0 where
   pub low : 0 < n
   pub high : n ≤ length sources
   pub none : slice_index_or sources (n - 1) None ≡ None
 
 -- the row of job `n` has the name of an earlier row, and the text of its shard is at the index `at`
-pub record IsNamedTwice (sources : List (Option ℕ)) (slots : List (Option Row)) (n at : ℕ)
+pub record IsRepeatedNameInSlots (sources : List (Option ℕ)) (slots : List (Option Row)) (n at : ℕ)
     : Type 0 where
   pub all : HaveSources sources
   pub low : 0 < n
   pub there : slice_index_or sources ((n - 1) % length sources) None ≡ Some at
-  pub twice : IsNameTwice (rows_from_slots slots) (n - 1)
+  pub twice : IsRepeatedName (rows_from_slots slots) (n - 1)
 
 -- the error says why the gathered rows are not a whole list: a shard has no text, a name is repeated, or memory ran out
-abbrev pub IsUnfinished : List (Option ℕ) → List (Option Row) → MergeError → Type 0
-IsUnfinished sources slots error.OutOfMemory = Unit {0}
-IsUnfinished sources slots error.NoTexts = ⊥
-IsUnfinished sources slots (error.Text at (flaw.NameTwice n)) = IsNamedTwice sources slots n at
-IsUnfinished sources slots (error.Text at _) = ⊥
-IsUnfinished sources slots (error.Missing n) = IsWithout sources n
+abbrev pub ExplainsIncomplete : List (Option ℕ) → List (Option Row) → MergeError → Type 0
+ExplainsIncomplete sources slots error.OutOfMemory = Unit {0}
+ExplainsIncomplete sources slots error.NoTexts = ⊥
+ExplainsIncomplete sources slots (error.Text at (flaw.RepeatedName n)) = IsRepeatedNameInSlots sources slots n at
+ExplainsIncomplete sources slots (error.Text at _) = ⊥
+ExplainsIncomplete sources slots (error.Missing n) = LacksSource sources n

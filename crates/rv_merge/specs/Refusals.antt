@@ -9,55 +9,55 @@ use Rattle.rv_rows.specs.declared_read.ReadError.TheVariants as read
 use Rattle.rv_rows.specs.declared_saved.Extent.TheVariants as extent
 use Rattle.rv_rows.specs.declared_saved.Shard.{Shard}
 use Rattle.rv_rows.specs.declared_saved.SavedReport.{SavedReport}
-use Rattle.rv_rows.specs.Differences.{IsSameReadError, BeginsAlike, first_read_error}
+use Rattle.rv_rows.specs.Differences.{IsSameReadError, AgreeBeforeError, first_read_error}
 use Rattle.rv_rows.specs.LenientReport.{lenient_report}
-use Rattle.rv_rows.specs.Saved.{IsSaved, row_names, saved_text}
+use Rattle.rv_rows.specs.Saved.{IsValidReport, row_names, saved_text}
 use Rattle.rv_merge.specs.declared.error.Flaw.{Flaw}
 use Rattle.rv_merge.specs.declared.error.Flaw.TheVariants as flaw
 use Rattle.rv_merge.specs.declared.error.MergeError.{MergeError}
 use Rattle.rv_merge.specs.declared.error.MergeError.TheVariants as error
-use Rattle.rv_merge.specs.Parts.{ArePartsIn, IsReportOf, Run, shard_in, nth_text}
+use Rattle.rv_merge.specs.Parts.{ArePartsOfRun, IsReportAt, Run, shard_in, nth_text}
 
 -- the result is `rows`, or the error that memory ran out
-abbrev pub AnswersRows : List Row → Result (List Row) MergeError → Type 0
-AnswersRows rows (Ok found) = found ≡ rows
-AnswersRows rows (Err e) = e ≡ error.OutOfMemory
+abbrev pub IsRowsOrOutOfMemory : List Row → Result (List Row) MergeError → Type 0
+IsRowsOrOutOfMemory rows (Ok found) = found ≡ rows
+IsRowsOrOutOfMemory rows (Err e) = e ≡ error.OutOfMemory
 
 -- the bytes are not the text of a report, but agree with one up to the error `place`
 pub record IsUnread (place : ReadError) (bytes : List ℕ) : Type 0 where
-  pub none : (report : SavedReport) → IsSaved report → saved_text report ≡ bytes → ⊥
-  pub begins : (report : SavedReport) × IsSaved report × BeginsAlike place (saved_text report) bytes
+  pub none : (report : SavedReport) → IsValidReport report → saved_text report ≡ bytes → ⊥
+  pub begins : (report : SavedReport) × IsValidReport report × AgreeBeforeError place (saved_text report) bytes
   pub told : IsSameReadError place (first_read_error (saved_text (lenient_report bytes)) bytes)
 
 -- the two texts are reports of shards for which the function `what` has different values
 pub record Differ {X : Type 0} (what : Shard → X) (bytes others : List ℕ) : Type 0 where
   pub shard : Shard
   pub other : Shard
-  pub is : IsReportOf (extent.Shard shard) bytes
-  pub of : IsReportOf (extent.Shard other) others
+  pub is : IsReportAt (extent.Shard shard) bytes
+  pub of : IsReportAt (extent.Shard other) others
   pub differ : what shard ≡ what other → ⊥
 
 -- the two texts are different reports of the same shard
-pub record AreTwo (bytes others : List ℕ) : Type 0 where
+pub record AreDifferentReports (bytes others : List ℕ) : Type 0 where
   pub shard : Shard
-  pub is : IsReportOf (extent.Shard shard) bytes
-  pub of : IsReportOf (extent.Shard shard) others
+  pub is : IsReportAt (extent.Shard shard) bytes
+  pub of : IsReportAt (extent.Shard shard) others
   pub differ : bytes ≡ others → ⊥
 
 -- the row at the index `place` has the name of an earlier row
-pub record IsNameTwice (rows : List Row) (place : ℕ) : Type 0 where
+pub record IsRepeatedName (rows : List Row) (place : ℕ) : Type 0 where
   pub row : Row
   pub at : slice_get rows place ≡ Some row
   pub twice : is_some (index_in (row_names (take place rows)) row.name) ≡ true
 
 -- the texts are the parts of a run of some rows; the row of job `n`, which is in the text `bytes`, has the name of an earlier row
-pub record HasNameTwice (texts : List (List ℕ)) (bytes : List ℕ) (n : ℕ) : Type 0 where
+pub record HasRepeatedName (texts : List (List ℕ)) (bytes : List ℕ) (n : ℕ) : Type 0 where
   pub rows : List Row
   pub run : Run
   pub shard : Shard
-  pub parts : ArePartsIn run rows texts
-  pub twice : IsNameTwice rows (n - 1)
-  pub of : IsReportOf (extent.Shard shard) bytes
+  pub parts : ArePartsOfRun run rows texts
+  pub twice : IsRepeatedName rows (n - 1)
+  pub of : IsReportAt (extent.Shard shard) bytes
   pub place : ℕ
   pub there : slice_get of.report.numbers place ≡ Some n
 
@@ -65,25 +65,25 @@ pub record HasNameTwice (texts : List (List ℕ)) (bytes : List ℕ) (n : ℕ) :
 abbrev pub HasFlaw : List (List ℕ) → ℕ → Flaw → Type 0
 HasFlaw texts at (flaw.Line line) = IsUnread (read.Line line) (nth_text texts at)
 HasFlaw texts at flaw.CutOff = IsUnread read.CutOff (nth_text texts at)
-HasFlaw texts at flaw.Whole = IsReportOf extent.Whole (nth_text texts at)
-HasFlaw texts at flaw.Choice = (jobs : ℕ) × IsReportOf (extent.Choice jobs) (nth_text texts at)
-HasFlaw texts at flaw.OtherShards =
+HasFlaw texts at flaw.Whole = IsReportAt extent.Whole (nth_text texts at)
+HasFlaw texts at flaw.Choice = (jobs : ℕ) × IsReportAt (extent.Choice jobs) (nth_text texts at)
+HasFlaw texts at flaw.DifferentShardCount =
     Differ (λ (s : Shard). s.shards) (nth_text texts 0) (nth_text texts at)
-HasFlaw texts at flaw.OtherJobs =
+HasFlaw texts at flaw.DifferentJobCount =
     Differ (λ (s : Shard). s.jobs) (nth_text texts 0) (nth_text texts at)
-HasFlaw texts at flaw.OtherStamp =
+HasFlaw texts at flaw.DifferentStamp =
     Differ (λ (s : Shard). s.stamp) (nth_text texts 0) (nth_text texts at)
-HasFlaw texts at (flaw.OtherText earlier) =
-    (earlier < at) × AreTwo (nth_text texts earlier) (nth_text texts at)
-HasFlaw texts at (flaw.NameTwice n) = HasNameTwice texts (nth_text texts at) n
+HasFlaw texts at (flaw.DifferentText earlier) =
+    (earlier < at) × AreDifferentReports (nth_text texts earlier) (nth_text texts at)
+HasFlaw texts at (flaw.RepeatedName n) = HasRepeatedName texts (nth_text texts at) n
 
 -- the bytes are the report of a shard of the run other than shard `n`
 abbrev pub IsOtherPart : Run → ℕ → List ℕ → Type 0
 IsOtherPart run n bytes =
-    (other : ℕ) × IsReportOf (extent.Shard (shard_in run other)) bytes × (other ≡ n → ⊥)
+    (other : ℕ) × IsReportAt (extent.Shard (shard_in run other)) bytes × (other ≡ n → ⊥)
 
 -- each text is the report of a shard of one run, and none is the report of shard `n`
-pub record IsMissing (n : ℕ) (texts : List (List ℕ)) : Type 0 where
+pub record IsMissingShard (n : ℕ) (texts : List (List ℕ)) : Type 0 where
   pub run : Run
   pub low : 0 < n
   pub high : n ≤ run.shards
@@ -91,8 +91,8 @@ pub record IsMissing (n : ℕ) (texts : List (List ℕ)) : Type 0 where
   pub some : 0 < length texts
 
 -- the texts have this error, so that they are not the parts of one run; memory may always run out
-abbrev pub IsRefused : List (List ℕ) → MergeError → Type 0
-IsRefused texts error.OutOfMemory = Unit {0}
-IsRefused texts error.NoTexts = texts ≡ []
-IsRefused texts (error.Text at why) = (at < length texts) × HasFlaw texts at why
-IsRefused texts (error.Missing n) = IsMissing n texts
+abbrev pub HasMergeError : List (List ℕ) → MergeError → Type 0
+HasMergeError texts error.OutOfMemory = Unit {0}
+HasMergeError texts error.NoTexts = texts ≡ []
+HasMergeError texts (error.Text at why) = (at < length texts) × HasFlaw texts at why
+HasMergeError texts (error.Missing n) = IsMissingShard n texts

@@ -40,19 +40,19 @@ pub enum Flaw {
     Choice,
     /// Its run has a different number of shards from the first text's.
     #[error("a different number of shards")]
-    OtherShards,
+    DifferentShardCount,
     /// Its list has a different number of jobs from the first text's.
     #[error("a different number of jobs")]
-    OtherJobs,
+    DifferentJobCount,
     /// Its run has a different stamp from the first text's.
     #[error("a different stamp")]
-    OtherStamp,
+    DifferentStamp,
     /// It differs from an earlier text of its shard, which is at this index.
     #[error("the same shard as part {0}, but different contents")]
-    OtherText(usize),
+    DifferentText(usize),
     /// Its row of the job with this number has the same name as an earlier job.
     #[error("job {0} has the same name as an earlier job")]
-    NameTwice(usize),
+    RepeatedName(usize),
 }
 
 impl From<AllocError> for MergeError {

@@ -4,8 +4,8 @@ ghost use Rattle.std.specs.Prelude.{◌≡◌, ◌<◌, ◌≤◌, ◌+◌, ◌�
 ghost use Rattle.std.specs.Prelude.{replicate, vec_len};
 ghost use Rattle.std.specs.List.{All};
 ghost use Rattle.rv_merge.specs.Parts.{bytes_of_texts, run_of_shard, nth_text};
-ghost use Rattle.rv_merge.specs.Refusals.{IsRefused};
-ghost use Rattle.rv_merge.specs.GatheredParts.{IsTextOf, IsOtherRun, HoldsIn, filled_slots, report_of_part};
+ghost use Rattle.rv_merge.specs.Refusals.{HasMergeError};
+ghost use Rattle.rv_merge.specs.GatheredParts.{IsTextOf, IsRunFlaw, IsMergeStateAfter, filled_slots, report_of_part};
 
 use crate::error::{Flaw, MergeError};
 use crate::part::Part;
@@ -30,8 +30,8 @@ pub(crate) fn no_parts_of_run(alloc: Global, shard: &Shard) -> Result<Gathered, 
     ensures slots { IfOk result (λ g. g.slots.items ≡ replicate shard.now.jobs None) }
 {
     let stamp = String::from_str(alloc, shard.stamp.as_str())?;
-    let sources = vacant_slots(alloc, shard.shards)?;
-    let slots = vacant_slots(alloc, shard.jobs)?;
+    let sources = empty_slots(alloc, shard.shards)?;
+    let slots = empty_slots(alloc, shard.jobs)?;
     Ok(Gathered {
         first: Shard {
             jobs: shard.jobs,
@@ -45,7 +45,7 @@ pub(crate) fn no_parts_of_run(alloc: Global, shard: &Shard) -> Result<Gathered, 
 }
 
 // Returns `count` empty slots.
-fn vacant_slots<T: Drop>(alloc: Global, count: u32) -> Result<Vec<Option<T>>, AllocError>
+fn empty_slots<T: Drop>(alloc: Global, count: u32) -> Result<Vec<Option<T>>, AllocError>
     ensures { IfOk result (λ slots. slots.items ≡ replicate count None) }
 {
     let mut slots = Vec::new(alloc);
@@ -65,9 +65,9 @@ pub(crate) fn add_part(
 ) -> Result<(), MergeError>
     requires at { at < length texts.now }
     requires text { IsTextOf (report_of_part part) (nth_text (bytes_of_texts texts.now) at) }
-    requires holds { HoldsIn (bytes_of_texts texts.now) at gathered.old }
-    ensures added { OnOk result (HoldsIn (bytes_of_texts texts.now) (at + 1) gathered.new) }
-    ensures err { IfErr result (IsRefused (bytes_of_texts texts.now)) }
+    requires holds { IsMergeStateAfter (bytes_of_texts texts.now) at gathered.old }
+    ensures added { OnOk result (IsMergeStateAfter (bytes_of_texts texts.now) (at + 1) gathered.new) }
+    ensures err { IfErr result (HasMergeError (bytes_of_texts texts.now)) }
 {
     if let Some(flaw) = other_run_flaw(&gathered.first, &part.shard) {
         return Err(MergeError::Text(at, flaw));
@@ -81,23 +81,23 @@ pub(crate) fn add_part(
             Ok(())
         }
         Some(earlier) if are_same_texts(texts, earlier, at) => Ok(()),
-        Some(earlier) => Err(MergeError::Text(at, Flaw::OtherText(earlier))),
+        Some(earlier) => Err(MergeError::Text(at, Flaw::DifferentText(earlier))),
     }
 }
 
 // Returns how the run of `shard` differs from the run of `first`, or `None` if it is the same run.
 fn other_run_flaw(first: &Shard, shard: &Shard) -> Option<Flaw>
     ensures { MatchOption result (run_of_shard shard.now ≡ run_of_shard first.now)
-        (λ flaw. IsOtherRun flaw first.now shard.now) }
+        (λ flaw. IsRunFlaw flaw first.now shard.now) }
 {
     if shard.shards != first.shards {
-        return Some(Flaw::OtherShards);
+        return Some(Flaw::DifferentShardCount);
     }
     if shard.jobs != first.jobs {
-        return Some(Flaw::OtherJobs);
+        return Some(Flaw::DifferentJobCount);
     }
     if shard.stamp.as_str() != first.stamp.as_str() {
-        return Some(Flaw::OtherStamp);
+        return Some(Flaw::DifferentStamp);
     }
     None
 }

@@ -5,8 +5,8 @@ ghost use Rattle.rv_rows.specs.declared_answers.Answer.{Answer};
 ghost use Rattle.rv_rows.specs.declared_job.Job.{Job};
 ghost use Rattle.rv_rows.specs.Rows.{rows_of};
 ghost use Rattle.rv_rows.specs.Wholes.{plan_of_jobs};
-ghost use Rattle.rv_merge.specs.Parts.{AreListed, AreParts, Run};
-ghost use Rattle.rv_merge.specs.Shards.{AreTextsFrom, IsRunOf};
+ghost use Rattle.rv_merge.specs.Parts.{AreValidRows, AreParts, Run};
+ghost use Rattle.rv_merge.specs.Shards.{AreShardTexts, IsRunOf};
 
 use rv_rows::parts_have_the_rows_of_the_whole;
 
@@ -14,8 +14,8 @@ use rv_rows::parts_have_the_rows_of_the_whole;
 /// single one at the paths that its jobs need. So [`merge_parts`](crate::merge_parts) returns these rows.
 pub fn shards_give_the_parts_of_the_whole()
     ensures { (list : List Job) (answers : List Answer) (run : Run) (texts : List (List ℕ))
-        → AreListed (rows_of (plan_of_jobs list answers)) → IsRunOf list run
-        → AreTextsFrom list answers run texts → AreParts (rows_of (plan_of_jobs list answers)) texts }
+        → AreValidRows (rows_of (plan_of_jobs list answers)) → IsRunOf list run
+        → AreShardTexts list answers run texts → AreParts (rows_of (plan_of_jobs list answers)) texts }
 {
     parts_have_the_rows_of_the_whole();
 }

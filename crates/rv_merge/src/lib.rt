@@ -4,7 +4,7 @@
 //! that they are the parts of, or which text is rejected and why ([`MergeError`]). Each shard has the jobs that [`shard_selection`]
 //! selects.
 //!
-//! There are three laws, with no code to run: [`shards_give_the_parts_of_the_whole`], on rows of a list; [`rows_are_those_of_a_list`], on a
+//! There are three laws, with no code to run: [`shards_give_the_parts_of_the_whole`], on rows of a list; [`rows_form_a_list`], on a
 //! list that was read; and, combining both, [`shards_give_the_whole`], from the list's text to the report that its shards are merged into.
 #![tactic(auto)]
 
@@ -20,7 +20,7 @@ mod whole_list_law;
 
 pub use error::{Flaw, MergeError};
 pub use law::shards_give_the_parts_of_the_whole;
-pub use list_rows_law::rows_are_those_of_a_list;
+pub use list_rows_law::rows_form_a_list;
 pub use merge::merge_parts;
 pub use shards::shard_selection;
 pub use whole_list_law::shards_give_the_whole;

@@ -6,46 +6,46 @@ ghost use Rattle.hex.specs.Hex.{IsBytes};
 ghost use Rattle.rv_rows.specs.declared_answers.Answer.{Answer};
 ghost use Rattle.rv_rows.specs.declared_job.Job.{Job};
 ghost use Rattle.rv_rows.specs.JobList.{job_list_of};
-ghost use Rattle.rv_merge.specs.Parts.{AreListed};
+ghost use Rattle.rv_merge.specs.Parts.{AreValidRows};
 ghost use Rattle.rv_rows.specs.Saved.{IsWord};
 ghost use Rattle.rv_rows.specs.Rows.{rows_of};
 ghost use Rattle.rv_rows.specs.Wholes.{plan_of_jobs};
-ghost use Rattle.rv_merge.specs.Numbers.{EndsInWords, HasNumbers, HasWords};
+ghost use Rattle.rv_merge.specs.Numbers.{EndHasWordNumbers, HasNumbers, HasWords};
 
 use rv_rows::{Bytes, Row, RowEnd, Words};
 
 /// Proves that the rows of a list that was read can be the rows of a list, whatever the results for its paths are: there are up to 4,096,
 /// with distinct valid names, numbers of 32 bits, consoles of bytes, signatures of at most 65,536 words, and no refusal for lack of memory.
-pub fn rows_are_those_of_a_list(rows: &[Row])
+pub fn rows_form_a_list(rows: &[Row])
     ensures { (bytes : List ℕ) (list : List Job) (answers : List Answer)
         → job_list_of bytes ≡ Ok list → rows.now ≡ rows_of (plan_of_jobs list answers)
-        → AreListed rows.now }
+        → AreValidRows rows.now }
 {
-    rows_have_word_numbers(rows);
+    prove_rows_have_numbers(rows);
 }
 
 // Proves that the numbers of all rows have 32 bits, and that their consoles consist of bytes.
-fn rows_have_word_numbers(rows: &[Row])
+fn prove_rows_have_numbers(rows: &[Row])
     ensures { All HasNumbers rows.now }
 {
     for row in rows {
-        row_has_word_numbers(row);
+        prove_row_has_numbers(row);
     }
 }
 
 // Proves that the numbers of a row have 32 bits, and that its console consists of bytes.
-fn row_has_word_numbers(row: &Row)
+fn prove_row_has_numbers(row: &Row)
     ensures { HasNumbers row.now }
 {
-    ending_has_word_numbers(row.ending);
+    prove_ending_has_words(row.ending);
     prove_number_is_word(row.steps);
     prove_console_is_bytes(&row.console);
     prove_signature_is_words(&row.signature);
 }
 
 // Proves that the numbers of an ending have 32 bits.
-fn ending_has_word_numbers(ending: RowEnd)
-    ensures { EndsInWords ending }
+fn prove_ending_has_words(ending: RowEnd)
+    ensures { EndHasWordNumbers ending }
 {
     match ending {
         RowEnd::Exit(code) => prove_number_is_word(code),

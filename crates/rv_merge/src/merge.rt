@@ -4,9 +4,9 @@ ghost use Rattle.std.specs.Prelude.{◌≡◌, ◌<◌, ◌+◌, ◌%◌, List, 
 ghost use Rattle.std.specs.Prelude.{slice_index_or};
 ghost use Rattle.rv_rows.specs.declared_row.Row.{Row};
 ghost use Rattle.rv_merge.specs.Parts.{AreParts, bytes_of_texts};
-ghost use Rattle.rv_merge.specs.Refusals.{AnswersRows, IsRefused};
-ghost use Rattle.rv_merge.specs.GatheredParts.{HaveSources, HoldsIn, IsComplete};
-ghost use Rattle.rv_merge.specs.GatheredParts.{IsUnfinished, rows_from_slots};
+ghost use Rattle.rv_merge.specs.Refusals.{IsRowsOrOutOfMemory, HasMergeError};
+ghost use Rattle.rv_merge.specs.GatheredParts.{HaveSources, IsMergeStateAfter, IsComplete};
+ghost use Rattle.rv_merge.specs.GatheredParts.{ExplainsIncomplete, rows_from_slots};
 
 use crate::error::{Flaw, MergeError};
 use crate::gathered_parts::{Gathered, add_part, no_parts_of_run};
@@ -21,9 +21,9 @@ pub fn merge_parts(alloc: Global, texts: &[&[u8]]) -> Result<Rows, MergeError>
     // The texts are the parts of one run of these rows.
     ensures found { IfOk result (λ rows. AreParts rows (bytes_of_texts texts.now)) }
     // If they are the parts of one run of some rows, these rows are returned.
-    ensures only { (rows : List Row) → AreParts rows (bytes_of_texts texts.now) → AnswersRows rows result }
+    ensures only { (rows : List Row) → AreParts rows (bytes_of_texts texts.now) → IsRowsOrOutOfMemory rows result }
     // Every error is justified.
-    ensures err { IfErr result (IsRefused (bytes_of_texts texts.now)) }
+    ensures err { IfErr result (HasMergeError (bytes_of_texts texts.now)) }
 {
     if texts.is_empty() {
         return Err(MergeError::NoTexts);
@@ -35,8 +35,8 @@ pub fn merge_parts(alloc: Global, texts: &[&[u8]]) -> Result<Rows, MergeError>
 // Gathers the rows of all texts, or returns the first error of a text.
 fn gather_parts(alloc: Global, texts: &[&[u8]]) -> Result<Gathered, MergeError>
     requires { 0 < length texts.now }
-    ensures holds { IfOk result (λ g. HoldsIn (bytes_of_texts texts.now) (length texts.now) g) }
-    ensures err { IfErr result (IsRefused (bytes_of_texts texts.now)) }
+    ensures holds { IfOk result (λ g. IsMergeStateAfter (bytes_of_texts texts.now) (length texts.now) g) }
+    ensures err { IfErr result (HasMergeError (bytes_of_texts texts.now)) }
 {
     let part = part_at(alloc, texts, 0)?;
     let mut gathered = no_parts_of_run(alloc, &part.shard)?;
@@ -53,7 +53,7 @@ fn rows_of_parts(alloc: Global, gathered: Gathered) -> Result<Rows, MergeError>
     requires { 0 < length gathered.sources.items }
     ensures rows { IfOk result (λ rows. IsComplete gathered.sources.items gathered.slots.items
         rows) }
-    ensures err { IfErr result (IsUnfinished gathered.sources.items gathered.slots.items) }
+    ensures err { IfErr result (ExplainsIncomplete gathered.sources.items gathered.slots.items) }
 {
     if let Some(shard) = first_missing_shard(&gathered.sources) {
         return Err(MergeError::Missing(shard + 1));
@@ -84,11 +84,11 @@ fn repeated_name_error(sources: &[Option<usize>], place: usize) -> MergeError
     requires place { place < usize.MAX }
     ensures { MatchOption (slice_index_or sources.now (place % length sources.now) None)
         (result ≡ MergeError.Missing (place % length sources.now + 1))
-        (λ text. result ≡ MergeError.Text text (Flaw.NameTwice (place + 1))) }
+        (λ text. result ≡ MergeError.Text text (Flaw.RepeatedName (place + 1))) }
 {
     let shard = place % sources.len();
     match sources[shard] {
-        Some(text) => MergeError::Text(text, Flaw::NameTwice(place + 1)),
+        Some(text) => MergeError::Text(text, Flaw::RepeatedName(place + 1)),
         None => MergeError::Missing(shard + 1),
     }
 }

@@ -1,8 +1,8 @@
 //! Names that two rows have.
 
 ghost use Rattle.std.specs.Prelude.{◌≡◌, ◌<◌, [], true, IfOk, IfSome, MatchOption};
-ghost use Rattle.rv_rows.specs.Saved.{are_new, row_names};
-ghost use Rattle.rv_merge.specs.Refusals.{IsNameTwice};
+ghost use Rattle.rv_rows.specs.Saved.{are_distinct, row_names};
+ghost use Rattle.rv_merge.specs.Refusals.{IsRepeatedName};
 
 use rv_rows::Row;
 use std::alloc::{AllocError, Global};
@@ -10,8 +10,8 @@ use std::collections::BTreeMap;
 
 /// Returns the index of the first row that has the name of an earlier row, or `None` if there is none.
 pub(crate) fn first_repeated_name(alloc: Global, rows: &[Row]) -> Result<Option<usize>, AllocError>
-    ensures twice { IfOk result (λ place. MatchOption place (are_new [] (row_names rows.now) ≡ true)
-        (IsNameTwice rows.now)) }
+    ensures twice { IfOk result (λ place. MatchOption place (are_distinct [] (row_names rows.now) ≡ true)
+        (IsRepeatedName rows.now)) }
     ensures low { IfOk result (λ place. IfSome place (λ at. at < usize.MAX)) }
 {
     let mut places: BTreeMap<&str, usize> = BTreeMap::new(alloc);

@@ -2,8 +2,8 @@
 
 ghost use Rattle.std.specs.Prelude.{◌≡◌, ◌<◌, IfOk, IfErr, length};
 ghost use Rattle.rv_merge.specs.Parts.{bytes_of_texts, nth_text};
-ghost use Rattle.rv_merge.specs.Refusals.{IsRefused, HasFlaw};
-ghost use Rattle.rv_merge.specs.GatheredParts.{IsTextOf, IsOtherKind, report_of_part};
+ghost use Rattle.rv_merge.specs.Refusals.{HasMergeError, HasFlaw};
+ghost use Rattle.rv_merge.specs.GatheredParts.{IsTextOf, IsExtentFlaw, report_of_part};
 
 use crate::error::{Flaw, MergeError};
 use rv_rows::{Extent, Numbers, ReadError, Rows, SavedReport, Shard, read_report};
@@ -22,7 +22,7 @@ pub(crate) fn part_at(alloc: Global, texts: &[&[u8]], at: usize) -> Result<Part,
     requires { at < length texts.now }
     ensures found { IfOk result (λ part. IsTextOf (report_of_part part)
         (nth_text (bytes_of_texts texts.now) at)) }
-    ensures err { IfErr result (IsRefused (bytes_of_texts texts.now)) }
+    ensures err { IfErr result (HasMergeError (bytes_of_texts texts.now)) }
 {
     match read_report(alloc, texts[at]) {
         Ok(report) => match part_of_report(report) {
@@ -38,7 +38,7 @@ pub(crate) fn part_at(alloc: Global, texts: &[&[u8]], at: usize) -> Result<Part,
 // Returns the report as a part, or a flaw if it is not the report of a shard.
 fn part_of_report(report: SavedReport) -> Result<Part, Flaw>
     ensures part { IfOk result (λ part. report_of_part part ≡ report) }
-    ensures other { IfErr result (λ flaw. IsOtherKind flaw report.extent) }
+    ensures other { IfErr result (λ flaw. IsExtentFlaw flaw report.extent) }
 {
     let SavedReport {
         extent,

@@ -2,7 +2,7 @@
 
 ghost use Rattle.std.specs.Prelude.{◌≡◌, ◌<◌, ◌≤◌, IfOk, length};
 ghost use Rattle.rv_rows.specs.Choices.{selected_indices};
-ghost use Rattle.rv_merge.specs.Shards.{shard_selection, shard_places};
+ghost use Rattle.rv_merge.specs.Shards.{shard_selection, shard_indices};
 
 use std::alloc::{AllocError, Global};
 
@@ -19,7 +19,7 @@ pub fn shard_selection(
     ensures marks { IfOk result (λ marks. marks.items ≡ shard_selection shards number jobs) }
     ensures counted { IfOk result (λ marks. length marks.items ≡ jobs) }
     ensures places { IfOk result
-        (λ marks. selected_indices marks.items jobs ≡ shard_places shards number jobs) }
+        (λ marks. selected_indices marks.items jobs ≡ shard_indices shards number jobs) }
 {
     let mut marks = Vec::new(alloc);
     for place in 0..jobs {

@@ -5,12 +5,12 @@ ghost use Rattle.rv_rows.specs.declared_answers.Answer.{Answer};
 ghost use Rattle.rv_rows.specs.declared_job.Job.{Job};
 ghost use Rattle.rv_rows.specs.JobList.{job_list_of};
 ghost use Rattle.rv_merge.specs.Parts.{AreParts, Run};
-ghost use Rattle.rv_merge.specs.Shards.{AreTextsFrom, IsRunOf};
+ghost use Rattle.rv_merge.specs.Shards.{AreShardTexts, IsRunOf};
 ghost use Rattle.rv_rows.specs.Rows.{rows_of};
 ghost use Rattle.rv_rows.specs.Wholes.{plan_of_jobs};
 
 use crate::law::shards_give_the_parts_of_the_whole;
-use crate::list_rows_law::rows_are_those_of_a_list;
+use crate::list_rows_law::rows_form_a_list;
 use rv_rows::Row;
 
 /// Proves that the shards of a list merge into its whole report. Suppose a list that was read runs in shards, and each machine reads the
@@ -21,8 +21,8 @@ pub fn shards_give_the_whole(rows: &[Row])
     ensures { (bytes : List ℕ) (list : List Job) (answers : List Answer) (run : Run)
         (texts : List (List ℕ))
         → job_list_of bytes ≡ Ok list → rows.now ≡ rows_of (plan_of_jobs list answers)
-        → IsRunOf list run → AreTextsFrom list answers run texts → AreParts rows.now texts }
+        → IsRunOf list run → AreShardTexts list answers run texts → AreParts rows.now texts }
 {
-    rows_are_those_of_a_list(rows);
+    rows_form_a_list(rows);
     shards_give_the_parts_of_the_whole();
 }

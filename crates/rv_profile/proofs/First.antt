@@ -4,7 +4,7 @@ use Rattle.std.proofs.lemmas.Bool.Decides.{nat_tests}
 use Rattle.std.proofs.lemmas.List.{get_or-map, length-map, take-map}
 use Rattle.std.proofs.lemmas.List.Elements.{All-take}
 use Rattle.rv_profile.specs.Profile.{AreWithin, IsWithin, Profiled, profile_of, profiles_of}
-use Rattle.rv_profile.specs.Text.{columns_head, columns_of, first_of, function_lines, functions_text, more_line}
+use Rattle.rv_profile.specs.Text.{column_header, columns_of, first_of, function_lines, functions_text, more_line}
 use Rattle.rv_profile.specs.declared.columns.Columns.{Columns}
 use Rattle.rv_profile.specs.declared.function.FunctionProfile.{FunctionProfile}
 use Rattle.rv_profile.specs.declared.sums.Sums.{Sums}
@@ -30,13 +30,13 @@ within_there steps fs k d within lt =
 -- the lines of functions, of which there are some
 pub functions_shown : (top : Option ℕ) (sums : Sums) (fs : List FunctionProfile) → 0 < length fs
     → functions_text top sums (profiles_of fs)
-    ≡ columns_head (columns_of sums) ++ function_lines (columns_of sums) sums.steps (profiles_of (first_of top fs))
+    ≡ column_header (columns_of sums) ++ function_lines (columns_of sums) sums.steps (profiles_of (first_of top fs))
     ++ more_line (length fs - length (first_of top fs))
 functions_shown top sums [] some = absurd (omega arith)
 functions_shown top sums (f ∷ fs) some =
-    ap (λ (ps : List Profiled). columns_head (columns_of sums) ++ function_lines (columns_of sums) sums.steps ps
+    ap (λ (ps : List Profiled). column_header (columns_of sums) ++ function_lines (columns_of sums) sums.steps ps
     ++ more_line (length (profiles_of (f ∷ fs)) - length ps)) (first_profiles top (f ∷ fs))
-    ∙ (λ i. columns_head (columns_of sums) ++ function_lines (columns_of sums) sums.steps (profiles_of (first_of top (f ∷ fs)))
+    ∙ (λ i. column_header (columns_of sums) ++ function_lines (columns_of sums) sums.steps (profiles_of (first_of top (f ∷ fs)))
     ++ more_line (length-map (f ∷ fs) profile_of i - length-map (first_of top (f ∷ fs)) profile_of i))
 
 pub none_shown : (top : Option ℕ) (sums : Sums) (fs : List FunctionProfile) → length fs ≡ 0 → functions_text top sums (profiles_of fs) ≡ []
@@ -46,15 +46,15 @@ none_shown top sums (f ∷ fs) none = absurd (omega (arith, none))
 -- the head, the lines and how many more there are, one behind the other
 pub functions_put : (top : Option ℕ) (sums : Sums) (fs all shown : List FunctionProfile) (columns : Columns) (bytes a b c : List ℕ)
     → (length all == 0) ≡ false → columns ≡ columns_of sums → all ≡ fs → shown ≡ first_of top fs
-    → a ≡ bytes ++ columns_head columns → b ≡ a ++ function_lines columns sums.steps (profiles_of shown)
+    → a ≡ bytes ++ column_header columns → b ≡ a ++ function_lines columns sums.steps (profiles_of shown)
     → c ≡ b ++ more_line (length all - length shown) → c ≡ bytes ++ functions_text top sums (profiles_of fs)
 functions_put top sums fs all shown columns bytes a b c some is alls firsts head lines more =
-    let h = columns_head columns in
+    let h = column_header columns in
     let l = function_lines columns sums.steps (profiles_of shown) in
     let m = more_line (length all - length shown) in
     more ∙ ap (λ (t : List ℕ). t ++ m) (lines ∙ ap (λ (t : List ℕ). t ++ l) head) ∙ ap (λ (t : List ℕ). t ++ m) (append_assoc bytes h l) ∙ append_assoc bytes (h ++ l) m
     ∙ ap (λ (t : List ℕ). bytes ++ t)
-    ((λ i. columns_head (is i) ++ function_lines (is i) sums.steps (profiles_of (firsts i)) ++ more_line (length (alls i) - length (firsts i)))
+    ((λ i. column_header (is i) ++ function_lines (is i) sums.steps (profiles_of (firsts i)) ++ more_line (length (alls i) - length (firsts i)))
     ∙ sym (functions_shown top sums fs (subst (λ (xs : List FunctionProfile). 0 < length xs) alls (not_none (length all) some))))
   where
     not_none : (n : ℕ) → (n == 0) ≡ false → 0 < n

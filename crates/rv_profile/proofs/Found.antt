@@ -1,7 +1,7 @@
 -- What holds of each element holds of the one that is found, and none that is found is none there.
 use Rattle.std.proofs.Common.{◌≡◌, ◌∙◌, ◌<◌, ◌∷◌, [], ℕ, zero, suc, Bool, true, false, List, Option, Some, None, ap, arith, cond, find, get_or, length, option_map, refl, subst, sym}
 use Rattle.std.specs.List.{AllByRecursion}
-use Rattle.rv_cover_view.specs.JobImages.{FileImage, image_of_file, images_of_files}
+use Rattle.rv_cover_view.specs.JobImages.{ImageFileView, image_of_file, images_of_files}
 use Rattle.rv_cover_view.specs.declared.image_file.ImageFile.{ImageFile}
 use Rattle.rv_count_tables.specs.declared.table.CountTable.{CountTable}
 use Rattle.rv_profile.specs.ImageStacks.{image_past_64_bits, is_past_64_bits}
@@ -35,7 +35,7 @@ none_of_map : {X Y : Type 0} (f : X → Y) (o : Option X) → option_map f o ≡
 none_of_map f None is = refl
 none_of_map f (Some x) is = absurd cc
 
-found_in_files : (test : FileImage → Bool) (files : List ImageFile) → find test (images_of_files files) ≡ option_map image_of_file (find (λ file. test (image_of_file file)) files)
+found_in_files : (test : ImageFileView → Bool) (files : List ImageFile) → find test (images_of_files files) ≡ option_map image_of_file (find (λ file. test (image_of_file file)) files)
 found_in_files test [] = refl
 found_in_files test (file ∷ files) = elim (test (image_of_file file))
     as (λ b. cond b (Some (image_of_file file)) (find test (images_of_files files))

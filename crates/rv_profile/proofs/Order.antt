@@ -8,7 +8,7 @@ use Rattle.std.proofs.lemmas.Bool.Decides.{nat_tests}
 use Rattle.std.proofs.lemmas.List.{get_or-map, length-map}
 use Rattle.std.proofs.lemmas.Simd.{map-map}
 use Rattle.std.proofs.lemmas.List.Sorted.{IsPermutation-map, ties_still_rise}
-use Rattle.rv_count_tables.specs.Table.{names_rise}
+use Rattle.rv_count_tables.specs.Table.{functions_increase_from}
 use Rattle.rv_count_tables.specs.declared.table.FunctionName.{FunctionName}
 use Rattle.rv_count_tables.specs.Trees.{all_steps}
 use Rattle.rv_count_tables.specs.declared_spot.Spot.{Spot}
@@ -25,11 +25,11 @@ abbrev RiseFrom : ℕ → List ℕ → Type 0
 RiseFrom low [] = Unit {0}
 RiseFrom low (k ∷ ks) = (low ≤ k) × RiseFrom (k + 1) ks
 
-names_above : (low : ℕ) (names : List FunctionName) → names_rise low names ≡ true → RiseFrom low (map (λ n. n.function) names)
-unfolding names_rise
+names_above : (low : ℕ) (names : List FunctionName) → functions_increase_from low names ≡ true → RiseFrom low (map (λ n. n.function) names)
+unfolding functions_increase_from
 names_above low [] rise = tt
 names_above low (n ∷ ns) rise =
-    let both = and_parts (nat_le low n.function) (names_rise (n.function + 1) ns) rise in
+    let both = and_parts (nat_le low n.function) (functions_increase_from (n.function + 1) ns) rise in
     (leb-true low n.function both.0, names_above (n.function + 1) ns both.1)
 
 neighbours : (low : ℕ) (xs : List FunctionProfile) (k : ℕ) (d : FunctionProfile) → RiseFrom low (map address_of xs) → suc k < length xs
@@ -106,7 +106,7 @@ none_in_order k d from lt = absurd (omega arith)
 
 -- functions that stood by address, sorted stably by these keys
 pub by_own_steps : (spots : List Spot) (names : List FunctionName) (xs ys : List FunctionProfile) → all_steps spots < 2 ^ 64
-    → names_rise 0 names ≡ true → profiles_of xs ≡ map (profiled spots) names → IsPermutation xs ys
+    → functions_increase_from 0 names ≡ true → profiles_of xs ≡ map (profiled spots) names → IsPermutation xs ys
     → IsSortedByKey key_of nat_cmp ys → IsStableByKey key_of nat_cmp xs ys → IsProfileOf spots names (profiles_of ys)
 by_own_steps spots names xs ys few rise is same sorted stable =
     let each : IsPermutation (map (profiled spots) names) (profiles_of ys) =

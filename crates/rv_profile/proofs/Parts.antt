@@ -1,7 +1,7 @@
 -- What functions have of the steps of all spots is no more than that.
 use Rattle.std.proofs.Common.{◌==◌, ◌≤◌, Bool, true, false, ℕ, List, [], ◌∷◌, arith}
-use Rattle.rv_count_tables.specs.Profiles.{has_function, inclusive_after}
-use Rattle.rv_count_tables.specs.Trees.{all_steps, own_in, path_after, steps_if}
+use Rattle.rv_count_tables.specs.Profiles.{has_function, inclusive_steps_after}
+use Rattle.rv_count_tables.specs.Trees.{all_steps, own_steps_of, path_after, steps_if}
 use Rattle.rv_count_tables.specs.declared_spot.Spot.{Spot}
 use Rattle.std.specs.List.Sorted.{IsPermutation}
 use Rattle.std.specs.Prelude.{map}
@@ -14,14 +14,14 @@ if_at_most : (test : Bool) (n : ℕ) → steps_if test n ≤ n
 if_at_most true n = omega arith
 if_at_most false n = omega arith
 
-own_at_most : (function : ℕ) (spots : List Spot) → own_in function spots ≤ all_steps spots
+own_at_most : (function : ℕ) (spots : List Spot) → own_steps_of function spots ≤ all_steps spots
 own_at_most function [] = omega arith
 own_at_most function (s ∷ ss) =
     let here = if_at_most (s.function == function) s.steps in
     let rest = own_at_most function ss in
     omega (arith, here, rest)
 
-inclusive_at_most : (function : ℕ) (front : List ℕ) (spots : List Spot) → inclusive_after function front spots ≤ all_steps spots
+inclusive_at_most : (function : ℕ) (front : List ℕ) (spots : List Spot) → inclusive_steps_after function front spots ≤ all_steps spots
 inclusive_at_most function front [] = omega arith
 inclusive_at_most function front (s ∷ ss) =
     let here = if_at_most (has_function function (path_after front s)) s.steps in

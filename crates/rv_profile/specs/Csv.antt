@@ -7,8 +7,8 @@ use Rattle.rv_count_tables.specs.Words.{word_digits}
 use Rattle.rv_profile.specs.Profile.{Profiled}
 
 -- the first line of the CSV, with the column names
-unfoldable pub csv_head : List ℕ
-csv_head = codes "image,function,address,self,inclusive,calls\n"
+unfoldable pub csv_header : List ℕ
+csv_header = codes "image,function,address,self,inclusive,calls\n"
 
 -- the rest of a CSV row after the function's name: its address and its counts, each after a comma, and a line feed
 unfoldable pub csv_numbers : Profiled → List ℕ

@@ -3,8 +3,8 @@ use Rattle.std.specs.Prelude.{◌==◌, ◌≤◌, ◌&&◌, ◌||◌, ℕ, Bool
 use Rattle.std.specs.List.{All, sum_by}
 use Rattle.std.specs.List.Sorted.{IsPermutation, IsSortedBy}
 use Rattle.rv_count_tables.specs.declared.table.FunctionName.{FunctionName}
-use Rattle.rv_count_tables.specs.Profiles.{arrivals_in, inclusive_after}
-use Rattle.rv_count_tables.specs.Trees.{own_in}
+use Rattle.rv_count_tables.specs.Profiles.{arrivals_in, inclusive_steps_after}
+use Rattle.rv_count_tables.specs.Trees.{own_steps_of}
 use Rattle.rv_count_tables.specs.declared_spot.Spot.{Spot}
 use Rattle.rv_profile.specs.declared.function.FunctionProfile.{FunctionProfile}
 
@@ -24,8 +24,8 @@ abbrev pub profiled : List Spot → FunctionName → Profiled
 profiled spots named = record {
   name = named.name;
   function = named.function;
-  own = own_in named.function spots;
-  inclusive = inclusive_after named.function [] spots;
+  own = own_steps_of named.function spots;
+  inclusive = inclusive_steps_after named.function [] spots;
   arrivals = arrivals_in named.function spots;
 }
 
@@ -39,8 +39,8 @@ pub record IsProfileOf (spots : List Spot) (names : List FunctionName) (found : 
   pub order : IsSortedBy goes_before found
 
 -- the sum of the own steps of the functions
-abbrev pub own_steps : List Profiled → ℕ
-own_steps found = sum_by (λ p. p.own) found
+abbrev pub total_own_steps : List Profiled → ℕ
+total_own_steps found = sum_by (λ p. p.own) found
 
 -- neither the own nor the inclusive steps of the function exceed `steps`, the steps of all nodes
 abbrev pub IsWithin : ℕ → Profiled → Type 0

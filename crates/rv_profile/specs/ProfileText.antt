@@ -1,9 +1,9 @@
 -- The profile report of images, from a table's call trees: a header if the format is CSV, and then the profile of each image.
 use Rattle.std.specs.Prelude.{◌≡◌, ◌++◌, ℕ, if◌then◌else◌, List, [], ◌∷◌}
 use Rattle.rv_count_tables.specs.declared.table.CountTable.{CountTable}
-use Rattle.rv_cover_view.specs.JobImages.{FileImage}
-use Rattle.rv_profile.specs.Csv.{csv_head, csv_rows}
-use Rattle.rv_profile.specs.ImageStacks.{names_of, spots_of, sums_of}
+use Rattle.rv_cover_view.specs.JobImages.{ImageFileView}
+use Rattle.rv_profile.specs.Csv.{csv_header, csv_rows}
+use Rattle.rv_profile.specs.ImageStacks.{names_of, nodes_of, sums_of}
 use Rattle.rv_profile.specs.Profile.{IsProfileOf, Profiled}
 use Rattle.rv_profile.specs.Text.{first_of, image_lines}
 use Rattle.rv_profile.specs.declared.format.ProfileFormat.{ProfileFormat}
@@ -15,20 +15,20 @@ image_text format path sums ps = if format.csv then csv_rows path (first_of form
 
 -- the header of the report: the column names if the format is CSV, and otherwise empty
 abbrev pub head_text : ProfileFormat → List ℕ
-head_text format = if format.csv then csv_head else []
+head_text format = if format.csv then csv_header else []
 
 -- `text` is the profile of the image, computed from its call tree in the table
-pub record IsImageProfileText (format : ProfileFormat) (table : CountTable) (image : FileImage) (text : List ℕ) : Type 0 where
+pub record IsImageProfileText (format : ProfileFormat) (table : CountTable) (image : ImageFileView) (text : List ℕ) : Type 0 where
   pub functions : List Profiled
-  pub profile : IsProfileOf (spots_of table image.bytes) (names_of table image.bytes) functions
-  pub shown : text ≡ image_text format image.path (sums_of (spots_of table image.bytes)) functions
+  pub profile : IsProfileOf (nodes_of table image.bytes) (names_of table image.bytes) functions
+  pub shown : text ≡ image_text format image.path (sums_of (nodes_of table image.bytes)) functions
 
 -- `text` is the profiles of these images, one after the other, computed from their call trees in the table
-abbrev pub AreImageProfileTexts : ProfileFormat → CountTable → List FileImage → List ℕ → Type 0
+abbrev pub AreImageProfileTexts : ProfileFormat → CountTable → List ImageFileView → List ℕ → Type 0
 AreImageProfileTexts format table [] text = text ≡ []
 AreImageProfileTexts format table (image ∷ images) text = (first : List ℕ) × (IsImageProfileText format table image first
     × ((rest : List ℕ) × (AreImageProfileTexts format table images rest × (text ≡ first ++ rest))))
 
 -- `text` is the profile report of these images: the CSV header if the format is CSV, and then the profile of each image, in order
-abbrev pub IsProfileText : ProfileFormat → CountTable → List FileImage → List ℕ → Type 0
+abbrev pub IsProfileText : ProfileFormat → CountTable → List ImageFileView → List ℕ → Type 0
 IsProfileText format table images text = (lines : List ℕ) × (AreImageProfileTexts format table images lines × (text ≡ head_text format ++ lines))

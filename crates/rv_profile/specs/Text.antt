@@ -24,17 +24,17 @@ columns_of sums = record {
 }
 
 -- the word, preceded by spaces up to `width` characters
-unfoldable pub right_word : ℕ → List ℕ → List ℕ
-right_word width word = replicate (width - length word) 32 ++ word
+unfoldable pub right_aligned_word : ℕ → List ℕ → List ℕ
+right_aligned_word width word = replicate (width - length word) 32 ++ word
 
 -- the header of a column of numbers, right-aligned, and of the column of their percentages
-unfoldable pub share_head : ℕ → List ℕ → List ℕ
-share_head width word = right_word width word ++ codes "       %"
+unfoldable pub share_header : ℕ → List ℕ → List ℕ
+share_header width word = right_aligned_word width word ++ codes "       %"
 
 -- the header with the names of the columns
-unfoldable pub columns_head : Columns → List ℕ
-columns_head c = share_head c.own (codes "self") ++ share_head c.inclusive (codes "inclusive")
-    ++ right_word c.arrivals (codes "calls") ++ codes "  function\n"
+unfoldable pub column_header : Columns → List ℕ
+column_header c = share_header c.own (codes "self") ++ share_header c.inclusive (codes "inclusive")
+    ++ right_aligned_word c.arrivals (codes "calls") ++ codes "  function\n"
 
 -- ---- shares
 
@@ -88,7 +88,7 @@ first_of (Some count) xs = take count xs
 -- functions are not shown; empty if there are no functions
 abbrev pub functions_text : Option ℕ → Sums → List Profiled → List ℕ
 functions_text top sums [] = []
-functions_text top sums (p ∷ ps) = columns_head (columns_of sums) ++ function_lines (columns_of sums) sums.steps (first_of top (p ∷ ps))
+functions_text top sums (p ∷ ps) = column_header (columns_of sums) ++ function_lines (columns_of sums) sums.steps (first_of top (p ∷ ps))
     ++ more_line (length (p ∷ ps) - length (first_of top (p ∷ ps)))
 
 -- the lines of the image with this path: its number of steps, and then its functions, only the first `top` of them if a number is given

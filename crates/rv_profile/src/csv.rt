@@ -1,7 +1,7 @@
 //! The profiles of images for tools: comma-separated values (RFC 4180), each line ended by a line feed.
 
 ghost use Rattle.std.specs.Prelude.{◌≡◌, ◌++◌, OnOk};
-ghost use Rattle.rv_profile.specs.Csv.{csv_head, csv_numbers, csv_row, csv_rows};
+ghost use Rattle.rv_profile.specs.Csv.{csv_header, csv_numbers, csv_row, csv_rows};
 ghost use Rattle.rv_profile.specs.Profile.{profile_of, profiles_of};
 
 use crate::function::FunctionProfile;
@@ -10,9 +10,9 @@ use rv_cover_view::push_csv_field;
 use std::alloc::AllocError;
 
 /// Appends the first line of the CSV, with the column names.
-#[tactic(auto, unfolding(crate::specs::Csv::csv_head))]
+#[tactic(auto, unfolding(crate::specs::Csv::csv_header))]
 pub(crate) fn push_csv_head(bytes: &mut Vec<u8>) -> Result<(), AllocError>
-    ensures { OnOk result (bytes.new.items ≡ bytes.old.items ++ csv_head) }
+    ensures { OnOk result (bytes.new.items ≡ bytes.old.items ++ csv_header) }
 {
     push_text(bytes, "image,function,address,self,inclusive,calls\n")
 }

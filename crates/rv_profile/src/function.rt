@@ -3,7 +3,7 @@
 ghost use Rattle.std.specs.Prelude.{◌≡◌};
 ghost use Rattle.rv_profile.specs.Profile.{profile_of, profiled};
 
-use rv_count_tables::{FunctionName, FunctionSteps, SpotIndex};
+use rv_count_tables::{FunctionName, FunctionSteps, CallTreeIndex};
 
 /// The counts of a function with its name.
 #[derive(Clone, Copy)]
@@ -17,7 +17,7 @@ pub(crate) struct FunctionProfile<'a> {
 /// Returns the counts in a call tree of the function with this name and address. Takes time linear in the number of nodes that end in the
 /// function.
 pub(crate) fn profile_of_function<'a>(
-    index: &SpotIndex<'_>,
+    index: &CallTreeIndex<'_>,
     named: &'a FunctionName,
 ) -> FunctionProfile<'a>
     ensures { profile_of result ≡ profiled index.now.spots.now named.now }

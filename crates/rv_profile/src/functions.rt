@@ -1,13 +1,13 @@
 //! The functions of an image, those with the most own steps first.
 
 ghost use Rattle.std.specs.Prelude.{◌≡◌, IfOk, map, true};
-ghost use Rattle.rv_profile.specs.ImageStacks.{are_few, sums_of};
+ghost use Rattle.rv_profile.specs.ImageStacks.{fit_in_64_bits, sums_of};
 ghost use Rattle.rv_count_tables.specs.Trees.{IsTree};
 ghost use Rattle.rv_profile.specs.Profile.{IsProfileOf, profiled, profiles_of};
 
 use crate::function::{FunctionProfile, profile_of_function};
 use crate::image_stacks::ImageStacks;
-use rv_count_tables::SpotIndex;
+use rv_count_tables::CallTreeIndex;
 use std::alloc::{AllocError, Global};
 
 /// Returns the functions of an image with their counts in its call tree, sorted by own steps in descending order, and then by address.
@@ -17,7 +17,7 @@ pub(crate) fn functions_by_own_steps<'t>(
     stacks: ImageStacks<'t>,
 ) -> Result<Vec<FunctionProfile<'t>>, AllocError>
     requires tree { IsTree stacks.spots.now }
-    requires few { are_few (sums_of stacks.spots.now) ≡ true }
+    requires few { fit_in_64_bits (sums_of stacks.spots.now) ≡ true }
     ensures { IfOk result (λ found. IsProfileOf stacks.entry.spots.now stacks.entry.names.now (profiles_of found.items)) }
 {
     let mut functions = functions_of_stacks(alloc, stacks)?;
@@ -31,10 +31,10 @@ fn functions_of_stacks<'t>(
     stacks: ImageStacks<'t>,
 ) -> Result<Vec<FunctionProfile<'t>>, AllocError>
     requires tree { IsTree stacks.spots.now }
-    requires few { are_few (sums_of stacks.spots.now) ≡ true }
+    requires few { fit_in_64_bits (sums_of stacks.spots.now) ≡ true }
     ensures { IfOk result (λ found. profiles_of found.items ≡ map (profiled stacks.entry.spots.now) stacks.entry.names.now) }
 {
-    let index = SpotIndex::new(alloc, stacks.spots)?;
+    let index = CallTreeIndex::new(alloc, stacks.spots)?;
     let mut functions = Vec::new(alloc);
     for named in stacks.names {
         functions.push(profile_of_function(&index, named))?;

@@ -7,7 +7,7 @@ ghost use Rattle.rv_profile.specs.Text.{function_lines, functions_text, image_li
 use crate::columns::{Columns, columns_of};
 use crate::function::FunctionProfile;
 use crate::image_profile::ImageProfile;
-use crate::text::{push_columns_head, push_function_line, push_more_line, push_steps_line};
+use crate::text::{push_column_header, push_function_line, push_more_line, push_steps_line};
 use crate::top::first_of;
 use std::alloc::{AllocError, Global};
 
@@ -44,7 +44,7 @@ fn push_functions(
     }
     let columns = columns_of(alloc, profile.sums)?;
     let shown = first_of(top, functions);
-    push_columns_head(bytes, columns)?;
+    push_column_header(bytes, columns)?;
     push_function_lines(alloc, bytes, columns, profile.sums.steps, shown)?;
     push_more_line(bytes, functions.len() - shown.len())
 }

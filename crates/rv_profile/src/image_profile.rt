@@ -1,7 +1,7 @@
 //! The profile of an image.
 
 ghost use Rattle.std.specs.Prelude.{◌≡◌, IfOk, true};
-ghost use Rattle.rv_profile.specs.ImageStacks.{are_few, sums_of};
+ghost use Rattle.rv_profile.specs.ImageStacks.{fit_in_64_bits, sums_of};
 ghost use Rattle.rv_count_tables.specs.Trees.{IsTree};
 ghost use Rattle.rv_profile.specs.Profile.{AreWithin, IsProfileOf, profiles_of};
 
@@ -27,7 +27,7 @@ pub(crate) fn profile_of_image<'t>(
     stacks: ImageStacks<'t>,
 ) -> Result<ImageProfile<'t>, AllocError>
     requires tree { IsTree stacks.spots.now }
-    requires few { are_few (sums_of stacks.spots.now) ≡ true }
+    requires few { fit_in_64_bits (sums_of stacks.spots.now) ≡ true }
     ensures sums { IfOk result (λ profile. profile.sums ≡ sums_of stacks.entry.spots.now) }
     ensures functions { IfOk result (λ profile. IsProfileOf stacks.entry.spots.now stacks.entry.names.now (profiles_of profile.functions.items)) }
 {

@@ -2,14 +2,14 @@
 
 ghost use Rattle.std.specs.Prelude.{◌≡◌, [], find, option_map, true};
 ghost use Rattle.std.specs.List.{list_any};
-ghost use Rattle.rv_count_tables.specs.Table.{IsImage, IsTable, names_rise};
+ghost use Rattle.rv_count_tables.specs.Table.{IsValidImage, IsTable, functions_increase_from};
 ghost use Rattle.rv_cover_view.specs.JobImages.{image_of_file, images_of_files};
 ghost use Rattle.rv_count_tables.specs.Trees.{IsTree};
-ghost use Rattle.rv_profile.specs.ImageStacks.{has_stacks, image_past_64_bits, is_past_64_bits, is_some_spot, names_of, spots_of};
+ghost use Rattle.rv_profile.specs.ImageStacks.{has_stacks, image_past_64_bits, is_past_64_bits, has_nodes, names_of, nodes_of};
 
 use crate::sums::sums_of;
 use rv_count_tables::{CountTable, FunctionName, ImageCounts, Spot};
-use rv_cover_view::{ImageFile, counted_image};
+use rv_cover_view::{ImageFile, entry_of_image};
 
 /// The call tree of an image.
 #[derive(Clone, Copy)]
@@ -17,17 +17,17 @@ pub(crate) struct ImageStacks<'t> {
     pub(crate) spots: &'t [Spot],
     /// The names of the functions in it, sorted by function address.
     pub(crate) names: &'t [FunctionName],
-    ghost rising: { names_rise 0 names.now ≡ true },
+    ghost rising: { functions_increase_from 0 names.now ≡ true },
 }
 
 /// Returns the call tree that the table has for the image with these bytes; empty if the table does not have this image.
 pub(crate) fn stacks_of<'t>(table: &'t CountTable, bytes: &[u8]) -> ImageStacks<'t>
     requires { IsTable table.now }
-    ensures spots { result.spots.now ≡ spots_of table.now bytes.now }
+    ensures spots { result.spots.now ≡ nodes_of table.now bytes.now }
     ensures names { result.names.now ≡ names_of table.now bytes.now }
     ensures tree { IsTree result.spots.now }
 {
-    match counted_image(table, bytes) {
+    match entry_of_image(table, bytes) {
         Some(counted) => stacks_of_image(counted),
         None => no_stacks(),
     }
@@ -35,7 +35,7 @@ pub(crate) fn stacks_of<'t>(table: &'t CountTable, bytes: &[u8]) -> ImageStacks<
 
 // Returns the call tree of an image of a table.
 fn stacks_of_image(counted: &ImageCounts) -> ImageStacks<'_>
-    requires { IsImage counted.now }
+    requires { IsValidImage counted.now }
     ensures spots { result.spots.now ≡ counted.now.spots }
     ensures names { result.names.now ≡ counted.now.functions }
     ensures tree { IsTree result.spots.now }
@@ -47,7 +47,7 @@ fn stacks_of_image(counted: &ImageCounts) -> ImageStacks<'_>
 }
 
 // Returns an empty call tree.
-#[tactic(auto, unfolding(rv_count_tables::specs::Table::names_rise))]
+#[tactic(auto, unfolding(rv_count_tables::specs::Table::functions_increase_from))]
 fn no_stacks<'t>() -> ImageStacks<'t>
     ensures spots { result.spots.now ≡ [] }
     ensures names { result.names.now ≡ [] }
@@ -68,7 +68,7 @@ pub fn has_stacks(table: &CountTable) -> bool
 
 // Whether an image of a table has a call tree.
 fn has_spots(counted: &ImageCounts) -> bool
-    ensures { result ≡ is_some_spot counted.now.spots }
+    ensures { result ≡ has_nodes counted.now.spots }
 {
     !counted.spots.as_slice().is_empty()
 }
@@ -98,7 +98,7 @@ fn first_past_64_bits<'i, 'a>(
 fn is_past_64_bits(table: &CountTable, image: &ImageFile<'_>) -> bool
     ensures { result ≡ is_past_64_bits table.now (image_of_file image.now) }
 {
-    let Some(counted) = counted_image(table, image.bytes) else {
+    let Some(counted) = entry_of_image(table, image.bytes) else {
         return false;
     };
     sums_of(counted.spots.as_slice()).is_none()

@@ -1,7 +1,7 @@
 //! Sums over the nodes of a call tree.
 
 ghost use Rattle.std.specs.Prelude.{◌≡◌};
-ghost use Rattle.rv_profile.specs.ImageStacks.{fitting, sums_of, with_spot};
+ghost use Rattle.rv_profile.specs.ImageStacks.{fitting, sums_of, with_node};
 
 use rv_count_tables::Spot;
 
@@ -14,8 +14,8 @@ pub(crate) struct Sums {
 
 impl Sums {
     // Returns the sums, to which the counts of one more node are added, or `None` if one of them does not fit in 64 bits.
-    fn with_spot(self, spot: Spot) -> Option<Sums>
-        ensures { result ≡ fitting (with_spot self spot) }
+    fn with_node(self, spot: Spot) -> Option<Sums>
+        ensures { result ≡ fitting (with_node self spot) }
     {
         Some(Sums {
             steps: self.steps.checked_add(spot.steps)?,
@@ -33,7 +33,7 @@ pub(crate) fn sums_of(spots: &[Spot]) -> Option<Sums>
         arrivals: 0,
     };
     for spot in spots {
-        sums = sums.with_spot(*spot)?;
+        sums = sums.with_node(*spot)?;
     }
     Some(sums)
 }

@@ -2,12 +2,12 @@
 
 ghost use Rattle.std.specs.Prelude.{◌≡◌, ◌≤◌, ◌++◌, OnOk};
 ghost use Rattle.rv_profile.specs.Profile.{IsWithin, profile_of};
-ghost use Rattle.rv_profile.specs.Text.{columns_head, function_line, functions_word, hundredths, more_line, percent, right_word, share, share_head, steps_line, steps_word};
+ghost use Rattle.rv_profile.specs.Text.{column_header, function_line, functions_word, hundredths, more_line, percent, right_aligned_word, share, share_header, steps_line, steps_word};
 
 use crate::columns::Columns;
 use crate::function::FunctionProfile;
 use rv_count_tables::{Span, push_number, push_spans, push_text};
-use rv_cover_view::{push_right, push_spaces};
+use rv_cover_view::{push_right_aligned, push_spaces};
 use std::alloc::{AllocError, Global};
 
 /// Appends the line of the image with this path: the path and the number of steps.
@@ -38,29 +38,29 @@ fn steps_word(count: u64) -> &'static str
 }
 
 /// Appends the header with the names of the columns.
-#[tactic(auto, unfolding(crate::specs::Text::columns_head))]
-pub(crate) fn push_columns_head(bytes: &mut Vec<u8>, columns: Columns) -> Result<(), AllocError>
-    ensures { OnOk result (bytes.new.items ≡ bytes.old.items ++ columns_head columns) }
+#[tactic(auto, unfolding(crate::specs::Text::column_header))]
+pub(crate) fn push_column_header(bytes: &mut Vec<u8>, columns: Columns) -> Result<(), AllocError>
+    ensures { OnOk result (bytes.new.items ≡ bytes.old.items ++ column_header columns) }
 {
-    push_share_head(bytes, columns.own, "self")?;
-    push_share_head(bytes, columns.inclusive, "inclusive")?;
-    push_right_word(bytes, columns.arrivals, "calls")?;
+    push_share_header(bytes, columns.own, "self")?;
+    push_share_header(bytes, columns.inclusive, "inclusive")?;
+    push_right_aligned_word(bytes, columns.arrivals, "calls")?;
     push_text(bytes, "  function\n")
 }
 
 // Appends the header of a column of numbers, right-aligned, and of the column of their percentages.
-#[tactic(auto, unfolding(crate::specs::Text::share_head))]
-fn push_share_head(bytes: &mut Vec<u8>, width: usize, word: &str) -> Result<(), AllocError>
-    ensures { OnOk result (bytes.new.items ≡ bytes.old.items ++ share_head width word.now) }
+#[tactic(auto, unfolding(crate::specs::Text::share_header))]
+fn push_share_header(bytes: &mut Vec<u8>, width: usize, word: &str) -> Result<(), AllocError>
+    ensures { OnOk result (bytes.new.items ≡ bytes.old.items ++ share_header width word.now) }
 {
-    push_right_word(bytes, width, word)?;
+    push_right_aligned_word(bytes, width, word)?;
     push_text(bytes, "       %")
 }
 
 // Appends the word, preceded by spaces up to `width` characters.
-#[tactic(auto, unfolding(crate::specs::Text::right_word))]
-fn push_right_word(bytes: &mut Vec<u8>, width: usize, word: &str) -> Result<(), AllocError>
-    ensures { OnOk result (bytes.new.items ≡ bytes.old.items ++ right_word width word.now) }
+#[tactic(auto, unfolding(crate::specs::Text::right_aligned_word))]
+fn push_right_aligned_word(bytes: &mut Vec<u8>, width: usize, word: &str) -> Result<(), AllocError>
+    ensures { OnOk result (bytes.new.items ≡ bytes.old.items ++ right_aligned_word width word.now) }
 {
     push_spaces(bytes, width.saturating_sub(word.len()))?;
     push_text(bytes, word)
@@ -81,7 +81,7 @@ pub(crate) fn push_function_line(
     let counted = function.steps;
     push_share(alloc, bytes, columns.own, counted.own, steps)?;
     push_share(alloc, bytes, columns.inclusive, counted.inclusive, steps)?;
-    push_right(alloc, bytes, columns.arrivals, counted.arrivals)?;
+    push_right_aligned(alloc, bytes, columns.arrivals, counted.arrivals)?;
     push_spans(
         bytes,
         &[
@@ -104,7 +104,7 @@ fn push_share(
     requires { part ≤ whole }
     ensures { OnOk result (bytes.new.items ≡ bytes.old.items ++ share width part whole) }
 {
-    push_right(alloc, bytes, width, part)?;
+    push_right_aligned(alloc, bytes, width, part)?;
     push_percent(alloc, bytes, hundredths(part, whole))
 }
 
@@ -125,7 +125,7 @@ fn hundredths(part: u64, whole: u64) -> u64
 fn push_percent(alloc: Global, bytes: &mut Vec<u8>, count: u64) -> Result<(), AllocError>
     ensures { OnOk result (bytes.new.items ≡ bytes.old.items ++ percent count) }
 {
-    push_right(alloc, bytes, 4, count / 100)?;
+    push_right_aligned(alloc, bytes, 4, count / 100)?;
     push_spans(
         bytes,
         &[

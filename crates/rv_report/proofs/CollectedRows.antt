@@ -5,12 +5,12 @@ use Rattle.std.specs.List.{AllByRecursion}
 use Rattle.std.proofs.lemmas.Bool.{cases_lt}
 use Rattle.std.proofs.lemmas.Grind.{flat_map-append}
 use Rattle.std.proofs.lemmas.List.{take-append-le}
-use Rattle.rv_base.specs.Limits.{most_jobs}
+use Rattle.rv_base.specs.Limits.{max_jobs}
 use Rattle.rv_report.specs.declared.row.Row.{Row}
 use Rattle.rv_report.specs.declared.saved.Extent.{Extent}
 use Rattle.rv_report.specs.Report.{line, row_text}
-use Rattle.rv_report.specs.LenientReport.{lines, Gathered, gathering_between_rows, with_unfinished_row}
-use Rattle.rv_report.specs.Saved.{IsRow, are_rising, row_names}
+use Rattle.rv_report.specs.LenientReport.{lines, Gathered, state_between_rows, with_unfinished_row}
+use Rattle.rv_report.specs.Saved.{IsValidRow, are_increasing, row_names}
 use Rattle.rv_report.proofs.Spelled.{says, row_says}
 use Rattle.rv_report.proofs.Reports.{rising_parts}
 use Rattle.rv_report.proofs.LineLists.{joined}
@@ -114,12 +114,12 @@ more_covered earlier done n ns row rows k i f is h =
     }
 
 -- a whole row is read
-pub whole_row_says : (n : ℕ) (row : Row) (ls : List (List ℕ)) (w earlier : List ℕ) (done : List Row) (e : Extent) → IsRow row
-    → 0 < n → n < 2 ^ 32 → length done < most_jobs
-    → says (joined (row_lines n row ++ ls) ++ w) (gathering_between_rows earlier done e)
-    ≡ says (joined ls ++ w) (gathering_between_rows (earlier ++ n ∷ []) (done ++ row ∷ []) e)
+pub whole_row_says : (n : ℕ) (row : Row) (ls : List (List ℕ)) (w earlier : List ℕ) (done : List Row) (e : Extent) → IsValidRow row
+    → 0 < n → n < 2 ^ 32 → length done < max_jobs
+    → says (joined (row_lines n row ++ ls) ++ w) (state_between_rows earlier done e)
+    ≡ says (joined ls ++ w) (state_between_rows (earlier ++ n ∷ []) (done ++ row ∷ []) e)
 whole_row_says n row ls w earlier done e is some small few =
-    let g = gathering_between_rows earlier done e in
+    let g = state_between_rows earlier done e in
     let same : n - 1 + 1 ≡ n = omega arith in
     ap (λ (t : List ℕ). says (t ++ w) g) (flat_map-append line (row_lines n row) ls)
     ∙ ap (λ (t : List ℕ). says ((t ++ joined ls) ++ w) g) (joined_row n (n - 1) row same)
@@ -127,39 +127,39 @@ whole_row_says n row ls w earlier done e is some small few =
     ∙ row_says (n - 1) n row (joined ls ++ w) earlier done e is same small few
 
 pub between_grown : (w earlier : List ℕ) (done : List Row) (e : Extent)
-    → Extends earlier done (with_unfinished_row (says w (gathering_between_rows earlier done e)))
-unfolding gathering_between_rows
-between_grown w earlier done e = grown (lines w) (gathering_between_rows earlier done e)
+    → Extends earlier done (with_unfinished_row (says w (state_between_rows earlier done e)))
+unfolding state_between_rows
+between_grown w earlier done e = grown (lines w) (state_between_rows earlier done e)
 
-row_begun : (k n : ℕ) (row : Row) (w earlier : List ℕ) (done : List Row) (e : Extent) → IsRow row → n < 2 ^ 32
-    → length done < most_jobs → 0 < k → k < length (row_lines n row)
+row_begun : (k n : ℕ) (row : Row) (w earlier : List ℕ) (done : List Row) (e : Extent) → IsValidRow row → n < 2 ^ 32
+    → length done < max_jobs → 0 < k → k < length (row_lines n row)
     → HasRow earlier done n (Agrees n row k)
-    (with_unfinished_row (says (joined (take k (row_lines n row)) ++ w) (gathering_between_rows earlier done e)))
-unfolding gathering_between_rows
+    (with_unfinished_row (says (joined (take k (row_lines n row)) ++ w) (state_between_rows earlier done e)))
+unfolding state_between_rows
 row_begun k n row w earlier done e is small few some within =
-    partial_row k n row w (gathering_between_rows earlier done e) is small few (omega arith) some within
+    partial_row k n row w (state_between_rows earlier done e) is small few (omega arith) some within
 
 pub rows_covered : (k : ℕ) (ns : List ℕ) (rows : List Row) (w earlier : List ℕ) (done : List Row) (e : Extent) (before : ℕ)
-    → AllByRecursion IsRow rows → length ns ≡ length rows → are_rising before most_jobs ns ≡ true
-    → length done + length rows ≤ most_jobs → k ≤ length (numbered_lines ns rows)
+    → AllByRecursion IsValidRow rows → length ns ≡ length rows → are_increasing before max_jobs ns ≡ true
+    → length done + length rows ≤ max_jobs → k ≤ length (numbered_lines ns rows)
     → Covers earlier done ns rows k
-    (with_unfinished_row (says (joined (take k (numbered_lines ns rows)) ++ w) (gathering_between_rows earlier done e)))
+    (with_unfinished_row (says (joined (take k (numbered_lines ns rows)) ++ w) (state_between_rows earlier done e)))
 rows_covered zero ns rows w earlier done e before each counted rising few within =
-    none_covered earlier done ns rows (with_unfinished_row (says w (gathering_between_rows earlier done e)))
+    none_covered earlier done ns rows (with_unfinished_row (says w (state_between_rows earlier done e)))
     (between_grown w earlier done e)
 rows_covered (suc k) [] [] w earlier done e before each counted rising few within =
-    empty_covered earlier done (suc k) (with_unfinished_row (says w (gathering_between_rows earlier done e)))
+    empty_covered earlier done (suc k) (with_unfinished_row (says w (state_between_rows earlier done e)))
     (between_grown w earlier done e)
 rows_covered (suc k) [] (row ∷ rows) w earlier done e before each counted rising few within = absurd (omega arith)
 rows_covered (suc k) (n ∷ ns) [] w earlier done e before each counted rising few within = absurd (omega arith)
 rows_covered (suc k) (n ∷ ns) (row ∷ rows) w earlier done e before each counted rising few within =
-    let parts = rising_parts before most_jobs n ns rising in
+    let parts = rising_parts before max_jobs n ns rising in
     let low : before < n = parts.0 in
-    let high : n ≤ most_jobs = parts.1 in
+    let high : n ≤ max_jobs = parts.1 in
     let here = row_lines n row in
     let later = numbered_lines ns rows in
     let all = length-append here later in
-    let g = gathering_between_rows earlier done e in
+    let g = state_between_rows earlier done e in
     let C : List (List ℕ) → Type 0 = λ ls. Covers earlier done (n ∷ ns) (row ∷ rows) (suc k)
     (with_unfinished_row (says (joined ls ++ w) g)) in
     elim (cases_lt (suc k) (length here)) [
@@ -171,7 +171,7 @@ rows_covered (suc k) (n ∷ ns) (row ∷ rows) w earlier done e before each coun
           let i = suc k - length here in
           let is : suc k ≡ length here + i = omega arith in
           let longer = length-append done (row ∷ []) in
-          let next = gathering_between_rows (earlier ++ n ∷ []) (done ++ row ∷ []) e in
+          let next = state_between_rows (earlier ++ n ∷ []) (done ++ row ∷ []) e in
           let rest = rows_covered i ns rows w (earlier ++ n ∷ []) (done ++ row ∷ []) e n each.1 (omega arith) parts.2
           (omega arith) (omega arith) in
           subst C (sym (take_past here later (suc k) i is))

@@ -10,69 +10,69 @@ use Rattle.rv_report.specs.declared.read.ReadError.{ReadError}
 use Rattle.rv_report.specs.declared.read.ReadError.TheVariants.{OutOfMemory, Line, CutOff}
 use Rattle.rv_report.specs.declared.saved.SavedReport.{SavedReport}
 use Rattle.rv_report.specs.LenientReport.{lenient_report}
-use Rattle.rv_report.specs.Saved.{IsSaved, saved_text}
-use Rattle.rv_report.specs.Differences.{BeginsAlike, IsSameReadError, read_error_from}
+use Rattle.rv_report.specs.Saved.{IsValidReport, saved_text}
+use Rattle.rv_report.specs.Differences.{AgreeBeforeError, IsSameReadError, read_error_from}
 use Rattle.rv_report.proofs.Told.{tells}
 use Rattle.rv_report.proofs.Cut.{said_can_be}
 use Rattle.rv_report.proofs.Reports.{says_itself}
-use Rattle.rv_report.specs.LeastLine.{IsLeast, BeginsReport}
+use Rattle.rv_report.specs.LeastLine.{IsFirstError, IsReportPrefix}
 use Rattle.rv_report.proofs.LeastTold.{told_is_least, begun_is_cut}
 
-pub can_be : (bytes : List ℕ) (r : SavedReport) → r ≡ lenient_report bytes → IsSaved r
-can_be bytes r s = subst (λ (x : SavedReport). IsSaved x) (sym s) (said_can_be bytes)
+pub can_be : (bytes : List ℕ) (r : SavedReport) → r ≡ lenient_report bytes → IsValidReport r
+can_be bytes r s = subst (λ (x : SavedReport). IsValidReport x) (sym s) (said_can_be bytes)
 
 pub found_is : (bytes text : List ℕ) (r : SavedReport) → r ≡ lenient_report bytes → text ≡ saved_text r
     → true ≡ bytes_eq text bytes
-    → IsSaved r × (saved_text r ≡ bytes)
+    → IsValidReport r × (saved_text r ≡ bytes)
 found_is bytes text r s t e = (can_be bytes r s, sym t ∙ (bytes_eq-Decides text bytes).0 (sym e))
 
-pub only_is : (bytes : List ℕ) (r : SavedReport) → r ≡ lenient_report bytes → (wanted : SavedReport) → IsSaved wanted
+pub only_is : (bytes : List ℕ) (r : SavedReport) → r ≡ lenient_report bytes → (wanted : SavedReport) → IsValidReport wanted
     → saved_text wanted ≡ bytes → r ≡ wanted
 only_is bytes r s wanted h e = s ∙ ap lenient_report (sym e) ∙ says_itself wanted h
 
 pub never : (bytes text : List ℕ) (r : SavedReport) → r ≡ lenient_report bytes → text ≡ saved_text r → false ≡ bytes_eq text bytes
-    → (wanted : SavedReport) → IsSaved wanted → saved_text wanted ≡ bytes → ⊥
+    → (wanted : SavedReport) → IsValidReport wanted → saved_text wanted ≡ bytes → ⊥
 never bytes text r s t other wanted h e =
     let same = t ∙ ap saved_text (only_is bytes r s wanted h e) ∙ e in
     false≢true (other ∙ (bytes_eq-Decides text bytes).1 same)
 
 pub err_is : (bytes text : List ℕ) (r : SavedReport) (error : ReadError) → r ≡ lenient_report bytes → text ≡ saved_text r
-    → error ≡ read_error_from 1 word.Ahead text bytes → (x : SavedReport) × IsSaved x × BeginsAlike error (saved_text x) bytes
+    → error ≡ read_error_from 1 word.Ahead text bytes → (x : SavedReport) × IsValidReport x × AgreeBeforeError error (saved_text x) bytes
 err_is bytes text r error s t f = (
   r,
   can_be bytes r s,
-  subst (λ (e : ReadError). BeginsAlike e (saved_text r) bytes)
+  subst (λ (e : ReadError). AgreeBeforeError e (saved_text r) bytes)
       (sym (f ∙ ap (λ (x : List ℕ). read_error_from 1 word.Ahead x bytes) t))
       (tells (saved_text r) bytes),
 )
 
-is_place : (error place : ReadError) → error ≡ place → IsSameReadError error place
-is_place OutOfMemory place e = tt
-is_place (Line line) place e = sym e
-is_place CutOff place e = sym e
+is_index : (error place : ReadError) → error ≡ place → IsSameReadError error place
+is_index OutOfMemory place e = tt
+is_index (Line line) place e = sym e
+is_index CutOff place e = sym e
 
 pub place_is : (bytes text : List ℕ) (r : SavedReport) (error : ReadError) → r ≡ lenient_report bytes → text ≡ saved_text r
     → error ≡ read_error_from 1 word.Ahead text bytes
     → IsSameReadError error (read_error_from 1 word.Ahead (saved_text (lenient_report bytes)) bytes)
 place_is bytes text r error s t f =
-    is_place error (read_error_from 1 word.Ahead (saved_text (lenient_report bytes)) bytes)
+    is_index error (read_error_from 1 word.Ahead (saved_text (lenient_report bytes)) bytes)
     (f ∙ ap (λ (x : List ℕ). read_error_from 1 word.Ahead x bytes) (t ∙ ap saved_text s))
 
 pub least_is : (bytes text : List ℕ) (r : SavedReport) (error : ReadError) → r ≡ lenient_report bytes → text ≡ saved_text r
-    → error ≡ read_error_from 1 word.Ahead text bytes → IsLeast error bytes
+    → error ≡ read_error_from 1 word.Ahead text bytes → IsFirstError error bytes
 least_is bytes text r error s t f =
     told_is_least bytes error (f ∙ ap (λ (x : List ℕ). read_error_from 1 word.Ahead x bytes) (t ∙ ap saved_text s))
 
 pub cut_is : (bytes text : List ℕ) (r : SavedReport) (error : ReadError) → r ≡ lenient_report bytes → text ≡ saved_text r
-    → error ≡ read_error_from 1 word.Ahead text bytes → BeginsReport bytes → IsSameReadError error CutOff
+    → error ≡ read_error_from 1 word.Ahead text bytes → IsReportPrefix bytes → IsSameReadError error CutOff
 cut_is bytes text r error s t f begins =
-    is_place error CutOff (f ∙ ap (λ (x : List ℕ). read_error_from 1 word.Ahead x bytes) (t ∙ ap saved_text s)
+    is_index error CutOff (f ∙ ap (λ (x : List ℕ). read_error_from 1 word.Ahead x bytes) (t ∙ ap saved_text s)
     ∙ begun_is_cut bytes begins)
 
 -- nothing is said of the text where memory ran out
 pub err_of : {X : Type 0} (bytes : List ℕ) (result : Result X ReadError)
     → IsErrAnd result (λ error. error ≡ OutOfMemory)
-    → IfErr result (λ error. (x : SavedReport) × IsSaved x × BeginsAlike error (saved_text x) bytes)
+    → IfErr result (λ error. (x : SavedReport) × IsValidReport x × AgreeBeforeError error (saved_text x) bytes)
 err_of bytes (Ok x) h = tt
 err_of bytes (Err error) h =
-    (lenient_report bytes, said_can_be bytes, subst (λ (e : ReadError). BeginsAlike e (saved_text (lenient_report bytes)) bytes) (sym h) tt)
+    (lenient_report bytes, said_can_be bytes, subst (λ (e : ReadError). AgreeBeforeError e (saved_text (lenient_report bytes)) bytes) (sym h) tt)

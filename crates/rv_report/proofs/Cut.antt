@@ -6,28 +6,28 @@ use Rattle.std.specs.List.{list_all}
 use Rattle.std.proofs.lemmas.Bool.{and_parts, and_from, cases_Bool}
 use Rattle.std.proofs.lemmas.Bool.Decides.{nat_tests}
 use Rattle.rv_base.specs.Names.{is_name, index_in}
-use Rattle.rv_base.specs.Limits.{most_jobs}
+use Rattle.rv_base.specs.Limits.{max_jobs}
 use Rattle.rv_report.specs.declared.row.Row.{Row}
 use Rattle.rv_report.specs.declared.saved.Extent.{Extent}
 use Rattle.rv_report.specs.declared.saved.Extent.TheVariants.{Choice}
 use Rattle.rv_report.specs.declared.saved.SavedReport.{SavedReport}
-use Rattle.rv_report.specs.LenientReport.{Gathered, rising_count, count_before_repeated_name, extent_or_choice, gather_rows, lenient_report}
-use Rattle.rv_report.specs.Saved.{IsSaved, are_rising, are_new, matches_job_numbers, row_names}
+use Rattle.rv_report.specs.LenientReport.{Gathered, increasing_count, count_before_repeated_name, extent_or_selection, gather_rows, lenient_report}
+use Rattle.rv_report.specs.Saved.{IsValidReport, are_increasing, are_distinct, matches_job_numbers, row_names}
 use Rattle.rv_report.proofs.Drafts.{AreGood, gathered_good}
 
 -- the counts are not above the lengths
-rising_within : (before : ℕ) (ns : List ℕ) → rising_count before ns ≤ length ns
-unfolding rising_count
+rising_within : (before : ℕ) (ns : List ℕ) → increasing_count before ns ≤ length ns
+unfolding increasing_count
 rising_within before [] = omega arith
 rising_within before (n ∷ ns) =
     let k = rising_within n ns in
-    elim (cases_Bool (nat_lt before n && nat_le n most_jobs)) [
+    elim (cases_Bool (nat_lt before n && nat_le n max_jobs)) [
       | inl e ↦
-          let s : rising_count before (n ∷ ns) ≡ rising_count n ns + 1 =
-          ap (λ (t : Bool). cond t (rising_count n ns + 1) 0) e in
+          let s : increasing_count before (n ∷ ns) ≡ increasing_count n ns + 1 =
+          ap (λ (t : Bool). cond t (increasing_count n ns + 1) 0) e in
           omega arith
       | inr e ↦
-          let s : rising_count before (n ∷ ns) ≡ 0 = ap (λ (t : Bool). cond t (rising_count n ns + 1) 0) e in
+          let s : increasing_count before (n ∷ ns) ≡ 0 = ap (λ (t : Bool). cond t (increasing_count n ns + 1) 0) e in
           omega arith
     ]
 
@@ -47,28 +47,28 @@ new_within earlier (t ∷ ts) =
           omega arith
     ]
 
-rising_taken : (before count : ℕ) (ns : List ℕ) → count ≤ rising_count before ns
-    → are_rising before most_jobs (take count ns) ≡ true
-unfolding rising_count are_rising
+rising_taken : (before count : ℕ) (ns : List ℕ) → count ≤ increasing_count before ns
+    → are_increasing before max_jobs (take count ns) ≡ true
+unfolding increasing_count are_increasing
 rising_taken before zero ns h = refl
 rising_taken before (suc count) [] h = refl
 rising_taken before (suc count) (n ∷ ns) h =
-    elim (cases_Bool (nat_lt before n && nat_le n most_jobs)) [
+    elim (cases_Bool (nat_lt before n && nat_le n max_jobs)) [
       | inl e ↦
-          let s : rising_count before (n ∷ ns) ≡ rising_count n ns + 1 =
-          ap (λ (t : Bool). cond t (rising_count n ns + 1) 0) e in
-          let parts = and_parts (nat_lt before n) (nat_le n most_jobs) e in
-          and_from (nat_lt before n) (nat_le n most_jobs && are_rising n most_jobs (take count ns)) parts.0
-          (and_from (nat_le n most_jobs) (are_rising n most_jobs (take count ns)) parts.1
+          let s : increasing_count before (n ∷ ns) ≡ increasing_count n ns + 1 =
+          ap (λ (t : Bool). cond t (increasing_count n ns + 1) 0) e in
+          let parts = and_parts (nat_lt before n) (nat_le n max_jobs) e in
+          and_from (nat_lt before n) (nat_le n max_jobs && are_increasing n max_jobs (take count ns)) parts.0
+          (and_from (nat_le n max_jobs) (are_increasing n max_jobs (take count ns)) parts.1
           (rising_taken n count ns (omega arith)))
       | inr e ↦
-          let s : rising_count before (n ∷ ns) ≡ 0 = ap (λ (t : Bool). cond t (rising_count n ns + 1) 0) e in
+          let s : increasing_count before (n ∷ ns) ≡ 0 = ap (λ (t : Bool). cond t (increasing_count n ns + 1) 0) e in
           absurd (omega arith)
     ]
 
 new_taken : (earlier : List (List ℕ)) (count : ℕ) (rows : List Row) → count ≤ count_before_repeated_name earlier (row_names rows)
-    → are_new earlier (row_names (take count rows)) ≡ true
-unfolding count_before_repeated_name are_new
+    → are_distinct earlier (row_names (take count rows)) ≡ true
+unfolding count_before_repeated_name are_distinct
 new_taken earlier zero rows h = refl
 new_taken earlier (suc count) [] h = refl
 new_taken earlier (suc count) (row ∷ rows) h =
@@ -80,7 +80,7 @@ new_taken earlier (suc count) (row ∷ rows) h =
           absurd (omega arith)
       | inr e ↦
           let s : count_before_repeated_name earlier (row_names (row ∷ rows)) ≡ later + 1 = ap (λ (b : Bool). cond b 0 (later + 1)) e in
-          and_from (not (is_some (index_in earlier t))) (are_new (earlier ++ t ∷ []) (row_names (take count rows)))
+          and_from (not (is_some (index_in earlier t))) (are_distinct (earlier ++ t ∷ []) (row_names (take count rows)))
           (ap not e) (new_taken (earlier ++ t ∷ []) count rows (omega arith))
     ]
 
@@ -100,14 +100,14 @@ taken_within zero xs = omega arith
 taken_within (suc count) [] = omega arith
 taken_within (suc count) (x ∷ xs) = let h = taken_within count xs in omega arith
 
-fitting_fits : (e : Extent) (ns : List ℕ) → are_rising 0 most_jobs ns ≡ true → matches_job_numbers (extent_or_choice e ns) ns ≡ true
-unfolding extent_or_choice matches_job_numbers
+fitting_fits : (e : Extent) (ns : List ℕ) → are_increasing 0 max_jobs ns ≡ true → matches_job_numbers (extent_or_selection e ns) ns ≡ true
+unfolding extent_or_selection matches_job_numbers
 fitting_fits e ns h =
     let P : Extent → Type 0 = λ x. matches_job_numbers x ns ≡ true in
     elim (cases_Bool (matches_job_numbers e ns)) [
-      | inl t ↦ subst P (sym (ap (λ (b : Bool). cond b e (Choice most_jobs)) t)) t
-      | inr t ↦ subst P (sym (ap (λ (b : Bool). cond b e (Choice most_jobs)) t))
-          (and_from (nat_le most_jobs most_jobs) (are_rising 0 most_jobs ns) refl h)
+      | inl t ↦ subst P (sym (ap (λ (b : Bool). cond b e (Choice max_jobs)) t)) t
+      | inr t ↦ subst P (sym (ap (λ (b : Bool). cond b e (Choice max_jobs)) t))
+          (and_from (nat_le max_jobs max_jobs) (are_increasing 0 max_jobs ns) refl h)
     ]
 
 pub length-taken : {X : Type 0} (count : ℕ) (xs : List X) → count ≤ length xs → length (take count xs) ≡ count
@@ -119,15 +119,15 @@ pub length-names : (rows : List Row) → length (row_names rows) ≡ length rows
 length-names [] = refl
 length-names (row ∷ rows) = ap suc (length-names rows)
 
-cut_saved : (g : Gathered) (rising : List Row) (count : ℕ) → rising ≡ take (rising_count 0 g.numbers) g.rows
+cut_saved : (g : Gathered) (rising : List Row) (count : ℕ) → rising ≡ take (increasing_count 0 g.numbers) g.rows
     → count ≡ count_before_repeated_name [] (row_names rising) → AreGood g.rows
-    → IsSaved (record {
-      extent = extent_or_choice g.extent (take count g.numbers);
+    → IsValidReport (record {
+      extent = extent_or_selection g.extent (take count g.numbers);
       numbers = take count g.numbers;
       rows = take count rising;
     })
 cut_saved g rising count r is good =
-    let most = rising_count 0 g.numbers in
+    let most = increasing_count 0 g.numbers in
     let a = rising_within 0 g.numbers in
     let b = new_within [] (row_names rising) in
     let c = length-names rising in
@@ -148,34 +148,34 @@ cut_saved g rising count r is good =
     }
 
 -- what a text says can be a report
-pub said_can_be : (text : List ℕ) → IsSaved (lenient_report text)
+pub said_can_be : (text : List ℕ) → IsValidReport (lenient_report text)
 unfolding lenient_report
 said_can_be text =
     let g = gather_rows text in
-    let rising = take (rising_count 0 g.numbers) g.rows in
+    let rising = take (increasing_count 0 g.numbers) g.rows in
     cut_saved g rising (count_before_repeated_name [] (row_names rising)) refl refl (gathered_good text)
 
 -- ---- how many there are
 
-within_last : (before last : ℕ) (ns : List ℕ) → before ≤ last → are_rising before last ns ≡ true
+within_last : (before last : ℕ) (ns : List ℕ) → before ≤ last → are_increasing before last ns ≡ true
     → before + length ns ≤ last
-unfolding are_rising
+unfolding are_increasing
 within_last before last [] low h = omega arith
 within_last before last (n ∷ ns) low h =
-    let first = and_parts (nat_lt before n) (nat_le n last && are_rising n last ns) h in
-    let then = and_parts (nat_le n last) (are_rising n last ns) first.1 in
+    let first = and_parts (nat_lt before n) (nat_le n last && are_increasing n last ns) h in
+    let then = and_parts (nat_le n last) (are_increasing n last ns) first.1 in
     let a : before < n = grind (arith, nat_tests) in
     let b : n ≤ last = grind (arith, nat_tests) in
     let c = within_last n last ns b then.1 in
     omega arith
 
-pub few_numbers : (ns : List ℕ) → are_rising 0 most_jobs ns ≡ true → length ns ≤ most_jobs
-few_numbers ns h = let k = within_last 0 most_jobs ns (omega arith) h in omega arith
+pub few_numbers : (ns : List ℕ) → are_increasing 0 max_jobs ns ≡ true → length ns ≤ max_jobs
+few_numbers ns h = let k = within_last 0 max_jobs ns (omega arith) h in omega arith
 
-pub few_cut : (g : Gathered) (rising : List Row) (count : ℕ) → rising ≡ take (rising_count 0 g.numbers) g.rows
-    → count ≡ count_before_repeated_name [] (row_names rising) → length (take count g.numbers) ≤ most_jobs
+pub few_cut : (g : Gathered) (rising : List Row) (count : ℕ) → rising ≡ take (increasing_count 0 g.numbers) g.rows
+    → count ≡ count_before_repeated_name [] (row_names rising) → length (take count g.numbers) ≤ max_jobs
 few_cut g rising count r is =
-    let most = rising_count 0 g.numbers in
+    let most = increasing_count 0 g.numbers in
     let b = new_within [] (row_names rising) in
     let c = length-names rising in
     let d : length rising ≤ most =
@@ -184,13 +184,13 @@ few_cut g rising count r is =
 
 -- the same, of what was worked out piece by piece
 pub cut_made : (g : Gathered) (rising : List Row) (count : ℕ) (e : Extent) (ns : List ℕ) (rs : List Row)
-    → rising ≡ take (rising_count 0 g.numbers) g.rows → count ≡ count_before_repeated_name [] (row_names rising)
-    → ns ≡ take count g.numbers → rs ≡ take count rising → e ≡ extent_or_choice g.extent ns → AreGood g.rows
-    → IsSaved (record { extent = e; numbers = ns; rows = rs })
+    → rising ≡ take (increasing_count 0 g.numbers) g.rows → count ≡ count_before_repeated_name [] (row_names rising)
+    → ns ≡ take count g.numbers → rs ≡ take count rising → e ≡ extent_or_selection g.extent ns → AreGood g.rows
+    → IsValidReport (record { extent = e; numbers = ns; rows = rs })
 cut_made g rising count e ns rs up is n r x good =
-    let e' = extent_or_choice g.extent (take count g.numbers) in
-    subst (λ (y : SavedReport). IsSaved y)
-    (sym (ap (λ (t : Extent). record { extent = t; numbers = ns; rows = rs }) (x ∙ ap (extent_or_choice g.extent) n)
+    let e' = extent_or_selection g.extent (take count g.numbers) in
+    subst (λ (y : SavedReport). IsValidReport y)
+    (sym (ap (λ (t : Extent). record { extent = t; numbers = ns; rows = rs }) (x ∙ ap (extent_or_selection g.extent) n)
     ∙ ap (λ (t : List ℕ). record { extent = e'; numbers = t; rows = rs }) n
     ∙ ap (λ (t : List Row). record { extent = e'; numbers = take count g.numbers; rows = t }) r))
     (cut_saved g rising count up is good)

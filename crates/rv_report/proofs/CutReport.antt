@@ -5,7 +5,7 @@ use Rattle.std.specs.Prelude.{codes}
 use Rattle.std.specs.Fmt.{decimal}
 use Rattle.std.proofs.lemmas.Bool.{and_parts, cases_lt}
 use Rattle.std.proofs.lemmas.List.{take-append-le}
-use Rattle.rv_base.specs.Limits.{most_jobs}
+use Rattle.rv_base.specs.Limits.{max_jobs}
 use Rattle.rv_report.specs.declared.row.Row.{Row}
 use Rattle.rv_report.specs.declared.saved.Extent.{Extent}
 use Rattle.rv_report.specs.declared.saved.Extent.TheVariants.{Whole, Choice}
@@ -15,13 +15,13 @@ use Rattle.rv_report.specs.declared.saved.SavedReport.{SavedReport}
 use Rattle.rv_report.specs.declared.read.FirstWord.TheVariants as word
 use Rattle.rv_report.specs.declared.read.ReadError.TheVariants.{CutOff}
 use Rattle.rv_report.specs.Report.{line}
-use Rattle.rv_report.specs.LenientReport.{Gathered, gathering_between_rows, with_stage_over, with_unfinished_row, gather_rows, lenient_report, part_extent_of_line}
-use Rattle.rv_report.specs.LenientReport.{shard_of_text, extent_or_choice, at_job_or_last_line, with_line, decimal_number, text_before_byte, text_after_byte}
-use Rattle.rv_report.specs.Saved.{IsSaved, matches_job_numbers, shard_words, row_names, saved_text}
+use Rattle.rv_report.specs.LenientReport.{Gathered, state_between_rows, with_stage_done, with_unfinished_row, gather_rows, lenient_report, part_extent_of_line}
+use Rattle.rv_report.specs.LenientReport.{shard_of_text, extent_or_selection, after_job_or_last_line, with_line, decimal_number, text_before_byte, text_after_byte}
+use Rattle.rv_report.specs.Saved.{IsValidReport, matches_job_numbers, shard_text, row_names, saved_text}
 use Rattle.rv_report.specs.Differences.{read_error_from}
 use Rattle.rv_report.proofs.Pieces.{lacks}
 use Rattle.rv_report.proofs.Spelled.{says}
-use Rattle.rv_report.proofs.Parts.{last_words, row_has_word_numbers}
+use Rattle.rv_report.proofs.Parts.{last_words, prove_row_has_numbers}
 use Rattle.rv_report.proofs.Cut.{few_numbers}
 use Rattle.rv_report.proofs.Reports.{rows_say, finished_all, gathered_all, says_itself}
 use Rattle.rv_report.proofs.LineLists.{joined, AreLines, first_of_lines, same_line, no_feed, line_is_some}
@@ -74,7 +74,7 @@ abbrev IsCut : List ℕ → Type 0
 IsCut bytes = read_error_from 1 word.Ahead (saved_text (lenient_report bytes)) bytes ≡ CutOff
 
 -- the bytes end in a line of a row
-rows_cut : (r : SavedReport) → IsSaved r → (k b : ℕ) (p q : List ℕ) → lacks 10 (b ∷ p) ≡ true
+rows_cut : (r : SavedReport) → IsValidReport r → (k b : ℕ) (p q : List ℕ) → lacks 10 (b ∷ p) ≡ true
     → k < length (numbered_lines r.numbers r.rows) → get_or (numbered_lines r.numbers r.rows) k [] ≡ (b ∷ p) ++ q
     → IsCut (joined (take k (numbered_lines r.numbers r.rows)) ++ b ∷ p)
 unfolding lenient_report gather_rows
@@ -83,13 +83,13 @@ rows_cut r h k b p q plain within begins =
     let few = few_numbers r.numbers h.listed.rising in
     let ls = take k (numbered_lines r.numbers r.rows) in
     let text = joined ls ++ b ∷ p in
-    let f = with_unfinished_row (says text (gathering_between_rows [] [] Whole)) in
+    let f = with_unfinished_row (says text (state_between_rows [] [] Whole)) in
     let next = rows_next k r.numbers r.rows b p q [] [] Whole 0 h.rows counted h.listed.rising (omega arith) plain within
     begins in
     let c = next.covers in
     let s = kept_cut r h k f c in
     let ns = take s.taken c.more_numbers in
-    let e = extent_or_choice f.extent s.all_numbers in
+    let e = extent_or_selection f.extent s.all_numbers in
     let more = (c.more ++ numbered_lines ns s.rows) ++ last_words e s.count ∷ [] in
     cut_lines ls more (b ∷ p) (saved_text (lenient_report text)) (said_text text (ls ++ more) s.are)
     (λ m. onward_cut b p c.more ns s.rows e s.count m plain next.onward)
@@ -104,7 +104,7 @@ choice_line : (jobs : ℕ) → IsPartLine (extent.Choice jobs)
 choice_line jobs count = (decimal count ++ codes " of " ++ decimal jobs, refl)
 
 shard_line : (s : Shard) → IsPartLine (extent.Shard s)
-shard_line s count = ((decimal count ++ codes " of " ++ decimal s.jobs) ++ shard_words s, refl)
+shard_line s count = ((decimal count ++ codes " of " ++ decimal s.jobs) ++ shard_text s, refl)
 
 part_line_of : (l : List ℕ) → IsPartLine (part_extent_of_line l)
 unfolding part_extent_of_line shard_of_text
@@ -114,49 +114,49 @@ part_line_of l =
     let number = decimal_number (text_before_byte 32 jobs) in
     chosen IsPartLine (length shard == 0) (extent.Choice number) (shard_of_text number shard) (choice_line number) (shard_line _)
 
-chosen_line : (e : Extent) (ns : List ℕ) → IsPartLine e → IsPartLine (extent_or_choice e ns)
-unfolding extent_or_choice
-chosen_line e ns h = chosen IsPartLine (matches_job_numbers e ns) e (Choice most_jobs) h (choice_line most_jobs)
+chosen_line : (e : Extent) (ns : List ℕ) → IsPartLine e → IsPartLine (extent_or_selection e ns)
+unfolding extent_or_selection
+chosen_line e ns h = chosen IsPartLine (matches_job_numbers e ns) e (Choice max_jobs) h (choice_line max_jobs)
 
 -- what is gathered of all rows and a beginning of the last line
-gathered_last : (r : SavedReport) → IsSaved r → (b : ℕ) (p : List ℕ) → lacks 10 (b ∷ p) ≡ true
+gathered_last : (r : SavedReport) → IsValidReport r → (b : ℕ) (p : List ℕ) → lacks 10 (b ∷ p) ≡ true
     → gather_rows (joined (numbered_lines r.numbers r.rows) ++ b ∷ p)
-    ≡ with_unfinished_row (with_line (b ∷ p) (gathering_between_rows r.numbers r.rows Whole))
+    ≡ with_unfinished_row (with_line (b ∷ p) (state_between_rows r.numbers r.rows Whole))
 unfolding gather_rows
 gathered_last r h b p plain =
     let counted = h.listed.counted in
     let few = few_numbers r.numbers h.listed.rising in
-    let start = gathering_between_rows [] [] Whole in
+    let start = state_between_rows [] [] Whole in
     ap (λ (t : List ℕ). with_unfinished_row (says (t ++ b ∷ p) start)) (joined_numbered 0 r.numbers r.rows h.listed.rising)
     ∙ ap with_unfinished_row (rows_say r.numbers r.rows (b ∷ p) [] [] Whole 0 h.rows counted h.listed.rising (omega arith)
-    ∙ says_alone b p (gathering_between_rows r.numbers r.rows Whole) plain)
+    ∙ says_alone b p (state_between_rows r.numbers r.rows Whole) plain)
 
-done_read : (p ns : List ℕ) (rows : List Row) → with_line (100 ∷ p) (gathering_between_rows ns rows Whole)
-    ≡ with_stage_over (gathering_between_rows ns rows Whole)
-unfolding with_line at_job_or_last_line gathering_between_rows
+done_read : (p ns : List ℕ) (rows : List Row) → with_line (100 ∷ p) (state_between_rows ns rows Whole)
+    ≡ with_stage_done (state_between_rows ns rows Whole)
+unfolding with_line after_job_or_last_line state_between_rows
 done_read p ns rows = refl
 
-part_read : (p ns : List ℕ) (rows : List Row) → with_line (112 ∷ p) (gathering_between_rows ns rows Whole)
-    ≡ with_stage_over (gathering_between_rows ns rows (part_extent_of_line (112 ∷ p)))
-unfolding with_line at_job_or_last_line gathering_between_rows
+part_read : (p ns : List ℕ) (rows : List Row) → with_line (112 ∷ p) (state_between_rows ns rows Whole)
+    ≡ with_stage_done (state_between_rows ns rows (part_extent_of_line (112 ∷ p)))
+unfolding with_line after_job_or_last_line state_between_rows
 part_read p ns rows = refl
 
 -- a beginning of `done ..` says the report
-done_says_all : (r : SavedReport) → IsSaved r → (p : List ℕ) → lacks 10 (100 ∷ p) ≡ true → r.extent ≡ Whole
+done_says_all : (r : SavedReport) → IsValidReport r → (p : List ℕ) → lacks 10 (100 ∷ p) ≡ true → r.extent ≡ Whole
     → lenient_report (joined (numbered_lines r.numbers r.rows) ++ 100 ∷ p) ≡ r
 unfolding lenient_report
 done_says_all r h p plain whole =
     let counted = h.listed.counted in
     let few = few_numbers r.numbers h.listed.rising in
-    let known = row_has_word_numbers r.extent r.numbers h.listed.fits in
+    let known = prove_row_has_numbers r.extent r.numbers h.listed.fits in
     ap said_by (gathered_last r h 100 p plain
     ∙ ap with_unfinished_row (done_read p r.numbers r.rows)
     ∙ finished_all r.numbers r.rows Whole
-    ∙ ap (λ (e : Extent). with_stage_over (gathering_between_rows r.numbers r.rows e)) (sym whole)
+    ∙ ap (λ (e : Extent). with_stage_done (state_between_rows r.numbers r.rows e)) (sym whole)
     ∙ sym (gathered_all r h known (omega arith)))
     ∙ says_itself r h
 
-done_cut : (r : SavedReport) → IsSaved r → (p q : List ℕ) → lacks 10 (100 ∷ p) ≡ true → r.extent ≡ Whole
+done_cut : (r : SavedReport) → IsValidReport r → (p q : List ℕ) → lacks 10 (100 ∷ p) ≡ true → r.extent ≡ Whole
     → last_words r.extent (length r.rows) ≡ (100 ∷ p) ++ q
     → IsCut (joined (numbered_lines r.numbers r.rows) ++ 100 ∷ p)
 done_cut r h p q plain whole begins =
@@ -167,10 +167,10 @@ done_cut r h p q plain whole begins =
     (said_text text (saved_lines r) (ap saved_lines (done_says_all r h p plain whole)))
     (λ m. alike_cut (100 ∷ p) last [] m plain (inl (q, begins)))
 
-all_covered : (r : SavedReport) → IsSaved r → (e : Extent)
+all_covered : (r : SavedReport) → IsValidReport r → (e : Extent)
     → Covers [] [] r.numbers r.rows (length (numbered_lines r.numbers r.rows))
-    (with_stage_over (gathering_between_rows r.numbers r.rows e))
-unfolding gathering_between_rows
+    (with_stage_done (state_between_rows r.numbers r.rows e))
+unfolding state_between_rows
 all_covered r h e =
     let counted = h.listed.counted in
     let n = length r.rows in
@@ -192,14 +192,14 @@ all_covered r h e =
     }
 
 -- what is said of all rows and an extent
-all_said : (r : SavedReport) → IsSaved r → (e : Extent) → (ns : List ℕ) × (count : ℕ)
-    × (saved_lines (said_by (with_stage_over (gathering_between_rows r.numbers r.rows e)))
-    ≡ numbered_lines r.numbers r.rows ++ last_words (extent_or_choice e ns) count ∷ [])
-unfolding all_covered gathering_between_rows
+all_said : (r : SavedReport) → IsValidReport r → (e : Extent) → (ns : List ℕ) × (count : ℕ)
+    × (saved_lines (said_by (with_stage_done (state_between_rows r.numbers r.rows e)))
+    ≡ numbered_lines r.numbers r.rows ++ last_words (extent_or_selection e ns) count ∷ [])
+unfolding all_covered state_between_rows
 all_said r h e =
     let ls = numbered_lines r.numbers r.rows in
-    let s = kept_cut r h (length ls) (with_stage_over (gathering_between_rows r.numbers r.rows e)) (all_covered r h e) in
-    let last = last_words (extent_or_choice e s.all_numbers) s.count ∷ [] in (
+    let s = kept_cut r h (length ls) (with_stage_done (state_between_rows r.numbers r.rows e)) (all_covered r h e) in
+    let last = last_words (extent_or_selection e s.all_numbers) s.count ∷ [] in (
       s.all_numbers,
       s.count,
       s.are
@@ -207,7 +207,7 @@ all_said r h e =
           ∙ ap (λ (t : List (List ℕ)). t ++ last) (take_all (length ls) ls (omega arith)),
     )
 
-part_cut : (r : SavedReport) → IsSaved r → (p q : List ℕ) → lacks 10 (112 ∷ p) ≡ true → IsPartLine r.extent
+part_cut : (r : SavedReport) → IsValidReport r → (p q : List ℕ) → lacks 10 (112 ∷ p) ≡ true → IsPartLine r.extent
     → last_words r.extent (length r.rows) ≡ (112 ∷ p) ++ q
     → IsCut (joined (numbered_lines r.numbers r.rows) ++ 112 ∷ p)
 unfolding lenient_report
@@ -218,7 +218,7 @@ part_cut r h p q plain part begins =
     let said = all_said r h e in
     let gathered = gathered_last r h 112 p plain ∙ ap with_unfinished_row (part_read p r.numbers r.rows)
     ∙ finished_all r.numbers r.rows e in
-    let last = last_words (extent_or_choice e said.0) said.1 in
+    let last = last_words (extent_or_selection e said.0) said.1 in
     let here = part (length r.rows) in
     let there = chosen_line e said.0 (part_line_of (112 ∷ p)) said.1 in
     let alike : AlikeLine (112 ∷ p) last = subst (λ (t : List ℕ). AlikeLine (112 ∷ p) t) (sym there.1)
@@ -227,7 +227,7 @@ part_cut r h p q plain part begins =
     (said_text text (ls ++ last ∷ []) (ap (λ (g : Gathered). saved_lines (said_by g)) gathered ∙ said.2))
     (λ m. alike_cut (112 ∷ p) last [] m plain alike)
 
-last_cut : (r : SavedReport) → IsSaved r → (e : Extent) (b : ℕ) (p q : List ℕ) → lacks 10 (b ∷ p) ≡ true → r.extent ≡ e
+last_cut : (r : SavedReport) → IsValidReport r → (e : Extent) (b : ℕ) (p q : List ℕ) → lacks 10 (b ∷ p) ≡ true → r.extent ≡ e
     → last_words r.extent (length r.rows) ≡ (b ∷ p) ++ q
     → IsCut (joined (numbered_lines r.numbers r.rows) ++ b ∷ p)
 last_cut r h extent.Whole b p q plain is begins =
@@ -262,7 +262,7 @@ end_cut [] m = refl
 end_cut (b ∷ z) m = refl
 
 -- lines and a beginning of the next
-pub lines_cut : (r : SavedReport) → IsSaved r → (ls : List (List ℕ)) (p v : List ℕ) → AreLines ls → lacks 10 p ≡ true
+pub lines_cut : (r : SavedReport) → IsValidReport r → (ls : List (List ℕ)) (p v : List ℕ) → AreLines ls → lacks 10 p ≡ true
     → saved_text r ≡ joined ls ++ (p ++ v) → IsCut (joined ls ++ p)
 lines_cut r h ls [] v are plain is =
     let said = said_begins r h ls v [] are is in

@@ -8,7 +8,7 @@ use Rattle.rv_report.specs.declared.read.FirstWord.{FirstWord}
 use Rattle.rv_report.specs.declared.read.FirstWord.TheVariants as word
 use Rattle.rv_report.specs.declared.read.ReadError.{ReadError}
 use Rattle.rv_report.specs.declared.read.ReadError.TheVariants.{Line, CutOff}
-use Rattle.rv_report.specs.Differences.{count_of_line_feeds, word_after_byte, begins_last_line, begins_row, line_after_byte, read_error_from, read_error_at}
+use Rattle.rv_report.specs.Differences.{line_feed_count, word_after_byte, begins_last_line, begins_row, line_after_byte, read_error_from, read_error_at}
 use Rattle.rv_report.proofs.Pieces.{lacks}
 use Rattle.rv_report.proofs.LineLists.{joined}
 
@@ -19,11 +19,11 @@ AlikeLine p y = ((q : List ℕ) × (y ≡ p ++ q)) ⊎ ((d a b : List ℕ) × (p
 same_byte : (b : ℕ) → (b == b) ≡ true
 same_byte b = grind arith
 
-no_feeds : (bs : List ℕ) → lacks 10 bs ≡ true → count_of_line_feeds bs ≡ zero
+no_feeds : (bs : List ℕ) → lacks 10 bs ≡ true → line_feed_count bs ≡ zero
 no_feeds [] h = refl
 no_feeds (b ∷ bs) h =
     let parts = and_parts (not (b == 10)) (lacks 10 bs) h in
-    ap (λ (t : Bool). cond t (count_of_line_feeds bs + 1) (count_of_line_feeds bs)) (not-true (b == 10) parts.0)
+    ap (λ (t : Bool). cond t (line_feed_count bs + 1) (line_feed_count bs)) (not-true (b == 10) parts.0)
     ∙ no_feeds bs parts.1
 
 pub lacks_behind : (xs ys : List ℕ) → lacks 10 (xs ++ ys) ≡ true → lacks 10 ys ≡ true
@@ -108,8 +108,8 @@ unfolding read_error_from
 row_cut p z o n h other last row =
     let next : ReadError = read_error_from (line_after_byte n 106) (word_after_byte word.Ahead 106) z p in
     ap (λ (s : Bool). cond s next (read_error_at n word.Ahead o (106 ∷ p))) other
-    ∙ ap (λ (s : Bool). cond ((s && begins_row (106 ∷ p)) && (count_of_line_feeds (106 ∷ p) == 0)) CutOff (Line n)) last
-    ∙ ap (λ (s : Bool). cond (s && (count_of_line_feeds (106 ∷ p) == 0)) CutOff (Line n)) row
+    ∙ ap (λ (s : Bool). cond ((s && begins_row (106 ∷ p)) && (line_feed_count (106 ∷ p) == 0)) CutOff (Line n)) last
+    ∙ ap (λ (s : Bool). cond (s && (line_feed_count (106 ∷ p) == 0)) CutOff (Line n)) row
     ∙ ap (λ (k : ℕ). cond (k == 0) CutOff (Line n)) (no_feeds (106 ∷ p) h)
 
 -- ---- lines that are the same

@@ -11,10 +11,10 @@ abbrev digit : ℕ → ℕ
 digit x = slice_index lower_digits x
 
 -- one digit more
-digit_on : (value x : ℕ) (bs : List ℕ) → x < 16 → value * 16 + x < 2 ^ 32
+with_hex_digit : (value x : ℕ) (bs : List ℕ) → x < 16 → value * 16 + x < 2 ^ 32
     → hex_number value (digit x ∷ bs) ≡ hex_number (value * 16 + x) bs
 unfolding hex_number
-digit_on value x bs h small =
+with_hex_digit value x bs h small =
     let same : with_digit 16 value x ≡ value * 16 + x = omega arith in
     ap (λ (d : ℕ). hex_number (with_digit 16 value d) bs) (digit_is x h) ∙ ap (λ (v : ℕ). hex_number v bs) same
 
@@ -26,14 +26,14 @@ eight_digits : (x0 x1 x2 x3 x4 x5 x6 x7 : ℕ) → x0 < 16 → x1 < 16 → x2 < 
     → hex_number 0 (digit x0 ∷ digit x1 ∷ digit x2 ∷ digit x3 ∷ digit x4 ∷ digit x5 ∷ digit x6 ∷ digit x7 ∷ []) ≡ value_of x0 x1 x2 x3 x4 x5 x6 x7
 unfolding hex_number
 eight_digits x0 x1 x2 x3 x4 x5 x6 x7 h0 h1 h2 h3 h4 h5 h6 h7 =
-    digit_on (0) x0 (digit x1 ∷ digit x2 ∷ digit x3 ∷ digit x4 ∷ digit x5 ∷ digit x6 ∷ digit x7 ∷ []) h0 (omega arith)
-    ∙ digit_on (0 * 16 + x0) x1 (digit x2 ∷ digit x3 ∷ digit x4 ∷ digit x5 ∷ digit x6 ∷ digit x7 ∷ []) h1 (omega arith)
-    ∙ digit_on ((0 * 16 + x0) * 16 + x1) x2 (digit x3 ∷ digit x4 ∷ digit x5 ∷ digit x6 ∷ digit x7 ∷ []) h2 (omega arith)
-    ∙ digit_on (((0 * 16 + x0) * 16 + x1) * 16 + x2) x3 (digit x4 ∷ digit x5 ∷ digit x6 ∷ digit x7 ∷ []) h3 (omega arith)
-    ∙ digit_on ((((0 * 16 + x0) * 16 + x1) * 16 + x2) * 16 + x3) x4 (digit x5 ∷ digit x6 ∷ digit x7 ∷ []) h4 (omega arith)
-    ∙ digit_on (((((0 * 16 + x0) * 16 + x1) * 16 + x2) * 16 + x3) * 16 + x4) x5 (digit x6 ∷ digit x7 ∷ []) h5 (omega arith)
-    ∙ digit_on ((((((0 * 16 + x0) * 16 + x1) * 16 + x2) * 16 + x3) * 16 + x4) * 16 + x5) x6 (digit x7 ∷ []) h6 (omega arith)
-    ∙ digit_on (((((((0 * 16 + x0) * 16 + x1) * 16 + x2) * 16 + x3) * 16 + x4) * 16 + x5) * 16 + x6) x7 ([]) h7 (omega arith)
+    with_hex_digit (0) x0 (digit x1 ∷ digit x2 ∷ digit x3 ∷ digit x4 ∷ digit x5 ∷ digit x6 ∷ digit x7 ∷ []) h0 (omega arith)
+    ∙ with_hex_digit (0 * 16 + x0) x1 (digit x2 ∷ digit x3 ∷ digit x4 ∷ digit x5 ∷ digit x6 ∷ digit x7 ∷ []) h1 (omega arith)
+    ∙ with_hex_digit ((0 * 16 + x0) * 16 + x1) x2 (digit x3 ∷ digit x4 ∷ digit x5 ∷ digit x6 ∷ digit x7 ∷ []) h2 (omega arith)
+    ∙ with_hex_digit (((0 * 16 + x0) * 16 + x1) * 16 + x2) x3 (digit x4 ∷ digit x5 ∷ digit x6 ∷ digit x7 ∷ []) h3 (omega arith)
+    ∙ with_hex_digit ((((0 * 16 + x0) * 16 + x1) * 16 + x2) * 16 + x3) x4 (digit x5 ∷ digit x6 ∷ digit x7 ∷ []) h4 (omega arith)
+    ∙ with_hex_digit (((((0 * 16 + x0) * 16 + x1) * 16 + x2) * 16 + x3) * 16 + x4) x5 (digit x6 ∷ digit x7 ∷ []) h5 (omega arith)
+    ∙ with_hex_digit ((((((0 * 16 + x0) * 16 + x1) * 16 + x2) * 16 + x3) * 16 + x4) * 16 + x5) x6 (digit x7 ∷ []) h6 (omega arith)
+    ∙ with_hex_digit (((((((0 * 16 + x0) * 16 + x1) * 16 + x2) * 16 + x3) * 16 + x4) * 16 + x5) * 16 + x6) x7 ([]) h7 (omega arith)
     ∙ omega arith
 
 digit_0 : (x0 x1 x2 x3 x4 x5 x6 x7 : ℕ) → x0 < 16 → x1 < 16 → x2 < 16 → x3 < 16 → x4 < 16 → x5 < 16 → x6 < 16 → x7 < 16

@@ -12,7 +12,7 @@ use Rattle.hex.specs.declared.error.FromHexError.{FromHexError}
 use Rattle.hex.proofs.HexLemmas.{decode_of-ok}
 use Rattle.rv_elf.specs.declared.error.ImageError.TheVariants as image
 use Rattle.rv_base.specs.Names.{is_name, is_name_byte}
-use Rattle.rv_base.specs.Limits.{most_jobs}
+use Rattle.rv_base.specs.Limits.{max_jobs}
 use Rattle.rv_report.specs.Report.{refusal_name, refusal_named, row_refusals}
 use Rattle.rv_report.specs.declared.row.Refusal.{Refusal}
 use Rattle.rv_report.specs.declared.row.Refusal.TheVariants as refusal
@@ -25,12 +25,12 @@ use Rattle.rv_report.specs.declared.gathering.Stage.{Stage}
 use Rattle.rv_report.specs.declared.gathering.Stage.TheVariants as stage
 use Rattle.rv_report.specs.declared.saved.Extent.{Extent}
 use Rattle.rv_report.specs.declared.saved.Extent.TheVariants.{Whole}
-use Rattle.rv_report.specs.LenientReport.{lines, name_or_dash, job_number_of_line, job_name_of_line, text_after_byte, decimal_number_on, decimal_number, with_digit}
+use Rattle.rv_report.specs.LenientReport.{lines, name_or_dash, job_number_of_line, job_name_of_line, text_after_byte, decimal_number_from, decimal_number, with_digit}
 use Rattle.rv_report.specs.LenientReport.{hex_number, with_zero_digits, hex_word, is_hex_word, hex_bytes, bytes_if_decoded, refusal_or_first, fault_ending_of_text}
-use Rattle.rv_report.specs.LenientReport.{row_ending_of_line, verdict_of_line, part_extent_of_line, Gathered, gathering_between_rows, with_finished_row, with_stage_over, row_so_far, padded_words}
-use Rattle.rv_report.specs.LenientReport.{at_job_or_last_line, at_ending, at_steps, at_console, at_signature, at_words, with_line_at}
+use Rattle.rv_report.specs.LenientReport.{row_ending_of_line, verdict_of_line, part_extent_of_line, Gathered, state_between_rows, with_finished_row, with_stage_done, unfinished_row, padded_words}
+use Rattle.rv_report.specs.LenientReport.{after_job_or_last_line, after_end_line, after_steps_line, after_console_line, after_signature_line, after_word_or_verdict_line, with_line_at_stage}
 use Rattle.rv_report.specs.LenientReport.{with_line, with_lines, with_unfinished_row, gather_rows, hex_digit_value}
-use Rattle.rv_report.specs.Saved.{most_words, IsWord, IsEnd, AreWords, IsRow}
+use Rattle.rv_report.specs.Saved.{max_words, IsWord, IsValidEnd, IsValidSignature, IsValidRow}
 
 -- ---- names
 
@@ -55,8 +55,8 @@ name_of_is_name line = name_or_dash_is_name (text_after_byte 32 (drop 4 line))
 digit_small : (base value digit : ℕ) → IsWord (with_digit base value digit)
 digit_small base value digit = omega arith
 
-number_small : (value : ℕ) (text : List ℕ) → IsWord value → IsWord (decimal_number_on value text)
-unfolding decimal_number_on
+number_small : (value : ℕ) (text : List ℕ) → IsWord value → IsWord (decimal_number_from value text)
+unfolding decimal_number_from
 number_small value [] h = h
 number_small value (b ∷ bs) h = number_small (with_digit 10 value (b - 48)) bs (digit_small 10 value (b - 48))
 
@@ -128,48 +128,48 @@ pick_if : {X : Type 0} (P : X → Type 0) (b : Bool) (x y : X) → (b ≡ true �
 pick_if P true x y h k = h refl
 pick_if P false x y h k = k
 
-fault_good : (text : List ℕ) → IsEnd (fault_ending_of_text text)
+fault_good : (text : List ℕ) → IsValidEnd (fault_ending_of_text text)
 unfolding fault_ending_of_text
 fault_good text =
     (word_small (take 8 (drop 3 (text_after_byte 32 text))), word_small (drop 18 (text_after_byte 32 text)))
 
-ending_good : (line : List ℕ) → IsEnd (row_ending_of_line line)
+ending_good : (line : List ℕ) → IsValidEnd (row_ending_of_line line)
 unfolding row_ending_of_line
 ending_good line =
     let kind = slice_index line 4 in
     let refused = ending.Refused (refusal_or_first (refusal_named (drop 12 line))) in
     let last : RowEnd = if kind == 98 then ending.Budget else refused in
     let next : RowEnd = if kind == 102 then fault_ending_of_text (drop 10 line) else last in
-    pick IsEnd (kind == 101) (ending.Exit (decimal_number (drop 9 line))) next (number_small 0 (drop 9 line) (omega arith))
-    (pick IsEnd (kind == 102) (fault_ending_of_text (drop 10 line)) last (fault_good (drop 10 line))
-    (pick IsEnd (kind == 98) ending.Budget refused tt (refusal_good (drop 12 line))))
+    pick IsValidEnd (kind == 101) (ending.Exit (decimal_number (drop 9 line))) next (number_small 0 (drop 9 line) (omega arith))
+    (pick IsValidEnd (kind == 102) (fault_ending_of_text (drop 10 line)) last (fault_good (drop 10 line))
+    (pick IsValidEnd (kind == 98) ending.Budget refused tt (refusal_good (drop 12 line))))
 
 -- ---- what is gathered
 
 abbrev pub AreGood : List Row → Type 0
-AreGood rows = AllByRecursion IsRow rows
+AreGood rows = AllByRecursion IsValidRow rows
 
 -- the rows can stand in a report, and what is known of the next row can too
 abbrev IsDraft : Gathered → Type 0
-IsDraft g = AreGood g.rows × (is_name g.name ≡ true) × IsEnd g.ending × IsWord g.steps × IsBytes g.console
-    × (g.count ≤ most_words) × (length g.words ≤ g.count) × AllByRecursion IsWord g.words
+IsDraft g = AreGood g.rows × (is_name g.name ≡ true) × IsValidEnd g.ending × IsWord g.steps × IsBytes g.console
+    × (g.count ≤ max_words) × (length g.words ≤ g.count) × AllByRecursion IsWord g.words
 
 pub all-append : {X : Type 0} (P : X → Type 0) (xs ys : List X) → AllByRecursion P xs → AllByRecursion P ys
     → AllByRecursion P (xs ++ ys)
 all-append P [] ys h k = k
 all-append P (x ∷ xs) ys h k = (h.0, all-append P xs ys h.1 k)
 
-draft_whole : (numbers : List ℕ) (rows : List Row) (e : Extent) → AreGood rows → IsDraft (gathering_between_rows numbers rows e)
-unfolding gathering_between_rows
+draft_whole : (numbers : List ℕ) (rows : List Row) (e : Extent) → AreGood rows → IsDraft (state_between_rows numbers rows e)
+unfolding state_between_rows
 draft_whole numbers rows e h = (h, dash_is_name, tt, omega arith, (λ i. omega arith), omega arith, omega arith, tt)
 
-signature_good : (signed : Bool) (words : List ℕ) → length words ≤ most_words → AllByRecursion IsWord words
-    → AreWords (if signed then Some words else None)
+signature_good : (signed : Bool) (words : List ℕ) → length words ≤ max_words → AllByRecursion IsWord words
+    → IsValidSignature (if signed then Some words else None)
 signature_good true words few each = (few, each)
 signature_good false words few each = tt
 
-row_good : (v : Verdict) (g : Gathered) → IsDraft g → IsRow (row_so_far v g)
-unfolding row_so_far
+row_good : (v : Verdict) (g : Gathered) → IsDraft g → IsValidRow (unfinished_row v g)
+unfolding unfinished_row
 row_good v g h =
     let few = h.5 in
     let within = h.6 in
@@ -184,40 +184,40 @@ row_good v g h =
 draft_closed : (v : Verdict) (g : Gathered) → IsDraft g → IsDraft (with_finished_row v g)
 unfolding with_finished_row
 draft_closed v g h =
-    draft_whole (g.numbers ++ g.number ∷ []) (g.rows ++ row_so_far v g ∷ []) g.extent
-    (all-append IsRow g.rows (row_so_far v g ∷ []) h.0 (row_good v g h, tt))
+    draft_whole (g.numbers ++ g.number ∷ []) (g.rows ++ unfinished_row v g ∷ []) g.extent
+    (all-append IsValidRow g.rows (unfinished_row v g ∷ []) h.0 (row_good v g h, tt))
 
-draft_between : (line : List ℕ) (g : Gathered) → IsDraft g → IsDraft (at_job_or_last_line line g)
-unfolding at_job_or_last_line
+draft_between : (line : List ℕ) (g : Gathered) → IsDraft g → IsDraft (after_job_or_last_line line g)
+unfolding after_job_or_last_line
 draft_between line g h =
     let job : Gathered = record g { number = job_number_of_line line; name = job_name_of_line line; is_in_row = true; stage = stage.Ending } in
-    let part : Gathered = with_stage_over (record g { extent = part_extent_of_line line }) in
-    let other : Gathered = if slice_index line 0 == 112 then part else with_stage_over g in
-    pick IsDraft ((slice_index line 0 == 106) && nat_lt (length g.rows) most_jobs) job other
+    let part : Gathered = with_stage_done (record g { extent = part_extent_of_line line }) in
+    let other : Gathered = if slice_index line 0 == 112 then part else with_stage_done g in
+    pick IsDraft ((slice_index line 0 == 106) && nat_lt (length g.rows) max_jobs) job other
     (h.0, name_of_is_name line, h.2, h.3, h.4, h.5, h.6, h.7)
-    (pick IsDraft (slice_index line 0 == 112) part (with_stage_over g) h h)
+    (pick IsDraft (slice_index line 0 == 112) part (with_stage_done g) h h)
 
-draft_ending : (line : List ℕ) (g : Gathered) → IsDraft g → IsDraft (at_ending line g)
-unfolding at_ending
+draft_ending : (line : List ℕ) (g : Gathered) → IsDraft g → IsDraft (after_end_line line g)
+unfolding after_end_line
 draft_ending line g h =
-    pick IsDraft (slice_index line 0 == 101) (record g { ending = row_ending_of_line line; stage = stage.Steps }) (with_stage_over g)
+    pick IsDraft (slice_index line 0 == 101) (record g { ending = row_ending_of_line line; stage = stage.Steps }) (with_stage_done g)
     (h.0, h.1, ending_good line, h.3, h.4, h.5, h.6, h.7) h
 
-draft_steps : (line : List ℕ) (g : Gathered) → IsDraft g → IsDraft (at_steps line g)
-unfolding at_steps
+draft_steps : (line : List ℕ) (g : Gathered) → IsDraft g → IsDraft (after_steps_line line g)
+unfolding after_steps_line
 draft_steps line g h =
     pick IsDraft ((slice_index line 0 == 115) && (slice_index line 1 == 116))
-    (record g { steps = decimal_number (drop 6 line); stage = stage.Console }) (with_stage_over g)
+    (record g { steps = decimal_number (drop 6 line); stage = stage.Console }) (with_stage_done g)
     (h.0, h.1, h.2, number_small 0 (drop 6 line) (omega arith), h.4, h.5, h.6, h.7) h
 
-draft_console : (line : List ℕ) (g : Gathered) → IsDraft g → IsDraft (at_console line g)
-unfolding at_console
+draft_console : (line : List ℕ) (g : Gathered) → IsDraft g → IsDraft (after_console_line line g)
+unfolding after_console_line
 draft_console line g h =
     pick IsDraft (slice_index line 0 == 99) (record g { console = hex_bytes (drop 8 line); stage = stage.Signature })
-    (with_stage_over g) (h.0, h.1, h.2, h.3, bytes_good (drop 8 line), h.5, h.6, h.7) h
+    (with_stage_done g) (h.0, h.1, h.2, h.3, bytes_good (drop 8 line), h.5, h.6, h.7) h
 
-draft_signature : (line : List ℕ) (g : Gathered) → IsDraft g → IsDraft (at_signature line g)
-unfolding at_signature
+draft_signature : (line : List ℕ) (g : Gathered) → IsDraft g → IsDraft (after_signature_line line g)
+unfolding after_signature_line
 draft_signature line g h =
     let count = decimal_number (drop 10 line) in
     let is : Bool = (slice_index line 0 == 115) && (slice_index line 1 == 105) in
@@ -227,27 +227,27 @@ draft_signature line g h =
       words = [];
       stage = stage.Words;
     } in
-    pick_if IsDraft (is && nat_le count most_words) is_in_row (with_stage_over g)
-    (λ t. let few = (and_parts is (nat_le count most_words) t).1 in
-    let small : count ≤ most_words = grind (arith, nat_tests) in
+    pick_if IsDraft (is && nat_le count max_words) is_in_row (with_stage_done g)
+    (λ t. let few = (and_parts is (nat_le count max_words) t).1 in
+    let small : count ≤ max_words = grind (arith, nat_tests) in
     (h.0, h.1, h.2, h.3, h.4, small, omega arith, tt)) h
 
-draft_words : (line : List ℕ) (g : Gathered) → IsDraft g → IsDraft (at_words line g)
-unfolding at_words
+draft_words : (line : List ℕ) (g : Gathered) → IsDraft g → IsDraft (after_word_or_verdict_line line g)
+unfolding after_word_or_verdict_line
 draft_words line g h =
     let word : Gathered = record g { words = g.words ++ hex_word line ∷ [] } in
     let row : Gathered = with_finished_row (verdict_of_line line) g in
     let ended : Bool = (slice_index line 0 == 118) && (length g.words == g.count) in
-    let other : Gathered = if ended then row else with_stage_over g in
+    let other : Gathered = if ended then row else with_stage_done g in
     pick_if IsDraft (is_hex_word line && nat_lt (length g.words) g.count) word other
     (λ t. let room = (and_parts (is_hex_word line) (nat_lt (length g.words) g.count) t).1 in
     let more : length g.words < g.count = grind (arith, nat_tests) in
     let longer = length-append g.words (hex_word line ∷ []) in
     let words = all-append IsWord g.words (hex_word line ∷ []) h.7 (word_small line, tt) in
     (h.0, h.1, h.2, h.3, h.4, h.5, omega arith, words))
-    (pick IsDraft ended row (with_stage_over g) (draft_closed (verdict_of_line line) g h) h)
+    (pick IsDraft ended row (with_stage_done g) (draft_closed (verdict_of_line line) g h) h)
 
-draft_at : (s : Stage) (line : List ℕ) (g : Gathered) → IsDraft g → IsDraft (with_line_at s line g)
+draft_at : (s : Stage) (line : List ℕ) (g : Gathered) → IsDraft g → IsDraft (with_line_at_stage s line g)
 draft_at stage.Between line g h = draft_between line g h
 draft_at stage.Ending line g h = draft_ending line g h
 draft_at stage.Steps line g h = draft_steps line g h
@@ -259,7 +259,7 @@ draft_at stage.Over line g h = h
 draft_lines : (ls : List (List ℕ)) (g : Gathered) → IsDraft g → IsDraft (with_lines ls g)
 unfolding with_lines with_line
 draft_lines [] g h = h
-draft_lines (l ∷ ls) g h = draft_lines ls (with_line_at g.stage l g) (draft_at g.stage l g h)
+draft_lines (l ∷ ls) g h = draft_lines ls (with_line_at_stage g.stage l g) (draft_at g.stage l g h)
 
 zeros_good : (count : ℕ) → AllByRecursion IsWord (replicate count 0)
 zeros_good zero = tt
@@ -288,5 +288,5 @@ draft_finished g h =
 pub gathered_good : (text : List ℕ) → AreGood (gather_rows text).rows
 unfolding gather_rows
 gathered_good text =
-    let start : Gathered = gathering_between_rows [] [] Whole in
+    let start : Gathered = state_between_rows [] [] Whole in
     (draft_finished (with_lines (lines text) start) (draft_lines (lines text) start (draft_whole [] [] Whole tt))).0

@@ -12,14 +12,14 @@ use Rattle.std.specs.Str.{IsAscii, IsUtf8}
 use Rattle.rv_base.specs.Names.{is_name, is_name_byte}
 use Rattle.rv_base.specs.Limits.{is_within}
 use Rattle.std.specs.Prelude.{Result, Ok, Err, IfOk}
-use Rattle.rv_report.specs.LenientReport.{Gathered, with_line, with_lines, lines, index_of_byte, decimal_number_on, hex_number, with_digit}
+use Rattle.rv_report.specs.LenientReport.{Gathered, with_line, with_lines, lines, index_of_byte, decimal_number_from, hex_number, with_digit}
 use Rattle.rv_report.specs.LenientReport.{hex_digit_value, with_zero_digits, are_hex_digits, is_hex_digit}
 use Rattle.rv_report.specs.declared.row.Row.{Row}
 use Rattle.std.specs.Prelude.{is_some}
 use Rattle.std.proofs.lemmas.Bool.{false≢true}
 use Rattle.rv_base.specs.Names.{index_in}
 use Rattle.rv_report.specs.LenientReport.{count_before_repeated_name}
-use Rattle.rv_report.specs.Saved.{are_rising, are_evenly_spaced, row_names}
+use Rattle.rv_report.specs.Saved.{are_increasing, are_evenly_spaced, row_names}
 
 pub place_step : (byte : ℕ) (xs : List ℕ) (i : ℕ) → i < length xs
     → index_of_byte byte (drop i xs) ≡ cond (get_or xs i 0 == byte) 0 (index_of_byte byte (drop (i + 1) xs) + 1)
@@ -31,13 +31,13 @@ unfolding index_of_byte
 place_end byte xs i h = at_drop_all (index_of_byte byte) xs i h
 
 pub number_step : (value : ℕ) (xs : List ℕ) (i : ℕ) → i < length xs
-    → decimal_number_on value (drop i xs) ≡ decimal_number_on (with_digit 10 value (get_or xs i 0 - 48)) (drop (i + 1) xs)
-unfolding decimal_number_on
-number_step value xs i h = at_drop_more (decimal_number_on value) xs i 0 h
+    → decimal_number_from value (drop i xs) ≡ decimal_number_from (with_digit 10 value (get_or xs i 0 - 48)) (drop (i + 1) xs)
+unfolding decimal_number_from
+number_step value xs i h = at_drop_more (decimal_number_from value) xs i 0 h
 
-pub number_end : (value : ℕ) (xs : List ℕ) (i : ℕ) → length xs ≤ i → decimal_number_on value (drop i xs) ≡ value
-unfolding decimal_number_on
-number_end value xs i h = at_drop_all (decimal_number_on value) xs i h
+pub number_end : (value : ℕ) (xs : List ℕ) (i : ℕ) → length xs ≤ i → decimal_number_from value (drop i xs) ≡ value
+unfolding decimal_number_from
+number_end value xs i h = at_drop_all (decimal_number_from value) xs i h
 
 pub word_step : (value : ℕ) (xs : List ℕ) (i : ℕ) → i < length xs
     → hex_number value (drop i xs) ≡ hex_number (with_digit 16 value (hex_digit_value (get_or xs i 0))) (drop (i + 1) xs)
@@ -164,31 +164,31 @@ both_false true true h = absurd (h refl refl)
 both_false true false h = refl
 both_false false b h = refl
 
-rising_step : (before last : ℕ) (xs : List ℕ) (i : ℕ) → i < length xs → are_rising before last (drop i xs)
+rising_step : (before last : ℕ) (xs : List ℕ) (i : ℕ) → i < length xs → are_increasing before last (drop i xs)
     ≡ (nat_lt before (get_or xs i 0) && (nat_le (get_or xs i 0) last
-    && are_rising (get_or xs i 0) last (drop (i + 1) xs)))
-unfolding are_rising
-rising_step before last xs i h = at_drop_more (are_rising before last) xs i 0 h
+    && are_increasing (get_or xs i 0) last (drop (i + 1) xs)))
+unfolding are_increasing
+rising_step before last xs i h = at_drop_more (are_increasing before last) xs i 0 h
 
-pub rising_end : (before last : ℕ) (xs : List ℕ) (i : ℕ) → length xs ≤ i → are_rising before last (drop i xs) ≡ true
-unfolding are_rising
-rising_end before last xs i h = at_drop_all (are_rising before last) xs i h
+pub rising_end : (before last : ℕ) (xs : List ℕ) (i : ℕ) → length xs ≤ i → are_increasing before last (drop i xs) ≡ true
+unfolding are_increasing
+rising_end before last xs i h = at_drop_all (are_increasing before last) xs i h
 
 pub rising_no : (before last : ℕ) (xs : List ℕ) (i : ℕ) → i < length xs
-    → (before < get_or xs i 0 → get_or xs i 0 ≤ last → ⊥) → are_rising before last (drop i xs) ≡ false
+    → (before < get_or xs i 0 → get_or xs i 0 ≤ last → ⊥) → are_increasing before last (drop i xs) ≡ false
 rising_no before last xs i h never =
     let x = get_or xs i 0 in
-    let later = are_rising x last (drop (i + 1) xs) in
+    let later = are_increasing x last (drop (i + 1) xs) in
     rising_step before last xs i h
     ∙ both_false (nat_lt before x) (nat_le x last && later)
     (λ low high. never (grind (arith, nat_tests))
     (let first = (and_parts (nat_le x last) later high).0 in grind (arith, nat_tests)))
 
 pub rising_on : (before last : ℕ) (xs : List ℕ) (i : ℕ) → i < length xs → before < get_or xs i 0 → get_or xs i 0 ≤ last
-    → are_rising before last (drop i xs) ≡ are_rising (get_or xs i 0) last (drop (i + 1) xs)
+    → are_increasing before last (drop i xs) ≡ are_increasing (get_or xs i 0) last (drop (i + 1) xs)
 rising_on before last xs i h low high =
     let x = get_or xs i 0 in
-    let later = are_rising x last (drop (i + 1) xs) in
+    let later = are_increasing x last (drop (i + 1) xs) in
     let a : nat_lt before x ≡ true = grind (arith, nat_tests) in
     let b : nat_le x last ≡ true = grind (arith, nat_tests) in
     rising_step before last xs i h ∙ ap (λ (t : Bool). t && (nat_le x last && later)) a

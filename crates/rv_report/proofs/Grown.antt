@@ -2,17 +2,17 @@
 use Rattle.std.proofs.Common.{◌≡◌, ◌∙◌, ◌==◌, ℕ, Bool, true, false, ◌&&◌, not, List, [], ◌∷◌, ◌++◌}
 use Rattle.std.proofs.Common.{length, slice_index, drop, refl, sym, ap, append_assoc, append-nil}
 use Rattle.std.specs.Prelude.{nat_lt, nat_le, if◌then◌else◌}
-use Rattle.rv_base.specs.Limits.{most_jobs}
+use Rattle.rv_base.specs.Limits.{max_jobs}
 use Rattle.rv_report.specs.declared.row.Row.{Row}
 use Rattle.rv_report.specs.declared.row.Verdict.{Verdict}
 use Rattle.rv_report.specs.declared.row.Verdict.TheVariants.{Unasked}
 use Rattle.rv_report.specs.declared.gathering.Stage.{Stage}
 use Rattle.rv_report.specs.declared.gathering.Stage.TheVariants as stage
 use Rattle.rv_report.specs.LenientReport.{job_number_of_line, job_name_of_line, decimal_number, is_hex_word, hex_word, hex_bytes}
-use Rattle.rv_report.specs.LenientReport.{row_ending_of_line, verdict_of_line, part_extent_of_line, Gathered, gathering_between_rows, with_finished_row, with_stage_over, row_so_far, padded_words}
-use Rattle.rv_report.specs.LenientReport.{at_job_or_last_line, at_ending, at_steps, at_console, at_signature, at_words, with_line_at}
+use Rattle.rv_report.specs.LenientReport.{row_ending_of_line, verdict_of_line, part_extent_of_line, Gathered, state_between_rows, with_finished_row, with_stage_done, unfinished_row, padded_words}
+use Rattle.rv_report.specs.LenientReport.{after_job_or_last_line, after_end_line, after_steps_line, after_console_line, after_signature_line, after_word_or_verdict_line, with_line_at_stage}
 use Rattle.rv_report.specs.LenientReport.{with_line, with_lines, with_unfinished_row}
-use Rattle.rv_report.specs.Saved.{most_words}
+use Rattle.rv_report.specs.Saved.{max_words}
 
 -- a choice of two, each of which is so
 pub chosen : {X : Type 0} (P : X → Type 0) (b : Bool) (x y : X) → P x → P y → P (if b then x else y)
@@ -43,10 +43,10 @@ unchanged f = record {
 }
 
 one_more : (v : Verdict) (g : Gathered) → Extends g.numbers g.rows (with_finished_row v g)
-unfolding with_finished_row gathering_between_rows
+unfolding with_finished_row state_between_rows
 one_more v g = record {
   more_numbers = g.number ∷ [];
-  more_rows = row_so_far v g ∷ [];
+  more_rows = unfinished_row v g ∷ [];
   numbers_are = refl;
   rows_are = refl;
 }
@@ -61,27 +61,27 @@ onward numbers rows g f h k = record {
   rows_are = k.rows_are ∙ ap (λ (t : List Row). t ++ k.more_rows) h.rows_are ∙ append_assoc rows h.more_rows k.more_rows;
 }
 
-grown_at : (s : Stage) (l : List ℕ) (g : Gathered) → Extends g.numbers g.rows (with_line_at s l g)
-unfolding at_job_or_last_line at_ending at_steps at_console at_signature at_words
+grown_at : (s : Stage) (l : List ℕ) (g : Gathered) → Extends g.numbers g.rows (with_line_at_stage s l g)
+unfolding after_job_or_last_line after_end_line after_steps_line after_console_line after_signature_line after_word_or_verdict_line
 grown_at stage.Between l g =
     let P : Gathered → Type 0 = λ f. Extends g.numbers g.rows f in
     let job : Gathered = record g { number = job_number_of_line l; name = job_name_of_line l; is_in_row = true; stage = stage.Ending } in
-    let part : Gathered = with_stage_over (record g { extent = part_extent_of_line l }) in
-    let other : Gathered = if slice_index l 0 == 112 then part else with_stage_over g in
-    chosen P ((slice_index l 0 == 106) && nat_lt (length g.rows) most_jobs) job other (unchanged job)
-    (chosen P (slice_index l 0 == 112) part (with_stage_over g) (unchanged part) (unchanged (with_stage_over g)))
+    let part : Gathered = with_stage_done (record g { extent = part_extent_of_line l }) in
+    let other : Gathered = if slice_index l 0 == 112 then part else with_stage_done g in
+    chosen P ((slice_index l 0 == 106) && nat_lt (length g.rows) max_jobs) job other (unchanged job)
+    (chosen P (slice_index l 0 == 112) part (with_stage_done g) (unchanged part) (unchanged (with_stage_done g)))
 grown_at stage.Ending l g =
     let next : Gathered = record g { ending = row_ending_of_line l; stage = stage.Steps } in
-    chosen (λ f. Extends g.numbers g.rows f) (slice_index l 0 == 101) next (with_stage_over g) (unchanged next)
-    (unchanged (with_stage_over g))
+    chosen (λ f. Extends g.numbers g.rows f) (slice_index l 0 == 101) next (with_stage_done g) (unchanged next)
+    (unchanged (with_stage_done g))
 grown_at stage.Steps l g =
     let next : Gathered = record g { steps = decimal_number (drop 6 l); stage = stage.Console } in
     chosen (λ f. Extends g.numbers g.rows f) ((slice_index l 0 == 115) && (slice_index l 1 == 116)) next
-    (with_stage_over g) (unchanged next) (unchanged (with_stage_over g))
+    (with_stage_done g) (unchanged next) (unchanged (with_stage_done g))
 grown_at stage.Console l g =
     let next : Gathered = record g { console = hex_bytes (drop 8 l); stage = stage.Signature } in
-    chosen (λ f. Extends g.numbers g.rows f) (slice_index l 0 == 99) next (with_stage_over g) (unchanged next)
-    (unchanged (with_stage_over g))
+    chosen (λ f. Extends g.numbers g.rows f) (slice_index l 0 == 99) next (with_stage_done g) (unchanged next)
+    (unchanged (with_stage_done g))
 grown_at stage.Signature l g =
     let next : Gathered = record g {
       signed = not (slice_index l 10 == 45);
@@ -90,16 +90,16 @@ grown_at stage.Signature l g =
       stage = stage.Words;
     } in
     chosen (λ f. Extends g.numbers g.rows f)
-    (((slice_index l 0 == 115) && (slice_index l 1 == 105)) && nat_le (decimal_number (drop 10 l)) most_words) next
-    (with_stage_over g) (unchanged next) (unchanged (with_stage_over g))
+    (((slice_index l 0 == 115) && (slice_index l 1 == 105)) && nat_le (decimal_number (drop 10 l)) max_words) next
+    (with_stage_done g) (unchanged next) (unchanged (with_stage_done g))
 grown_at stage.Words l g =
     let P : Gathered → Type 0 = λ f. Extends g.numbers g.rows f in
     let word : Gathered = record g { words = g.words ++ hex_word l ∷ [] } in
     let row : Gathered = with_finished_row (verdict_of_line l) g in
     let ended : Bool = (slice_index l 0 == 118) && (length g.words == g.count) in
-    let other : Gathered = if ended then row else with_stage_over g in
+    let other : Gathered = if ended then row else with_stage_done g in
     chosen P (is_hex_word l && nat_lt (length g.words) g.count) word other (unchanged word)
-    (chosen P ended row (with_stage_over g) (one_more (verdict_of_line l) g) (unchanged (with_stage_over g)))
+    (chosen P ended row (with_stage_done g) (one_more (verdict_of_line l) g) (unchanged (with_stage_done g)))
 grown_at stage.Over l g = unchanged g
 
 finished_grown : (g : Gathered) → Extends g.numbers g.rows (with_unfinished_row g)
@@ -112,5 +112,5 @@ finished_grown g =
 pub grown : (ls : List (List ℕ)) (g : Gathered) → Extends g.numbers g.rows (at_end ls g)
 unfolding with_lines with_line
 grown [] g = finished_grown g
-grown (l ∷ ls) g = onward g.numbers g.rows (with_line_at g.stage l g) (at_end ls (with_line_at g.stage l g))
-    (grown_at g.stage l g) (grown ls (with_line_at g.stage l g))
+grown (l ∷ ls) g = onward g.numbers g.rows (with_line_at_stage g.stage l g) (at_end ls (with_line_at_stage g.stage l g))
+    (grown_at g.stage l g) (grown ls (with_line_at_stage g.stage l g))

@@ -6,9 +6,9 @@ use Rattle.std.proofs.lemmas.Grind.{flat_map-append}
 use Rattle.rv_report.specs.declared.saved.SavedReport.{SavedReport}
 use Rattle.rv_report.specs.Report.{line}
 use Rattle.rv_report.specs.LenientReport.{lenient_report}
-use Rattle.rv_report.specs.Saved.{IsSaved, saved_text}
-use Rattle.rv_report.specs.Differences.{count_of_line_feeds}
-use Rattle.rv_report.specs.LeastLine.{first_lines, BeginsReport}
+use Rattle.rv_report.specs.Saved.{IsValidReport, saved_text}
+use Rattle.rv_report.specs.Differences.{line_feed_count}
+use Rattle.rv_report.specs.LeastLine.{first_lines, IsReportPrefix}
 use Rattle.rv_report.proofs.Pieces.{lacks}
 use Rattle.rv_report.proofs.Cut.{said_can_be}
 use Rattle.rv_report.proofs.LineLists.{joined, AreLines, first_of_lines}
@@ -24,7 +24,7 @@ pub record FirstLines (count : ℕ) (bytes : List ℕ) : Type 0 where
   pub are_lines : AreLines ls
   pub first : first_lines count bytes ≡ joined ls
   pub all : bytes ≡ joined ls ++ rest
-  pub feeds : count_of_line_feeds (joined ls) ≡ count
+  pub feeds : line_feed_count (joined ls) ≡ count
 
 not_empty : (n : ℕ) → (suc n == 0) ≡ false
 not_empty n = grind arith
@@ -47,14 +47,14 @@ past_byte b c bs e =
     ∙ ap (λ (t : Bool). b ∷ first_lines (cond t (suc c - 1) (suc c)) bs) e
 
 pub feeds_of : (b : ℕ) (bs : List ℕ) (t : Bool) → (b == 10) ≡ t
-    → count_of_line_feeds (b ∷ bs) ≡ cond t (count_of_line_feeds bs + 1) (count_of_line_feeds bs)
-feeds_of b bs t e = ap (λ (s : Bool). cond s (count_of_line_feeds bs + 1) (count_of_line_feeds bs)) e
+    → line_feed_count (b ∷ bs) ≡ cond t (line_feed_count bs + 1) (line_feed_count bs)
+feeds_of b bs t e = ap (λ (s : Bool). cond s (line_feed_count bs + 1) (line_feed_count bs)) e
 
 feed_before : (b c : ℕ) (bs : List ℕ) → (b == 10) ≡ true → FirstLines c bs → FirstLines (suc c) (b ∷ bs)
 feed_before b c bs e h =
     let is : b ≡ 10 = eqb-true b 10 e in
     let feeds = h.feeds in
-    let more : count_of_line_feeds (10 ∷ joined h.ls) ≡ count_of_line_feeds (joined h.ls) + 1 = feeds_of 10 (joined h.ls) true refl in
+    let more : line_feed_count (10 ∷ joined h.ls) ≡ line_feed_count (joined h.ls) + 1 = feeds_of 10 (joined h.ls) true refl in
     record {
       ls = [] ∷ h.ls;
       rest = h.rest;
@@ -65,7 +65,7 @@ feed_before b c bs e h =
     }
 
 byte_before : (b c : ℕ) (bs : List ℕ) (ls : List (List ℕ)) (rest : List ℕ) → (b == 10) ≡ false → AreLines ls
-    → first_lines (suc c) bs ≡ joined ls → bs ≡ joined ls ++ rest → count_of_line_feeds (joined ls) ≡ suc c
+    → first_lines (suc c) bs ≡ joined ls → bs ≡ joined ls ++ rest → line_feed_count (joined ls) ≡ suc c
     → FirstLines (suc c) (b ∷ bs)
 byte_before b c bs [] rest e are first all feeds = absurd (omega arith)
 byte_before b c bs (l ∷ ls) rest e are first all feeds = record {
@@ -77,7 +77,7 @@ byte_before b c bs (l ∷ ls) rest e are first all feeds = record {
   feeds = feeds_of b (joined (l ∷ ls)) false e ∙ feeds;
 }
 
-pub split_lines : (bytes : List ℕ) (c : ℕ) → c ≤ count_of_line_feeds bytes → FirstLines c bytes
+pub split_lines : (bytes : List ℕ) (c : ℕ) → c ≤ line_feed_count bytes → FirstLines c bytes
 unfolding first_lines
 split_lines [] zero h = record { ls = []; rest = []; are_lines = tt; first = refl; all = refl; feeds = refl }
 split_lines [] (suc c) h = absurd (omega arith)
@@ -85,10 +85,10 @@ split_lines (b ∷ bs) zero h = record { ls = []; rest = b ∷ bs; are_lines = t
 split_lines (b ∷ bs) (suc c) h =
     elim (cases_Bool (b == 10)) [
       | inl e ↦
-          let f : count_of_line_feeds (b ∷ bs) ≡ count_of_line_feeds bs + 1 = feeds_of b bs true e in
+          let f : line_feed_count (b ∷ bs) ≡ line_feed_count bs + 1 = feeds_of b bs true e in
           feed_before b c bs e (split_lines bs c (omega arith))
       | inr e ↦
-          let f : count_of_line_feeds (b ∷ bs) ≡ count_of_line_feeds bs = feeds_of b bs false e in
+          let f : line_feed_count (b ∷ bs) ≡ line_feed_count bs = feeds_of b bs false e in
           let s = split_lines bs (suc c) (omega arith) in
           byte_before b c bs s.ls s.rest e s.are_lines s.first s.all s.feeds
     ]
@@ -96,7 +96,7 @@ split_lines (b ∷ bs) (suc c) h =
 -- ---- lines that a report begins with
 
 -- lines that a report begins with are said, whatever follows
-pub said_begins : (r : SavedReport) → IsSaved r → (ls : List (List ℕ)) (v w : List ℕ) → AreLines ls
+pub said_begins : (r : SavedReport) → IsValidReport r → (ls : List (List ℕ)) (v w : List ℕ) → AreLines ls
     → saved_text r ≡ joined ls ++ v
     → (rest : List ℕ) × (saved_text (lenient_report (joined ls ++ w)) ≡ joined ls ++ rest)
 said_begins r h ls v w are is =
@@ -106,7 +106,7 @@ said_begins r h ls v w are is =
     let text = joined ls ++ w in
     (joined kept.0, sym (joined_saved (lenient_report text) (said_can_be text)) ∙ ap joined kept.1 ∙ flat_map-append line ls kept.0)
 
-pub lines_stay : (bytes : List ℕ) (c : ℕ) → c ≤ count_of_line_feeds bytes → BeginsReport (first_lines c bytes)
+pub lines_stay : (bytes : List ℕ) (c : ℕ) → c ≤ line_feed_count bytes → IsReportPrefix (first_lines c bytes)
     → (rest : List ℕ) × (saved_text (lenient_report bytes) ≡ first_lines c bytes ++ rest)
 lines_stay bytes c within begins =
     let s = split_lines bytes c within in

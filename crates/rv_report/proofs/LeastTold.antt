@@ -8,9 +8,9 @@ use Rattle.rv_report.specs.declared.read.ReadError.{ReadError}
 use Rattle.rv_report.specs.declared.read.ReadError.TheVariants.{OutOfMemory, Line, CutOff}
 use Rattle.rv_report.specs.declared.saved.SavedReport.{SavedReport}
 use Rattle.rv_report.specs.LenientReport.{lenient_report}
-use Rattle.rv_report.specs.Saved.{IsSaved, saved_text}
-use Rattle.rv_report.specs.Differences.{count_of_line_feeds, word_after_byte, can_begin_report_line, line_after_byte, read_error_from, read_error_at, BeginsAlike}
-use Rattle.rv_report.specs.LeastLine.{first_lines, BeginsReport, IsLeast}
+use Rattle.rv_report.specs.Saved.{IsValidReport, saved_text}
+use Rattle.rv_report.specs.Differences.{line_feed_count, word_after_byte, can_begin_report_line, line_after_byte, read_error_from, read_error_at, AgreeBeforeError}
+use Rattle.rv_report.specs.LeastLine.{first_lines, IsReportPrefix, IsFirstError}
 use Rattle.rv_report.proofs.Pieces.{lacks}
 use Rattle.rv_report.proofs.Cut.{said_can_be}
 use Rattle.rv_report.proofs.CutReport.{lines_cut}
@@ -41,7 +41,7 @@ same_told line told e = ap line_of e
 not_earlier_at : (line : ℕ) (met : FirstWord) (other : ℕ) (rest : List ℕ) (told : ℕ)
     → read_error_at line met other rest ≡ Line told → line ≡ told
 not_earlier_at line met other rest told e =
-    let cut : Bool = can_begin_report_line met other rest && (count_of_line_feeds rest == 0) in
+    let cut : Bool = can_begin_report_line met other rest && (line_feed_count rest == 0) in
     elim (cases_Bool cut) [
       | inl z ↦ absurd (cut_is_no_line told (sym (ap (λ (s : Bool). cond s CutOff (Line line)) z) ∙ e))
       | inr z ↦ same_told line told (sym (ap (λ (s : Bool). cond s CutOff (Line line)) z) ∙ e)
@@ -77,22 +77,22 @@ not_earlier (x ∷ ts) (y ∷ bs) line met told e =
 same_byte : (b : ℕ) → (b == b) ≡ true
 same_byte b = grind arith
 
-line_and_feeds : (line b : ℕ) (u : List ℕ) → line_after_byte line b + count_of_line_feeds u ≡ line + count_of_line_feeds (b ∷ u)
+line_and_feeds : (line b : ℕ) (u : List ℕ) → line_after_byte line b + line_feed_count u ≡ line + line_feed_count (b ∷ u)
 line_and_feeds line b u =
     elim (cases_Bool (b == 10)) [
       | inl e ↦
           let s : line_after_byte line b ≡ line + 1 = ap (λ (t : Bool). cond t (line + 1) line) e in
-          let f : count_of_line_feeds (b ∷ u) ≡ count_of_line_feeds u + 1 = feeds_of b u true e in
+          let f : line_feed_count (b ∷ u) ≡ line_feed_count u + 1 = feeds_of b u true e in
           omega arith
       | inr e ↦
           let s : line_after_byte line b ≡ line = ap (λ (t : Bool). cond t (line + 1) line) e in
-          let f : count_of_line_feeds (b ∷ u) ≡ count_of_line_feeds u = feeds_of b u false e in
+          let f : line_feed_count (b ∷ u) ≡ line_feed_count u = feeds_of b u false e in
           omega arith
     ]
 
 -- what two texts begin with has no line that is told
 told_behind : (u z w : List ℕ) (line : ℕ) (met : FirstWord) (told : ℕ)
-    → read_error_from line met (u ++ z) (u ++ w) ≡ Line told → line + count_of_line_feeds u ≤ told
+    → read_error_from line met (u ++ z) (u ++ w) ≡ Line told → line + line_feed_count u ≤ told
 unfolding read_error_from
 told_behind [] z w line met told e = let s = not_earlier z w line met told e in omega arith
 told_behind (b ∷ u) z w line met told e =
@@ -105,15 +105,15 @@ told_behind (b ∷ u) z w line met told e =
 
 -- ---- the line itself
 
-pub refused_line : (bytes : List ℕ) (told : ℕ)
+pub invalid_line : (bytes : List ℕ) (told : ℕ)
     → read_error_from 1 word.Ahead (saved_text (lenient_report bytes)) bytes ≡ Line told
-    → told ≤ count_of_line_feeds bytes → BeginsReport (first_lines told bytes) → ⊥
-refused_line bytes told e within begins =
+    → told ≤ line_feed_count bytes → IsReportPrefix (first_lines told bytes) → ⊥
+invalid_line bytes told e within begins =
     let stay = lines_stay bytes told within begins in
     let s = split_lines bytes told within in
     let u = first_lines told bytes in
     let whole : bytes ≡ u ++ s.rest = s.all ∙ ap (λ (t : List ℕ). t ++ s.rest) (sym s.first) in
-    let feeds : count_of_line_feeds u ≡ told = ap count_of_line_feeds s.first ∙ s.feeds in
+    let feeds : line_feed_count u ≡ told = ap line_feed_count s.first ∙ s.feeds in
     let moved : read_error_from 1 word.Ahead (u ++ stay.0) (u ++ s.rest) ≡ Line told =
     sym (ap (λ (t : List ℕ). read_error_from 1 word.Ahead t bytes) stay.1
     ∙ ap (λ (t : List ℕ). read_error_from 1 word.Ahead (u ++ stay.0) t) whole) ∙ e in
@@ -128,7 +128,7 @@ first_none [] = refl
 first_none (b ∷ bs) = refl
 
 -- the first lines of a text are those of its beginning that has as many
-first_in : (common more : List ℕ) (c : ℕ) → c ≤ count_of_line_feeds common
+first_in : (common more : List ℕ) (c : ℕ) → c ≤ line_feed_count common
     → first_lines c (common ++ more) ≡ first_lines c common
 first_in [] more zero h = first_none more ∙ sym (first_none [])
 first_in [] more (suc c) h = absurd (omega arith)
@@ -136,33 +136,33 @@ first_in (b ∷ bs) more zero h = first_none (b ∷ (bs ++ more)) ∙ sym (first
 first_in (b ∷ bs) more (suc c) h =
     elim (cases_Bool (b == 10)) [
       | inl e ↦
-          let f : count_of_line_feeds (b ∷ bs) ≡ count_of_line_feeds bs + 1 = feeds_of b bs true e in
+          let f : line_feed_count (b ∷ bs) ≡ line_feed_count bs + 1 = feeds_of b bs true e in
           past_feed b c (bs ++ more) e ∙ ap (λ (t : List ℕ). b ∷ t) (first_in bs more c (omega arith))
           ∙ sym (past_feed b c bs e)
       | inr e ↦
-          let f : count_of_line_feeds (b ∷ bs) ≡ count_of_line_feeds bs = feeds_of b bs false e in
+          let f : line_feed_count (b ∷ bs) ≡ line_feed_count bs = feeds_of b bs false e in
           past_byte b c (bs ++ more) e ∙ ap (λ (t : List ℕ). b ∷ t) (first_in bs more (suc c) (omega arith))
           ∙ sym (past_byte b c bs e)
     ]
 
-feeds_append : (xs ys : List ℕ) → count_of_line_feeds (xs ++ ys) ≡ count_of_line_feeds xs + count_of_line_feeds ys
+feeds_append : (xs ys : List ℕ) → line_feed_count (xs ++ ys) ≡ line_feed_count xs + line_feed_count ys
 feeds_append [] ys = omega arith
 feeds_append (x ∷ xs) ys =
     let later = feeds_append xs ys in
     elim (cases_Bool (x == 10)) [
       | inl e ↦
-          let f : count_of_line_feeds (x ∷ (xs ++ ys)) ≡ count_of_line_feeds (xs ++ ys) + 1 = feeds_of x (xs ++ ys) true e in
-          let g : count_of_line_feeds (x ∷ xs) ≡ count_of_line_feeds xs + 1 = feeds_of x xs true e in
+          let f : line_feed_count (x ∷ (xs ++ ys)) ≡ line_feed_count (xs ++ ys) + 1 = feeds_of x (xs ++ ys) true e in
+          let g : line_feed_count (x ∷ xs) ≡ line_feed_count xs + 1 = feeds_of x xs true e in
           omega arith
       | inr e ↦
-          let f : count_of_line_feeds (x ∷ (xs ++ ys)) ≡ count_of_line_feeds (xs ++ ys) = feeds_of x (xs ++ ys) false e in
-          let g : count_of_line_feeds (x ∷ xs) ≡ count_of_line_feeds xs = feeds_of x xs false e in
+          let f : line_feed_count (x ∷ (xs ++ ys)) ≡ line_feed_count (xs ++ ys) = feeds_of x (xs ++ ys) false e in
+          let g : line_feed_count (x ∷ xs) ≡ line_feed_count xs = feeds_of x xs false e in
           omega arith
     ]
 
 -- the lines that a text has in common with a report's begin a report
-begun_before : (r : SavedReport) → IsSaved r → (bytes common more other : List ℕ) (c : ℕ) → bytes ≡ common ++ more
-    → saved_text r ≡ common ++ other → c ≤ count_of_line_feeds common → BeginsReport (first_lines c bytes)
+begun_before : (r : SavedReport) → IsValidReport r → (bytes common more other : List ℕ) (c : ℕ) → bytes ≡ common ++ more
+    → saved_text r ≡ common ++ other → c ≤ line_feed_count common → IsReportPrefix (first_lines c bytes)
 begun_before r h bytes common more other c b t within =
     let s = split_lines common c within in
     let first : first_lines c bytes ≡ joined s.ls = ap (λ (x : List ℕ). first_lines c x) b ∙ first_in common more c within ∙ s.first in (
@@ -175,41 +175,41 @@ begun_before r h bytes common more other c b t within =
 
 -- ---- a beginning of a report
 
-no_feed_lacks : (bs : List ℕ) → count_of_line_feeds bs ≡ 0 → lacks 10 bs ≡ true
+no_feed_lacks : (bs : List ℕ) → line_feed_count bs ≡ 0 → lacks 10 bs ≡ true
 no_feed_lacks [] h = refl
 no_feed_lacks (b ∷ bs) h =
     elim (cases_Bool (b == 10)) [
       | inl e ↦
-          let f : count_of_line_feeds (b ∷ bs) ≡ count_of_line_feeds bs + 1 = feeds_of b bs true e in
+          let f : line_feed_count (b ∷ bs) ≡ line_feed_count bs + 1 = feeds_of b bs true e in
           absurd (omega arith)
       | inr e ↦
-          let f : count_of_line_feeds (b ∷ bs) ≡ count_of_line_feeds bs = feeds_of b bs false e in
+          let f : line_feed_count (b ∷ bs) ≡ line_feed_count bs = feeds_of b bs false e in
           and_from (not (b == 10)) (lacks 10 bs) (ap not e) (no_feed_lacks bs (omega arith))
     ]
 
 -- more lines than there are are all
-all_lines : (bytes : List ℕ) (c : ℕ) → count_of_line_feeds bytes < c → first_lines c bytes ≡ bytes
+all_lines : (bytes : List ℕ) (c : ℕ) → line_feed_count bytes < c → first_lines c bytes ≡ bytes
 unfolding first_lines
 all_lines [] c h = refl
 all_lines (b ∷ bs) zero h = absurd (omega arith)
 all_lines (b ∷ bs) (suc c) h =
     elim (cases_Bool (b == 10)) [
       | inl e ↦
-          let f : count_of_line_feeds (b ∷ bs) ≡ count_of_line_feeds bs + 1 = feeds_of b bs true e in
+          let f : line_feed_count (b ∷ bs) ≡ line_feed_count bs + 1 = feeds_of b bs true e in
           past_feed b c bs e ∙ ap (λ (t : List ℕ). b ∷ t) (all_lines bs c (omega arith))
       | inr e ↦
-          let f : count_of_line_feeds (b ∷ bs) ≡ count_of_line_feeds bs = feeds_of b bs false e in
+          let f : line_feed_count (b ∷ bs) ≡ line_feed_count bs = feeds_of b bs false e in
           past_byte b c bs e ∙ ap (λ (t : List ℕ). b ∷ t) (all_lines bs (suc c) (omega arith))
     ]
 
 -- it is cut off
-pub begun_is_cut : (bytes : List ℕ) → BeginsReport bytes
+pub begun_is_cut : (bytes : List ℕ) → IsReportPrefix bytes
     → read_error_from 1 word.Ahead (saved_text (lenient_report bytes)) bytes ≡ CutOff
 begun_is_cut bytes begins =
-    let s = split_lines bytes (count_of_line_feeds bytes) (omega arith) in
+    let s = split_lines bytes (line_feed_count bytes) (omega arith) in
     let feeds = s.feeds in
-    let both : count_of_line_feeds bytes ≡ count_of_line_feeds (joined s.ls) + count_of_line_feeds s.rest =
-    ap count_of_line_feeds s.all ∙ feeds_append (joined s.ls) s.rest in
+    let both : line_feed_count bytes ≡ line_feed_count (joined s.ls) + line_feed_count s.rest =
+    ap line_feed_count s.all ∙ feeds_append (joined s.ls) s.rest in
     let plain = no_feed_lacks s.rest (omega arith) in
     let cut = lines_cut begins.0 begins.2 s.ls s.rest begins.1 s.are_lines plain
     (begins.3 ∙ ap (λ (t : List ℕ). t ++ begins.1) s.all ∙ append_assoc (joined s.ls) s.rest begins.1) in
@@ -218,19 +218,19 @@ begun_is_cut bytes begins =
 -- no report begins with the lines up to the one that is told
 none_begins : (bytes : List ℕ) (told : ℕ)
     → read_error_from 1 word.Ahead (saved_text (lenient_report bytes)) bytes ≡ Line told
-    → BeginsReport (first_lines told bytes) → ⊥
+    → IsReportPrefix (first_lines told bytes) → ⊥
 none_begins bytes told e begins =
-    elim (cases_lt (count_of_line_feeds bytes) told) [
+    elim (cases_lt (line_feed_count bytes) told) [
       | inl past ↦
-          let all = subst (λ (t : List ℕ). BeginsReport t) (all_lines bytes told past) begins in
+          let all = subst (λ (t : List ℕ). IsReportPrefix t) (all_lines bytes told past) begins in
           cut_is_no_line told (sym (begun_is_cut bytes all) ∙ e)
-      | inr within ↦ refused_line bytes told e within begins
+      | inr within ↦ invalid_line bytes told e within begins
     ]
 
 -- ---- both
 
 least_of : (bytes : List ℕ) (e : ReadError) → e ≡ read_error_from 1 word.Ahead (saved_text (lenient_report bytes)) bytes
-    → BeginsAlike e (saved_text (lenient_report bytes)) bytes → IsLeast e bytes
+    → AgreeBeforeError e (saved_text (lenient_report bytes)) bytes → IsFirstError e bytes
 least_of bytes OutOfMemory is alike = tt
 least_of bytes (Line told) is alike =
     let counted = alike.5 in
@@ -242,13 +242,13 @@ least_of bytes (Line told) is alike =
 least_of bytes CutOff is alike =
     let none = alike.5 in
     let n = feeds_append alike.0 alike.1 in
-    let same : count_of_line_feeds bytes ≡ count_of_line_feeds (alike.0 ++ alike.1) = ap count_of_line_feeds alike.3 in
-    begun_before (lenient_report bytes) (said_can_be bytes) bytes alike.0 alike.1 alike.2 (count_of_line_feeds bytes) alike.3 alike.4
+    let same : line_feed_count bytes ≡ line_feed_count (alike.0 ++ alike.1) = ap line_feed_count alike.3 in
+    begun_before (lenient_report bytes) (said_can_be bytes) bytes alike.0 alike.1 alike.2 (line_feed_count bytes) alike.3 alike.4
     (omega arith)
 
 -- what is told is the least
 pub told_is_least : (bytes : List ℕ) (e : ReadError)
-    → e ≡ read_error_from 1 word.Ahead (saved_text (lenient_report bytes)) bytes → IsLeast e bytes
+    → e ≡ read_error_from 1 word.Ahead (saved_text (lenient_report bytes)) bytes → IsFirstError e bytes
 told_is_least bytes e is =
-    least_of bytes e is (subst (λ (x : ReadError). BeginsAlike x (saved_text (lenient_report bytes)) bytes) (sym is)
+    least_of bytes e is (subst (λ (x : ReadError). AgreeBeforeError x (saved_text (lenient_report bytes)) bytes) (sym is)
     (tells (saved_text (lenient_report bytes)) bytes))

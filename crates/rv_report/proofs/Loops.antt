@@ -7,31 +7,31 @@ use Rattle.std.proofs.lemmas.Bool.Decides.{nat_tests}
 use Rattle.rv_report.specs.declared.read.FirstWord.{FirstWord}
 use Rattle.rv_report.specs.declared.read.ReadError.TheVariants.{Line, CutOff}
 use Rattle.std.proofs.lemmas.Bool.{and_parts}
-use Rattle.rv_report.specs.Differences.{count_of_line_feeds, word_after_byte, line_after_byte, read_error_from, read_error_at}
-use Rattle.rv_base.specs.Limits.{most_jobs}
+use Rattle.rv_report.specs.Differences.{line_feed_count, word_after_byte, line_after_byte, read_error_from, read_error_at}
+use Rattle.rv_base.specs.Limits.{max_jobs}
 use Rattle.rv_report.specs.Report.{row_text}
 use Rattle.rv_report.specs.declared.row.Row.{Row}
-use Rattle.rv_report.specs.LenientReport.{rising_count}
-use Rattle.rv_report.specs.Saved.{are_rising, numbered_text}
+use Rattle.rv_report.specs.LenientReport.{increasing_count}
+use Rattle.rv_report.specs.Saved.{are_increasing, numbered_text}
 
 pub feeds_step : (xs : List ℕ) (i : ℕ) → i < length xs
-    → count_of_line_feeds (drop i xs) ≡ cond (get_or xs i 0 == 10) (count_of_line_feeds (drop (i + 1) xs) + 1) (count_of_line_feeds (drop (i + 1) xs))
-feeds_step xs i h = at_drop_more count_of_line_feeds xs i 0 h
+    → line_feed_count (drop i xs) ≡ cond (get_or xs i 0 == 10) (line_feed_count (drop (i + 1) xs) + 1) (line_feed_count (drop (i + 1) xs))
+feeds_step xs i h = at_drop_more line_feed_count xs i 0 h
 
-pub feeds_end : (xs : List ℕ) (i : ℕ) → length xs ≤ i → count_of_line_feeds (drop i xs) ≡ 0
-feeds_end xs i h = at_drop_all count_of_line_feeds xs i h
+pub feeds_end : (xs : List ℕ) (i : ℕ) → length xs ≤ i → line_feed_count (drop i xs) ≡ 0
+feeds_end xs i h = at_drop_all line_feed_count xs i h
 
-pub feeds_here : (xs : List ℕ) (i : ℕ) → i < length xs → get_or xs i 0 ≡ 10 → 0 < count_of_line_feeds (drop i xs)
+pub feeds_here : (xs : List ℕ) (i : ℕ) → i < length xs → get_or xs i 0 ≡ 10 → 0 < line_feed_count (drop i xs)
 feeds_here xs i h is =
     let e : (get_or xs i 0 == 10) ≡ true = grind arith in
-    let s = feeds_step xs i h ∙ ap (λ (t : Bool). cond t (count_of_line_feeds (drop (i + 1) xs) + 1) (count_of_line_feeds (drop (i + 1) xs))) e in
+    let s = feeds_step xs i h ∙ ap (λ (t : Bool). cond t (line_feed_count (drop (i + 1) xs) + 1) (line_feed_count (drop (i + 1) xs))) e in
     omega arith
 
 pub feeds_later : (xs : List ℕ) (i : ℕ) → i < length xs → (get_or xs i 0 ≡ 10 → ⊥)
-    → count_of_line_feeds (drop i xs) ≡ count_of_line_feeds (drop (i + 1) xs)
+    → line_feed_count (drop i xs) ≡ line_feed_count (drop (i + 1) xs)
 feeds_later xs i h other =
     let e : (get_or xs i 0 == 10) ≡ false = grind arith in
-    feeds_step xs i h ∙ ap (λ (t : Bool). cond t (count_of_line_feeds (drop (i + 1) xs) + 1) (count_of_line_feeds (drop (i + 1) xs))) e
+    feeds_step xs i h ∙ ap (λ (t : Bool). cond t (line_feed_count (drop (i + 1) xs) + 1) (line_feed_count (drop (i + 1) xs))) e
 
 -- ---- the first difference
 
@@ -97,34 +97,34 @@ both_false true true h = absurd (h refl refl)
 both_false true false h = refl
 both_false false b h = refl
 
-count_step : (before : ℕ) (xs : List ℕ) (i : ℕ) → i < length xs → rising_count before (drop i xs)
-    ≡ cond (nat_lt before (get_or xs i 0) && nat_le (get_or xs i 0) most_jobs)
-    (rising_count (get_or xs i 0) (drop (i + 1) xs) + 1) 0
-unfolding rising_count
-count_step before xs i h = at_drop_more (rising_count before) xs i 0 h
+count_step : (before : ℕ) (xs : List ℕ) (i : ℕ) → i < length xs → increasing_count before (drop i xs)
+    ≡ cond (nat_lt before (get_or xs i 0) && nat_le (get_or xs i 0) max_jobs)
+    (increasing_count (get_or xs i 0) (drop (i + 1) xs) + 1) 0
+unfolding increasing_count
+count_step before xs i h = at_drop_more (increasing_count before) xs i 0 h
 
-pub count_end : (before : ℕ) (xs : List ℕ) (i : ℕ) → length xs ≤ i → rising_count before (drop i xs) ≡ 0
-unfolding rising_count
-count_end before xs i h = at_drop_all (rising_count before) xs i h
+pub count_end : (before : ℕ) (xs : List ℕ) (i : ℕ) → length xs ≤ i → increasing_count before (drop i xs) ≡ 0
+unfolding increasing_count
+count_end before xs i h = at_drop_all (increasing_count before) xs i h
 
 pub count_no : (before : ℕ) (xs : List ℕ) (i : ℕ) → i < length xs
-    → (before < get_or xs i 0 → get_or xs i 0 ≤ most_jobs → ⊥) → rising_count before (drop i xs) ≡ 0
+    → (before < get_or xs i 0 → get_or xs i 0 ≤ max_jobs → ⊥) → increasing_count before (drop i xs) ≡ 0
 count_no before xs i h never =
     let x = get_or xs i 0 in
     count_step before xs i h
-    ∙ ap (λ (t : Bool). cond t (rising_count x (drop (i + 1) xs) + 1) 0)
-    (both_false (nat_lt before x) (nat_le x most_jobs)
+    ∙ ap (λ (t : Bool). cond t (increasing_count x (drop (i + 1) xs) + 1) 0)
+    (both_false (nat_lt before x) (nat_le x max_jobs)
     (λ low high. never (grind (arith, nat_tests)) (grind (arith, nat_tests))))
 
-pub count_on : (before : ℕ) (xs : List ℕ) (i : ℕ) → i < length xs → before < get_or xs i 0 → get_or xs i 0 ≤ most_jobs
-    → rising_count before (drop i xs) ≡ rising_count (get_or xs i 0) (drop (i + 1) xs) + 1
+pub count_on : (before : ℕ) (xs : List ℕ) (i : ℕ) → i < length xs → before < get_or xs i 0 → get_or xs i 0 ≤ max_jobs
+    → increasing_count before (drop i xs) ≡ increasing_count (get_or xs i 0) (drop (i + 1) xs) + 1
 count_on before xs i h low high =
     let x = get_or xs i 0 in
     let a : nat_lt before x ≡ true = grind (arith, nat_tests) in
-    let b : nat_le x most_jobs ≡ true = grind (arith, nat_tests) in
+    let b : nat_le x max_jobs ≡ true = grind (arith, nat_tests) in
     count_step before xs i h
-    ∙ ap (λ (t : Bool). cond (t && nat_le x most_jobs) (rising_count x (drop (i + 1) xs) + 1) 0) a
-    ∙ ap (λ (t : Bool). cond t (rising_count x (drop (i + 1) xs) + 1) 0) b
+    ∙ ap (λ (t : Bool). cond (t && nat_le x max_jobs) (increasing_count x (drop (i + 1) xs) + 1) 0) a
+    ∙ ap (λ (t : Bool). cond t (increasing_count x (drop (i + 1) xs) + 1) 0) b
 
 -- ---- rows under their numbers
 
@@ -160,15 +160,15 @@ numbered_split (k ∷ ks) (r ∷ rows) (suc i) even =
     (numbered_text (drop i ks) (drop i rows)))
 
 -- numbers that rise from behind one are above it
-pub above : (before last : ℕ) (ns : List ℕ) (i : ℕ) → are_rising before last ns ≡ true → i < length ns
+pub above : (before last : ℕ) (ns : List ℕ) (i : ℕ) → are_increasing before last ns ≡ true → i < length ns
     → before < get_or ns i 0
-unfolding are_rising
+unfolding are_increasing
 above before last [] i h within = absurd (omega arith)
 above before last (n ∷ ns) zero h within =
-    let low = (and_parts (nat_lt before n) (nat_le n last && are_rising n last ns) h).0 in grind (arith, nat_tests)
+    let low = (and_parts (nat_lt before n) (nat_le n last && are_increasing n last ns) h).0 in grind (arith, nat_tests)
 above before last (n ∷ ns) (suc i) h within =
-    let first = and_parts (nat_lt before n) (nat_le n last && are_rising n last ns) h in
-    let then = and_parts (nat_le n last) (are_rising n last ns) first.1 in
+    let first = and_parts (nat_lt before n) (nat_le n last && are_increasing n last ns) h in
+    let then = and_parts (nat_le n last) (are_increasing n last ns) first.1 in
     let low : before < n = grind (arith, nat_tests) in
     let later = above n last ns i then.1 (omega arith) in
     omega arith

@@ -10,7 +10,7 @@ use Rattle.std.proofs.lemmas.Bool.Decides.{nat_tests}
 use Rattle.std.proofs.lemmas.List.{map-append}
 use Rattle.hex.specs.Hex.{encode_lower}
 use Rattle.rv_text.specs.Words.{word_digits}
-use Rattle.rv_base.specs.Limits.{most_jobs}
+use Rattle.rv_base.specs.Limits.{max_jobs}
 use Rattle.rv_machine.specs.Faults.{fault_name}
 use Rattle.rv_report.specs.declared.row.Row.{Row}
 use Rattle.rv_report.specs.declared.row.RowEnd.{RowEnd}
@@ -18,16 +18,16 @@ use Rattle.rv_report.specs.declared.row.RowEnd.TheVariants as ending
 use Rattle.rv_report.specs.declared.row.Verdict.{Verdict}
 use Rattle.rv_report.specs.declared.gathering.Stage.TheVariants as stage
 use Rattle.rv_report.specs.Report.{refusal_name, verdict_name, dash_if_empty}
-use Rattle.rv_report.specs.LenientReport.{lines, is_hex_word, hex_word, are_hex_digits, verdict_of_line, Gathered, gathering_between_rows, with_finished_row, with_stage_over}
-use Rattle.rv_report.specs.LenientReport.{row_so_far, at_words, with_line, with_lines, with_unfinished_row}
-use Rattle.rv_report.specs.Saved.{IsWord, AreWords, IsRow, most_words}
+use Rattle.rv_report.specs.LenientReport.{lines, is_hex_word, hex_word, are_hex_digits, verdict_of_line, Gathered, state_between_rows, with_finished_row, with_stage_done}
+use Rattle.rv_report.specs.LenientReport.{unfinished_row, after_word_or_verdict_line, with_line, with_lines, with_unfinished_row}
+use Rattle.rv_report.specs.Saved.{IsWord, IsValidSignature, IsValidRow, max_words}
 use Rattle.rv_report.proofs.Pieces.{lacks}
 use Rattle.rv_report.proofs.Words.{all_digits}
 use Rattle.rv_report.proofs.Cut.{length-taken}
 use Rattle.rv_report.proofs.Spelled.{says, end_words, signature_says, words_or_nil, same_signature, same_length}
 use Rattle.rv_report.proofs.LineLists.{joined}
 use Rattle.rv_report.proofs.RecordedRow.{HasRow, with_less, KnowsWords, words_keep}
-use Rattle.rv_report.proofs.RowLines.{job_words, steps_words, console_words, count_words, verdict_words, lines_of_signature, row_lines, joined_signature}
+use Rattle.rv_report.proofs.RowLines.{job_words, steps_change_text, console_change_text, count_words, verdict_change_text, lines_of_signature, row_lines, joined_signature}
 use Rattle.rv_report.proofs.PartialRow.{Agrees, after_console, last_lines, four_lines, agrees_four}
 use Rattle.rv_report.proofs.PartialSignature.{KnowsLines, signed_says, signed_lines, all-taken}
 use Rattle.rv_report.proofs.CollectedRows.{take_past}
@@ -66,11 +66,11 @@ abbrev signature_tail : Option (List ℕ) → List ℕ
 signature_tail None = codes "-"
 signature_tail (Some ws) = decimal (length ws)
 
-abbrev signature_words : Option (List ℕ) → List (List ℕ)
-signature_words None = []
-signature_words (Some ws) = map word_digits ws
+abbrev signature_change_text : Option (List ℕ) → List (List ℕ)
+signature_change_text None = []
+signature_change_text (Some ws) = map word_digits ws
 
-signature_first : (s : Option (List ℕ)) → lines_of_signature s ≡ (codes "signature" ++ 32 ∷ signature_tail s) ∷ signature_words s
+signature_first : (s : Option (List ℕ)) → lines_of_signature s ≡ (codes "signature" ++ 32 ∷ signature_tail s) ∷ signature_change_text s
 signature_first None = refl
 signature_first (Some ws) = refl
 
@@ -79,30 +79,30 @@ pub next_one : (n : ℕ) (row : Row) (p q : List ℕ) → end_words row.ending �
 next_one n row p q is r k = record {
   name = k.name;
   next = end_words r.ending;
-  more = steps_words r.steps ∷ console_words r.console ∷ last_lines r;
+  more = steps_change_text r.steps ∷ console_change_text r.console ∷ last_lines r;
   lines = k.lines ∙ ap (λ (t : List (List ℕ)). job_words n row.name ∷ t)
       (sym (ap (λ (t : List (List ℕ)). drop (suc zero) t) k.lines));
   alike = end_alike row.ending r.ending p q is;
 }
 
-pub next_two : (n : ℕ) (row : Row) (p q : List ℕ) → steps_words row.steps ≡ p ++ q → (r : Row)
+pub next_two : (n : ℕ) (row : Row) (p q : List ℕ) → steps_change_text row.steps ≡ p ++ q → (r : Row)
     → Agrees n row (suc (suc zero)) r → NextAgrees n row (take (suc (suc zero)) (row_lines n row)) p r
 next_two n row p q is r k = record {
   name = k.name;
-  next = steps_words r.steps;
-  more = console_words r.console ∷ last_lines r;
+  next = steps_change_text r.steps;
+  more = console_change_text r.console ∷ last_lines r;
   lines = k.lines ∙ ap (λ (t : List (List ℕ)). job_words n row.name ∷ end_words row.ending ∷ t)
       (sym (ap (λ (t : List (List ℕ)). drop (suc (suc zero)) t) k.lines));
   alike = same_word (codes "steps") (decimal row.steps) (decimal r.steps) p q is;
 }
 
-pub next_three : (n : ℕ) (row : Row) (p q : List ℕ) → console_words row.console ≡ p ++ q → (r : Row)
+pub next_three : (n : ℕ) (row : Row) (p q : List ℕ) → console_change_text row.console ≡ p ++ q → (r : Row)
     → Agrees n row (suc (suc (suc zero))) r → NextAgrees n row (take (suc (suc (suc zero))) (row_lines n row)) p r
 next_three n row p q is r k = record {
   name = k.name;
-  next = console_words r.console;
+  next = console_change_text r.console;
   more = last_lines r;
-  lines = k.lines ∙ ap (λ (t : List (List ℕ)). job_words n row.name ∷ end_words row.ending ∷ steps_words row.steps ∷ t)
+  lines = k.lines ∙ ap (λ (t : List (List ℕ)). job_words n row.name ∷ end_words row.ending ∷ steps_change_text row.steps ∷ t)
       (sym (ap (λ (t : List (List ℕ)). drop (suc (suc (suc zero))) t) k.lines));
   alike = same_word (codes "console") (dash_if_empty (encode_lower row.console)) (dash_if_empty (encode_lower r.console)) p q is;
 }
@@ -113,13 +113,13 @@ pub next_four : (n : ℕ) (row : Row) (p q : List ℕ) → get_or (last_lines ro
 next_four n row p q is r k = record {
   name = k.name;
   next = codes "signature" ++ 32 ∷ signature_tail r.signature;
-  more = signature_words r.signature ++ verdict_words r.verdict ∷ [];
-  lines = k.lines ∙ ap (λ (t : List (List ℕ)). job_words n row.name ∷ end_words row.ending ∷ steps_words row.steps
-      ∷ console_words row.console ∷ t)
+  more = signature_change_text r.signature ++ verdict_change_text r.verdict ∷ [];
+  lines = k.lines ∙ ap (λ (t : List (List ℕ)). job_words n row.name ∷ end_words row.ending ∷ steps_change_text row.steps
+      ∷ console_change_text row.console ∷ t)
       (sym (ap (λ (t : List (List ℕ)). drop (suc (suc (suc (suc zero)))) t) k.lines)
-      ∙ ap (λ (t : List (List ℕ)). t ++ verdict_words r.verdict ∷ []) (signature_first r.signature));
+      ∙ ap (λ (t : List (List ℕ)). t ++ verdict_change_text r.verdict ∷ []) (signature_first r.signature));
   alike = same_word (codes "signature") (signature_tail row.signature) (signature_tail r.signature) p q
-      (sym (ap (λ (t : List (List ℕ)). get_or (t ++ verdict_words row.verdict ∷ []) zero []) (signature_first row.signature))
+      (sym (ap (λ (t : List (List ℕ)). get_or (t ++ verdict_change_text row.verdict ∷ []) zero []) (signature_first row.signature))
       ∙ is);
 }
 
@@ -149,14 +149,14 @@ and_no false = refl
 verdict_read : (p : List ℕ) (g : Gathered) → (length g.words == g.count) ≡ true
     → with_line (118 ∷ p) (record g { stage = stage.Words })
     ≡ with_finished_row (verdict_of_line (118 ∷ p)) (record g { stage = stage.Words })
-unfolding with_line at_words are_hex_digits
+unfolding with_line after_word_or_verdict_line are_hex_digits
 verdict_read p g full =
     let here : Gathered = record g { stage = stage.Words } in
     let row = with_finished_row (verdict_of_line (118 ∷ p)) here in
     let word : Gathered = record here { words = g.words ++ hex_word (118 ∷ p) ∷ [] } in
     ap (λ (t : Bool). cond (t && nat_lt (length g.words) g.count) word
-    (cond (length g.words == g.count) row (with_stage_over here))) (and_no (nat_lt 0 (length (118 ∷ p))))
-    ∙ ap (λ (t : Bool). cond t row (with_stage_over here)) full
+    (cond (length g.words == g.count) row (with_stage_done here))) (and_no (nat_lt 0 (length (118 ∷ p))))
+    ∙ ap (λ (t : Bool). cond t row (with_stage_done here)) full
 
 abbrev all_words : ℕ → Row → Gathered → Gathered
 all_words n row g = record g {
@@ -172,8 +172,8 @@ all_words n row g = record g {
   stage = stage.Words;
 }
 
-signature_read : (n : ℕ) (row : Row) (w : List ℕ) (g : Gathered) → IsRow row → n < 2 ^ 32 → length g.rows < most_jobs
-    → says (joined (job_words n row.name ∷ end_words row.ending ∷ steps_words row.steps ∷ console_words row.console
+signature_read : (n : ℕ) (row : Row) (w : List ℕ) (g : Gathered) → IsValidRow row → n < 2 ^ 32 → length g.rows < max_jobs
+    → says (joined (job_words n row.name ∷ end_words row.ending ∷ steps_change_text row.steps ∷ console_change_text row.console
     ∷ lines_of_signature row.signature) ++ w) (record g { stage = stage.Between })
     ≡ says w (all_words n row g)
 signature_read n row w g is small few =
@@ -181,34 +181,34 @@ signature_read n row w g is small few =
     ∙ ap (λ (t : List ℕ). says (t ++ w) (after_console n row g)) (joined_signature row.signature)
     ∙ signature_says row.signature w (after_console n row g) is.signature
 
-closed_row_is : (n : ℕ) (row : Row) (p q : List ℕ) (v : Verdict) (g : Gathered) → verdict_words row.verdict ≡ p ++ q
-    → HasRow g.numbers g.rows n (NextAgrees n row (job_words n row.name ∷ end_words row.ending ∷ steps_words row.steps
-    ∷ console_words row.console ∷ lines_of_signature row.signature) p)
+closed_row_is : (n : ℕ) (row : Row) (p q : List ℕ) (v : Verdict) (g : Gathered) → verdict_change_text row.verdict ≡ p ++ q
+    → HasRow g.numbers g.rows n (NextAgrees n row (job_words n row.name ∷ end_words row.ending ∷ steps_change_text row.steps
+    ∷ console_change_text row.console ∷ lines_of_signature row.signature) p)
     (with_unfinished_row (with_finished_row v (all_words n row g)))
-unfolding with_unfinished_row with_finished_row gathering_between_rows row_so_far
+unfolding with_unfinished_row with_finished_row state_between_rows unfinished_row
 closed_row_is n row p q v g is = record {
-  row = row_so_far v (all_words n row g);
+  row = unfinished_row v (all_words n row g);
   more_numbers = [];
   more_rows = [];
   numbers_are = refl;
   rows_are = refl;
   knows = record {
     name = refl;
-    next = verdict_words v;
+    next = verdict_change_text v;
     more = [];
-    lines = ap (λ (t : Option (List ℕ)). job_words n row.name ∷ end_words row.ending ∷ steps_words row.steps
-        ∷ console_words row.console ∷ (lines_of_signature t ++ verdict_words v ∷ [])) (same_signature row.signature);
+    lines = ap (λ (t : Option (List ℕ)). job_words n row.name ∷ end_words row.ending ∷ steps_change_text row.steps
+        ∷ console_change_text row.console ∷ (lines_of_signature t ++ verdict_change_text v ∷ [])) (same_signature row.signature);
     alike = same_word (codes "verdict") (verdict_name row.verdict) (verdict_name v) p q is;
   };
 }
 
 -- a beginning of the verdict's line
-pub next_verdict : (n : ℕ) (row : Row) (b : ℕ) (p q : List ℕ) (g : Gathered) → IsRow row → n < 2 ^ 32
-    → length g.rows < most_jobs → lacks 10 (b ∷ p) ≡ true → verdict_words row.verdict ≡ (b ∷ p) ++ q
-    → HasRow g.numbers g.rows n (NextAgrees n row (job_words n row.name ∷ end_words row.ending ∷ steps_words row.steps
-    ∷ console_words row.console ∷ lines_of_signature row.signature) (b ∷ p))
-    (with_unfinished_row (says (joined (job_words n row.name ∷ end_words row.ending ∷ steps_words row.steps
-    ∷ console_words row.console ∷ lines_of_signature row.signature) ++ b ∷ p) (record g { stage = stage.Between })))
+pub next_verdict : (n : ℕ) (row : Row) (b : ℕ) (p q : List ℕ) (g : Gathered) → IsValidRow row → n < 2 ^ 32
+    → length g.rows < max_jobs → lacks 10 (b ∷ p) ≡ true → verdict_change_text row.verdict ≡ (b ∷ p) ++ q
+    → HasRow g.numbers g.rows n (NextAgrees n row (job_words n row.name ∷ end_words row.ending ∷ steps_change_text row.steps
+    ∷ console_change_text row.console ∷ lines_of_signature row.signature) (b ∷ p))
+    (with_unfinished_row (says (joined (job_words n row.name ∷ end_words row.ending ∷ steps_change_text row.steps
+    ∷ console_change_text row.console ∷ lines_of_signature row.signature) ++ b ∷ p) (record g { stage = stage.Between })))
 next_verdict n row b p q g is small few plain begins =
     let first : 118 ≡ b = ap (λ (t : List ℕ). get_or t 0 0) begins in
     let v = verdict_of_line (118 ∷ p) in
@@ -217,19 +217,19 @@ next_verdict n row b p q g is small few plain begins =
     says_alone b p all plain ∙ ap (λ (c : ℕ). with_line (c ∷ p) all) (sym first)
     ∙ verdict_read p all (same_length (length (words_or_nil row.signature))) in
     subst (λ (f : Gathered). HasRow g.numbers g.rows n (NextAgrees n row (job_words n row.name ∷ end_words row.ending
-    ∷ steps_words row.steps ∷ console_words row.console ∷ lines_of_signature row.signature) (b ∷ p)) (with_unfinished_row f))
+    ∷ steps_change_text row.steps ∷ console_change_text row.console ∷ lines_of_signature row.signature) (b ∷ p)) (with_unfinished_row f))
     (sym (signature_read n row (b ∷ p) g is small few ∙ read)) (closed_row_is n row (b ∷ p) q v g begins)
 
 -- ---- a word
 
 word_read : (l : List ℕ) (g : Gathered) → is_hex_word l ≡ true → length g.words < g.count
     → with_line l (record g { stage = stage.Words }) ≡ record g { words = g.words ++ hex_word l ∷ []; stage = stage.Words }
-unfolding with_line at_words
+unfolding with_line after_word_or_verdict_line
 word_read l g hex more =
     let here : Gathered = record g { stage = stage.Words } in
     let word : Gathered = record here { words = g.words ++ hex_word l ∷ [] } in
     let row = with_finished_row (verdict_of_line l) here in
-    let other : Gathered = cond ((slice_index l 0 == 118) && (length g.words == g.count)) row (with_stage_over here) in
+    let other : Gathered = cond ((slice_index l 0 == 118) && (length g.words == g.count)) row (with_stage_done here) in
     let room : nat_lt (length g.words) g.count ≡ true = grind (arith, nat_tests) in
     ap (λ (t : Bool). cond (t && nat_lt (length g.words) g.count) word other) hex
     ∙ ap (λ (t : Bool). cond t word other) room
@@ -256,11 +256,11 @@ word_is_hex w b p q is =
 
 word_lines : (n count : ℕ) (ws : List ℕ) (h : ℕ) (row : Row) (p : List ℕ) (g : Gathered) → AlikeLine p (word_digits h) → (r : Row)
     → KnowsLines (count_words count ∷ map word_digits (ws ++ h ∷ [])) (after_console n row g) r
-    → NextAgrees n row (job_words n row.name ∷ end_words row.ending ∷ steps_words row.steps
-    ∷ console_words row.console ∷ count_words count ∷ map word_digits ws) p r
+    → NextAgrees n row (job_words n row.name ∷ end_words row.ending ∷ steps_change_text row.steps
+    ∷ console_change_text row.console ∷ count_words count ∷ map word_digits ws) p r
 unfolding agrees_four
 word_lines n count ws h row p g alike r k =
-    let last = verdict_words r.verdict ∷ [] in
+    let last = verdict_change_text r.verdict ∷ [] in
     let ls = count_words count ∷ map word_digits ws in
     let d = word_digits h in
     record {
@@ -268,8 +268,8 @@ word_lines n count ws h row p g alike r k =
       next = d;
       more = k.more ++ last;
       lines = (agrees_four n row g r (k.name, k.ending, k.steps, k.console)).lines
-          ∙ ap (λ (t : List (List ℕ)). job_words n row.name ∷ end_words row.ending ∷ steps_words row.steps
-          ∷ console_words row.console ∷ t)
+          ∙ ap (λ (t : List (List ℕ)). job_words n row.name ∷ end_words row.ending ∷ steps_change_text row.steps
+          ∷ console_change_text row.console ∷ t)
           (ap (λ (t : List (List ℕ)). t ++ last) (k.signature
           ∙ ap (λ (t : List (List ℕ)). (count_words count ∷ t) ++ k.more) (map-append word_digits ws (h ∷ []))
           ∙ append_assoc ls (d ∷ []) k.more)
@@ -277,13 +277,13 @@ word_lines n count ws h row p g alike r k =
       alike = alike;
     }
 
-pub next_word : (n : ℕ) (row : Row) (ws : List ℕ) (i : ℕ) (b : ℕ) (p q : List ℕ) (g : Gathered) → IsRow row → n < 2 ^ 32
-    → length g.rows < most_jobs → lacks 10 (b ∷ p) ≡ true → row.signature ≡ Some ws → i < length ws
+pub next_word : (n : ℕ) (row : Row) (ws : List ℕ) (i : ℕ) (b : ℕ) (p q : List ℕ) (g : Gathered) → IsValidRow row → n < 2 ^ 32
+    → length g.rows < max_jobs → lacks 10 (b ∷ p) ≡ true → row.signature ≡ Some ws → i < length ws
     → get_or ws i 0 < 2 ^ 32 → word_digits (get_or ws i 0) ≡ (b ∷ p) ++ q
-    → HasRow g.numbers g.rows n (NextAgrees n row (job_words n row.name ∷ end_words row.ending ∷ steps_words row.steps
-    ∷ console_words row.console ∷ count_words (length ws) ∷ map word_digits (take i ws)) (b ∷ p))
-    (with_unfinished_row (says (joined (job_words n row.name ∷ end_words row.ending ∷ steps_words row.steps
-    ∷ console_words row.console ∷ count_words (length ws) ∷ map word_digits (take i ws)) ++ b ∷ p)
+    → HasRow g.numbers g.rows n (NextAgrees n row (job_words n row.name ∷ end_words row.ending ∷ steps_change_text row.steps
+    ∷ console_change_text row.console ∷ count_words (length ws) ∷ map word_digits (take i ws)) (b ∷ p))
+    (with_unfinished_row (says (joined (job_words n row.name ∷ end_words row.ending ∷ steps_change_text row.steps
+    ∷ console_change_text row.console ∷ count_words (length ws) ∷ map word_digits (take i ws)) ++ b ∷ p)
     (record g { stage = stage.Between })))
 unfolding with_lines
 next_word n row ws i b p q g is small few plain signed within fits begins =
@@ -291,8 +291,8 @@ next_word n row ws i b p q g is small few plain signed within fits begins =
     let some = take i ws in
     let h = hex_word (b ∷ p) in
     let before = after_console n row g in
-    let words : AreWords (Some ws) = subst (λ (s : Option (List ℕ)). AreWords s) signed is.signature in
-    let most : length ws ≤ most_words = words.0 in
+    let words : IsValidSignature (Some ws) = subst (λ (s : Option (List ℕ)). IsValidSignature s) signed is.signature in
+    let most : length ws ≤ max_words = words.0 in
     let fewer : length some < count = let e = length-taken i ws (omega arith) in omega arith in
     let now : Gathered = record before { signed = true; count = count; words = some; stage = stage.Words } in
     let next : Gathered = record before { signed = true; count = count; words = some ++ h ∷ [] } in
@@ -302,8 +302,8 @@ next_word n row ws i b p q g is small few plain signed within fits begins =
     ∙ signed_says count some (b ∷ p) before most (omega arith) (all-taken IsWord i ws words.1)
     ∙ says_alone b p now plain
     ∙ word_read (b ∷ p) now (word_is_hex (get_or ws i 0) b p q begins) fewer in
-    let K = NextAgrees n row (job_words n row.name ∷ end_words row.ending ∷ steps_words row.steps
-    ∷ console_words row.console ∷ ls) (b ∷ p) in
+    let K = NextAgrees n row (job_words n row.name ∷ end_words row.ending ∷ steps_change_text row.steps
+    ∷ console_change_text row.console ∷ ls) (b ∷ p) in
     subst (λ (f : Gathered). HasRow g.numbers g.rows n K (with_unfinished_row f)) (sym read)
     (with_less g.numbers g.rows n (KnowsWords next) K (with_unfinished_row (record next { is_in_row = true; stage = stage.Words }))
     (words_keep [] next (omega arith))

@@ -7,18 +7,18 @@ use Rattle.std.specs.List.{AllByRecursion}
 use Rattle.std.proofs.lemmas.Bool.{cases_lt}
 use Rattle.std.proofs.lemmas.List.{take-append-le, take-map, length-map}
 use Rattle.rv_text.specs.Words.{word_digits}
-use Rattle.rv_base.specs.Limits.{most_jobs}
+use Rattle.rv_base.specs.Limits.{max_jobs}
 use Rattle.rv_report.specs.declared.row.Row.{Row}
 use Rattle.rv_report.specs.declared.saved.Extent.{Extent}
 use Rattle.rv_report.specs.declared.gathering.Stage.TheVariants as stage
-use Rattle.rv_report.specs.LenientReport.{Gathered, gathering_between_rows, with_unfinished_row}
-use Rattle.rv_report.specs.Saved.{IsRow, IsWord, AreWords, are_rising}
+use Rattle.rv_report.specs.LenientReport.{Gathered, state_between_rows, with_unfinished_row}
+use Rattle.rv_report.specs.Saved.{IsValidRow, IsWord, IsValidSignature, are_increasing}
 use Rattle.rv_report.proofs.Pieces.{lacks}
 use Rattle.rv_report.proofs.Spelled.{says, end_words}
 use Rattle.rv_report.proofs.Reports.{rising_parts}
 use Rattle.rv_report.proofs.LineLists.{joined}
 use Rattle.rv_report.proofs.RecordedRow.{HasRow, with_less}
-use Rattle.rv_report.proofs.RowLines.{job_words, steps_words, console_words, count_words, verdict_words, lines_of_signature, row_lines, numbered_lines}
+use Rattle.rv_report.proofs.RowLines.{job_words, steps_change_text, console_change_text, count_words, verdict_change_text, lines_of_signature, row_lines, numbered_lines}
 use Rattle.rv_report.proofs.PartialRow.{Agrees, partial_row}
 use Rattle.rv_report.proofs.CollectedRows.{Covers, none_covered, one_covered, more_covered, take_past, whole_row_says, between_grown}
 use Rattle.rv_report.proofs.CutText.{AlikeLine}
@@ -49,28 +49,28 @@ word_at (w ∷ ws) (suc i) h within = word_at ws i h.1 (omega arith)
 -- ---- a row
 
 -- the row is said with the known lines, and goes on alike
-abbrev GoesOn : ℕ → Row → List (List ℕ) → List ℕ → Gathered → Type 0
-GoesOn n row ls p g = HasRow g.numbers g.rows n (NextAgrees n row ls p)
+abbrev ContinuesIn : ℕ → Row → List (List ℕ) → List ℕ → Gathered → Type 0
+ContinuesIn n row ls p g = HasRow g.numbers g.rows n (NextAgrees n row ls p)
     (with_unfinished_row (says (joined ls ++ p) (record g { stage = stage.Between })))
 
 abbrev with_head : ℕ → Row → List (List ℕ) → List (List ℕ)
-with_head n row ls = job_words n row.name ∷ end_words row.ending ∷ steps_words row.steps ∷ console_words row.console ∷ ls
+with_head n row ls = job_words n row.name ∷ end_words row.ending ∷ steps_change_text row.steps ∷ console_change_text row.console ∷ ls
 
 -- in the signature's words or the verdict
-last_goes_on : (s : Option (List ℕ)) (i n : ℕ) (row : Row) (b : ℕ) (p q : List ℕ) (g : Gathered) → row.signature ≡ s → IsRow row
-    → n < 2 ^ 32 → length g.rows < most_jobs → lacks 10 (b ∷ p) ≡ true
-    → suc i < length (lines_of_signature s ++ verdict_words row.verdict ∷ [])
-    → get_or (lines_of_signature s ++ verdict_words row.verdict ∷ []) (suc i) [] ≡ (b ∷ p) ++ q
-    → GoesOn n row (with_head n row (take (suc i) (lines_of_signature s ++ verdict_words row.verdict ∷ []))) (b ∷ p) g
+last_goes_on : (s : Option (List ℕ)) (i n : ℕ) (row : Row) (b : ℕ) (p q : List ℕ) (g : Gathered) → row.signature ≡ s → IsValidRow row
+    → n < 2 ^ 32 → length g.rows < max_jobs → lacks 10 (b ∷ p) ≡ true
+    → suc i < length (lines_of_signature s ++ verdict_change_text row.verdict ∷ [])
+    → get_or (lines_of_signature s ++ verdict_change_text row.verdict ∷ []) (suc i) [] ≡ (b ∷ p) ++ q
+    → ContinuesIn n row (with_head n row (take (suc i) (lines_of_signature s ++ verdict_change_text row.verdict ∷ []))) (b ∷ p) g
 last_goes_on None zero n row b p q g signed is small few plain within begins =
-    subst (λ (s : Option (List ℕ)). GoesOn n row (with_head n row (lines_of_signature s)) (b ∷ p) g) signed
+    subst (λ (s : Option (List ℕ)). ContinuesIn n row (with_head n row (lines_of_signature s)) (b ∷ p) g) signed
     (next_verdict n row b p q g is small few plain begins)
 last_goes_on None (suc i) n row b p q g signed is small few plain within begins = absurd (omega arith)
 last_goes_on (Some ws) i n row b p q g signed is small few plain within begins =
-    let v = verdict_words row.verdict in
+    let v = verdict_change_text row.verdict in
     let digits = map word_digits ws in
     let count = count_words (length ws) in
-    let words : AreWords (Some ws) = subst (λ (s : Option (List ℕ)). AreWords s) signed is.signature in
+    let words : IsValidSignature (Some ws) = subst (λ (s : Option (List ℕ)). IsValidSignature s) signed is.signature in
     let a = length-append digits (v ∷ []) in
     let l : length digits ≡ length ws = length-map ws word_digits in
     elim (cases_lt i (length ws)) [
@@ -79,21 +79,21 @@ last_goes_on (Some ws) i n row b p q g signed is small few plain within begins =
           sym (take-append-le i digits (v ∷ []) (omega arith) ∙ take-map word_digits i ws) in
           let element : word_digits (get_or ws i 0) ≡ (b ∷ p) ++ q =
           sym (get_map ws i inside) ∙ sym (get_in digits (v ∷ []) i [] (omega arith)) ∙ begins in
-          subst (λ (ls : List (List ℕ)). GoesOn n row (with_head n row (count ∷ ls)) (b ∷ p) g) taken
+          subst (λ (ls : List (List ℕ)). ContinuesIn n row (with_head n row (count ∷ ls)) (b ∷ p) g) taken
           (next_word n row ws i b p q g is small few plain signed inside (word_at ws i words.1 inside) element)
       | inr past ↦
           let e : i ≡ length digits + zero = omega arith in
           let taken : digits ≡ take i (digits ++ v ∷ []) =
           sym (take_past digits (v ∷ []) i zero e ∙ append-nil digits) in
           let element : v ≡ (b ∷ p) ++ q = sym (get_past digits (v ∷ []) i zero [] e) ∙ begins in
-          subst (λ (ls : List (List ℕ)). GoesOn n row (with_head n row (count ∷ ls)) (b ∷ p) g) taken
-          (subst (λ (s : Option (List ℕ)). GoesOn n row (with_head n row (lines_of_signature s)) (b ∷ p) g) signed
+          subst (λ (ls : List (List ℕ)). ContinuesIn n row (with_head n row (count ∷ ls)) (b ∷ p) g) taken
+          (subst (λ (s : Option (List ℕ)). ContinuesIn n row (with_head n row (lines_of_signature s)) (b ∷ p) g) signed
           (next_verdict n row b p q g is small few plain element))
     ]
 
-row_goes_on : (k n : ℕ) (row : Row) (b : ℕ) (p q : List ℕ) (g : Gathered) → IsRow row → n < 2 ^ 32 → length g.rows < most_jobs
+row_goes_on : (k n : ℕ) (row : Row) (b : ℕ) (p q : List ℕ) (g : Gathered) → IsValidRow row → n < 2 ^ 32 → length g.rows < max_jobs
     → length g.words ≤ g.count → lacks 10 (b ∷ p) ≡ true → 0 < k → k < length (row_lines n row)
-    → get_or (row_lines n row) k [] ≡ (b ∷ p) ++ q → GoesOn n row (take k (row_lines n row)) (b ∷ p) g
+    → get_or (row_lines n row) k [] ≡ (b ∷ p) ++ q → ContinuesIn n row (take k (row_lines n row)) (b ∷ p) g
 row_goes_on zero n row b p q g is small few room plain some within begins = absurd (omega arith)
 row_goes_on (suc zero) n row b p q g is small few room plain some within begins =
     let k : ℕ = suc zero in
@@ -167,43 +167,43 @@ more_next earlier done n ns row rows k i p f is h = record {
 first_next : (earlier : List ℕ) (done : List Row) (n : ℕ) (ns : List ℕ) (row : Row) (rows : List Row) (b : ℕ) (p q : List ℕ)
     (e : Extent) → job_words n row.name ≡ (b ∷ p) ++ q
     → NextCovers earlier done (n ∷ ns) (row ∷ rows) zero (b ∷ p)
-    (with_unfinished_row (says (b ∷ p) (gathering_between_rows earlier done e)))
+    (with_unfinished_row (says (b ∷ p) (state_between_rows earlier done e)))
 unfolding none_covered
 first_next earlier done n ns row rows b p q e is = record {
   covers = none_covered earlier done (n ∷ ns) (row ∷ rows)
-      (with_unfinished_row (says (b ∷ p) (gathering_between_rows earlier done e)))
+      (with_unfinished_row (says (b ∷ p) (state_between_rows earlier done e)))
       (between_grown (b ∷ p) earlier done e);
   onward = inr (n, row.name, q, is, refl);
 }
 
-row_next : (k n : ℕ) (row : Row) (b : ℕ) (p q earlier : List ℕ) (done : List Row) (e : Extent) → IsRow row → n < 2 ^ 32
-    → length done < most_jobs → lacks 10 (b ∷ p) ≡ true → 0 < k → k < length (row_lines n row)
+row_next : (k n : ℕ) (row : Row) (b : ℕ) (p q earlier : List ℕ) (done : List Row) (e : Extent) → IsValidRow row → n < 2 ^ 32
+    → length done < max_jobs → lacks 10 (b ∷ p) ≡ true → 0 < k → k < length (row_lines n row)
     → get_or (row_lines n row) k [] ≡ (b ∷ p) ++ q
     → HasRow earlier done n (NextAgrees n row (take k (row_lines n row)) (b ∷ p))
-    (with_unfinished_row (says (joined (take k (row_lines n row)) ++ b ∷ p) (gathering_between_rows earlier done e)))
-unfolding gathering_between_rows
+    (with_unfinished_row (says (joined (take k (row_lines n row)) ++ b ∷ p) (state_between_rows earlier done e)))
+unfolding state_between_rows
 row_next k n row b p q earlier done e is small few plain some within begins =
-    row_goes_on k n row b p q (gathering_between_rows earlier done e) is small few (omega arith) plain some within begins
+    row_goes_on k n row b p q (state_between_rows earlier done e) is small few (omega arith) plain some within begins
 
 pub rows_next : (k : ℕ) (ns : List ℕ) (rows : List Row) (b : ℕ) (p q earlier : List ℕ) (done : List Row) (e : Extent) (before : ℕ)
-    → AllByRecursion IsRow rows → length ns ≡ length rows → are_rising before most_jobs ns ≡ true
-    → length done + length rows ≤ most_jobs → lacks 10 (b ∷ p) ≡ true → k < length (numbered_lines ns rows)
+    → AllByRecursion IsValidRow rows → length ns ≡ length rows → are_increasing before max_jobs ns ≡ true
+    → length done + length rows ≤ max_jobs → lacks 10 (b ∷ p) ≡ true → k < length (numbered_lines ns rows)
     → get_or (numbered_lines ns rows) k [] ≡ (b ∷ p) ++ q
     → NextCovers earlier done ns rows k (b ∷ p)
-    (with_unfinished_row (says (joined (take k (numbered_lines ns rows)) ++ b ∷ p) (gathering_between_rows earlier done e)))
+    (with_unfinished_row (says (joined (take k (numbered_lines ns rows)) ++ b ∷ p) (state_between_rows earlier done e)))
 rows_next k [] [] b p q earlier done e before each counted rising few plain within begins = absurd (omega arith)
 rows_next k [] (row ∷ rows) b p q earlier done e before each counted rising few plain within begins = absurd (omega arith)
 rows_next k (n ∷ ns) [] b p q earlier done e before each counted rising few plain within begins = absurd (omega arith)
 rows_next zero (n ∷ ns) (row ∷ rows) b p q earlier done e before each counted rising few plain within begins =
     first_next earlier done n ns row rows b p q e begins
 rows_next (suc k) (n ∷ ns) (row ∷ rows) b p q earlier done e before each counted rising few plain within begins =
-    let parts = rising_parts before most_jobs n ns rising in
+    let parts = rising_parts before max_jobs n ns rising in
     let low : before < n = parts.0 in
-    let high : n ≤ most_jobs = parts.1 in
+    let high : n ≤ max_jobs = parts.1 in
     let here = row_lines n row in
     let later = numbered_lines ns rows in
     let all = length-append here later in
-    let g = gathering_between_rows earlier done e in
+    let g = state_between_rows earlier done e in
     let C : List (List ℕ) → Type 0 = λ ls. NextCovers earlier done (n ∷ ns) (row ∷ rows) (suc k) (b ∷ p)
     (with_unfinished_row (says (joined ls ++ b ∷ p) g)) in
     elim (cases_lt (suc k) (length here)) [

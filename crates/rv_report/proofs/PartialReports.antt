@@ -4,37 +4,37 @@ use Rattle.std.proofs.Common.{length, take, drop, get_or, refl, sym, ap, arith, 
 use Rattle.std.specs.Prelude.{nat_le, nat_lt, is_some}
 use Rattle.std.specs.List.{AllByRecursion, list_all}
 use Rattle.std.proofs.lemmas.Bool.{and_parts, and_from}
-use Rattle.rv_base.specs.Limits.{most_jobs}
+use Rattle.rv_base.specs.Limits.{max_jobs}
 use Rattle.rv_base.specs.Names.{is_name, index_in}
 use Rattle.rv_report.specs.declared.row.Row.{Row}
 use Rattle.rv_report.specs.declared.saved.Extent.TheVariants as extent
 use Rattle.rv_report.specs.declared.saved.SavedReport.{SavedReport}
-use Rattle.rv_report.specs.Differences.{count_of_line_feeds}
-use Rattle.rv_report.specs.LeastLine.{BeginsReport}
+use Rattle.rv_report.specs.Differences.{line_feed_count}
+use Rattle.rv_report.specs.LeastLine.{IsReportPrefix}
 use Rattle.rv_report.specs.LenientReport.{lenient_report}
-use Rattle.rv_report.specs.Partial.{BeginsWith, HasWholeRows, first_rows, first_rows_text, whole_lines}
+use Rattle.rv_report.specs.Partial.{BeginsWith, HasCompleteRows, first_rows, first_rows_text, complete_lines}
 use Rattle.rv_report.specs.Report.{row_text}
-use Rattle.rv_report.specs.Saved.{IsRow, IsSaved, are_new, are_rising, matches_job_numbers, numbered_text, row_names}
+use Rattle.rv_report.specs.Saved.{IsValidRow, IsValidReport, are_distinct, are_increasing, matches_job_numbers, numbered_text, row_names}
 use Rattle.rv_report.proofs.Cut.{length-taken, said_can_be}
 use Rattle.rv_report.proofs.LeastLine.{lines_stay}
 use Rattle.rv_report.proofs.Loops.{numbered_more}
 
 -- ---- the first rows are a report
 
-rising_first : (before last count : ℕ) (ns : List ℕ) → are_rising before last ns ≡ true
-    → are_rising before last (take count ns) ≡ true
-unfolding are_rising
+rising_first : (before last count : ℕ) (ns : List ℕ) → are_increasing before last ns ≡ true
+    → are_increasing before last (take count ns) ≡ true
+unfolding are_increasing
 rising_first before last zero ns rising = refl
 rising_first before last (suc count) [] rising = refl
 rising_first before last (suc count) (n ∷ ns) rising =
-    let first = and_parts (nat_lt before n) (nat_le n last && are_rising n last ns) rising in
-    let then = and_parts (nat_le n last) (are_rising n last ns) first.1 in
-    and_from (nat_lt before n) (nat_le n last && are_rising n last (take count ns)) first.0
-    (and_from (nat_le n last) (are_rising n last (take count ns)) then.0 (rising_first n last count ns then.1))
+    let first = and_parts (nat_lt before n) (nat_le n last && are_increasing n last ns) rising in
+    let then = and_parts (nat_le n last) (are_increasing n last ns) first.1 in
+    and_from (nat_lt before n) (nat_le n last && are_increasing n last (take count ns)) first.0
+    (and_from (nat_le n last) (are_increasing n last (take count ns)) then.0 (rising_first n last count ns then.1))
 
-fits : (ns : List ℕ) → are_rising 0 most_jobs ns ≡ true → matches_job_numbers (extent.Choice most_jobs) ns ≡ true
+fits : (ns : List ℕ) → are_increasing 0 max_jobs ns ≡ true → matches_job_numbers (extent.Choice max_jobs) ns ≡ true
 unfolding matches_job_numbers
-fits ns rising = and_from (nat_le most_jobs most_jobs) (are_rising 0 most_jobs ns) refl rising
+fits ns rising = and_from (nat_le max_jobs max_jobs) (are_increasing 0 max_jobs ns) refl rising
 
 names_first : (count : ℕ) (rows : List Row) → list_all is_name (row_names rows) ≡ true
     → list_all is_name (row_names (take count rows)) ≡ true
@@ -44,27 +44,27 @@ names_first (suc count) (row ∷ rows) names =
     let parts = and_parts (is_name row.name) (list_all is_name (row_names rows)) names in
     and_from (is_name row.name) (list_all is_name (row_names (take count rows))) parts.0 (names_first count rows parts.1)
 
-new_first : (earlier : List (List ℕ)) (count : ℕ) (rows : List Row) → are_new earlier (row_names rows) ≡ true
-    → are_new earlier (row_names (take count rows)) ≡ true
-unfolding are_new
+new_first : (earlier : List (List ℕ)) (count : ℕ) (rows : List Row) → are_distinct earlier (row_names rows) ≡ true
+    → are_distinct earlier (row_names (take count rows)) ≡ true
+unfolding are_distinct
 new_first earlier zero rows new = refl
 new_first earlier (suc count) [] new = refl
 new_first earlier (suc count) (row ∷ rows) new =
     let behind = earlier ++ row.name ∷ [] in
-    let parts = and_parts (not (is_some (index_in earlier row.name))) (are_new behind (row_names rows)) new in
-    and_from (not (is_some (index_in earlier row.name))) (are_new behind (row_names (take count rows))) parts.0
+    let parts = and_parts (not (is_some (index_in earlier row.name))) (are_distinct behind (row_names rows)) new in
+    and_from (not (is_some (index_in earlier row.name))) (are_distinct behind (row_names (take count rows))) parts.0
     (new_first behind count rows parts.1)
 
-rows_first : (count : ℕ) (rows : List Row) → AllByRecursion IsRow rows → AllByRecursion IsRow (take count rows)
+rows_first : (count : ℕ) (rows : List Row) → AllByRecursion IsValidRow rows → AllByRecursion IsValidRow (take count rows)
 rows_first zero rows are = tt
 rows_first (suc count) [] are = tt
 rows_first (suc count) (row ∷ rows) are = (are.0, rows_first count rows are.1)
 
-pub saved_first : (report : SavedReport) (count : ℕ) → IsSaved report → count ≤ length report.rows
-    → IsSaved (first_rows count report)
+pub saved_first : (report : SavedReport) (count : ℕ) → IsValidReport report → count ≤ length report.rows
+    → IsValidReport (first_rows count report)
 saved_first report count is within =
     let counted = is.listed.counted in
-    let rises = rising_first 0 most_jobs count report.numbers is.listed.rising in
+    let rises = rising_first 0 max_jobs count report.numbers is.listed.rising in
     record {
       listed = record {
         counted = length-taken count report.numbers (omega arith) ∙ sym (length-taken count report.rows within);
@@ -83,20 +83,20 @@ abbrev pub AreWholeRows : List ℕ → ℕ → SavedReport → Type 0
 AreWholeRows bytes count said = (count ≤ length said.rows) × BeginsWith bytes (first_rows_text count said)
     × (count < length said.rows → BeginsWith bytes (first_rows_text (count + 1) said) → ⊥)
 
-pub whole_rows : (bytes : List ℕ) (count : ℕ) → BeginsReport (whole_lines bytes)
-    → AreWholeRows bytes count (lenient_report bytes) → HasWholeRows bytes (lenient_report bytes) count
+pub whole_rows : (bytes : List ℕ) (count : ℕ) → IsReportPrefix (complete_lines bytes)
+    → AreWholeRows bytes count (lenient_report bytes) → HasCompleteRows bytes (lenient_report bytes) count
 whole_rows bytes count begins are = record {
   saved = said_can_be bytes;
-  begun = lines_stay bytes (count_of_line_feeds bytes) (omega arith) begins;
+  begun = lines_stay bytes (line_feed_count bytes) (omega arith) begins;
   within = are.0;
   there = are.1;
   most = are.2;
 }
 
 pub saved_read : (bytes : List ℕ) (count : ℕ) (read : SavedReport) → read ≡ first_rows count (lenient_report bytes)
-    → count ≤ length (lenient_report bytes).rows → IsSaved read
+    → count ≤ length (lenient_report bytes).rows → IsValidReport read
 saved_read bytes count read is within =
-    subst IsSaved (sym is) (saved_first (lenient_report bytes) count (said_can_be bytes) within)
+    subst IsValidReport (sym is) (saved_first (lenient_report bytes) count (said_can_be bytes) within)
 
 -- ---- row by row
 

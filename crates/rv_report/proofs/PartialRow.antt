@@ -1,19 +1,19 @@
 -- A row of which some lines are there is the row of those lines, whatever follows.
 use Rattle.std.proofs.Common.{◌≡◌, ◌∙◌, ◌<◌, ◌≤◌, ◌^◌, ℕ, zero, suc, true, List, [], ◌∷◌, ◌++◌}
 use Rattle.std.proofs.Common.{length, take, sym, ap, arith, subst, append_assoc}
-use Rattle.rv_base.specs.Limits.{most_jobs}
+use Rattle.rv_base.specs.Limits.{max_jobs}
 use Rattle.rv_report.specs.declared.row.Row.{Row}
 use Rattle.rv_report.specs.declared.row.RowEnd.{RowEnd}
 use Rattle.rv_report.specs.declared.gathering.Stage.TheVariants as stage
 use Rattle.rv_report.specs.LenientReport.{lines, Gathered, with_unfinished_row}
-use Rattle.rv_report.specs.Saved.{IsRow}
+use Rattle.rv_report.specs.Saved.{IsValidRow}
 use Rattle.rv_report.proofs.Words.{lacks-decimal}
 use Rattle.rv_report.proofs.Spelled.{says, end_words, job_says, end_says, steps_says, console_says}
 use Rattle.rv_report.proofs.Spelled.{lacks-job, lacks-end, lacks-shown}
 use Rattle.rv_report.proofs.LineLists.{joined, says_first}
 use Rattle.rv_report.proofs.RecordedRow.{HasRow, with_less, KnowsName, KnowsEnding, KnowsSteps, KnowsConsole}
 use Rattle.rv_report.proofs.RecordedRow.{signature_keep, console_keep, steps_keep, ending_keep}
-use Rattle.rv_report.proofs.RowLines.{job_words, steps_words, console_words, verdict_words, lines_of_signature, row_lines}
+use Rattle.rv_report.proofs.RowLines.{job_words, steps_change_text, console_change_text, verdict_change_text, lines_of_signature, row_lines}
 use Rattle.rv_report.proofs.PartialSignature.{KnowsLines, signature_part}
 
 -- ---- the lines before
@@ -45,16 +45,16 @@ after_console n row g = record g {
   stage = stage.Signature;
 }
 
-one_line : (n : ℕ) (row : Row) (ls : List (List ℕ)) (w : List ℕ) (g : Gathered) → IsRow row → n < 2 ^ 32
-    → length g.rows < most_jobs
+one_line : (n : ℕ) (row : Row) (ls : List (List ℕ)) (w : List ℕ) (g : Gathered) → IsValidRow row → n < 2 ^ 32
+    → length g.rows < max_jobs
     → says (joined (job_words n row.name ∷ ls) ++ w) (record g { stage = stage.Between })
     ≡ says (joined ls ++ w) (after_job n row g)
 one_line n row ls w g is small few =
     says_first (job_words n row.name) ls w (record g { stage = stage.Between }) (lacks-job n row.name (omega arith) is.name)
     ∙ ap (says (joined ls ++ w)) (job_says n row.name g small is.name few)
 
-two_lines : (n : ℕ) (row : Row) (ls : List (List ℕ)) (w : List ℕ) (g : Gathered) → IsRow row → n < 2 ^ 32
-    → length g.rows < most_jobs
+two_lines : (n : ℕ) (row : Row) (ls : List (List ℕ)) (w : List ℕ) (g : Gathered) → IsValidRow row → n < 2 ^ 32
+    → length g.rows < max_jobs
     → says (joined (job_words n row.name ∷ end_words row.ending ∷ ls) ++ w) (record g { stage = stage.Between })
     ≡ says (joined ls ++ w) (after_ending n row g)
 two_lines n row ls w g is small few =
@@ -62,25 +62,25 @@ two_lines n row ls w g is small few =
     ∙ says_first (end_words row.ending) ls w (after_job n row g) (lacks-end row.ending is.ending)
     ∙ ap (says (joined ls ++ w)) (end_says row.ending (after_job n row g) is.ending)
 
-three_lines : (n : ℕ) (row : Row) (ls : List (List ℕ)) (w : List ℕ) (g : Gathered) → IsRow row → n < 2 ^ 32
-    → length g.rows < most_jobs
-    → says (joined (job_words n row.name ∷ end_words row.ending ∷ steps_words row.steps ∷ ls) ++ w)
+three_lines : (n : ℕ) (row : Row) (ls : List (List ℕ)) (w : List ℕ) (g : Gathered) → IsValidRow row → n < 2 ^ 32
+    → length g.rows < max_jobs
+    → says (joined (job_words n row.name ∷ end_words row.ending ∷ steps_change_text row.steps ∷ ls) ++ w)
     (record g { stage = stage.Between })
     ≡ says (joined ls ++ w) (after_steps n row g)
 three_lines n row ls w g is small few =
     let steps = is.steps in
-    two_lines n row (steps_words row.steps ∷ ls) w g is small few
-    ∙ says_first (steps_words row.steps) ls w (after_ending n row g) (lacks-decimal 10 row.steps (omega arith) (omega arith))
+    two_lines n row (steps_change_text row.steps ∷ ls) w g is small few
+    ∙ says_first (steps_change_text row.steps) ls w (after_ending n row g) (lacks-decimal 10 row.steps (omega arith) (omega arith))
     ∙ ap (says (joined ls ++ w)) (steps_says row.steps (after_ending n row g) steps)
 
-pub four_lines : (n : ℕ) (row : Row) (ls : List (List ℕ)) (w : List ℕ) (g : Gathered) → IsRow row → n < 2 ^ 32
-    → length g.rows < most_jobs
-    → says (joined (job_words n row.name ∷ end_words row.ending ∷ steps_words row.steps ∷ console_words row.console ∷ ls) ++ w)
+pub four_lines : (n : ℕ) (row : Row) (ls : List (List ℕ)) (w : List ℕ) (g : Gathered) → IsValidRow row → n < 2 ^ 32
+    → length g.rows < max_jobs
+    → says (joined (job_words n row.name ∷ end_words row.ending ∷ steps_change_text row.steps ∷ console_change_text row.console ∷ ls) ++ w)
     (record g { stage = stage.Between })
     ≡ says (joined ls ++ w) (after_console n row g)
 four_lines n row ls w g is small few =
-    three_lines n row (console_words row.console ∷ ls) w g is small few
-    ∙ says_first (console_words row.console) ls w (after_steps n row g) (lacks-shown row.console is.console)
+    three_lines n row (console_change_text row.console ∷ ls) w g is small few
+    ∙ says_first (console_change_text row.console) ls w (after_steps n row g) (lacks-shown row.console is.console)
     ∙ ap (says (joined ls ++ w)) (console_says row.console (after_steps n row g) is.console)
 
 -- ---- the row
@@ -92,13 +92,13 @@ pub record Agrees (n : ℕ) (row : Row) (k : ℕ) (r : Row) : Type 0 where
   pub lines : row_lines n r ≡ take k (row_lines n row) ++ more
 
 abbrev pub last_lines : Row → List (List ℕ)
-last_lines r = lines_of_signature r.signature ++ verdict_words r.verdict ∷ []
+last_lines r = lines_of_signature r.signature ++ verdict_change_text r.verdict ∷ []
 
 agrees_one : (n : ℕ) (row : Row) (g : Gathered) (r : Row) → KnowsName (after_job n row g) r → Agrees n row (suc zero) r
 agrees_one n row g r k = record {
   name = k;
-  more = end_words r.ending ∷ steps_words r.steps ∷ console_words r.console ∷ last_lines r;
-  lines = ap (λ (t : List ℕ). job_words n t ∷ end_words r.ending ∷ steps_words r.steps ∷ console_words r.console
+  more = end_words r.ending ∷ steps_change_text r.steps ∷ console_change_text r.console ∷ last_lines r;
+  lines = ap (λ (t : List ℕ). job_words n t ∷ end_words r.ending ∷ steps_change_text r.steps ∷ console_change_text r.console
       ∷ last_lines r) k;
 }
 
@@ -106,10 +106,10 @@ agrees_two : (n : ℕ) (row : Row) (g : Gathered) (r : Row) → KnowsEnding (aft
     → Agrees n row (suc (suc zero)) r
 agrees_two n row g r k = record {
   name = k.0;
-  more = steps_words r.steps ∷ console_words r.console ∷ last_lines r;
-  lines = ap (λ (t : List ℕ). job_words n t ∷ end_words r.ending ∷ steps_words r.steps ∷ console_words r.console
+  more = steps_change_text r.steps ∷ console_change_text r.console ∷ last_lines r;
+  lines = ap (λ (t : List ℕ). job_words n t ∷ end_words r.ending ∷ steps_change_text r.steps ∷ console_change_text r.console
       ∷ last_lines r) k.0
-      ∙ ap (λ (t : RowEnd). job_words n row.name ∷ end_words t ∷ steps_words r.steps ∷ console_words r.console
+      ∙ ap (λ (t : RowEnd). job_words n row.name ∷ end_words t ∷ steps_change_text r.steps ∷ console_change_text r.console
       ∷ last_lines r) k.1;
 }
 
@@ -117,12 +117,12 @@ agrees_three : (n : ℕ) (row : Row) (g : Gathered) (r : Row) → KnowsSteps (af
     → Agrees n row (suc (suc (suc zero))) r
 agrees_three n row g r k = record {
   name = k.0;
-  more = console_words r.console ∷ last_lines r;
-  lines = ap (λ (t : List ℕ). job_words n t ∷ end_words r.ending ∷ steps_words r.steps ∷ console_words r.console
+  more = console_change_text r.console ∷ last_lines r;
+  lines = ap (λ (t : List ℕ). job_words n t ∷ end_words r.ending ∷ steps_change_text r.steps ∷ console_change_text r.console
       ∷ last_lines r) k.0
-      ∙ ap (λ (t : RowEnd). job_words n row.name ∷ end_words t ∷ steps_words r.steps ∷ console_words r.console
+      ∙ ap (λ (t : RowEnd). job_words n row.name ∷ end_words t ∷ steps_change_text r.steps ∷ console_change_text r.console
       ∷ last_lines r) k.1
-      ∙ ap (λ (t : ℕ). job_words n row.name ∷ end_words row.ending ∷ steps_words t ∷ console_words r.console
+      ∙ ap (λ (t : ℕ). job_words n row.name ∷ end_words row.ending ∷ steps_change_text t ∷ console_change_text r.console
       ∷ last_lines r) k.2;
 }
 
@@ -131,13 +131,13 @@ unfoldable pub agrees_four : (n : ℕ) (row : Row) (g : Gathered) (r : Row) → 
 agrees_four n row g r k = record {
   name = k.0;
   more = last_lines r;
-  lines = ap (λ (t : List ℕ). job_words n t ∷ end_words r.ending ∷ steps_words r.steps ∷ console_words r.console
+  lines = ap (λ (t : List ℕ). job_words n t ∷ end_words r.ending ∷ steps_change_text r.steps ∷ console_change_text r.console
       ∷ last_lines r) k.0
-      ∙ ap (λ (t : RowEnd). job_words n row.name ∷ end_words t ∷ steps_words r.steps ∷ console_words r.console
+      ∙ ap (λ (t : RowEnd). job_words n row.name ∷ end_words t ∷ steps_change_text r.steps ∷ console_change_text r.console
       ∷ last_lines r) k.1
-      ∙ ap (λ (t : ℕ). job_words n row.name ∷ end_words row.ending ∷ steps_words t ∷ console_words r.console
+      ∙ ap (λ (t : ℕ). job_words n row.name ∷ end_words row.ending ∷ steps_change_text t ∷ console_change_text r.console
       ∷ last_lines r) k.2
-      ∙ ap (λ (t : List ℕ). job_words n row.name ∷ end_words row.ending ∷ steps_words row.steps ∷ console_words t
+      ∙ ap (λ (t : List ℕ). job_words n row.name ∷ end_words row.ending ∷ steps_change_text row.steps ∷ console_change_text t
       ∷ last_lines r) k.3;
 }
 
@@ -147,18 +147,18 @@ agrees_more : (n : ℕ) (row : Row) (i : ℕ) (g : Gathered) (r : Row)
 unfolding agrees_four
 agrees_more n row i g r k =
     let part = take (suc i) (last_lines row) in
-    let last = verdict_words r.verdict ∷ [] in
+    let last = verdict_change_text r.verdict ∷ [] in
     record {
       name = k.name;
       more = k.more ++ last;
       lines = (agrees_four n row g r (k.name, k.ending, k.steps, k.console)).lines
-          ∙ ap (λ (t : List (List ℕ)). job_words n row.name ∷ end_words row.ending ∷ steps_words row.steps
-          ∷ console_words row.console ∷ t)
+          ∙ ap (λ (t : List (List ℕ)). job_words n row.name ∷ end_words row.ending ∷ steps_change_text row.steps
+          ∷ console_change_text row.console ∷ t)
           (ap (λ (t : List (List ℕ)). t ++ last) k.signature ∙ append_assoc part k.more last);
     }
 
 -- the first lines of a row, and not all
-pub partial_row : (k n : ℕ) (row : Row) (w : List ℕ) (g : Gathered) → IsRow row → n < 2 ^ 32 → length g.rows < most_jobs
+pub partial_row : (k n : ℕ) (row : Row) (w : List ℕ) (g : Gathered) → IsValidRow row → n < 2 ^ 32 → length g.rows < max_jobs
     → length g.words ≤ g.count → 0 < k → k < length (row_lines n row)
     → HasRow g.numbers g.rows n (Agrees n row k)
     (with_unfinished_row (says (joined (take k (row_lines n row)) ++ w) (record g { stage = stage.Between })))
@@ -194,4 +194,4 @@ partial_row (suc (suc (suc (suc (suc i))))) n row w g is small few room some wit
     (sym (four_lines n row part w g is small few))
     (with_less g.numbers g.rows n (KnowsLines part now) (Agrees n row (suc (suc (suc (suc (suc i))))))
     (with_unfinished_row (says (joined part ++ w) now))
-    (signature_part row.signature i (verdict_words row.verdict) w now is.signature (omega arith)) (agrees_more n row i g))
+    (signature_part row.signature i (verdict_change_text row.verdict) w now is.signature (omega arith)) (agrees_more n row i g))

@@ -11,8 +11,8 @@ use Rattle.rv_text.specs.Words.{word_digits}
 use Rattle.rv_report.specs.declared.row.Row.{Row}
 use Rattle.rv_report.specs.declared.gathering.Stage.TheVariants as stage
 use Rattle.rv_report.specs.Report.{line}
-use Rattle.rv_report.specs.LenientReport.{lines, decimal_number, decimal_number_on, Gathered, with_line, with_unfinished_row}
-use Rattle.rv_report.specs.Saved.{IsWord, AreWords, most_words}
+use Rattle.rv_report.specs.LenientReport.{lines, decimal_number, decimal_number_from, Gathered, with_line, with_unfinished_row}
+use Rattle.rv_report.specs.Saved.{IsWord, IsValidSignature, max_words}
 use Rattle.rv_report.proofs.Pieces.{first_is_other}
 use Rattle.rv_report.proofs.Words.{lacks-decimal, number_of-decimal}
 use Rattle.rv_report.proofs.Spelled.{says, signature_text_says, words_say}
@@ -32,12 +32,12 @@ taken_within (suc count) [] = omega arith
 taken_within (suc count) (x ∷ xs) = let h = taken_within count xs in omega arith
 
 -- the line of the count
-count_says : (n : ℕ) (g : Gathered) → n ≤ most_words
+count_says : (n : ℕ) (g : Gathered) → n ≤ max_words
     → with_line (count_words n) (record g { stage = stage.Signature })
     ≡ record g { signed = true; count = n; words = []; stage = stage.Words }
 count_says n g few =
     let value : decimal_number (decimal n) ≡ n = number_of-decimal n (omega arith) in
-    let small : nat_le (decimal_number (decimal n)) most_words ≡ true = grind (arith, nat_tests) in
+    let small : nat_le (decimal_number (decimal n)) max_words ≡ true = grind (arith, nat_tests) in
     signature_text_says (decimal n) g small
     ∙ ap (λ (t : Bool). record g { signed = not t; count = decimal_number (decimal n); words = []; stage = stage.Words })
     (first_is_other 45 (decimal n) (omega arith) (lacks-decimal 45 n (omega arith) (omega arith)))
@@ -79,12 +79,12 @@ signed_lines n ws g r k = record {
 
 unsigned_says : (w : List ℕ) (g : Gathered) → says (joined (codes "signature -" ∷ []) ++ w) (record g { stage = stage.Signature })
     ≡ says w (record g { signed = false; count = 0; words = []; stage = stage.Words })
-unfolding decimal_number_on
+unfolding decimal_number_from
 unsigned_says w g =
     says_first (codes "signature -") [] w (record g { stage = stage.Signature }) refl
     ∙ ap (says w) (signature_text_says (codes "-") g refl)
 
-pub signed_says : (n : ℕ) (ws w : List ℕ) (g : Gathered) → n ≤ most_words → length ws ≤ n → AllByRecursion IsWord ws
+pub signed_says : (n : ℕ) (ws w : List ℕ) (g : Gathered) → n ≤ max_words → length ws ≤ n → AllByRecursion IsWord ws
     → says (joined (count_words n ∷ map word_digits ws) ++ w) (record g { stage = stage.Signature })
     ≡ says w (record g { signed = true; count = n; words = ws; stage = stage.Words })
 signed_says n ws w g few within each =
@@ -96,7 +96,7 @@ signed_says n ws w g few within each =
     ∙ words_say ws w known each (omega arith)
 
 -- some lines of the signature, and not all, nor the verdict
-pub signature_part : (s : Option (List ℕ)) (i : ℕ) (v w : List ℕ) (g : Gathered) → AreWords s
+pub signature_part : (s : Option (List ℕ)) (i : ℕ) (v w : List ℕ) (g : Gathered) → IsValidSignature s
     → suc i < length (lines_of_signature s ++ v ∷ [])
     → Kept (KnowsLines (take (suc i) (lines_of_signature s ++ v ∷ []))) g
     (with_unfinished_row (says (joined (take (suc i) (lines_of_signature s ++ v ∷ [])) ++ w)
@@ -117,7 +117,7 @@ signature_part (Some ws) i v w g h within =
     let b : length (map word_digits ws) ≡ n = length-map ws word_digits in
     let taken : map word_digits some ≡ take i (map word_digits ws ++ v ∷ []) =
     sym (take-append-le i (map word_digits ws) (v ∷ []) (omega arith) ∙ take-map word_digits i ws) in
-    let few : length ws ≤ most_words = h.0 in
+    let few : length ws ≤ max_words = h.0 in
     let K : List (List ℕ) → Gathered → Row → Type 0 = λ ls. KnowsLines (count_words n ∷ ls) in
     subst (λ (ls : List (List ℕ)). Kept (K ls) g
     (with_unfinished_row (says (joined (count_words n ∷ ls) ++ w) (record g { is_in_row = true; stage = stage.Signature })))) taken

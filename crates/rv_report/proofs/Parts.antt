@@ -7,60 +7,60 @@ use Rattle.std.proofs.lemmas.Bool.{and_parts}
 use Rattle.std.proofs.lemmas.Bool.Decides.{nat_tests}
 use Rattle.std.specs.Fmt.{decimal}
 use Rattle.rv_base.specs.Names.{is_name}
-use Rattle.rv_base.specs.Limits.{most_jobs}
+use Rattle.rv_base.specs.Limits.{max_jobs}
 use Rattle.rv_report.specs.declared.row.Row.{Row}
 use Rattle.rv_report.specs.Report.{line, done_line}
 use Rattle.rv_report.specs.declared.saved.Extent.{Extent}
 use Rattle.rv_report.specs.declared.saved.Extent.TheVariants.{Whole, Choice}
 use Rattle.rv_report.specs.declared.saved.Extent.TheVariants as extent
 use Rattle.rv_report.specs.declared.saved.Shard.{Shard}
-use Rattle.rv_report.specs.LenientReport.{text_before_byte, text_after_byte, decimal_number, name_or_dash, shard_of_text, part_extent_of_line, gathering_between_rows, with_stage_over}
-use Rattle.rv_report.specs.LenientReport.{at_job_or_last_line, with_line, index_of_byte}
-use Rattle.rv_report.specs.Saved.{part_words, shard_words, extent_line, is_valid_shard, are_rising, are_evenly_spaced, matches_job_numbers}
+use Rattle.rv_report.specs.LenientReport.{text_before_byte, text_after_byte, decimal_number, name_or_dash, shard_of_text, part_extent_of_line, state_between_rows, with_stage_done}
+use Rattle.rv_report.specs.LenientReport.{after_job_or_last_line, with_line, index_of_byte}
+use Rattle.rv_report.specs.Saved.{part_text, shard_text, extent_line, is_valid_shard, are_increasing, are_evenly_spaced, matches_job_numbers}
 use Rattle.rv_report.proofs.Pieces.{lacks, lacks-append, before_at, after_at}
 use Rattle.rv_report.proofs.Words.{lacks-decimal, number_of-decimal}
 use Rattle.rv_report.proofs.Spelled.{lacks-name, same_name}
 
 -- numbers and a stamp that a last line can have
-pub record IsPart (s : Shard) : Type 0 where
-  pub jobs : s.jobs ≤ most_jobs
-  pub number : s.number ≤ most_jobs
-  pub shards : s.shards ≤ most_jobs
+pub record IsSearchedPart (s : Shard) : Type 0 where
+  pub jobs : s.jobs ≤ max_jobs
+  pub number : s.number ≤ max_jobs
+  pub shards : s.shards ≤ max_jobs
   pub stamp : is_name s.stamp ≡ true
 
 abbrev pub HasNumbers : Extent → Type 0
 HasNumbers extent.Whole = Unit {0}
-HasNumbers (extent.Choice jobs) = jobs ≤ most_jobs
-HasNumbers (extent.Shard s) = IsPart s
+HasNumbers (extent.Choice jobs) = jobs ≤ max_jobs
+HasNumbers (extent.Shard s) = IsSearchedPart s
 
-pub is_part : (s : Shard) → is_valid_shard s ≡ true → IsPart s
+pub is_part : (s : Shard) → is_valid_shard s ≡ true → IsSearchedPart s
 unfolding is_valid_shard
 is_part s h =
-    let a = and_parts (nat_le 1 s.number) (nat_le s.number s.shards && (nat_le s.shards most_jobs
-    && (nat_le s.jobs most_jobs && is_name s.stamp))) h in
-    let b = and_parts (nat_le s.number s.shards) (nat_le s.shards most_jobs
-    && (nat_le s.jobs most_jobs && is_name s.stamp)) a.1 in
-    let c = and_parts (nat_le s.shards most_jobs) (nat_le s.jobs most_jobs && is_name s.stamp) b.1 in
-    let d = and_parts (nat_le s.jobs most_jobs) (is_name s.stamp) c.1 in
+    let a = and_parts (nat_le 1 s.number) (nat_le s.number s.shards && (nat_le s.shards max_jobs
+    && (nat_le s.jobs max_jobs && is_name s.stamp))) h in
+    let b = and_parts (nat_le s.number s.shards) (nat_le s.shards max_jobs
+    && (nat_le s.jobs max_jobs && is_name s.stamp)) a.1 in
+    let c = and_parts (nat_le s.shards max_jobs) (nat_le s.jobs max_jobs && is_name s.stamp) b.1 in
+    let d = and_parts (nat_le s.jobs max_jobs) (is_name s.stamp) c.1 in
     let number : s.number ≤ s.shards = grind (arith, nat_tests) in
-    let shards : s.shards ≤ most_jobs = grind (arith, nat_tests) in
-    let jobs : s.jobs ≤ most_jobs = grind (arith, nat_tests) in
+    let shards : s.shards ≤ max_jobs = grind (arith, nat_tests) in
+    let jobs : s.jobs ≤ max_jobs = grind (arith, nat_tests) in
     record { jobs = jobs; number = omega arith; shards = shards; stamp = d.1 }
 
-pub row_has_word_numbers : (e : Extent) (ns : List ℕ) → matches_job_numbers e ns ≡ true → HasNumbers e
+pub prove_row_has_numbers : (e : Extent) (ns : List ℕ) → matches_job_numbers e ns ≡ true → HasNumbers e
 unfolding matches_job_numbers
-row_has_word_numbers extent.Whole ns h = tt
-row_has_word_numbers (extent.Choice jobs) ns h =
-    let first = (and_parts (nat_le jobs most_jobs) (are_rising 0 jobs ns) h).0 in grind (arith, nat_tests)
-row_has_word_numbers (extent.Shard s) ns h =
+prove_row_has_numbers extent.Whole ns h = tt
+prove_row_has_numbers (extent.Choice jobs) ns h =
+    let first = (and_parts (nat_le jobs max_jobs) (are_increasing 0 jobs ns) h).0 in grind (arith, nat_tests)
+prove_row_has_numbers (extent.Shard s) ns h =
     is_part s (and_parts (is_valid_shard s) (are_evenly_spaced s.number s.shards s.jobs ns) h).0
 
 -- ---- the line without its line feed
 
 abbrev pub last_words : Extent → ℕ → List ℕ
 last_words extent.Whole count = codes "done " ++ decimal count
-last_words (extent.Choice jobs) count = part_words count jobs
-last_words (extent.Shard s) count = part_words count s.jobs ++ shard_words s
+last_words (extent.Choice jobs) count = part_text count jobs
+last_words (extent.Shard s) count = part_text count s.jobs ++ shard_text s
 
 pub last_is_line : (e : Extent) (count : ℕ) → extent_line e count ≡ line (last_words e count)
 unfolding extent_line done_line
@@ -69,14 +69,14 @@ last_is_line (extent.Choice jobs) count = refl
 last_is_line (extent.Shard s) count = refl
 
 lacks-part : (byte count jobs : ℕ) → lacks byte (codes "part ") ≡ true → lacks byte (codes " of ") ≡ true → byte < 48
-    → count < 2 ^ 32 → jobs ≤ most_jobs → lacks byte (part_words count jobs) ≡ true
+    → count < 2 ^ 32 → jobs ≤ max_jobs → lacks byte (part_text count jobs) ≡ true
 lacks-part byte count jobs p o low few small =
     lacks-append byte (codes "part ") (decimal count ++ codes " of " ++ decimal jobs) p
     (lacks-append byte (decimal count ++ codes " of ") (decimal jobs)
     (lacks-append byte (decimal count) (codes " of ") (lacks-decimal byte count low (omega arith)) o)
     (lacks-decimal byte jobs low (omega arith)))
 
-lacks-shard : (s : Shard) → IsPart s → lacks 10 (shard_words s) ≡ true
+lacks-shard : (s : Shard) → IsSearchedPart s → lacks 10 (shard_text s) ≡ true
 lacks-shard s is =
     let number = decimal s.number in
     let shards = decimal s.shards in
@@ -96,7 +96,7 @@ pub lacks-last : (e : Extent) (count : ℕ) → HasNumbers e → count < 2 ^ 32 
 lacks-last extent.Whole count h few = lacks-decimal 10 count (omega arith) (omega arith)
 lacks-last (extent.Choice jobs) count h few = lacks-part 10 count jobs refl refl (omega arith) few h
 lacks-last (extent.Shard s) count h few =
-    lacks-append 10 (part_words count s.jobs) (shard_words s)
+    lacks-append 10 (part_text count s.jobs) (shard_text s)
     (lacks-part 10 count s.jobs refl refl (omega arith) few h.jobs)
     (lacks-shard s h)
 
@@ -135,7 +135,7 @@ extent_from jobs shard =
 choice_regroup : (count jobs : List ℕ) → count ++ codes " of " ++ jobs ≡ count ++ 32 ∷ (codes "of " ++ jobs)
 choice_regroup count jobs = simp append_assoc
 
-choice_is : (count jobs : ℕ) → count < 2 ^ 32 → jobs ≤ most_jobs → part_extent_of_line (part_words count jobs) ≡ Choice jobs
+choice_is : (count jobs : ℕ) → count < 2 ^ 32 → jobs ≤ max_jobs → part_extent_of_line (part_text count jobs) ≡ Choice jobs
 unfolding part_extent_of_line
 choice_is count jobs few small =
     let js = decimal jobs in
@@ -160,7 +160,7 @@ abbrev shard_made : ℕ → ℕ → ℕ → List ℕ → Extent
 shard_made jobs number shards stamp =
     extent.Shard (record { jobs = jobs; number = number; shards = shards; stamp = name_or_dash stamp })
 
-shard_says : (jobs : ℕ) (s : Shard) → IsPart s
+shard_says : (jobs : ℕ) (s : Shard) → IsSearchedPart s
     → shard_of_text jobs (decimal s.number ++ 47 ∷ (decimal s.shards ++ 32 ∷ (codes "stamp " ++ s.stamp)))
     ≡ extent.Shard (record s { jobs = jobs })
 unfolding shard_of_text
@@ -190,8 +190,8 @@ longer : (xs : List ℕ) (b : ℕ) (ys : List ℕ) → (length (xs ++ b ∷ ys) 
 longer [] b ys = grind arith
 longer (x ∷ xs) b ys = grind arith
 
-shard_is : (count : ℕ) (s : Shard) → IsPart s → count < 2 ^ 32
-    → part_extent_of_line (part_words count s.jobs ++ shard_words s) ≡ extent.Shard s
+shard_is : (count : ℕ) (s : Shard) → IsSearchedPart s → count < 2 ^ 32
+    → part_extent_of_line (part_text count s.jobs ++ shard_text s) ≡ extent.Shard s
 unfolding part_extent_of_line
 shard_is count s is few =
     let n = decimal count in
@@ -213,20 +213,20 @@ shard_is count s is few =
     ∙ shard_says s.jobs s is
 
 part_says : (text : List ℕ) (numbers : List ℕ) (rows : List Row) (e : Extent) → part_extent_of_line (codes "part " ++ text) ≡ e
-    → with_line (codes "part " ++ text) (gathering_between_rows numbers rows Whole) ≡ with_stage_over (gathering_between_rows numbers rows e)
-unfolding with_line at_job_or_last_line gathering_between_rows
-part_says text numbers rows e is = ap (λ (x : Extent). with_stage_over (gathering_between_rows numbers rows x)) is
+    → with_line (codes "part " ++ text) (state_between_rows numbers rows Whole) ≡ with_stage_done (state_between_rows numbers rows e)
+unfolding with_line after_job_or_last_line state_between_rows
+part_says text numbers rows e is = ap (λ (x : Extent). with_stage_done (state_between_rows numbers rows x)) is
 
 done_says : (text numbers : List ℕ) (rows : List Row)
-    → with_line (codes "done " ++ text) (gathering_between_rows numbers rows Whole) ≡ with_stage_over (gathering_between_rows numbers rows Whole)
-unfolding with_line at_job_or_last_line gathering_between_rows
+    → with_line (codes "done " ++ text) (state_between_rows numbers rows Whole) ≡ with_stage_done (state_between_rows numbers rows Whole)
+unfolding with_line after_job_or_last_line state_between_rows
 done_says text numbers rows = refl
 
 pub last_says : (e : Extent) (count : ℕ) (numbers : List ℕ) (rows : List Row) → HasNumbers e → count < 2 ^ 32
-    → with_line (last_words e count) (gathering_between_rows numbers rows Whole) ≡ with_stage_over (gathering_between_rows numbers rows e)
+    → with_line (last_words e count) (state_between_rows numbers rows Whole) ≡ with_stage_done (state_between_rows numbers rows e)
 last_says extent.Whole count numbers rows h few = done_says (decimal count) numbers rows
 last_says (extent.Choice jobs) count numbers rows h few =
     part_says (decimal count ++ codes " of " ++ decimal jobs) numbers rows (Choice jobs) (choice_is count jobs few h)
 last_says (extent.Shard s) count numbers rows h few =
-    part_says ((decimal count ++ codes " of " ++ decimal s.jobs) ++ shard_words s) numbers rows (extent.Shard s)
+    part_says ((decimal count ++ codes " of " ++ decimal s.jobs) ++ shard_text s) numbers rows (extent.Shard s)
     (shard_is count s h few)

@@ -12,9 +12,9 @@ use Rattle.rv_report.specs.declared.row.Verdict.TheVariants.{Unasked}
 use Rattle.rv_report.specs.declared.gathering.Stage.{Stage}
 use Rattle.rv_report.specs.declared.gathering.Stage.TheVariants as stage
 use Rattle.rv_report.specs.LenientReport.{decimal_number, is_hex_word, hex_word, hex_bytes, row_ending_of_line, verdict_of_line}
-use Rattle.rv_report.specs.LenientReport.{Gathered, gathering_between_rows, with_finished_row, with_stage_over, row_so_far, padded_words}
-use Rattle.rv_report.specs.LenientReport.{at_ending, at_steps, at_console, at_signature, at_words, with_line, with_lines, with_unfinished_row}
-use Rattle.rv_report.specs.Saved.{most_words}
+use Rattle.rv_report.specs.LenientReport.{Gathered, state_between_rows, with_finished_row, with_stage_done, unfinished_row, padded_words}
+use Rattle.rv_report.specs.LenientReport.{after_end_line, after_steps_line, after_console_line, after_signature_line, after_word_or_verdict_line, with_line, with_lines, with_unfinished_row}
+use Rattle.rv_report.specs.Saved.{max_words}
 use Rattle.rv_report.proofs.Grown.{chosen, chosen_if, at_end, Extends, grown}
 
 -- behind these rows there is one of this number, of which something is known
@@ -72,14 +72,14 @@ Kept Knows g f = HasRow g.numbers g.rows g.number (Knows g) f
 
 closed_row : (s : Stage) (g : Gathered) → length g.words ≤ g.count
     → Kept KnowsWords g (with_unfinished_row (record g { is_in_row = true; stage = s }))
-unfolding with_unfinished_row with_finished_row gathering_between_rows row_so_far padded_words
+unfolding with_unfinished_row with_finished_row state_between_rows unfinished_row padded_words
 closed_row s g within =
     let missing = g.count - length g.words in
     let zeros : List ℕ = replicate missing 0 in
     let a = length-append g.words zeros in
     let b : length zeros ≡ missing = length-replicate missing 0 in
     record {
-      row = row_so_far Unasked (record g { words = g.words ++ zeros });
+      row = unfinished_row Unasked (record g { words = g.words ++ zeros });
       more_numbers = [];
       more_rows = [];
       numbers_are = refl;
@@ -120,11 +120,11 @@ word_less g w r k = record {
 }
 
 whole_row : (v : Verdict) (g : Gathered) (f : Gathered) → (length g.words == g.count) ≡ true
-    → Extends (g.numbers ++ g.number ∷ []) (g.rows ++ row_so_far v (record g { is_in_row = true; stage = stage.Words }) ∷ []) f
+    → Extends (g.numbers ++ g.number ∷ []) (g.rows ++ unfinished_row v (record g { is_in_row = true; stage = stage.Words }) ∷ []) f
     → Kept KnowsWords g f
-unfolding row_so_far
+unfolding unfinished_row
 whole_row v g f full h =
-    let row : Row = row_so_far v (record g { is_in_row = true; stage = stage.Words }) in
+    let row : Row = unfinished_row v (record g { is_in_row = true; stage = stage.Words }) in
     record {
       row = row;
       more_numbers = h.more_numbers;
@@ -143,13 +143,13 @@ whole_row v g f full h =
     }
 
 closed_grown : (ls : List (List ℕ)) (v : Verdict) (g : Gathered)
-    → Extends (g.numbers ++ g.number ∷ []) (g.rows ++ row_so_far v g ∷ []) (at_end ls (with_finished_row v g))
-unfolding with_finished_row gathering_between_rows
+    → Extends (g.numbers ++ g.number ∷ []) (g.rows ++ unfinished_row v g ∷ []) (at_end ls (with_finished_row v g))
+unfolding with_finished_row state_between_rows
 closed_grown ls v g = grown ls (with_finished_row v g)
 
 pub words_keep : (ls : List (List ℕ)) (g : Gathered) → length g.words ≤ g.count
     → Kept KnowsWords g (at_end ls (record g { is_in_row = true; stage = stage.Words }))
-unfolding with_lines with_line at_words
+unfolding with_lines with_line after_word_or_verdict_line
 words_keep [] g within = closed_row stage.Words g within
 words_keep (l ∷ ls) g within =
     let P : Gathered → Type 0 = λ f. Kept KnowsWords g (at_end ls f) in
@@ -158,14 +158,14 @@ words_keep (l ∷ ls) g within =
     let word : Gathered = record here { words = longer_words } in
     let row : Gathered = with_finished_row (verdict_of_line l) here in
     let ended : Bool = (slice_index l 0 == 118) && (length g.words == g.count) in
-    let other : Gathered = if ended then row else with_stage_over here in
+    let other : Gathered = if ended then row else with_stage_done here in
     chosen_if P (is_hex_word l && nat_lt (length g.words) g.count) word other
     (λ t. let room = (and_parts (is_hex_word l) (nat_lt (length g.words) g.count) t).1 in
     let few : length g.words < g.count = grind (arith, nat_tests) in
     let longer = length-append g.words (hex_word l ∷ []) in
     with_less g.numbers g.rows g.number (KnowsWords (record g { words = longer_words })) (KnowsWords g) (at_end ls word)
     (words_keep ls (record g { words = longer_words }) (omega arith)) (word_less g (hex_word l)))
-    (chosen_if P ended row (with_stage_over here)
+    (chosen_if P ended row (with_stage_done here)
     (λ t. let full = (and_parts (slice_index l 0 == 118) (length g.words == g.count) t).1 in
     whole_row (verdict_of_line l) g (at_end ls row) full (closed_grown ls (verdict_of_line l) here))
     (over_row ls g within))
@@ -175,7 +175,7 @@ words_to_console g r k = (k.name, k.ending, k.steps, k.console)
 
 pub signature_keep : (ls : List (List ℕ)) (g : Gathered) → length g.words ≤ g.count
     → Kept KnowsConsole g (at_end ls (record g { is_in_row = true; stage = stage.Signature }))
-unfolding with_lines with_line at_signature
+unfolding with_lines with_line after_signature_line
 signature_keep [] g within =
     let here : Gathered = record g { is_in_row = true; stage = stage.Signature } in
     with_less g.numbers g.rows g.number (KnowsWords g) (KnowsConsole g) (with_unfinished_row here)
@@ -185,16 +185,16 @@ signature_keep (l ∷ ls) g within =
     let known : Gathered = record g { signed = not (slice_index l 10 == 45); count = decimal_number (drop 10 l); words = [] } in
     let next : Gathered = record known { is_in_row = true; stage = stage.Words } in
     chosen (λ f. Kept KnowsConsole g (at_end ls f))
-    (((slice_index l 0 == 115) && (slice_index l 1 == 105)) && nat_le (decimal_number (drop 10 l)) most_words) next
-    (with_stage_over here)
+    (((slice_index l 0 == 115) && (slice_index l 1 == 105)) && nat_le (decimal_number (drop 10 l)) max_words) next
+    (with_stage_done here)
     (with_less g.numbers g.rows g.number (KnowsWords known) (KnowsConsole g) (at_end ls next)
     (words_keep ls known (omega arith)) (words_to_console known))
-    (with_less g.numbers g.rows g.number (KnowsWords g) (KnowsConsole g) (at_end ls (with_stage_over here))
+    (with_less g.numbers g.rows g.number (KnowsWords g) (KnowsConsole g) (at_end ls (with_stage_done here))
     (over_row ls g within) (words_to_console g))
 
 pub console_keep : (ls : List (List ℕ)) (g : Gathered) → length g.words ≤ g.count
     → Kept KnowsSteps g (at_end ls (record g { is_in_row = true; stage = stage.Console }))
-unfolding with_lines with_line at_console
+unfolding with_lines with_line after_console_line
 console_keep [] g within =
     let here : Gathered = record g { is_in_row = true; stage = stage.Console } in
     with_less g.numbers g.rows g.number (KnowsWords g) (KnowsSteps g) (with_unfinished_row here)
@@ -203,15 +203,15 @@ console_keep (l ∷ ls) g within =
     let here : Gathered = record g { is_in_row = true; stage = stage.Console } in
     let known : Gathered = record g { console = hex_bytes (drop 8 l) } in
     let next : Gathered = record known { is_in_row = true; stage = stage.Signature } in
-    chosen (λ f. Kept KnowsSteps g (at_end ls f)) (slice_index l 0 == 99) next (with_stage_over here)
+    chosen (λ f. Kept KnowsSteps g (at_end ls f)) (slice_index l 0 == 99) next (with_stage_done here)
     (with_less g.numbers g.rows g.number (KnowsConsole known) (KnowsSteps g) (at_end ls next)
     (signature_keep ls known within) (λ r k. (k.0, k.1, k.2)))
-    (with_less g.numbers g.rows g.number (KnowsWords g) (KnowsSteps g) (at_end ls (with_stage_over here))
+    (with_less g.numbers g.rows g.number (KnowsWords g) (KnowsSteps g) (at_end ls (with_stage_done here))
     (over_row ls g within) (λ r k. (k.name, k.ending, k.steps)))
 
 pub steps_keep : (ls : List (List ℕ)) (g : Gathered) → length g.words ≤ g.count
     → Kept KnowsEnding g (at_end ls (record g { is_in_row = true; stage = stage.Steps }))
-unfolding with_lines with_line at_steps
+unfolding with_lines with_line after_steps_line
 steps_keep [] g within =
     let here : Gathered = record g { is_in_row = true; stage = stage.Steps } in
     with_less g.numbers g.rows g.number (KnowsWords g) (KnowsEnding g) (with_unfinished_row here)
@@ -221,15 +221,15 @@ steps_keep (l ∷ ls) g within =
     let known : Gathered = record g { steps = decimal_number (drop 6 l) } in
     let next : Gathered = record known { is_in_row = true; stage = stage.Console } in
     chosen (λ f. Kept KnowsEnding g (at_end ls f)) ((slice_index l 0 == 115) && (slice_index l 1 == 116)) next
-    (with_stage_over here)
+    (with_stage_done here)
     (with_less g.numbers g.rows g.number (KnowsSteps known) (KnowsEnding g) (at_end ls next)
     (console_keep ls known within) (λ r k. (k.0, k.1)))
-    (with_less g.numbers g.rows g.number (KnowsWords g) (KnowsEnding g) (at_end ls (with_stage_over here))
+    (with_less g.numbers g.rows g.number (KnowsWords g) (KnowsEnding g) (at_end ls (with_stage_done here))
     (over_row ls g within) (λ r k. (k.name, k.ending)))
 
 pub ending_keep : (ls : List (List ℕ)) (g : Gathered) → length g.words ≤ g.count
     → Kept KnowsName g (at_end ls (record g { is_in_row = true; stage = stage.Ending }))
-unfolding with_lines with_line at_ending
+unfolding with_lines with_line after_end_line
 ending_keep [] g within =
     let here : Gathered = record g { is_in_row = true; stage = stage.Ending } in
     with_less g.numbers g.rows g.number (KnowsWords g) (KnowsName g) (with_unfinished_row here)
@@ -238,8 +238,8 @@ ending_keep (l ∷ ls) g within =
     let here : Gathered = record g { is_in_row = true; stage = stage.Ending } in
     let known : Gathered = record g { ending = row_ending_of_line l } in
     let next : Gathered = record known { is_in_row = true; stage = stage.Steps } in
-    chosen (λ f. Kept KnowsName g (at_end ls f)) (slice_index l 0 == 101) next (with_stage_over here)
+    chosen (λ f. Kept KnowsName g (at_end ls f)) (slice_index l 0 == 101) next (with_stage_done here)
     (with_less g.numbers g.rows g.number (KnowsEnding known) (KnowsName g) (at_end ls next)
     (steps_keep ls known within) (λ r k. k.0))
-    (with_less g.numbers g.rows g.number (KnowsWords g) (KnowsName g) (at_end ls (with_stage_over here))
+    (with_less g.numbers g.rows g.number (KnowsWords g) (KnowsName g) (at_end ls (with_stage_done here))
     (over_row ls g within) (λ r k. k.name))

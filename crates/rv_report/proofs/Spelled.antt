@@ -26,12 +26,12 @@ use Rattle.rv_report.specs.Report.{dash_if_empty, console_line, signature_lines,
 use Rattle.rv_report.specs.declared.gathering.Stage.TheVariants as stage
 use Rattle.rv_report.specs.declared.saved.Extent.{Extent}
 use Rattle.rv_report.specs.LenientReport.{lines, text_before_byte, text_after_byte, decimal_number, hex_word, are_hex_digits, hex_bytes, name_or_dash}
-use Rattle.rv_report.specs.LenientReport.{job_number_of_line, job_name_of_line, fault_or_first, refusal_or_first, fault_ending_of_text, row_ending_of_line, verdict_of_line}
-use Rattle.rv_report.specs.LenientReport.{decimal_number_on, Gathered, gathering_between_rows, with_finished_row, with_stage_over, row_so_far, at_job_or_last_line, at_ending}
-use Rattle.rv_report.specs.LenientReport.{at_steps, at_console, at_signature, at_words, with_line, with_lines}
-use Rattle.rv_base.specs.Limits.{most_jobs}
+use Rattle.rv_report.specs.LenientReport.{job_number_of_line, job_name_of_line, fault_or_default, refusal_or_first, fault_ending_of_text, row_ending_of_line, verdict_of_line}
+use Rattle.rv_report.specs.LenientReport.{decimal_number_from, Gathered, state_between_rows, with_finished_row, with_stage_done, unfinished_row, after_job_or_last_line, after_end_line}
+use Rattle.rv_report.specs.LenientReport.{after_steps_line, after_console_line, after_signature_line, after_word_or_verdict_line, with_line, with_lines}
+use Rattle.rv_base.specs.Limits.{max_jobs}
 use Rattle.std.proofs.lemmas.Bool.Decides.{nat_tests}
-use Rattle.rv_report.specs.Saved.{most_words, IsWord, IsEnd, AreWords, IsRow}
+use Rattle.rv_report.specs.Saved.{max_words, IsWord, IsValidEnd, IsValidSignature, IsValidRow}
 use Rattle.rv_report.proofs.Pieces.{lacks, lacks-append, lines_at, before_at, after_at, first_is_other}
 use Rattle.rv_report.proofs.Words.{lacks-decimal, lacks-encode, lacks-digits, number_of-decimal, word_of-digits}
 use Rattle.rv_report.proofs.Words.{is_word-digits, bytes_of-encode}
@@ -155,15 +155,15 @@ job_number n name h =
     ∙ ap decimal_number (before_at 32 (decimal n) name (lacks-decimal 32 n (omega arith) (omega arith)))
     ∙ number_of-decimal n h
 
-pub job_says : (n : ℕ) (name : List ℕ) (g : Gathered) → n < 2 ^ 32 → is_name name ≡ true → length g.rows < most_jobs
+pub job_says : (n : ℕ) (name : List ℕ) (g : Gathered) → n < 2 ^ 32 → is_name name ≡ true → length g.rows < max_jobs
     → with_line (codes "job " ++ decimal n ++ codes " " ++ name) (record g { stage = stage.Between })
     ≡ record g { number = n; name = name; is_in_row = true; stage = stage.Ending }
-unfolding with_line at_job_or_last_line
+unfolding with_line after_job_or_last_line
 job_says n name g h is few =
     let line = codes "job " ++ decimal n ++ codes " " ++ name in
-    let room : nat_lt (length g.rows) most_jobs ≡ true = grind (arith, nat_tests) in
+    let room : nat_lt (length g.rows) max_jobs ≡ true = grind (arith, nat_tests) in
     ap (λ (t : Bool). cond t
-    (record g { number = job_number_of_line line; name = job_name_of_line line; is_in_row = true; stage = stage.Ending }) (with_stage_over g)) room
+    (record g { number = job_number_of_line line; name = job_name_of_line line; is_in_row = true; stage = stage.Ending }) (with_stage_done g)) room
     ∙ ap (λ (t : ℕ). record g {
       number = t;
       name = job_name_of_line (codes "job " ++ decimal n ++ codes " " ++ name);
@@ -177,7 +177,7 @@ job_says n name g h is few =
 
 pub steps_says : (n : ℕ) (g : Gathered) → n < 2 ^ 32 → with_line (codes "steps " ++ decimal n)
     (record g { stage = stage.Steps }) ≡ record g { steps = n; stage = stage.Console }
-unfolding with_line at_steps
+unfolding with_line after_steps_line
 steps_says n g h = ap (λ (t : ℕ). record g { steps = t; stage = stage.Console }) (number_of-decimal n h)
 
 -- ---- the line of the ending
@@ -196,7 +196,7 @@ end_is_line (ending.Fault kind pc value) = refl
 end_is_line ending.Budget = refl
 end_is_line (ending.Refused why) = refl
 
-pub lacks-end : (e : RowEnd) → IsEnd e → lacks 10 (end_words e) ≡ true
+pub lacks-end : (e : RowEnd) → IsValidEnd e → lacks 10 (end_words e) ≡ true
 lacks-end (ending.Exit code) h = lacks-decimal 10 code (omega arith) (omega arith)
 lacks-end (ending.Fault kind pc value) h =
     let name = and_parts (lacks 10 (fault_name kind)) (lacks 32 (fault_name kind)) (lacks-fault_name kind) in
@@ -232,21 +232,21 @@ fault_says kind pc value hp hv =
     let plain = (and_parts (lacks 10 name) (lacks 32 name) (lacks-fault_name kind)).1 in
     let words = two_words pc value in
     ap fault_ending_of_text (fault_regroup name (word_digits pc) (word_digits value))
-    ∙ ap (λ (t : List ℕ). ending.Fault (fault_or_first (fault_named t))
+    ∙ ap (λ (t : List ℕ). ending.Fault (fault_or_default (fault_named t))
     (hex_word (take 8 (drop 3 (text_after_byte 32 (name ++ 32 ∷ words))))) (hex_word (drop 18 (text_after_byte 32 (name ++ 32 ∷ words)))))
     (before_at 32 name words plain)
-    ∙ ap (λ (t : List ℕ). ending.Fault (fault_or_first (fault_named name)) (hex_word (take 8 (drop 3 t)))
+    ∙ ap (λ (t : List ℕ). ending.Fault (fault_or_default (fault_named name)) (hex_word (take 8 (drop 3 t)))
     (hex_word (drop 18 t))) (after_at 32 name words plain)
-    ∙ ap (λ (k : Option FaultKind). ending.Fault (fault_or_first k) (hex_word (take 8 (drop 3 words)))
+    ∙ ap (λ (k : Option FaultKind). ending.Fault (fault_or_default k) (hex_word (take 8 (drop 3 words)))
     (hex_word (drop 18 words))) (fault_named-name kind)
     ∙ ap (λ (w : List ℕ). ending.Fault kind (hex_word w) (hex_word (drop 18 words))) (first_word pc value)
     ∙ ap (λ (w : List ℕ). ending.Fault kind (hex_word (word_digits pc)) (hex_word w)) (second_word pc value)
     ∙ ap (λ (w : ℕ). ending.Fault kind w (hex_word (word_digits value))) (word_of-digits pc hp)
     ∙ ap (λ (w : ℕ). ending.Fault kind pc w) (word_of-digits value hv)
 
-pub end_says : (e : RowEnd) (g : Gathered) → IsEnd e → with_line (end_words e) (record g { stage = stage.Ending })
+pub end_says : (e : RowEnd) (g : Gathered) → IsValidEnd e → with_line (end_words e) (record g { stage = stage.Ending })
     ≡ record g { ending = e; stage = stage.Steps }
-unfolding with_line at_ending row_ending_of_line
+unfolding with_line after_end_line row_ending_of_line
 end_says (ending.Exit code) g h = ap (λ (n : ℕ). record g { ending = ending.Exit n; stage = stage.Steps })
     (number_of-decimal code h)
 end_says (ending.Fault kind pc value) g h = ap (λ (e : RowEnd). record g { ending = e; stage = stage.Steps })
@@ -280,7 +280,7 @@ lacks-shown (b ∷ bs) h = ap (lacks 10) (dash_of_encode b bs) ∙ lacks-encode 
 
 console_text_says : (text : List ℕ) (g : Gathered) → with_line (codes "console " ++ text)
     (record g { stage = stage.Console }) ≡ record g { console = hex_bytes text; stage = stage.Signature }
-unfolding with_line at_console
+unfolding with_line after_console_line
 console_text_says text g = refl
 
 pub console_says : (bytes : List ℕ) (g : Gathered) → IsBytes bytes
@@ -296,12 +296,12 @@ abbrev no_word : List ℕ → Gathered → Gathered
 no_word line g =
     if (slice_index line 0 == 118) && (length g.words == g.count) then
     with_finished_row (verdict_of_line line) (record g { stage = stage.Words })
-    else with_stage_over g
+    else with_stage_done g
 
 pub word_says : (w : ℕ) (g : Gathered) → w < 2 ^ 32 → length g.words < g.count
     → with_line (word_digits w) (record g { stage = stage.Words })
     ≡ record g { words = g.words ++ w ∷ []; stage = stage.Words }
-unfolding with_line at_words
+unfolding with_line after_word_or_verdict_line
 word_says w g h more =
     let room : nat_lt (length g.words) g.count ≡ true = grind arith in
     ap (λ (t : Bool). cond (t && nat_lt (length g.words) g.count)
@@ -329,18 +329,18 @@ abbrev pub words_or_nil : Option (List ℕ) → List ℕ
 words_or_nil None = []
 words_or_nil (Some words) = words
 
-pub signature_text_says : (text : List ℕ) (g : Gathered) → nat_le (decimal_number text) most_words ≡ true
+pub signature_text_says : (text : List ℕ) (g : Gathered) → nat_le (decimal_number text) max_words ≡ true
     → with_line (codes "signature " ++ text) (record g { stage = stage.Signature })
     ≡ record g { signed = not (slice_index text 0 == 45); count = decimal_number text; words = []; stage = stage.Words }
-unfolding with_line at_signature
+unfolding with_line after_signature_line
 signature_text_says text g small = ap (λ (t : Bool). cond t (record g {
   signed = not (slice_index text 0 == 45);
   count = decimal_number text;
   words = [];
   stage = stage.Words;
-}) (with_stage_over g)) small
+}) (with_stage_done g)) small
 
-pub signature_says : (s : Option (List ℕ)) (rest : List ℕ) (g : Gathered) → AreWords s
+pub signature_says : (s : Option (List ℕ)) (rest : List ℕ) (g : Gathered) → IsValidSignature s
     → says (signature_lines s ++ rest) (record g { stage = stage.Signature })
     ≡ says rest (record g {
       signed = is_some s;
@@ -349,15 +349,15 @@ pub signature_says : (s : Option (List ℕ)) (rest : List ℕ) (g : Gathered) �
       stage =
           stage.Words;
     })
-unfolding signature_lines decimal_number_on
+unfolding signature_lines decimal_number_from
 signature_says None rest g h =
     says_line (codes "signature -") rest (record g { stage = stage.Signature }) refl
     ∙ ap (says rest) (signature_text_says (codes "-") g refl)
 signature_says (Some ws) rest g h =
     let n = length ws in
-    let few : length ws ≤ most_words = h.0 in
+    let few : length ws ≤ max_words = h.0 in
     let value : decimal_number (decimal n) ≡ n = number_of-decimal n (omega arith) in
-    let small : nat_le (decimal_number (decimal n)) most_words ≡ true = grind (arith, nat_tests) in
+    let small : nat_le (decimal_number (decimal n)) max_words ≡ true = grind (arith, nat_tests) in
     ap (λ (t : List ℕ). says t (record g { stage = stage.Signature }))
     (append_assoc (line (codes "signature " ++ decimal n)) (flat_map word_line ws) rest)
     ∙ says_line (codes "signature " ++ decimal n) (flat_map word_line ws ++ rest) (record g { stage = stage.Signature })
@@ -375,10 +375,10 @@ signature_says (Some ws) rest g h =
 
 pub verdict_says : (v : Verdict) (g : Gathered) → (length g.words == g.count) ≡ true
     → with_line (codes "verdict " ++ verdict_name v) (record g { stage = stage.Words }) ≡ with_finished_row v g
-unfolding with_line at_words are_hex_digits verdict_of_line with_finished_row row_so_far
-verdict_says verdict.Unasked g full = ap (λ (t : Bool). cond t (with_finished_row verdict.Unasked g) (with_stage_over g)) full
-verdict_says verdict.Pass g full = ap (λ (t : Bool). cond t (with_finished_row verdict.Pass g) (with_stage_over g)) full
-verdict_says verdict.Fail g full = ap (λ (t : Bool). cond t (with_finished_row verdict.Fail g) (with_stage_over g)) full
+unfolding with_line after_word_or_verdict_line are_hex_digits verdict_of_line with_finished_row unfinished_row
+verdict_says verdict.Unasked g full = ap (λ (t : Bool). cond t (with_finished_row verdict.Unasked g) (with_stage_done g)) full
+verdict_says verdict.Pass g full = ap (λ (t : Bool). cond t (with_finished_row verdict.Pass g) (with_stage_done g)) full
+verdict_says verdict.Fail g full = ap (λ (t : Bool). cond t (with_finished_row verdict.Fail g) (with_stage_done g)) full
 
 pub lacks-verdict : (v : Verdict) → lacks 10 (codes "verdict " ++ verdict_name v) ≡ true
 lacks-verdict verdict.Unasked = refl
@@ -416,23 +416,23 @@ up_to_verdict n row numbers rows extent = record {
 }
 
 row_is : (n : ℕ) (row : Row) (numbers : List ℕ) (rows : List Row) (extent : Extent)
-    → row_so_far row.verdict (up_to_verdict n row numbers rows extent) ≡ row
-unfolding row_so_far
+    → unfinished_row row.verdict (up_to_verdict n row numbers rows extent) ≡ row
+unfolding unfinished_row
 row_is n row numbers rows extent = ap (λ (s : Option (List ℕ)). record row { signature = s })
     (same_signature row.signature)
 
 closed_is : (n : ℕ) (row : Row) (numbers : List ℕ) (rows : List Row) (extent : Extent)
-    → with_finished_row row.verdict (up_to_verdict n row numbers rows extent) ≡ gathering_between_rows (numbers ++ n ∷ []) (rows ++ row ∷ []) extent
+    → with_finished_row row.verdict (up_to_verdict n row numbers rows extent) ≡ state_between_rows (numbers ++ n ∷ []) (rows ++ row ∷ []) extent
 unfolding with_finished_row
 closed_is n row numbers rows extent =
-    ap (λ (r : Row). gathering_between_rows (numbers ++ n ∷ []) (rows ++ r ∷ []) extent) (row_is n row numbers rows extent)
+    ap (λ (r : Row). state_between_rows (numbers ++ n ∷ []) (rows ++ r ∷ []) extent) (row_is n row numbers rows extent)
 
 -- the row of the job of a number
-pub row_says : (place n : ℕ) (row : Row) (rest numbers : List ℕ) (rows : List Row) (extent : Extent) → IsRow row
-    → place + 1 ≡ n → n < 2 ^ 32 → length rows < most_jobs
-    → says (row_text place row ++ rest) (gathering_between_rows numbers rows extent)
-    ≡ says rest (gathering_between_rows (numbers ++ n ∷ []) (rows ++ row ∷ []) extent)
-unfolding row_text console_line gathering_between_rows
+pub row_says : (place n : ℕ) (row : Row) (rest numbers : List ℕ) (rows : List Row) (extent : Extent) → IsValidRow row
+    → place + 1 ≡ n → n < 2 ^ 32 → length rows < max_jobs
+    → says (row_text place row ++ rest) (state_between_rows numbers rows extent)
+    ≡ says rest (state_between_rows (numbers ++ n ∷ []) (rows ++ row ∷ []) extent)
+unfolding row_text console_line state_between_rows
 row_says place n row rest numbers rows extent is same small few =
     let j = codes "job " ++ decimal n ++ codes " " ++ row.name in
     let e = end_words row.ending in
@@ -443,7 +443,7 @@ row_says place n row rest numbers rows extent is same small few =
     let t3 = signature_lines row.signature ++ t4 in
     let t2 = line c ++ t3 in
     let t1 = line s ++ t2 in
-    let g0 = gathering_between_rows numbers rows extent in
+    let g0 = state_between_rows numbers rows extent in
     let g1 : Gathered = record g0 { number = n; name = row.name; is_in_row = true; stage = stage.Ending } in
     let g2 : Gathered = record g1 { ending = row.ending; stage = stage.Steps } in
     let g3 : Gathered = record g2 { steps = row.steps; stage = stage.Console } in

@@ -8,7 +8,7 @@ use Rattle.rv_report.specs.Report.{row_text, rows_text, done_line, report_text}
 use Rattle.rv_report.specs.declared.saved.Extent.{Extent}
 use Rattle.rv_report.specs.declared.saved.Extent.TheVariants.{Whole}
 use Rattle.rv_report.specs.declared.saved.SavedReport.{SavedReport}
-use Rattle.rv_report.specs.Saved.{IsSaved, are_evenly_spaced, matches_job_numbers, numbered_text, extent_line, saved_text}
+use Rattle.rv_report.specs.Saved.{IsValidReport, are_evenly_spaced, matches_job_numbers, numbered_text, extent_line, saved_text}
 
 numbered_is_rows : (place last : ℕ) (ns : List ℕ) (rows : List Row) → are_evenly_spaced (place + 1) 1 last ns ≡ true
     → length ns ≡ length rows → numbered_text ns rows ≡ rows_text place rows
@@ -24,7 +24,7 @@ numbered_is_rows place last (n ∷ ns) (row ∷ rows) h even =
     ∙ ap (λ (t : List ℕ). row_text place row ++ t)
     (numbered_is_rows (place + 1) last ns rows (and_parts (nat_le n last) later first.1).1 (omega arith))
 
-pub whole_text : (r : SavedReport) → IsSaved r → r.extent ≡ Whole → saved_text r ≡ report_text r.rows
+pub whole_text : (r : SavedReport) → IsValidReport r → r.extent ≡ Whole → saved_text r ≡ report_text r.rows
 unfolding saved_text report_text matches_job_numbers extent_line
 whole_text r h is =
     let stepped : are_evenly_spaced 1 1 (length r.numbers) r.numbers ≡ true =

@@ -11,7 +11,7 @@ use Rattle.hex.specs.Hex.{IsBytes, encode_lower, encode_with, lower_digits}
 use Rattle.hex.proofs.HexLemmas.{decode_of-encode_lower}
 use Rattle.rv_text.specs.Words.{word_digits}
 use Rattle.rv_report.specs.LenientReport.{with_zero_digits, are_hex_digits}
-use Rattle.rv_report.specs.LenientReport.{decimal_number_on, decimal_number, with_digit, hex_number, hex_word, hex_digit_value, is_hex_digit, is_hex_word}
+use Rattle.rv_report.specs.LenientReport.{decimal_number_from, decimal_number, with_digit, hex_number, hex_word, hex_digit_value, is_hex_digit, is_hex_word}
 use Rattle.rv_report.specs.LenientReport.{hex_bytes, bytes_if_decoded}
 use Rattle.rv_report.proofs.Pieces.{lacks, lacks-append}
 
@@ -25,14 +25,14 @@ lacks-decimal byte n h small =
     decimal_by_steps (λ _ ds. lacks byte ds ≡ true) (λ m _. lacks_digit byte m h)
     (λ m ds _ so. lacks-append byte ds ((48 + m % 10) ∷ []) so (lacks_digit byte (m % 10) h)) n small
 
-number_push : (value : ℕ) (ds : List ℕ) (b : ℕ) → decimal_number_on value (ds ++ b ∷ [])
-    ≡ with_digit 10 (decimal_number_on value ds) (b - 48)
-unfolding decimal_number_on
+number_push : (value : ℕ) (ds : List ℕ) (b : ℕ) → decimal_number_from value (ds ++ b ∷ [])
+    ≡ with_digit 10 (decimal_number_from value ds) (b - 48)
+unfolding decimal_number_from
 number_push value [] b = refl
 number_push value (d ∷ ds) b = number_push (with_digit 10 value (d - 48)) ds b
 
-one_digit : (n : ℕ) → n < 10 → decimal_number_on 0 ((48 + n) ∷ []) ≡ n
-unfolding decimal_number_on
+one_digit : (n : ℕ) → n < 10 → decimal_number_from 0 ((48 + n) ∷ []) ≡ n
+unfolding decimal_number_from
 one_digit n h = omega arith
 
 last_digit : (n value : ℕ) → n < 2 ^ 32 → value ≡ n / 10 → with_digit 10 value (48 + n % 10 - 48) ≡ n
@@ -40,8 +40,8 @@ last_digit n value h is = omega arith
 
 pub number_of-decimal : (n : ℕ) → n < 2 ^ 32 → decimal_number (decimal n) ≡ n
 number_of-decimal n small =
-    decimal_by_steps (λ m ds. m < 2 ^ 32 → decimal_number_on 0 ds ≡ m) (λ m h _. one_digit m h)
-    (λ m ds _ so h. number_push 0 ds (48 + m % 10) ∙ last_digit m (decimal_number_on 0 ds) h (so (omega arith))) n (omega arith)
+    decimal_by_steps (λ m ds. m < 2 ^ 32 → decimal_number_from 0 ds ≡ m) (λ m h _. one_digit m h)
+    (λ m ds _ so h. number_push 0 ds (48 + m % 10) ∙ last_digit m (decimal_number_from 0 ds) h (so (omega arith))) n (omega arith)
     small
 
 -- ---- words

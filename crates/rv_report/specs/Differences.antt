@@ -8,9 +8,9 @@ use Rattle.rv_report.specs.declared.read.ReadError.{ReadError}
 use Rattle.rv_report.specs.declared.read.ReadError.TheVariants.{OutOfMemory, Line, CutOff}
 
 -- the number of line feeds in a text
-abbrev pub count_of_line_feeds : List ℕ → ℕ
-count_of_line_feeds [] = 0
-count_of_line_feeds (b ∷ bs) = if b == 10 then count_of_line_feeds bs + 1 else count_of_line_feeds bs
+abbrev pub line_feed_count : List ℕ → ℕ
+line_feed_count [] = 0
+line_feed_count (b ∷ bs) = if b == 10 then line_feed_count bs + 1 else line_feed_count bs
 
 -- ---- how much of the first word of a line has been read
 
@@ -46,7 +46,7 @@ can_begin_report_line word.Ended other rest = true
 -- this line, which can still be the beginning of a report's line
 abbrev pub read_error_at : ℕ → FirstWord → ℕ → List ℕ → ReadError
 read_error_at line met other rest =
-    if can_begin_report_line met other rest && (count_of_line_feeds rest == 0) then CutOff else Line line
+    if can_begin_report_line met other rest && (line_feed_count rest == 0) then CutOff else Line line
 
 -- the number of the line after the byte `b`: one more if `b` is a line feed, and otherwise `line`
 abbrev pub line_after_byte : ℕ → ℕ → ℕ
@@ -67,17 +67,17 @@ first_read_error text bytes = read_error_from 1 word.Ahead text bytes
 
 -- the bytes and the text agree before the error: on all lines before the line that the error names or, for `CutOff`, on all bytes up to
 -- some point in the last line of the bytes
-abbrev pub BeginsAlike : ReadError → List ℕ → List ℕ → Type 0
-BeginsAlike OutOfMemory text bytes = Unit {0}
-BeginsAlike (Line line) text bytes = (common more other : List ℕ) × (bytes ≡ common ++ more)
-    × (text ≡ common ++ other) × (count_of_line_feeds common + 1 ≡ line)
-BeginsAlike CutOff text bytes = (common more other : List ℕ) × (bytes ≡ common ++ more)
-    × (text ≡ common ++ other) × (count_of_line_feeds more ≡ 0)
+abbrev pub AgreeBeforeError : ReadError → List ℕ → List ℕ → Type 0
+AgreeBeforeError OutOfMemory text bytes = Unit {0}
+AgreeBeforeError (Line line) text bytes = (common more other : List ℕ) × (bytes ≡ common ++ more)
+    × (text ≡ common ++ other) × (line_feed_count common + 1 ≡ line)
+AgreeBeforeError CutOff text bytes = (common more other : List ℕ) × (bytes ≡ common ++ more)
+    × (text ≡ common ++ other) × (line_feed_count more ≡ 0)
 
 -- the result is `x`, or the error that memory ran out
-abbrev pub AnswersUnlessMemory : {X : Type 0} → X → Result X ReadError → Type 0
-AnswersUnlessMemory x (Ok y) = y ≡ x
-AnswersUnlessMemory x (Err e) = e ≡ OutOfMemory
+abbrev pub IsOkOrOutOfMemory : {X : Type 0} → X → Result X ReadError → Type 0
+IsOkOrOutOfMemory x (Ok y) = y ≡ x
+IsOkOrOutOfMemory x (Err e) = e ≡ OutOfMemory
 
 -- the first error is that memory ran out, or it equals the second error
 abbrev pub IsSameReadError : ReadError → ReadError → Type 0

@@ -8,7 +8,7 @@ use Rattle.std.specs.List.{onto_first}
 use Rattle.hex.specs.Hex.{decode_of}
 use Rattle.hex.specs.declared.error.FromHexError.{FromHexError}
 use Rattle.rv_base.specs.Names.{is_name, index_in}
-use Rattle.rv_base.specs.Limits.{most_jobs}
+use Rattle.rv_base.specs.Limits.{max_jobs}
 use Rattle.rv_machine.specs.declared.ending.FaultKind.{FaultKind}
 use Rattle.rv_machine.specs.declared.ending.FaultKind.TheVariants as fault
 use Rattle.rv_machine.specs.Faults.{fault_named}
@@ -25,7 +25,7 @@ use Rattle.rv_report.specs.declared.gathering.Stage.TheVariants as stage
 use Rattle.rv_report.specs.declared.saved.Extent.{Extent}
 use Rattle.rv_report.specs.declared.saved.Extent.TheVariants as extent
 use Rattle.rv_report.specs.declared.saved.SavedReport.{SavedReport}
-use Rattle.rv_report.specs.Saved.{matches_job_numbers, row_names, most_words}
+use Rattle.rv_report.specs.Saved.{matches_job_numbers, row_names, max_words}
 
 -- ---- lines, and the parts of a line
 
@@ -58,13 +58,13 @@ abbrev pub with_digit : ℕ → ℕ → ℕ → ℕ
 with_digit base value digit = min (min (value * base) most + digit) most
 
 -- the number whose first decimal digits are the digits of `value`, and whose further digits are this text; at most `most`
-unfoldable pub decimal_number_on : ℕ → List ℕ → ℕ
-decimal_number_on value [] = value
-decimal_number_on value (b ∷ bs) = decimal_number_on (with_digit 10 value (b - 48)) bs
+unfoldable pub decimal_number_from : ℕ → List ℕ → ℕ
+decimal_number_from value [] = value
+decimal_number_from value (b ∷ bs) = decimal_number_from (with_digit 10 value (b - 48)) bs
 
 -- the number that the lenient reader returns for a text of decimal digits: its value, or `most` if that is greater
 abbrev pub decimal_number : List ℕ → ℕ
-decimal_number text = decimal_number_on 0 text
+decimal_number text = decimal_number_from 0 text
 
 -- the value of a lower-case hexadecimal digit
 abbrev pub hex_digit_value : ℕ → ℕ
@@ -114,9 +114,9 @@ abbrev pub name_or_dash : List ℕ → List ℕ
 name_or_dash text = if is_name text then text else codes "-"
 
 -- the kind of fault if it is given, and otherwise an arbitrary one
-abbrev pub fault_or_first : Option FaultKind → FaultKind
-fault_or_first (Some kind) = kind
-fault_or_first None = fault.FetchAccess
+abbrev pub fault_or_default : Option FaultKind → FaultKind
+fault_or_default (Some kind) = kind
+fault_or_default None = fault.FetchAccess
 
 -- the refusal if it is given, and otherwise an arbitrary one
 abbrev pub refusal_or_first : Option Refusal → Refusal
@@ -137,7 +137,7 @@ job_name_of_line line = name_or_dash (text_after_byte 32 (drop 4 line))
 unfoldable pub fault_ending_of_text : List ℕ → RowEnd
 fault_ending_of_text text =
     let words = text_after_byte 32 text in
-    ending.Fault (fault_or_first (fault_named (text_before_byte 32 text))) (hex_word (take 8 (drop 3 words)))
+    ending.Fault (fault_or_default (fault_named (text_before_byte 32 text))) (hex_word (take 8 (drop 3 words)))
     (hex_word (drop 18 words))
 
 -- the ending in a line `end ..`; the first byte after `end ` decides which ending it is
@@ -198,8 +198,8 @@ pub record Gathered : Type 0 where
   pub stage : Stage
 
 -- the state with these finished rows, their job numbers and this extent, and without an unfinished row
-unfoldable pub gathering_between_rows : List ℕ → List Row → Extent → Gathered
-gathering_between_rows numbers rows extent = record {
+unfoldable pub state_between_rows : List ℕ → List Row → Extent → Gathered
+state_between_rows numbers rows extent = record {
   numbers = numbers;
   rows = rows;
   extent = extent;
@@ -221,8 +221,8 @@ unfoldable pub padded_words : ℕ → List ℕ → List ℕ
 padded_words count words = words ++ replicate (count - length words) 0
 
 -- the row that has the values of the unfinished row and this verdict
-unfoldable pub row_so_far : Verdict → Gathered → Row
-row_so_far verdict g = record {
+unfoldable pub unfinished_row : Verdict → Gathered → Row
+unfinished_row verdict g = record {
   name = g.name;
   ending = g.ending;
   steps = g.steps;
@@ -234,75 +234,75 @@ row_so_far verdict g = record {
 -- the state after the unfinished row is finished with this verdict and added to the rows
 unfoldable pub with_finished_row : Verdict → Gathered → Gathered
 with_finished_row verdict g =
-    gathering_between_rows (g.numbers ++ g.number ∷ []) (g.rows ++ row_so_far verdict g ∷ []) g.extent
+    state_between_rows (g.numbers ++ g.number ∷ []) (g.rows ++ unfinished_row verdict g ∷ []) g.extent
 
 -- the state after a line that cannot come next: all later lines are ignored
-abbrev pub with_stage_over : Gathered → Gathered
-with_stage_over g = record g { stage = stage.Over }
+abbrev pub with_stage_done : Gathered → Gathered
+with_stage_done g = record g { stage = stage.Over }
 
 -- the state after a line between rows: the first line of a row, unless there are too many, or the last line of the report
-unfoldable pub at_job_or_last_line : List ℕ → Gathered → Gathered
-at_job_or_last_line line g =
-    if (slice_index line 0 == 106) && nat_lt (length g.rows) most_jobs then
+unfoldable pub after_job_or_last_line : List ℕ → Gathered → Gathered
+after_job_or_last_line line g =
+    if (slice_index line 0 == 106) && nat_lt (length g.rows) max_jobs then
     record g { number = job_number_of_line line; name = job_name_of_line line; is_in_row = true; stage = stage.Ending }
-    else if slice_index line 0 == 112 then with_stage_over (record g { extent = part_extent_of_line line })
-    else with_stage_over g
+    else if slice_index line 0 == 112 then with_stage_done (record g { extent = part_extent_of_line line })
+    else with_stage_done g
 
 -- the state after the line that should have the ending of a row
-unfoldable pub at_ending : List ℕ → Gathered → Gathered
-at_ending line g =
+unfoldable pub after_end_line : List ℕ → Gathered → Gathered
+after_end_line line g =
     if slice_index line 0 == 101 then record g { ending = row_ending_of_line line; stage = stage.Steps }
-    else with_stage_over g
+    else with_stage_done g
 
 -- the state after the line that should have the steps of a row
-unfoldable pub at_steps : List ℕ → Gathered → Gathered
-at_steps line g =
+unfoldable pub after_steps_line : List ℕ → Gathered → Gathered
+after_steps_line line g =
     if (slice_index line 0 == 115) && (slice_index line 1 == 116) then
     record g { steps = decimal_number (drop 6 line); stage = stage.Console }
-    else with_stage_over g
+    else with_stage_done g
 
 -- the state after the line that should have the console of a row
-unfoldable pub at_console : List ℕ → Gathered → Gathered
-at_console line g =
+unfoldable pub after_console_line : List ℕ → Gathered → Gathered
+after_console_line line g =
     if slice_index line 0 == 99 then
     record g { console = hex_bytes (drop 8 line); stage = stage.Signature }
-    else with_stage_over g
+    else with_stage_done g
 
 -- the state after the line that should have the number of words of a row's signature; a dash, for no signature, is read as 0 words
-unfoldable pub at_signature : List ℕ → Gathered → Gathered
-at_signature line g =
+unfoldable pub after_signature_line : List ℕ → Gathered → Gathered
+after_signature_line line g =
     if ((slice_index line 0 == 115) && (slice_index line 1 == 105))
-    && nat_le (decimal_number (drop 10 line)) most_words then
+    && nat_le (decimal_number (drop 10 line)) max_words then
     record g {
       signed = not (slice_index line 10 == 45);
       count = decimal_number (drop 10 line);
       words = [];
       stage = stage.Words;
     }
-    else with_stage_over g
+    else with_stage_done g
 
 -- the state after the line that should have a word of the signature, or the verdict if all words have been read
-unfoldable pub at_words : List ℕ → Gathered → Gathered
-at_words line g =
+unfoldable pub after_word_or_verdict_line : List ℕ → Gathered → Gathered
+after_word_or_verdict_line line g =
     if is_hex_word line && nat_lt (length g.words) g.count then
     record g { words = g.words ++ hex_word line ∷ [] }
     else if (slice_index line 0 == 118) && (length g.words == g.count) then
     with_finished_row (verdict_of_line line) g
-    else with_stage_over g
+    else with_stage_done g
 
 -- the state after one more line, given the stage, which says what the line should have
-abbrev pub with_line_at : Stage → List ℕ → Gathered → Gathered
-with_line_at stage.Between line g = at_job_or_last_line line g
-with_line_at stage.Ending line g = at_ending line g
-with_line_at stage.Steps line g = at_steps line g
-with_line_at stage.Console line g = at_console line g
-with_line_at stage.Signature line g = at_signature line g
-with_line_at stage.Words line g = at_words line g
-with_line_at stage.Over line g = g
+abbrev pub with_line_at_stage : Stage → List ℕ → Gathered → Gathered
+with_line_at_stage stage.Between line g = after_job_or_last_line line g
+with_line_at_stage stage.Ending line g = after_end_line line g
+with_line_at_stage stage.Steps line g = after_steps_line line g
+with_line_at_stage stage.Console line g = after_console_line line g
+with_line_at_stage stage.Signature line g = after_signature_line line g
+with_line_at_stage stage.Words line g = after_word_or_verdict_line line g
+with_line_at_stage stage.Over line g = g
 
 -- the state after one more line
 unfoldable pub with_line : List ℕ → Gathered → Gathered
-with_line line g = with_line_at g.stage line g
+with_line line g = with_line_at_stage g.stage line g
 
 -- the state after these lines
 unfoldable pub with_lines : List (List ℕ) → Gathered → Gathered
@@ -316,15 +316,15 @@ with_unfinished_row g =
 
 -- the state after all lines of a text, with an unfinished row finished
 unfoldable pub gather_rows : List ℕ → Gathered
-gather_rows text = with_unfinished_row (with_lines (lines text) (gathering_between_rows [] [] extent.Whole))
+gather_rows text = with_unfinished_row (with_lines (lines text) (state_between_rows [] [] extent.Whole))
 
 -- ---- the rows before the first row that no report has at its index
 
--- the number of leading job numbers that increase strictly, are greater than `text_before_byte`, and are at most `most_jobs`
-unfoldable pub rising_count : ℕ → List ℕ → ℕ
-rising_count text_before_byte [] = 0
-rising_count text_before_byte (n ∷ ns) =
-    if nat_lt text_before_byte n && nat_le n most_jobs then rising_count n ns + 1 else 0
+-- the number of leading job numbers that increase strictly, are greater than `text_before_byte`, and are at most `max_jobs`
+unfoldable pub increasing_count : ℕ → List ℕ → ℕ
+increasing_count text_before_byte [] = 0
+increasing_count text_before_byte (n ∷ ns) =
+    if nat_lt text_before_byte n && nat_le n max_jobs then increasing_count n ns + 1 else 0
 
 -- the number of leading texts that equal neither an earlier one nor one of `earlier`
 unfoldable pub count_before_repeated_name : List (List ℕ) → List (List ℕ) → ℕ
@@ -332,19 +332,19 @@ count_before_repeated_name earlier [] = 0
 count_before_repeated_name earlier (text ∷ texts) =
     if is_some (index_in earlier text) then 0 else count_before_repeated_name (earlier ++ text ∷ []) texts + 1
 
--- the extent `e` if it has these job numbers, and otherwise `Choice most_jobs`, which can have any increasing job numbers
-unfoldable pub extent_or_choice : Extent → List ℕ → Extent
-extent_or_choice e numbers = if matches_job_numbers e numbers then e else extent.Choice most_jobs
+-- the extent `e` if it has these job numbers, and otherwise `Choice max_jobs`, which can have any increasing job numbers
+unfoldable pub extent_or_selection : Extent → List ℕ → Extent
+extent_or_selection e numbers = if matches_job_numbers e numbers then e else extent.Choice max_jobs
 
 -- the report that the lenient reader returns for a text: its rows before the first whose job number does not increase or whose name is
 -- repeated
 unfoldable pub lenient_report : List ℕ → SavedReport
 lenient_report text =
     let g = gather_rows text in
-    let rising = take (rising_count 0 g.numbers) g.rows in
+    let rising = take (increasing_count 0 g.numbers) g.rows in
     let count = count_before_repeated_name [] (row_names rising) in
     record {
-      extent = extent_or_choice g.extent (take count g.numbers);
+      extent = extent_or_selection g.extent (take count g.numbers);
       numbers = take count g.numbers;
       rows = take count rising;
     }

@@ -1,9 +1,9 @@
 -- The complete rows of a truncated text, which ends before its report does.
 use Rattle.std.specs.Prelude.{◌≡◌, ◌+◌, ◌<◌, ◌≤◌, ℕ, Bool, true, false, List, ◌++◌, length, take}
-use Rattle.rv_base.specs.Limits.{most_jobs}
-use Rattle.rv_report.specs.Differences.{count_of_line_feeds}
+use Rattle.rv_base.specs.Limits.{max_jobs}
+use Rattle.rv_report.specs.Differences.{line_feed_count}
 use Rattle.rv_report.specs.LeastLine.{first_lines}
-use Rattle.rv_report.specs.Saved.{IsSaved, numbered_text, saved_text}
+use Rattle.rv_report.specs.Saved.{IsValidReport, numbered_text, saved_text}
 use Rattle.rv_report.specs.declared.saved.Extent.TheVariants as extent
 use Rattle.rv_report.specs.declared.saved.SavedReport.{SavedReport}
 
@@ -12,14 +12,14 @@ abbrev pub BeginsWith : List ℕ → List ℕ → Type 0
 BeginsWith text beginning = (rest : List ℕ) × (text ≡ beginning ++ rest)
 
 -- the lines of a text that end with a line feed
-abbrev pub whole_lines : List ℕ → List ℕ
-whole_lines bytes = first_lines (count_of_line_feeds bytes) bytes
+abbrev pub complete_lines : List ℕ → List ℕ
+complete_lines bytes = first_lines (line_feed_count bytes) bytes
 
--- the report of chosen jobs with the first `count` rows; its list is taken to have `most_jobs` jobs, since a truncated report may not say
+-- the report of chosen jobs with the first `count` rows; its list is taken to have `max_jobs` jobs, since a truncated report may not say
 -- how many it has
 abbrev pub first_rows : ℕ → SavedReport → SavedReport
 first_rows count report = record {
-  extent = extent.Choice most_jobs;
+  extent = extent.Choice max_jobs;
   numbers = take count report.numbers;
   rows = take count report.rows;
 }
@@ -29,20 +29,20 @@ abbrev pub first_rows_text : ℕ → SavedReport → List ℕ
 first_rows_text count report = numbered_text (take count report.numbers) (take count report.rows)
 
 -- the report's text begins with the complete lines of the bytes, and exactly its first `count` rows are complete in the bytes
-pub record HasWholeRows (bytes : List ℕ) (report : SavedReport) (count : ℕ) : Type 0 where
-  pub saved : IsSaved report
-  pub begun : BeginsWith (saved_text report) (whole_lines bytes)
+pub record HasCompleteRows (bytes : List ℕ) (report : SavedReport) (count : ℕ) : Type 0 where
+  pub saved : IsValidReport report
+  pub begun : BeginsWith (saved_text report) (complete_lines bytes)
   pub within : count ≤ length report.rows
   pub there : BeginsWith bytes (first_rows_text count report)
   pub most : count < length report.rows → BeginsWith bytes (first_rows_text (count + 1) report) → ⊥
 
 -- the bytes are not the text of a report
 abbrev pub IsNotAReport : List ℕ → Type 0
-IsNotAReport bytes = (report : SavedReport) → IsSaved report → saved_text report ≡ bytes → ⊥
+IsNotAReport bytes = (report : SavedReport) → IsValidReport report → saved_text report ≡ bytes → ⊥
 
 -- `read` is the result for a text that may be truncated: if the Boolean is false, `read` is the report with this text; if it is true, no
 -- report has this text, and `read` has its complete rows
 abbrev pub IsReadAs : List ℕ → Bool → SavedReport → Type 0
-IsReadAs bytes false read = IsSaved read × (saved_text read ≡ bytes)
+IsReadAs bytes false read = IsValidReport read × (saved_text read ≡ bytes)
 IsReadAs bytes true read = IsNotAReport bytes
-    × ((report : SavedReport) × (count : ℕ) × HasWholeRows bytes report count × (read ≡ first_rows count report))
+    × ((report : SavedReport) × (count : ℕ) × HasCompleteRows bytes report count × (read ≡ first_rows count report))

@@ -7,7 +7,7 @@ use Rattle.std.specs.Fmt.{decimal}
 use Rattle.hex.specs.Hex.{IsBytes}
 use Rattle.rv_elf.specs.declared.error.ImageError.TheVariants as image
 use Rattle.rv_base.specs.Names.{is_name, index_in}
-use Rattle.rv_base.specs.Limits.{most_jobs}
+use Rattle.rv_base.specs.Limits.{max_jobs}
 use Rattle.rv_report.specs.Report.{line, row_text, done_line}
 use Rattle.rv_report.specs.declared.row.Refusal.TheVariants as refusal
 use Rattle.rv_report.specs.declared.row.Row.{Row}
@@ -21,9 +21,9 @@ use Rattle.rv_report.specs.declared.saved.SavedReport.{SavedReport}
 -- ---- which jobs
 
 -- whether the job numbers increase strictly, are all greater than `before`, and are at most `last`
-unfoldable pub are_rising : ℕ → ℕ → List ℕ → Bool
-are_rising before last [] = true
-are_rising before last (n ∷ ns) = nat_lt before n && (nat_le n last && are_rising n last ns)
+unfoldable pub are_increasing : ℕ → ℕ → List ℕ → Bool
+are_increasing before last [] = true
+are_increasing before last (n ∷ ns) = nat_lt before n && (nat_le n last && are_increasing n last ns)
 
 -- whether the job numbers are `next`, `next` + `step`, `next` + 2 `step` and so on, up to `last`
 unfoldable pub are_evenly_spaced : ℕ → ℕ → ℕ → List ℕ → Bool
@@ -31,17 +31,17 @@ are_evenly_spaced next step last [] = nat_lt last next
 are_evenly_spaced next step last (n ∷ ns) =
     (n == next) && (nat_le n last && are_evenly_spaced (next + step) step last ns)
 
--- whether a shard is valid: its number is from 1 to the number of shards, that number and the number of jobs are at most `most_jobs`, and
+-- whether a shard is valid: its number is from 1 to the number of shards, that number and the number of jobs are at most `max_jobs`, and
 -- its stamp is a valid name
 unfoldable pub is_valid_shard : Shard → Bool
-is_valid_shard s = nat_le 1 s.number && (nat_le s.number s.shards && (nat_le s.shards most_jobs
-    && (nat_le s.jobs most_jobs && is_name s.stamp)))
+is_valid_shard s = nat_le 1 s.number && (nat_le s.number s.shards && (nat_le s.shards max_jobs
+    && (nat_le s.jobs max_jobs && is_name s.stamp)))
 
 -- whether a report with this extent can have these job numbers: all numbers of a whole list, increasing numbers of chosen jobs, or the
 -- numbers of a shard
 unfoldable pub matches_job_numbers : Extent → List ℕ → Bool
 matches_job_numbers extent.Whole ns = are_evenly_spaced 1 1 (length ns) ns
-matches_job_numbers (extent.Choice jobs) ns = nat_le jobs most_jobs && are_rising 0 jobs ns
+matches_job_numbers (extent.Choice jobs) ns = nat_le jobs max_jobs && are_increasing 0 jobs ns
 matches_job_numbers (extent.Shard s) ns = is_valid_shard s && are_evenly_spaced s.number s.shards s.jobs ns
 
 -- ---- the text
@@ -53,19 +53,19 @@ numbered_text [] rows = []
 numbered_text (n ∷ ns) [] = []
 
 -- the text `part ROWS of JOBS`, with the number of rows and the number of jobs in the list
-abbrev pub part_words : ℕ → ℕ → List ℕ
-part_words count jobs = codes "part " ++ decimal count ++ codes " of " ++ decimal jobs
+abbrev pub part_text : ℕ → ℕ → List ℕ
+part_text count jobs = codes "part " ++ decimal count ++ codes " of " ++ decimal jobs
 
 -- the text ` shard SHARD/SHARDS stamp STAMP` of this shard
-abbrev pub shard_words : Shard → List ℕ
-shard_words s = codes " shard " ++ decimal s.number ++ codes "/" ++ decimal s.shards
+abbrev pub shard_text : Shard → List ℕ
+shard_text s = codes " shard " ++ decimal s.number ++ codes "/" ++ decimal s.shards
     ++ codes " stamp " ++ s.stamp
 
 -- the last line of a report with this extent and `count` rows
 unfoldable pub extent_line : Extent → ℕ → List ℕ
 extent_line extent.Whole count = done_line count
-extent_line (extent.Choice jobs) count = line (part_words count jobs)
-extent_line (extent.Shard s) count = line (part_words count s.jobs ++ shard_words s)
+extent_line (extent.Choice jobs) count = line (part_text count jobs)
+extent_line (extent.Shard s) count = line (part_text count s.jobs ++ shard_text s)
 
 -- the text of a report
 unfoldable pub saved_text : SavedReport → List ℕ
@@ -78,49 +78,49 @@ abbrev pub IsWord : ℕ → Type 0
 IsWord word = word < 2 ^ 32
 
 -- the ending can be in a row: its numbers have 32 bits, and it is not a refusal for lack of memory
-abbrev pub IsEnd : RowEnd → Type 0
-IsEnd (ending.Exit code) = IsWord code
-IsEnd (ending.Fault kind pc value) = IsWord pc × IsWord value
-IsEnd ending.Budget = Unit {0}
-IsEnd (ending.Refused why) = why ≡ refusal.Image image.OutOfMemory → ⊥
+abbrev pub IsValidEnd : RowEnd → Type 0
+IsValidEnd (ending.Exit code) = IsWord code
+IsValidEnd (ending.Fault kind pc value) = IsWord pc × IsWord value
+IsValidEnd ending.Budget = Unit {0}
+IsValidEnd (ending.Refused why) = why ≡ refusal.Image image.OutOfMemory → ⊥
 
 -- the maximum number of words in a signature
-abbrev pub most_words : ℕ
-most_words = 65536
+abbrev pub max_words : ℕ
+max_words = 65536
 
--- the signature has at most `most_words` words of 32 bits each, or is not given
-abbrev pub AreWords : Option (List ℕ) → Type 0
-AreWords None = Unit {0}
-AreWords (Some words) = (length words ≤ most_words) × AllByRecursion IsWord words
+-- the signature has at most `max_words` words of 32 bits each, or is not given
+abbrev pub IsValidSignature : Option (List ℕ) → Type 0
+IsValidSignature None = Unit {0}
+IsValidSignature (Some words) = (length words ≤ max_words) × AllByRecursion IsWord words
 
 -- the row is valid: its name is valid, its numbers have 32 bits, and its console consists of bytes
-pub record IsRow (row : Row) : Type 0 where
+pub record IsValidRow (row : Row) : Type 0 where
   pub name : is_name row.name ≡ true
-  pub ending : IsEnd row.ending
+  pub ending : IsValidEnd row.ending
   pub steps : IsWord row.steps
   pub console : IsBytes row.console
-  pub signature : AreWords row.signature
+  pub signature : IsValidSignature row.signature
 
 -- whether each text in a list differs from the earlier ones and from each of `earlier`
-unfoldable pub are_new : List (List ℕ) → List (List ℕ) → Bool
-are_new earlier [] = true
-are_new earlier (text ∷ texts) =
-    not (is_some (index_in earlier text)) && are_new (earlier ++ text ∷ []) texts
+unfoldable pub are_distinct : List (List ℕ) → List (List ℕ) → Bool
+are_distinct earlier [] = true
+are_distinct earlier (text ∷ texts) =
+    not (is_some (index_in earlier text)) && are_distinct (earlier ++ text ∷ []) texts
 
 -- the names of the rows, in order
 abbrev pub row_names : List Row → List (List ℕ)
 row_names rows = map (λ (row : Row). row.name) rows
 
--- the rows belong to different jobs of one list of at most `most_jobs` jobs: their job numbers increase and fit the extent, and their names
+-- the rows belong to different jobs of one list of at most `max_jobs` jobs: their job numbers increase and fit the extent, and their names
 -- are valid and distinct
-pub record IsListed (r : SavedReport) : Type 0 where
+pub record HasDistinctJobs (r : SavedReport) : Type 0 where
   pub counted : length r.numbers ≡ length r.rows
-  pub rising : are_rising 0 most_jobs r.numbers ≡ true
+  pub rising : are_increasing 0 max_jobs r.numbers ≡ true
   pub fits : matches_job_numbers r.extent r.numbers ≡ true
   pub names : list_all is_name (row_names r.rows) ≡ true
-  pub new : are_new [] (row_names r.rows) ≡ true
+  pub new : are_distinct [] (row_names r.rows) ≡ true
 
 -- the report is valid: its rows belong to different jobs of one list, and each row is valid
-pub record IsSaved (r : SavedReport) : Type 0 where
-  pub listed : IsListed r
-  pub rows : AllByRecursion IsRow r.rows
+pub record IsValidReport (r : SavedReport) : Type 0 where
+  pub listed : HasDistinctJobs r
+  pub rows : AllByRecursion IsValidRow r.rows

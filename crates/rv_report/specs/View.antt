@@ -4,8 +4,8 @@ use Rattle.rv_report.specs.declared.gathering.Gathering.{Gathering}
 use Rattle.rv_report.specs.LenientReport.{Gathered}
 
 -- the state of reading a report that the fields of `Gathering` represent
-abbrev pub gathering_view : Gathering → Gathered
-gathering_view g = record {
+abbrev pub reader_state_view : Gathering → Gathered
+reader_state_view g = record {
   numbers = g.numbers.items;
   rows = g.rows.items;
   extent = g.extent;

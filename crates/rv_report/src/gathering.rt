@@ -1,10 +1,10 @@
 //! Reading all lines of a text: rows with the numbers of their jobs, and a last line.
 
 ghost use Rattle.std.specs.Prelude.{◌≡◌, ◌++◌, ◌∷◌, [], OnOk, IfOk, string_bytes};
-ghost use Rattle.rv_report.specs.LenientReport.{lines, gathering_between_rows, with_finished_row, with_stage_over, at_job_or_last_line, at_ending, at_steps, at_console};
-ghost use Rattle.rv_report.specs.LenientReport.{at_signature};
-ghost use Rattle.rv_report.specs.LenientReport.{at_words, with_line, with_lines, row_so_far, padded_words, with_unfinished_row, gather_rows};
-ghost use Rattle.rv_report.specs.View.{gathering_view};
+ghost use Rattle.rv_report.specs.LenientReport.{lines, state_between_rows, with_finished_row, with_stage_done, after_job_or_last_line, after_end_line, after_steps_line, after_console_line};
+ghost use Rattle.rv_report.specs.LenientReport.{after_signature_line};
+ghost use Rattle.rv_report.specs.LenientReport.{after_word_or_verdict_line, with_line, with_lines, unfinished_row, padded_words, with_unfinished_row, gather_rows};
+ghost use Rattle.rv_report.specs.View.{reader_state_view};
 
 use crate::fields::{
     decimal_number, hex_bytes, hex_word, index_of_byte, is_hex_word, leading_bytes,
@@ -14,7 +14,7 @@ use crate::lines::{
 };
 use crate::row::{Row, RowEnd, Verdict, Words};
 use crate::saved::Extent;
-use rv_base::limits::MOST_JOBS;
+use rv_base::limits::MAX_JOBS;
 use rv_base::{Bytes, Text};
 use rv_text::{byte_at, tail_from};
 use std::alloc::{AllocError, Global};
@@ -54,29 +54,29 @@ pub(crate) enum Stage {
 }
 
 /// The maximum number of words in a signature.
-const MOST_WORDS: u32 = 65_536;
+const MAX_WORDS: u32 = 65_536;
 
 /// Reads the lines of a text up to the first that cannot come next, and returns their rows. A row that is unfinished at the end is
 /// included.
 #[tactic(auto, unfolding(crate::specs::LenientReport::gather_rows))]
 pub fn gather_rows(alloc: Global, text: &[u8]) -> Result<Gathering, AllocError>
-    ensures { IfOk result (λ g. gathering_view g ≡ gather_rows text.now) }
+    ensures { IfOk result (λ g. reader_state_view g ≡ gather_rows text.now) }
 {
-    let mut gathering = empty_gathering(alloc)?;
+    let mut gathering = initial_state(alloc)?;
     let mut rest = text;
     while !rest.is_empty() {
         let end = index_of_byte(b'\n', rest);
         add_line(alloc, &mut gathering, leading_bytes(rest, end))?;
         rest = tail_from(rest, end + 1);
     }
-    close_unfinished_row(alloc, &mut gathering)?;
+    finish_unfinished_row(alloc, &mut gathering)?;
     Ok(gathering)
 }
 
 // Returns the state before the first line.
-#[tactic(auto, unfolding(crate::specs::LenientReport::gathering_between_rows))]
-fn empty_gathering(alloc: Global) -> Result<Gathering, AllocError>
-    ensures { IfOk result (λ g. gathering_view g ≡ gathering_between_rows [] [] Extent.Whole) }
+#[tactic(auto, unfolding(crate::specs::LenientReport::state_between_rows))]
+fn initial_state(alloc: Global) -> Result<Gathering, AllocError>
+    ensures { IfOk result (λ g. reader_state_view g ≡ state_between_rows [] [] Extent.Whole) }
 {
     let name = String::from_str(alloc, "-")?;
     Ok(Gathering {
@@ -99,7 +99,7 @@ fn empty_gathering(alloc: Global) -> Result<Gathering, AllocError>
 // Reads the next line.
 #[tactic(auto, unfolding(crate::specs::LenientReport::with_line))]
 fn add_line(alloc: Global, gathering: &mut Gathering, line: &[u8]) -> Result<(), AllocError>
-    ensures { OnOk result (gathering_view gathering.new ≡ with_line line.now (gathering_view gathering.old)) }
+    ensures { OnOk result (reader_state_view gathering.new ≡ with_line line.now (reader_state_view gathering.old)) }
 {
     match gathering.stage {
         Stage::Between => add_job_or_last_line(alloc, gathering, line),
@@ -113,16 +113,16 @@ fn add_line(alloc: Global, gathering: &mut Gathering, line: &[u8]) -> Result<(),
 }
 
 // Reads a line between rows: the first line of a row, or the last line of the report.
-#[tactic(auto, unfolding(crate::specs::LenientReport::at_job_or_last_line))]
+#[tactic(auto, unfolding(crate::specs::LenientReport::after_job_or_last_line))]
 fn add_job_or_last_line(
     alloc: Global,
     gathering: &mut Gathering,
     line: &[u8],
 ) -> Result<(), AllocError>
-    ensures { OnOk result (gathering_view gathering.new ≡ at_job_or_last_line line.now (gathering_view gathering.old)) }
+    ensures { OnOk result (reader_state_view gathering.new ≡ after_job_or_last_line line.now (reader_state_view gathering.old)) }
 {
     match byte_at(line, 0) {
-        b'j' if gathering.rows.len() < MOST_JOBS => {
+        b'j' if gathering.rows.len() < MAX_JOBS => {
             gathering.name = job_name_of_line(alloc, line)?;
             gathering.number = job_number_of_line(line);
             gathering.is_in_row = true;
@@ -138,9 +138,9 @@ fn add_job_or_last_line(
 }
 
 // Reads the line that should have the ending of a row.
-#[tactic(auto, unfolding(crate::specs::LenientReport::at_ending))]
+#[tactic(auto, unfolding(crate::specs::LenientReport::after_end_line))]
 fn add_end_line(gathering: &mut Gathering, line: &[u8])
-    ensures { gathering_view gathering.new ≡ at_ending line.now (gathering_view gathering.old) }
+    ensures { reader_state_view gathering.new ≡ after_end_line line.now (reader_state_view gathering.old) }
 {
     if byte_at(line, 0) == b'e' {
         gathering.ending = row_ending_of_line(line);
@@ -151,9 +151,9 @@ fn add_end_line(gathering: &mut Gathering, line: &[u8])
 }
 
 // Reads the line that should have the steps of a row.
-#[tactic(auto, unfolding(crate::specs::LenientReport::at_steps))]
+#[tactic(auto, unfolding(crate::specs::LenientReport::after_steps_line))]
 fn add_steps_line(gathering: &mut Gathering, line: &[u8])
-    ensures { gathering_view gathering.new ≡ at_steps line.now (gathering_view gathering.old) }
+    ensures { reader_state_view gathering.new ≡ after_steps_line line.now (reader_state_view gathering.old) }
 {
     if byte_at(line, 0) == b's' && byte_at(line, 1) == b't' {
         gathering.steps = decimal_number(tail_from(line, 6));
@@ -164,9 +164,9 @@ fn add_steps_line(gathering: &mut Gathering, line: &[u8])
 }
 
 // Reads the line that should have the console of a row.
-#[tactic(auto, unfolding(crate::specs::LenientReport::at_console))]
+#[tactic(auto, unfolding(crate::specs::LenientReport::after_console_line))]
 fn add_console_line(alloc: Global, gathering: &mut Gathering, line: &[u8]) -> Result<(), AllocError>
-    ensures { OnOk result (gathering_view gathering.new ≡ at_console line.now (gathering_view gathering.old)) }
+    ensures { OnOk result (reader_state_view gathering.new ≡ after_console_line line.now (reader_state_view gathering.old)) }
 {
     if byte_at(line, 0) == b'c' {
         gathering.console = hex_bytes(alloc, tail_from(line, 8))?;
@@ -178,12 +178,12 @@ fn add_console_line(alloc: Global, gathering: &mut Gathering, line: &[u8]) -> Re
 }
 
 // Reads the line that should have the number of words of a row's signature.
-#[tactic(auto, unfolding(crate::specs::LenientReport::at_signature))]
+#[tactic(auto, unfolding(crate::specs::LenientReport::after_signature_line))]
 fn add_signature_line(gathering: &mut Gathering, line: &[u8])
-    ensures { gathering_view gathering.new ≡ at_signature line.now (gathering_view gathering.old) }
+    ensures { reader_state_view gathering.new ≡ after_signature_line line.now (reader_state_view gathering.old) }
 {
     let count = decimal_number(tail_from(line, 10));
-    if byte_at(line, 0) == b's' && byte_at(line, 1) == b'i' && count <= MOST_WORDS {
+    if byte_at(line, 0) == b's' && byte_at(line, 1) == b'i' && count <= MAX_WORDS {
         gathering.signed = byte_at(line, 10) != b'-';
         gathering.count = count;
         gathering.words.clear();
@@ -194,19 +194,19 @@ fn add_signature_line(gathering: &mut Gathering, line: &[u8])
 }
 
 // Reads a line that should have a word of the signature, or the verdict if all words have been read.
-#[tactic(auto, unfolding(crate::specs::LenientReport::at_words))]
+#[tactic(auto, unfolding(crate::specs::LenientReport::after_word_or_verdict_line))]
 fn add_word_or_verdict_line(
     alloc: Global,
     gathering: &mut Gathering,
     line: &[u8],
 ) -> Result<(), AllocError>
-    ensures { OnOk result (gathering_view gathering.new ≡ at_words line.now (gathering_view gathering.old)) }
+    ensures { OnOk result (reader_state_view gathering.new ≡ after_word_or_verdict_line line.now (reader_state_view gathering.old)) }
 {
     if is_hex_word(line) && gathering.words.len() < gathering.count as usize {
         gathering.words.push(hex_word(line))?;
         Ok(())
     } else if byte_at(line, 0) == b'v' && gathering.words.len() == gathering.count as usize {
-        close_row(alloc, gathering, verdict_of_line(line))
+        finish_row(alloc, gathering, verdict_of_line(line))
     } else {
         gathering.stage = Stage::Over;
         Ok(())
@@ -215,14 +215,14 @@ fn add_word_or_verdict_line(
 
 // If there is an unfinished row, finishes it with the verdict `none` and adds it to the rows.
 #[tactic(auto, unfolding(crate::specs::LenientReport::with_unfinished_row))]
-fn close_unfinished_row(alloc: Global, gathering: &mut Gathering) -> Result<(), AllocError>
-    ensures { OnOk result (gathering_view gathering.new ≡ with_unfinished_row (gathering_view gathering.old)) }
+fn finish_unfinished_row(alloc: Global, gathering: &mut Gathering) -> Result<(), AllocError>
+    ensures { OnOk result (reader_state_view gathering.new ≡ with_unfinished_row (reader_state_view gathering.old)) }
 {
     if !gathering.is_in_row {
         return Ok(());
     }
     pad_signature_words(&mut gathering.words, gathering.count)?;
-    close_row(alloc, gathering, Verdict::Unasked)
+    finish_row(alloc, gathering, Verdict::Unasked)
 }
 
 // Appends zeros up to `count` words.
@@ -237,9 +237,9 @@ fn pad_signature_words(words: &mut Vec<u32>, count: u32) -> Result<(), AllocErro
 }
 
 // Finishes the unfinished row with this verdict, and adds it to the rows.
-#[tactic(auto, unfolding(crate::specs::LenientReport::with_finished_row, crate::specs::LenientReport::gathering_between_rows, crate::specs::LenientReport::row_so_far))]
-fn close_row(alloc: Global, gathering: &mut Gathering, verdict: Verdict) -> Result<(), AllocError>
-    ensures { OnOk result (gathering_view gathering.new ≡ with_finished_row verdict (gathering_view gathering.old)) }
+#[tactic(auto, unfolding(crate::specs::LenientReport::with_finished_row, crate::specs::LenientReport::state_between_rows, crate::specs::LenientReport::unfinished_row))]
+fn finish_row(alloc: Global, gathering: &mut Gathering, verdict: Verdict) -> Result<(), AllocError>
+    ensures { OnOk result (reader_state_view gathering.new ≡ with_finished_row verdict (reader_state_view gathering.old)) }
 {
     gathering.numbers.push(gathering.number)?;
     let row = take_row(alloc, gathering, verdict)?;
@@ -248,11 +248,11 @@ fn close_row(alloc: Global, gathering: &mut Gathering, verdict: Verdict) -> Resu
 }
 
 // Returns the row that has the values of the unfinished row and this verdict; afterwards there is no unfinished row.
-#[tactic(auto, unfolding(crate::specs::LenientReport::gathering_between_rows, crate::specs::LenientReport::row_so_far))]
+#[tactic(auto, unfolding(crate::specs::LenientReport::state_between_rows, crate::specs::LenientReport::unfinished_row))]
 fn take_row(alloc: Global, gathering: &mut Gathering, verdict: Verdict) -> Result<Row, AllocError>
-    ensures row { IfOk result (λ row. row ≡ row_so_far verdict (gathering_view gathering.old)) }
-    ensures rest { OnOk result (gathering_view gathering.new ≡ gathering_between_rows (gathering_view gathering.old).numbers
-        (gathering_view gathering.old).rows (gathering_view gathering.old).extent) }
+    ensures row { IfOk result (λ row. row ≡ unfinished_row verdict (reader_state_view gathering.old)) }
+    ensures rest { OnOk result (reader_state_view gathering.new ≡ state_between_rows (reader_state_view gathering.old).numbers
+        (reader_state_view gathering.old).rows (reader_state_view gathering.old).extent) }
 {
     let dash = String::from_str(alloc, "-")?;
     let name = mem::replace(&mut gathering.name, dash);

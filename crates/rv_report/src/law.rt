@@ -4,26 +4,26 @@ ghost use Rattle.std.specs.Prelude.{◌≡◌, ◌≤◌, ◌++◌, ℕ, List};
 ghost use Rattle.rv_report.specs.Report.{report_text};
 ghost use Rattle.rv_report.specs.declared.saved.Extent.TheVariants.{Whole};
 ghost use Rattle.rv_report.specs.declared.saved.SavedReport.{SavedReport};
-ghost use Rattle.rv_report.specs.Saved.{IsSaved, saved_text};
-ghost use Rattle.rv_report.specs.Differences.{count_of_line_feeds};
+ghost use Rattle.rv_report.specs.Saved.{IsValidReport, saved_text};
+ghost use Rattle.rv_report.specs.Differences.{line_feed_count};
 ghost use Rattle.rv_report.specs.LenientReport.{lenient_report};
-ghost use Rattle.rv_report.specs.LeastLine.{first_lines, BeginsReport};
+ghost use Rattle.rv_report.specs.LeastLine.{first_lines, IsReportPrefix};
 
 /// Proves that two valid reports with the same text are equal.
 pub fn one_text_one_report()
-    ensures { (report other : SavedReport) → IsSaved report → IsSaved other
+    ensures { (report other : SavedReport) → IsValidReport report → IsValidReport other
         → saved_text report ≡ saved_text other → report ≡ other }
 {}
 
 /// Proves that the text of the report of a whole list is the text that `write_report` writes for its rows.
 pub fn whole_text_is_report_text()
-    ensures { (report : SavedReport) → IsSaved report → report.extent ≡ Whole
+    ensures { (report : SavedReport) → IsValidReport report → report.extent ≡ Whole
         → saved_text report ≡ report_text report.rows }
 {}
 
 /// Proves that if some report begins with the first lines of a text, then the report that `lenient_report` reads from the text begins with
 /// these lines, too.
-pub fn lines_of_a_report_stay()
-    ensures { (bytes : List ℕ) → (count : ℕ) → count ≤ count_of_line_feeds bytes → BeginsReport (first_lines count bytes)
+pub fn lenient_report_keeps_first_lines()
+    ensures { (bytes : List ℕ) → (count : ℕ) → count ≤ line_feed_count bytes → IsReportPrefix (first_lines count bytes)
         → (rest : List ℕ) × (saved_text (lenient_report bytes) ≡ first_lines count bytes ++ rest) }
 {}

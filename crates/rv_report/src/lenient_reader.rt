@@ -1,15 +1,15 @@
 //! The report that is read from a text leniently: its lines, up to the first row that no report has there.
 
 ghost use Rattle.std.specs.Prelude.{◌≡◌, ◌≤◌, IfOk, length};
-ghost use Rattle.rv_report.specs.LenientReport.{rising_count, extent_or_choice, lenient_report};
-ghost use Rattle.rv_base.specs.Limits.{most_jobs};
-ghost use Rattle.rv_report.specs.Saved.{IsSaved};
+ghost use Rattle.rv_report.specs.LenientReport.{increasing_count, extent_or_selection, lenient_report};
+ghost use Rattle.rv_base.specs.Limits.{max_jobs};
+ghost use Rattle.rv_report.specs.Saved.{IsValidReport};
 
 use crate::gathering::gather_rows;
 use crate::names::count_before_repeated_name;
 use crate::report::Rows;
 use crate::saved::{Extent, Numbers, SavedReport};
-use rv_base::limits::MOST_JOBS;
+use rv_base::limits::MAX_JOBS;
 use std::alloc::{AllocError, Global};
 
 /// Reads a report from a text leniently, and returns its rows before the first whose job number does not increase or whose name is
@@ -17,16 +17,16 @@ use std::alloc::{AllocError, Global};
 #[tactic(auto, unfolding(crate::specs::LenientReport::lenient_report))]
 pub(crate) fn lenient_report(alloc: Global, text: &[u8]) -> Result<SavedReport, AllocError>
     ensures value { IfOk result (λ report. report ≡ lenient_report text.now) }
-    ensures good { IfOk result (λ report. IsSaved report) }
+    ensures good { IfOk result (λ report. IsValidReport report) }
 {
     let gathering = gather_rows(alloc, text)?;
     let mut numbers = gathering.numbers;
     let mut rows = gathering.rows;
-    rows.truncate(rising_count(&numbers));
+    rows.truncate(increasing_count(&numbers));
     let count = count_before_repeated_name(alloc, &rows)?;
     numbers.truncate(count);
     rows.truncate(count);
-    let extent = extent_or_choice(gathering.extent, &numbers);
+    let extent = extent_or_selection(gathering.extent, &numbers);
     Ok(SavedReport {
         extent,
         numbers: Numbers::new(numbers),
@@ -34,30 +34,30 @@ pub(crate) fn lenient_report(alloc: Global, text: &[u8]) -> Result<SavedReport, 
     })
 }
 
-// Returns the given extent if it has these job numbers, and otherwise `Extent::Choice(MOST_JOBS)`, which can have any increasing job
+// Returns the given extent if it has these job numbers, and otherwise `Extent::Choice(MAX_JOBS)`, which can have any increasing job
 // numbers.
-#[tactic(auto, unfolding(crate::specs::LenientReport::extent_or_choice))]
-fn extent_or_choice(extent: Extent, numbers: &[u32]) -> Extent
-    requires { length numbers.now ≤ most_jobs }
-    ensures { result ≡ extent_or_choice extent numbers.now }
+#[tactic(auto, unfolding(crate::specs::LenientReport::extent_or_selection))]
+fn extent_or_selection(extent: Extent, numbers: &[u32]) -> Extent
+    requires { length numbers.now ≤ max_jobs }
+    ensures { result ≡ extent_or_selection extent numbers.now }
 {
     if extent.matches_job_numbers(numbers) {
         extent
     } else {
-        Extent::Choice(MOST_JOBS as u32)
+        Extent::Choice(MAX_JOBS as u32)
     }
 }
 
 // Returns how many leading job numbers increase and are at most the maximum number of jobs in a list.
-fn rising_count(numbers: &[u32]) -> usize
-    ensures { result ≡ rising_count 0 numbers.now }
+fn increasing_count(numbers: &[u32]) -> usize
+    ensures { result ≡ increasing_count 0 numbers.now }
 {
     let mut before = 0;
     for (at, number) in numbers.iter().enumerate() {
         if *number <= before {
             return at;
         }
-        if MOST_JOBS < *number as usize {
+        if MAX_JOBS < *number as usize {
             return at;
         }
         before = *number;

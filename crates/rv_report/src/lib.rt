@@ -22,7 +22,7 @@ mod saved_report_text;
 mod saved_writer;
 mod signature_lines;
 
-pub use law::{lines_of_a_report_stay, one_text_one_report, whole_text_is_report_text};
+pub use law::{lenient_report_keeps_first_lines, one_text_one_report, whole_text_is_report_text};
 pub use partial::{PartialReport, read_partial_report};
 pub use read::{ReadError, read_report};
 pub use report::{Report, Rows, WriteError, push_row, write_report};
@@ -30,7 +30,7 @@ pub use row::{Refusal, Row, RowEnd, Verdict, Words};
 pub use saved::{Extent, Numbers, SavedReport, Shard};
 pub use saved_report_text::push_extent_line;
 pub use saved_writer::write_saved_report;
-pub use signature_lines::{LINE, are_word_lines, word_line};
+pub use signature_lines::{WORD_LINE_LEN, are_word_lines, word_line};
 
 // From the crates below: what this interface names, and what its callers need with it.
 pub use rv_base::{Bytes, Sequence, Sink, SinkFailed, Text, is_name, put_all};

@@ -1,18 +1,18 @@
 //! Reports that may be truncated, as left by a killed run.
 
 ghost use Rattle.std.specs.Prelude.{◌≡◌, ◌⊎◌, ◌<◌, ◌≤◌, ◌+◌, ℕ, IfErr, IfOk, OnErr, length};
-ghost use Rattle.rv_base.specs.Limits.{most_jobs};
-ghost use Rattle.rv_report.specs.LeastLine.{BeginsReport, IsLeastRefusedLine};
+ghost use Rattle.rv_base.specs.Limits.{max_jobs};
+ghost use Rattle.rv_report.specs.LeastLine.{IsReportPrefix, IsFirstInvalidLine};
 ghost use Rattle.rv_report.specs.LenientReport.{lenient_report};
 ghost use Rattle.rv_report.specs.Partial.{BeginsWith, IsReadAs, first_rows, first_rows_text};
-ghost use Rattle.rv_report.specs.Saved.{IsListed, IsSaved};
+ghost use Rattle.rv_report.specs.Saved.{HasDistinctJobs, IsValidReport};
 ghost use Rattle.rv_report.specs.declared.read.ReadError.TheVariants.{Line, OutOfMemory};
 
 use crate::lenient_reader::lenient_report;
 use crate::read::{ReadError, read_report};
 use crate::report::{Rows, push_row};
 use crate::saved::{Extent, Numbers, SavedReport};
-use rv_base::limits::MOST_JOBS;
+use rv_base::limits::MAX_JOBS;
 use std::alloc::{AllocError, Global};
 
 /// A report that was read from a text that may be truncated.
@@ -27,10 +27,10 @@ pub struct PartialReport {
 /// Returns the report with this text, or the complete rows of a truncated text. Every prefix of a report's text is accepted.
 pub fn read_partial_report(alloc: Global, bytes: &[u8]) -> Result<PartialReport, ReadError>
     ensures found { IfOk result (λ read. IsReadAs bytes.now read.is_cut_off read.report) }
-    ensures saved { IfOk result (λ read. IsSaved read.report) }
-    ensures beginning { BeginsReport bytes.now → IfErr result (λ error. error ≡ OutOfMemory) }
+    ensures saved { IfOk result (λ read. IsValidReport read.report) }
+    ensures beginning { IsReportPrefix bytes.now → IfErr result (λ error. error ≡ OutOfMemory) }
     ensures refused { IfErr result (λ error. (error ≡ OutOfMemory)
-        ⊎ ((line : ℕ) × (error ≡ Line line) × IsLeastRefusedLine line bytes.now)) }
+        ⊎ ((line : ℕ) × (error ≡ Line line) × IsFirstInvalidLine line bytes.now)) }
 {
     match read_report(alloc, bytes) {
         Ok(report) => Ok(PartialReport {
@@ -38,7 +38,7 @@ pub fn read_partial_report(alloc: Global, bytes: &[u8]) -> Result<PartialReport,
             is_cut_off: false,
         }),
         Err(ReadError::CutOff) => {
-            let report = read_whole_rows(alloc, bytes)?;
+            let report = read_complete_rows(alloc, bytes)?;
             Ok(PartialReport {
                 report,
                 is_cut_off: true,
@@ -50,7 +50,7 @@ pub fn read_partial_report(alloc: Global, bytes: &[u8]) -> Result<PartialReport,
 }
 
 // Returns the complete rows of a truncated text, as a report of chosen jobs.
-fn read_whole_rows(alloc: Global, bytes: &[u8]) -> Result<SavedReport, AllocError>
+fn read_complete_rows(alloc: Global, bytes: &[u8]) -> Result<SavedReport, AllocError>
     ensures rows { IfOk result (λ report. (count : ℕ) × (report ≡ first_rows count (lenient_report bytes.now))
         × (count ≤ length (lenient_report bytes.now).rows)
         × BeginsWith bytes.now (first_rows_text count (lenient_report bytes.now))
@@ -58,13 +58,13 @@ fn read_whole_rows(alloc: Global, bytes: &[u8]) -> Result<SavedReport, AllocErro
         → BeginsWith bytes.now (first_rows_text (count + 1) (lenient_report bytes.now)) → ⊥)) }
 {
     let said = lenient_report(alloc, bytes)?;
-    let count = whole_row_count(alloc, &said, bytes)?;
+    let count = complete_row_count(alloc, &said, bytes)?;
     Ok(first_rows(said, count))
 }
 
 // Returns the number of rows of a report that are complete in the bytes.
-fn whole_row_count(alloc: Global, report: &SavedReport, bytes: &[u8]) -> Result<usize, AllocError>
-    requires { IsListed report.now }
+fn complete_row_count(alloc: Global, report: &SavedReport, bytes: &[u8]) -> Result<usize, AllocError>
+    requires { HasDistinctJobs report.now }
     ensures within { IfOk result (λ count. count ≤ length report.now.rows) }
     ensures there { IfOk result (λ count. BeginsWith bytes.now (first_rows_text count report.now)) }
     ensures most { IfOk result (λ count. count < length report.now.rows
@@ -94,7 +94,7 @@ fn first_rows(report: SavedReport, count: usize) -> SavedReport
     numbers.truncate(count);
     rows.truncate(count);
     SavedReport {
-        extent: Extent::Choice(MOST_JOBS as u32),
+        extent: Extent::Choice(MAX_JOBS as u32),
         numbers: Numbers::new(numbers),
         rows: Rows::new(rows),
     }

@@ -2,11 +2,11 @@
 
 ghost use Rattle.std.specs.Prelude.{◌≡◌, ◌==◌, ◌≤◌, ◌^◌, ◌<◌, IfOk, IfErr, string_bytes, length, not};
 ghost use Rattle.rv_report.specs.declared.saved.SavedReport.{SavedReport as Saved};
-ghost use Rattle.rv_report.specs.Saved.{IsSaved, saved_text};
-ghost use Rattle.rv_report.specs.Differences.{count_of_line_feeds, word_after_byte, word_after_letter, begins_last_line, begins_row, can_begin_report_line, read_error_from};
-ghost use Rattle.rv_report.specs.Differences.{read_error_at, BeginsAlike, AnswersUnlessMemory, IsSameReadError};
+ghost use Rattle.rv_report.specs.Saved.{IsValidReport, saved_text};
+ghost use Rattle.rv_report.specs.Differences.{line_feed_count, word_after_byte, word_after_letter, begins_last_line, begins_row, can_begin_report_line, read_error_from};
+ghost use Rattle.rv_report.specs.Differences.{read_error_at, AgreeBeforeError, IsOkOrOutOfMemory, IsSameReadError};
 ghost use Rattle.rv_report.specs.LenientReport.{lenient_report};
-ghost use Rattle.rv_report.specs.LeastLine.{IsLeast, BeginsReport};
+ghost use Rattle.rv_report.specs.LeastLine.{IsFirstError, IsReportPrefix};
 ghost use Rattle.rv_report.specs.declared.read.ReadError.TheVariants.{OutOfMemory, CutOff};
 ghost use Rattle.rv_report.specs.declared.read.FirstWord.TheVariants as word;
 
@@ -45,17 +45,17 @@ impl From<AllocError> for ReadError {
 /// text; if the text is not a report, for at most 4,096 rows and one more signature of 65,536 words.
 pub fn read_report(alloc: Global, bytes: &[u8]) -> Result<SavedReport, ReadError>
     // The result has this text, and is a valid report.
-    ensures found { IfOk result (λ report. IsSaved report × (saved_text report ≡ bytes.now)) }
+    ensures found { IfOk result (λ report. IsValidReport report × (saved_text report ≡ bytes.now)) }
     // Every valid report with this text is read.
-    ensures only { (report : Saved) → IsSaved report → saved_text report ≡ bytes.now
-        → AnswersUnlessMemory report result }
+    ensures only { (report : Saved) → IsValidReport report → saved_text report ≡ bytes.now
+        → IsOkOrOutOfMemory report result }
     // Up to the location in the error, the text agrees with the beginning of some report.
-    ensures err { IfErr result (λ error. (report : Saved) × IsSaved report
-        × BeginsAlike error (saved_text report) bytes.now) }
+    ensures err { IfErr result (λ error. (report : Saved) × IsValidReport report
+        × AgreeBeforeError error (saved_text report) bytes.now) }
     // Some report begins with the lines before the one in the error, and none with these lines and it.
-    ensures least { IfErr result (λ error. IsLeast error bytes.now) }
+    ensures least { IfErr result (λ error. IsFirstError error bytes.now) }
     // If a prefix of a report's text is rejected, the error is `CutOff`.
-    ensures cut { BeginsReport bytes.now → IfErr result (λ error. IsSameReadError error CutOff) }
+    ensures cut { IsReportPrefix bytes.now → IfErr result (λ error. IsSameReadError error CutOff) }
     // The location is that of the first difference from the report of the text's content.
     ensures place { IfErr result (λ error. IsSameReadError error
         (read_error_from 1 word.Ahead (saved_text (lenient_report bytes.now)) bytes.now)) }
@@ -105,7 +105,7 @@ fn read_error_at(line: usize, met: FirstWord, other: u8, rest: &[u8]) -> ReadErr
 
 // Whether a text has a line feed.
 fn has_line_feed(text: &[u8]) -> bool
-    ensures { result ≡ not (count_of_line_feeds text.now == 0) }
+    ensures { result ≡ not (line_feed_count text.now == 0) }
 {
     for b in text {
         if *b == b'\n' {

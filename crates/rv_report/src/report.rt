@@ -5,7 +5,7 @@ ghost use Rattle.std.specs.Prelude.{string_bytes};
 ghost use Rattle.std.specs.Io.KnownBytes.{Appends};
 ghost use Rattle.rv_report.specs.Report.{end_line, dash_if_empty, console_line};
 ghost use Rattle.rv_report.specs.Report.{signature_lines, row_text, rows_text, done_line, report_text};
-ghost use Rattle.rv_base.specs.Sinks.{AppendsBeginning, IsPartlySent};
+ghost use Rattle.rv_base.specs.Sinks.{AppendsPrefix, IsPartlyWritten};
 ghost use Rattle.rv_base.specs.Counts.{HasIncreased};
 ghost use Rattle.rv_base.specs.Counts.{one_more};
 ghost use Rattle.rv_report.specs.declared.report.WriteError.TheVariants.{Failed, OutOfMemory};
@@ -63,7 +63,7 @@ pub fn write_report<W: Sink>(alloc: Global, report: &Report, out: &mut W) -> Res
         (Appends (W.taken out.old) (W.taken out.new) (report_text report.now.rows)) }
     ensures counted { OnOk result (W.failed out.new ≡ W.failed out.old) }
     ensures part { OnErr result
-        (AppendsBeginning (W.taken out.old) (W.taken out.new) (report_text report.now.rows)) }
+        (AppendsPrefix (W.taken out.old) (W.taken out.new) (report_text report.now.rows)) }
     ensures failed { IfErr result (λ error. error ≡ WriteError.Failed
         → HasIncreased (W.failed out.old) (W.failed out.new)) }
 {
@@ -84,29 +84,29 @@ fn put_rows<W: Sink>(
 ) -> Result<(), WriteError>
     requires { string_bytes text.old ≡ [] }
     ensures under_way { OnOk result
-        (IsPartlySent (W.taken out.old) (W.taken out.new)
+        (IsPartlyWritten (W.taken out.old) (W.taken out.new)
         (string_bytes text.new) (rows_text 0 rows.now)) }
     ensures counted { OnOk result (W.failed out.new ≡ W.failed out.old) }
     ensures part { OnErr result
-        (AppendsBeginning (W.taken out.old) (W.taken out.new) (rows_text 0 rows.now)) }
+        (AppendsPrefix (W.taken out.old) (W.taken out.new) (rows_text 0 rows.now)) }
     ensures failed { IfErr result
         (λ error. error ≡ WriteError.Failed → W.failed out.new ≡ one_more (W.failed out.old)) }
 {
     for (place, row) in rows.iter().enumerate() {
         push_row(alloc, text, place, row)?;
-        put_text_if_enough(text, out)?;
+        write_text_if_large(text, out)?;
     }
     Ok(())
 }
 
 /// Writes the buffered text and clears the buffer, if there is enough for a large write.
-pub(crate) fn put_text_if_enough<W: Sink>(text: &mut String, out: &mut W) -> Result<(), WriteError>
+pub(crate) fn write_text_if_large<W: Sink>(text: &mut String, out: &mut W) -> Result<(), WriteError>
     ensures under_way { OnOk result
-        (IsPartlySent (W.taken out.old) (W.taken out.new)
+        (IsPartlyWritten (W.taken out.old) (W.taken out.new)
         (string_bytes text.new) (string_bytes text.old)) }
     ensures counted { OnOk result (W.failed out.new ≡ W.failed out.old) }
     ensures part { OnErr result
-        (AppendsBeginning (W.taken out.old) (W.taken out.new) (string_bytes text.old)) }
+        (AppendsPrefix (W.taken out.old) (W.taken out.new) (string_bytes text.old)) }
     ensures failed { IfErr result
         (λ error. (error ≡ WriteError.Failed) × (W.failed out.new ≡ one_more (W.failed out.old))) }
 {
@@ -123,7 +123,7 @@ pub(crate) fn flush_text<W: Sink>(text: &mut String, out: &mut W) -> Result<(), 
     ensures anew { OnOk result (string_bytes text.new ≡ []) }
     ensures counted { OnOk result (W.failed out.new ≡ W.failed out.old) }
     ensures part { OnErr result
-        (AppendsBeginning (W.taken out.old) (W.taken out.new) (string_bytes text.old)) }
+        (AppendsPrefix (W.taken out.old) (W.taken out.new) (string_bytes text.old)) }
     ensures failed { IfErr result
         (λ error. (error ≡ WriteError.Failed) × (W.failed out.new ≡ one_more (W.failed out.old))) }
 {

@@ -1,11 +1,11 @@
 //! Reports in files: rows under the numbers of their jobs, and which jobs of a list they are.
 
 ghost use Rattle.std.specs.Prelude.{◌≡◌, ◌≤◌, length};
-ghost use Rattle.rv_base.specs.Limits.{most_jobs};
-ghost use Rattle.rv_report.specs.Saved.{are_rising, are_evenly_spaced, is_valid_shard, matches_job_numbers};
+ghost use Rattle.rv_base.specs.Limits.{max_jobs};
+ghost use Rattle.rv_report.specs.Saved.{are_increasing, are_evenly_spaced, is_valid_shard, matches_job_numbers};
 
 use crate::report::Rows;
-use rv_base::limits::MOST_JOBS;
+use rv_base::limits::MAX_JOBS;
 use rv_base::{Sequence, Text, is_name};
 
 /// Job numbers, seen by contracts as a list.
@@ -48,12 +48,12 @@ impl Extent {
     /// Whether a report of this extent can have rows with these job numbers.
     #[tactic(auto, unfolding(crate::specs::Saved::matches_job_numbers))]
     pub fn matches_job_numbers(&self, numbers: &[u32]) -> bool
-        requires { length numbers.now ≤ most_jobs }
+        requires { length numbers.now ≤ max_jobs }
         ensures { result ≡ matches_job_numbers self.now numbers.now }
     {
         match self {
             Extent::Whole => are_evenly_spaced(1, 1, numbers.len(), numbers),
-            Extent::Choice(jobs) => *jobs as usize <= MOST_JOBS && are_rising(0, *jobs, numbers),
+            Extent::Choice(jobs) => *jobs as usize <= MAX_JOBS && are_increasing(0, *jobs, numbers),
             Extent::Shard(shard) => shard.matches_job_numbers(numbers),
         }
     }
@@ -81,15 +81,15 @@ impl Shard {
     {
         1 <= self.number
             && self.number <= self.shards
-            && self.shards as usize <= MOST_JOBS
-            && self.jobs as usize <= MOST_JOBS
+            && self.shards as usize <= MAX_JOBS
+            && self.jobs as usize <= MAX_JOBS
             && is_name(self.stamp.as_str().as_bytes())
     }
 }
 
 // Whether the job numbers increase strictly, are all greater than `before`, and are at most `last`.
-fn are_rising(before: u32, last: u32, numbers: &[u32]) -> bool
-    ensures { result ≡ are_rising before last numbers.now }
+fn are_increasing(before: u32, last: u32, numbers: &[u32]) -> bool
+    ensures { result ≡ are_increasing before last numbers.now }
 {
     let mut before = before;
     for number in numbers {
@@ -103,9 +103,9 @@ fn are_rising(before: u32, last: u32, numbers: &[u32]) -> bool
 
 // Whether the job numbers are `first`, `first` + `step`, `first` + 2 `step` and so on, up to `last`.
 fn are_evenly_spaced(first: usize, step: usize, last: usize, numbers: &[u32]) -> bool
-    requires first { first ≤ most_jobs }
-    requires step { step ≤ most_jobs }
-    requires last { last ≤ most_jobs }
+    requires first { first ≤ max_jobs }
+    requires step { step ≤ max_jobs }
+    requires last { last ≤ max_jobs }
     ensures { result ≡ are_evenly_spaced first step last numbers.now }
 {
     let mut next = first;

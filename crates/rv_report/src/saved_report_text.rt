@@ -1,8 +1,8 @@
 //! The text of a saved report.
 
 ghost use Rattle.std.specs.Prelude.{◌≡◌, ◌++◌, ◌≤◌, ◌<◌, ◌^◌, true, IfOk, OnOk, string_bytes, length};
-ghost use Rattle.rv_report.specs.Saved.{IsListed, are_rising, numbered_text, extent_line, saved_text};
-ghost use Rattle.rv_base.specs.Limits.{most_jobs};
+ghost use Rattle.rv_report.specs.Saved.{HasDistinctJobs, are_increasing, numbered_text, extent_line, saved_text};
+ghost use Rattle.rv_base.specs.Limits.{max_jobs};
 
 use crate::report::{push_done_line, push_row};
 use crate::row::Row;
@@ -12,7 +12,7 @@ use std::alloc::{AllocError, Global};
 /// Returns the text of a report.
 #[tactic(auto, unfolding(crate::specs::Saved::saved_text))]
 pub(crate) fn saved_text(alloc: Global, report: &SavedReport) -> Result<String, AllocError>
-    requires { IsListed report.now }
+    requires { HasDistinctJobs report.now }
     ensures { IfOk result (λ text. string_bytes text ≡ saved_text report.now) }
 {
     let rows = report.rows.as_slice();
@@ -30,7 +30,7 @@ fn push_numbered_rows(
     rows: &[Row],
 ) -> Result<(), AllocError>
     requires counted { length numbers.now ≡ length rows.now }
-    requires rising { are_rising 0 most_jobs numbers.now ≡ true }
+    requires rising { are_increasing 0 max_jobs numbers.now ≡ true }
     ensures { OnOk result (string_bytes text.new
         ≡ string_bytes text.old ++ numbered_text numbers.now rows.now) }
 {

@@ -2,13 +2,13 @@
 
 ghost use Rattle.std.specs.Prelude.{◌≡◌, ◌++◌, ◌≤◌, ◌<◌, ◌^◌, [], true, IfErr, OnErr, OnOk, string_bytes, length};
 ghost use Rattle.std.specs.Io.KnownBytes.{Appends};
-ghost use Rattle.rv_base.specs.Limits.{most_jobs};
+ghost use Rattle.rv_base.specs.Limits.{max_jobs};
 ghost use Rattle.rv_base.specs.Counts.{one_more};
-ghost use Rattle.rv_base.specs.Sinks.{AppendsBeginning, IsPartlySent};
+ghost use Rattle.rv_base.specs.Sinks.{AppendsPrefix, IsPartlyWritten};
 ghost use Rattle.rv_base.specs.Counts.{HasIncreased};
-ghost use Rattle.rv_report.specs.Saved.{are_rising, numbered_text, saved_text};
+ghost use Rattle.rv_report.specs.Saved.{are_increasing, numbered_text, saved_text};
 
-use crate::report::{WriteError, flush_text, push_row, put_text_if_enough};
+use crate::report::{WriteError, flush_text, push_row, write_text_if_large};
 use crate::row::Row;
 use crate::saved::SavedReport;
 use crate::saved_report_text::push_extent_line;
@@ -23,25 +23,25 @@ pub fn write_saved_report<W: Sink>(
     out: &mut W,
 ) -> Result<(), WriteError>
     requires counted { length report.now.numbers ≡ length report.now.rows }
-    requires rising { are_rising 0 most_jobs report.now.numbers ≡ true }
+    requires rising { are_increasing 0 max_jobs report.now.numbers ≡ true }
     ensures appended { OnOk result
         (Appends (W.taken out.old) (W.taken out.new) (saved_text report.now)) }
     ensures counted { OnOk result (W.failed out.new ≡ W.failed out.old) }
     ensures part { OnErr result
-        (AppendsBeginning (W.taken out.old) (W.taken out.new) (saved_text report.now)) }
+        (AppendsPrefix (W.taken out.old) (W.taken out.new) (saved_text report.now)) }
     ensures failed { IfErr result (λ error. error ≡ WriteError.Failed
         → HasIncreased (W.failed out.old) (W.failed out.new)) }
 {
     let rows = report.rows.as_slice();
     let mut text = String::new(alloc);
-    put_numbered_rows(alloc, report.numbers.as_slice(), rows, &mut text, out)?;
+    write_numbered_rows(alloc, report.numbers.as_slice(), rows, &mut text, out)?;
     push_extent_line(&mut text, &report.extent, rows.len())?;
     flush_text(&mut text, out)?;
     Ok(())
 }
 
 // Writes the text of the rows: its beginning is sent to the sink, and the rest remains in `text`.
-fn put_numbered_rows<W: Sink>(
+fn write_numbered_rows<W: Sink>(
     alloc: Global,
     numbers: &[u32],
     rows: &[Row],
@@ -49,20 +49,20 @@ fn put_numbered_rows<W: Sink>(
     out: &mut W,
 ) -> Result<(), WriteError>
     requires counted { length numbers.now ≡ length rows.now }
-    requires rising { are_rising 0 most_jobs numbers.now ≡ true }
+    requires rising { are_increasing 0 max_jobs numbers.now ≡ true }
     requires empty { string_bytes text.old ≡ [] }
     ensures under_way { OnOk result
-        (IsPartlySent (W.taken out.old) (W.taken out.new)
+        (IsPartlyWritten (W.taken out.old) (W.taken out.new)
         (string_bytes text.new) (numbered_text numbers.now rows.now)) }
     ensures counted { OnOk result (W.failed out.new ≡ W.failed out.old) }
-    ensures part { OnErr result (AppendsBeginning (W.taken out.old) (W.taken out.new)
+    ensures part { OnErr result (AppendsPrefix (W.taken out.old) (W.taken out.new)
         (numbered_text numbers.now rows.now)) }
     ensures failed { IfErr result
         (λ error. error ≡ WriteError.Failed → W.failed out.new ≡ one_more (W.failed out.old)) }
 {
     for (at, row) in rows.iter().enumerate() {
         push_row(alloc, text, numbers[at] as usize - 1, row)?;
-        put_text_if_enough(text, out)?;
+        write_text_if_large(text, out)?;
     }
     Ok(())
 }

@@ -9,7 +9,7 @@ ghost use Rattle.rv_text.specs.Words.{word_digits};
 use std::alloc::{AllocError, Global};
 
 /// The length of a word's line in bytes: eight digits and a line feed.
-pub const LINE: usize = 9;
+pub const WORD_LINE_LEN: usize = 9;
 
 /// Appends a word as eight lower-case hexadecimal digits, most significant first.
 #[tactic(auto, unfolding(rv_text::specs::Words::word_digits))]
@@ -56,12 +56,12 @@ pub fn are_word_lines(bytes: &[u8], words: &[u32]) -> bool
 
 /// Returns the line of a word: its eight digits and a line feed.
 #[tactic(auto, unfolding(rv_text::specs::Words::word_digits))]
-pub fn word_line(word: u32) -> [u8; LINE]
+pub fn word_line(word: u32) -> [u8; WORD_LINE_LEN]
     ensures { result ≡ word_line word }
 {
-    let mut digits = [0u8; LINE - 1];
+    let mut digits = [0u8; WORD_LINE_LEN - 1];
     hex::encode_to_slice(word.to_be_bytes().as_slice(), &mut digits).unwrap();
-    let mut line = [b'\n'; LINE];
-    line[..LINE - 1].copy_from_slice(&digits);
+    let mut line = [b'\n'; WORD_LINE_LEN];
+    line[..WORD_LINE_LEN - 1].copy_from_slice(&digits);
     line
 }

@@ -17,11 +17,11 @@ use Rattle.rv_machine.specs.declared_map.Region.{Region}
 use Rattle.rv_machine.specs.declared_access.Misaligned.{Misaligned as Choice}
 use Rattle.rv_machine.specs.Bus.{Contents, new_bus}
 use Rattle.rv_machine.specs.Run.{Ran, run_of}
-use Rattle.rv_machine.specs.State.{State, at_reset, is_misaligned}
+use Rattle.rv_machine.specs.State.{State, reset_state, is_misaligned}
 use Rattle.rv_machine.proofs.Public.{run_keeps}
 use Rattle.rv_rows.specs.declared.outcome.Loadable.{Loadable}
 use Rattle.rv_rows.specs.declared.outcome.SignatureRange.{SignatureRange}
-use Rattle.rv_rows.specs.Outcome.{end_of_signature, loadable_image, loaded_state, range_if_asked, signature_range}
+use Rattle.rv_rows.specs.Outcome.{end_of_signature, loadable_image, loaded_state, range_if_requested, signature_range}
 use Rattle.rv_rows.specs.Outcome.{image_file_or_refusal, reference_or_refusal}
 use Rattle.rv_rows.specs.Rows.{content_if_read, image_if_read}
 use Rattle.rv_jobs.specs.Reading.{◌>>=◌}
@@ -45,7 +45,7 @@ ranged file regions names range e =
     rw (← is) unit.1.0
 
 ranged_if_asked : (file : List ℕ) (regions : List Region) (names : Option Symbols) (range : Option SignatureRange)
-    → range_if_asked file regions names ≡ Ok range
+    → range_if_requested file regions names ≡ Ok range
     → IfSome range (λ loadable. signature_check loadable.begin loadable.end regions ≡ accepted)
 ranged_if_asked file regions None None e = tt
 ranged_if_asked file regions None (Some loadable) e = cc
@@ -67,7 +67,7 @@ unfolding loadable_image
 loadable_parts job file loadable e =
     let image = stepped (image_of job.isa file) _ loadable e in
     let unit = stepped (map_check image.0.segments job.regions job.load) _ loadable image.1.1 in
-    let range = stepped (range_if_asked file job.regions job.signature) _ loadable unit.1.1 in
+    let range = stepped (range_if_requested file job.regions job.signature) _ loadable unit.1.1 in
     let is : record { image = image.0; range = range.0 } ≡ loadable = cc in
     rw (← is) (record {
       image = image.1.0;
@@ -114,7 +114,7 @@ pub loaded_is : (before after : Contents) (job : Job) (file : List ℕ) (image :
     → before ≡ new_bus job.regions script job.misaligned
     → script ≡ job.script → after ≡ record before
     { memory = initial_memory before.regions image.segments file job.load }
-    → at_reset after image.entry job.isa ≡ loaded_state job file image
+    → reset_state after image.entry job.isa ≡ loaded_state job file image
 unfolding new_bus
 loaded_is before after job file image script is same loaded = rw (loaded, is, same) refl
 

@@ -10,7 +10,7 @@ use Rattle.rv_elf.specs.Image.{image_of}
 use Rattle.rv_elf.proofs.Public.{image_wider}
 use Rattle.rv_jobs.specs.declared_job.Job.{Job}
 use Rattle.rv_jobs.specs.declared.kept.Kept.{Kept}
-use Rattle.rv_jobs.specs.Jobs.{AreJobs}
+use Rattle.rv_jobs.specs.Jobs.{AreValidJobs}
 use Rattle.rv_jobs.specs.Plans.{Planned}
 use Rattle.rv_machine.specs.declared.ending.Ending.{Ending}
 use Rattle.rv_machine.specs.declared.ending.Ending.TheVariants as machine
@@ -21,11 +21,11 @@ use Rattle.rv_machine.proofs.Public.{run_wider}
 use Rattle.rv_rows.specs.declared.outcome.Loadable.{Loadable}
 use Rattle.rv_report.specs.declared.row.Refusal.{Refusal}
 use Rattle.rv_report.specs.declared.row.Row.{Row}
-use Rattle.rv_rows.specs.Narrower.{widened_job, widened_jobs, widened_plan, is_end_of_any_set}
+use Rattle.rv_rows.specs.Narrower.{widened_job, widened_jobs, widened_plan, is_end_independent_of_isa}
 use Rattle.rv_rows.specs.Outcome.{row_end, image_file_or_refusal, file_outcome_of, loadable_image, loaded_state}
 use Rattle.rv_jobs.specs.Reading.{◌>>=◌}
 use Rattle.rv_rows.specs.Outcome.{outcome_if_loadable, outcome_if_readable, outcome_of, outcome_of_run}
-use Rattle.rv_rows.specs.Rows.{named_job_outcome, outcome_in, row_of, rows_of}
+use Rattle.rv_rows.specs.Rows.{same_as_outcome, outcome_in, row_of, rows_of}
 use Rattle.rv_rows.specs.Verdict.{verdict_of}
 
 -- ---- the outcome
@@ -42,18 +42,18 @@ unfolding loadable_image
 loadable_wider job file loadable e =
     reached (image_of job.isa file) (image_of Imc file) _ loadable (image_wider job.isa file) e
 
-of_any_set : (e : Ending) → is_end_of_any_set (row_end e) ≡ ends_in_any_set e
+of_any_set : (e : Ending) → is_end_independent_of_isa (row_end e) ≡ ends_in_any_set e
 of_any_set (machine.Exit code) = refl
 of_any_set (machine.Fault kind pc value) = refl
 of_any_set machine.Budget = refl
 
-file_outcome_wider : (job : Job) (file : List ℕ) → is_end_of_any_set (file_outcome_of job file).ending ≡ true
+file_outcome_wider : (job : Job) (file : List ℕ) → is_end_independent_of_isa (file_outcome_of job file).ending ≡ true
     → file_outcome_of (widened_job job) file ≡ file_outcome_of job file
 unfolding file_outcome_of
 file_outcome_wider job file h = go (loadable_image job file) refl h
   where
     go : (r : Result Loadable ImageError) → loadable_image job file ≡ r
-        → is_end_of_any_set (outcome_if_loadable job file r).ending ≡ true
+        → is_end_independent_of_isa (outcome_if_loadable job file r).ending ≡ true
         → outcome_if_loadable (widened_job job) file (loadable_image (widened_job job) file) ≡ outcome_if_loadable job file
         r
     go (Ok loadable) is h =
@@ -64,12 +64,12 @@ file_outcome_wider job file h = go (loadable_image job file) refl h
     go (Err why) is h = absurd (false≢true h)
 
 outcome_wider : (job : Job) (image : Kept) (reference console : Option Kept)
-    → is_end_of_any_set (outcome_of job image reference console).ending ≡ true
+    → is_end_independent_of_isa (outcome_of job image reference console).ending ≡ true
     → outcome_of (widened_job job) image reference console ≡ outcome_of job image reference console
 unfolding outcome_of
 outcome_wider job image reference console h = go (image_file_or_refusal image reference console) h
   where
-    go : (r : Result (List ℕ) Refusal) → is_end_of_any_set (outcome_if_readable job r).ending ≡ true
+    go : (r : Result (List ℕ) Refusal) → is_end_independent_of_isa (outcome_if_readable job r).ending ≡ true
         → outcome_if_readable (widened_job job) r ≡ outcome_if_readable job r
     go (Ok file) h = file_outcome_wider job file h
     go (Err why) h = refl
@@ -95,7 +95,7 @@ got_before (suc place) (suc k) (j ∷ jobs) l = got_before place k jobs (omega (
 module _ (plan : Planned) (place : ℕ) where
   -- so does the outcome of the job that the widened one names
   other_wider : (job : Job) → IfSome job.same_as (λ k. k < place)
-      → named_job_outcome (widened_plan place plan) (widened_job job) ≡ named_job_outcome plan job
+      → same_as_outcome (widened_plan place plan) (widened_job job) ≡ same_as_outcome plan job
   other_wider job earlier = go job.same_as earlier
     where
       go : (named : Option ℕ) → IfSome named (λ k. k < place)
@@ -104,7 +104,7 @@ module _ (plan : Planned) (place : ℕ) where
       go None l = refl
       go (Some k) l = ap (option_map (outcome_in plan.answers)) (got_before place k plan.jobs l)
 
-  row_wider : (job : Job) → IfSome job.same_as (λ k. k < place) → is_end_of_any_set (row_of plan job).ending ≡ true
+  row_wider : (job : Job) → IfSome job.same_as (λ k. k < place) → is_end_independent_of_isa (row_of plan job).ending ≡ true
       → row_of (widened_plan place plan) (widened_job job) ≡ row_of plan job
   unfolding row_of verdict_of
   row_wider job earlier h =
@@ -112,14 +112,14 @@ module _ (plan : Planned) (place : ℕ) where
       rw loadable (rw (other_wider job earlier) refl)
 
   -- a job at the place names an earlier one, if any
-  named_before : (job : Job) → AreJobs plan.jobs → slice_get plan.jobs place ≡ Some job
+  named_before : (job : Job) → AreValidJobs plan.jobs → slice_get plan.jobs place ≡ Some job
       → IfSome job.same_as (λ k. k < place)
   named_before job jobs is =
       subst (λ (j : Job). IfSome j.same_as (λ k. k < place)) (get_or_from_slice_get plan.jobs place job job is)
       (jobs.each place job (slice_get_within plan.jobs place job is)).earlier
 
-  pub rows_wider : (row : Row) → AreJobs plan.jobs → slice_get (rows_of plan) place ≡ Some row
-      → IsTrue (is_end_of_any_set row.ending)
+  pub rows_wider : (row : Row) → AreValidJobs plan.jobs → slice_get (rows_of plan) place ≡ Some row
+      → IsTrue (is_end_independent_of_isa row.ending)
       → slice_get (rows_of (widened_plan place plan)) place ≡ Some row
   unfolding rows_of
   rows_wider row jobs e h = go (slice_get plan.jobs place) refl (sym (slice_get-map (row_of plan) plan.jobs place) ∙ e)
@@ -129,8 +129,8 @@ module _ (plan : Planned) (place : ℕ) where
       go None is at = cc
       go (Some job) is at =
           let same : row_of plan job ≡ row = cc in
-          let stays : is_end_of_any_set (row_of plan job).ending ≡ true =
-          ap (λ (r : Row). is_end_of_any_set r.ending) same ∙ h in
+          let stays : is_end_independent_of_isa (row_of plan job).ending ≡ true =
+          ap (λ (r : Row). is_end_independent_of_isa r.ending) same ∙ h in
           slice_get-map (row_of (widened_plan place plan)) (widened_jobs place plan.jobs) place
           ∙ ap (option_map (row_of (widened_plan place plan))) (got_widened place plan.jobs job is)
           ∙ ap (λ (r : Row). Some r) (row_wider job (named_before job jobs is) stays ∙ same)

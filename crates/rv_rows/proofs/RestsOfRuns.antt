@@ -7,7 +7,7 @@ use Rattle.rv_jobs.specs.declared_job.Job.{Job}
 use Rattle.rv_jobs.specs.declared.kept.Kept.{Kept}
 use Rattle.rv_machine.specs.declared_map.Region.{Region}
 use Rattle.rv_machine.specs.declared.ending.Ending.{Ending}
-use Rattle.rv_machine.specs.Run.{Ran, run_rest, with_one_more_step, run_of, step_of}
+use Rattle.rv_machine.specs.Run.{Ran, run_after_step, with_one_more_step, run_of, step_of}
 use Rattle.rv_machine.specs.State.{State}
 use Rattle.rv_machine.proofs.Public.{run_keeps}
 use Rattle.rv_rows.specs.declared.outcome.Loadable.{Loadable}
@@ -23,9 +23,9 @@ no_steps : (s : State) → (run_of 0 s).steps ≡ 0
 unfolding run_of
 no_steps s = refl
 
-run_by : (n : ℕ) (s : State) (r : Result State Ending) → step_of s ≡ r → run_of (suc n) s ≡ run_rest r s (λ t. run_of n t)
+run_by : (n : ℕ) (s : State) (r : Result State Ending) → step_of s ≡ r → run_of (suc n) s ≡ run_after_step r s (λ t. run_of n t)
 unfolding run_of
-run_by n s r e = ap (λ x. run_rest x s (λ t. run_of n t)) e
+run_by n s r e = ap (λ x. run_after_step x s (λ t. run_of n t)) e
 
 -- a run that comes behind k steps more
 abbrev pub behind : ℕ → Ran → Ran

@@ -9,7 +9,7 @@ use Rattle.std.proofs.lemmas.List.{get_or-append_right}
 use Rattle.rv_jobs.specs.declared.answers.Answer.{Answer}
 use Rattle.rv_jobs.specs.declared_job.Job.{Job}
 use Rattle.rv_jobs.specs.Jobs.{single_job}
-use Rattle.rv_jobs.specs.Plans.{jobs_named_by, jobs_needed_at, jobs_needed_for}
+use Rattle.rv_jobs.specs.Plans.{same_as_jobs, jobs_needed_at, jobs_needed_for}
 use Rattle.rv_rows.specs.Outcome.{outcome_of}
 use Rattle.rv_rows.specs.Rows.{content_if_read, outcome_in, row_of, row_of_outcome, rows_at}
 use Rattle.rv_rows.specs.Verdict.{verdict_of}
@@ -25,7 +25,7 @@ module _ (jobs : List Job) (a b : List Answer) where
   found_same k same (Some job) is = ap Some (outcome_same job
       (subst (HaveSameResults a b) (get_or_from_slice_get jobs k job (single_job [] 0 []) is) same))
 
-  other_same : (o : Option ℕ) → All (HaveSameResults a b) (jobs_named_by jobs o)
+  other_same : (o : Option ℕ) → All (HaveSameResults a b) (same_as_jobs jobs o)
       → option_map (outcome_in a) (option_and_then (slice_get jobs) o)
       ≡ option_map (outcome_in b) (option_and_then (slice_get jobs) o)
   other_same None all = refl
@@ -38,7 +38,7 @@ module _ (jobs : List Job) (a b : List Answer) where
   row_same place all =
       let job : Job = get_or jobs place (single_job [] 0 []) in
       let own : HaveSameResults a b job = all 0 job (omega arith) in
-      let named : All (HaveSameResults a b) (jobs_named_by jobs job.same_as) = λ k d inside. all (suc k) d (omega arith) in
+      let named : All (HaveSameResults a b) (same_as_jobs jobs job.same_as) = λ k d inside. all (suc k) d (omega arith) in
       λ i. row_of_outcome job.name (outcome_same job own i) (verdict_of job (outcome_same job own i)
       (content_if_read (own.reference i)) (content_if_read (own.console i)) (other_same job.same_as named i))
 

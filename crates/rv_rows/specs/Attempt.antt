@@ -9,8 +9,8 @@ use Rattle.rv_rows.specs.declared.outcome.Outcome.{Outcome}
 use Rattle.rv_rows.specs.Outcome.{refused_outcome, signature_words_between}
 
 -- the signature of an ended run, if one is requested, is in a valid range of its bus
-abbrev pub HasSignature : EndedRun → Type 0
-HasSignature run = IfSome run.range
+abbrev pub HasValidRange : EndedRun → Type 0
+HasValidRange run = IfSome run.range
     (λ range. signature_check range.begin range.end run.bus.regions ≡ accepted)
 
 -- the outcome of an ended run, read from its bus
@@ -23,9 +23,9 @@ outcome_in_bus run = record {
 }
 
 -- if the job was run, its signature, if one is requested, can be read from the bus of the run
-abbrev pub IsReadable : Attempt → Type 0
-IsReadable (Refused why) = ⊤
-IsReadable (Ran run) = HasSignature run
+abbrev pub HasReadableSignature : Attempt → Type 0
+HasReadableSignature (Refused why) = ⊤
+HasReadableSignature (Ran run) = HasValidRange run
 
 -- the outcome of this result of a job: of its ended run, or of its refusal
 abbrev pub outcome_of_attempt : Attempt → Outcome

@@ -6,7 +6,7 @@ use Rattle.rv_machine.specs.declared_access.Misaligned.TheVariants.{Fault}
 use Rattle.rv_machine.specs.Bus.{Contents, new_bus, with_bytes}
 use Rattle.rv_jobs.specs.Jobs.{default_regions}
 use Rattle.rv_machine.specs.Run.{run_of}
-use Rattle.rv_machine.specs.State.{State, at_reset}
+use Rattle.rv_machine.specs.State.{State, reset_state}
 use Rattle.rv_report.specs.declared.row.Refusal.TheVariants as refusal
 use Rattle.rv_rows.specs.declared.outcome.Outcome.{Outcome}
 use Rattle.rv_report.specs.declared.row.Row.{Row}
@@ -15,8 +15,8 @@ use Rattle.rv_rows.specs.Outcome.{outcome_of_run, refused_outcome}
 use Rattle.rv_rows.specs.Rows.{row_of_outcome}
 
 -- the maximum size of a flat image in bytes, which is the size of the default region
-abbrev pub image_room : ℕ
-image_room = 0x10_0000
+abbrev pub max_image_size : ℕ
+max_image_size = 0x10_0000
 
 -- the contents of the bus for a flat image: its bytes are at 0x8000_0000 in memory that is otherwise zero, the script is empty, and
 -- misaligned accesses are rejected
@@ -30,7 +30,7 @@ flat_byte bytes address =
 
 -- the state in which the run of a flat image begins: a hart of RV32IMC at reset, with its pc at the first byte
 abbrev pub flat_state : List ℕ → State
-flat_state bytes = at_reset (flat_contents bytes) 0x8000_0000 Imc
+flat_state bytes = reset_state (flat_contents bytes) 0x8000_0000 Imc
 
 -- the name in the row of every flat image
 abbrev pub flat_name : List ℕ
@@ -39,7 +39,7 @@ flat_name = codes "raw"
 -- the outcome of a flat image with these bytes within a budget of steps, or a refusal if the image is too large
 abbrev pub flat_outcome_of : List ℕ → ℕ → Outcome
 flat_outcome_of bytes budget =
-    if nat_lt image_room (length bytes) then refused_outcome refusal.ImageTooLong
+    if nat_lt max_image_size (length bytes) then refused_outcome refusal.ImageTooLong
     else outcome_of_run (run_of budget (flat_state bytes)) None
 
 -- the row of a flat image with these bytes within a budget of steps; its verdict is `none`

@@ -23,8 +23,8 @@ widened_plan place plan = record plan { jobs = widened_jobs place plan.jobs }
 
 -- whether a larger instruction set does not change how a job ended: it was not refused, and did not end with the fault `illegal` or
 -- `fetch-misaligned`
-abbrev pub is_end_of_any_set : RowEnd → Bool
-is_end_of_any_set (Exit code) = true
-is_end_of_any_set (Fault kind pc value) = not (depends_on_isa kind)
-is_end_of_any_set Budget = true
-is_end_of_any_set (Refused why) = false
+abbrev pub is_end_independent_of_isa : RowEnd → Bool
+is_end_independent_of_isa (Exit code) = true
+is_end_independent_of_isa (Fault kind pc value) = not (depends_on_isa kind)
+is_end_independent_of_isa Budget = true
+is_end_independent_of_isa (Refused why) = false

@@ -17,7 +17,7 @@ use Rattle.rv_machine.specs.SignatureWords.{words_of}
 use Rattle.rv_machine.specs.declared.ending.Ending.{Ending}
 use Rattle.rv_machine.specs.declared.ending.Ending.TheVariants as machine
 use Rattle.rv_machine.specs.Run.{Ran, run_of}
-use Rattle.rv_machine.specs.State.{State, at_reset}
+use Rattle.rv_machine.specs.State.{State, reset_state}
 use Rattle.rv_rows.specs.declared.outcome.Outcome.{Outcome}
 use Rattle.rv_rows.specs.declared.outcome.Loadable.{Loadable}
 use Rattle.rv_rows.specs.declared.outcome.SignatureRange.{SignatureRange}
@@ -72,10 +72,10 @@ signature_range file regions names = do
   Ok (record { begin = begin; end = end })
 
 -- the addresses of the two symbols of a signature, or the error that makes them invalid; `None` if no signature is requested
-abbrev pub range_if_asked : List ℕ → List Region → Option Symbols
+abbrev pub range_if_requested : List ℕ → List Region → Option Symbols
     → Result (Option SignatureRange) ImageError
-range_if_asked file regions None = Ok None
-range_if_asked file regions (Some names) = do
+range_if_requested file regions None = Ok None
+range_if_requested file regions (Some names) = do
   range ← signature_range file regions names
   Ok (Some range)
 
@@ -85,7 +85,7 @@ unfoldable pub loadable_image : Job → List ℕ → Result Loadable ImageError
 loadable_image job file = do
   image ← image_of job.isa file
   unit ← map_check image.segments job.regions job.load
-  range ← range_if_asked file job.regions job.signature
+  range ← range_if_requested file job.regions job.signature
   Ok (record { image = image; range = range })
 
 -- ---- the run
@@ -99,7 +99,7 @@ loaded_contents job file image =
 
 -- the state in which the run of a job begins: its hart at reset, with its pc at the entry of the image
 abbrev pub loaded_state : Job → List ℕ → Image → State
-loaded_state job file image = at_reset (loaded_contents job file image) image.entry job.isa
+loaded_state job file image = reset_state (loaded_contents job file image) image.entry job.isa
 
 -- the ending of a job's run in its row, given the ending of the machine
 abbrev pub row_end : Ending → RowEnd

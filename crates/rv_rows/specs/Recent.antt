@@ -10,6 +10,6 @@ abbrev pub outcome_at : Planned → ℕ → Option Outcome
 outcome_at plan place = option_map (outcome_in plan.answers) (slice_get plan.jobs place)
 
 -- each cached outcome is the outcome of the job at its index
-abbrev pub AreOutcomes : Planned → List CachedOutcome → Type 0
-AreOutcomes plan recent =
+abbrev pub AreOutcomesOfPlan : Planned → List CachedOutcome → Type 0
+AreOutcomesOfPlan plan recent =
     All (λ (kept : CachedOutcome). outcome_at plan kept.place ≡ Some kept.outcome) recent

@@ -10,7 +10,7 @@ use Rattle.rv_jobs.specs.declared_job.Job.{Job}
 use Rattle.rv_jobs.specs.declared.kept.Kept.{Kept}
 use Rattle.rv_jobs.specs.declared.kept.Kept.TheVariants as kept
 use Rattle.rv_jobs.specs.Jobs.{console_path, single_job}
-use Rattle.rv_jobs.specs.Plans.{Planned, result_for_path}
+use Rattle.rv_jobs.specs.Plans.{Planned, result_or_unreadable}
 use Rattle.rv_rows.specs.declared.outcome.Outcome.{Outcome}
 use Rattle.rv_machine.specs.State.{State}
 use Rattle.rv_report.specs.declared.row.Refusal.{Refusal}
@@ -22,14 +22,14 @@ use Rattle.rv_rows.specs.Verdict.{verdict_of}
 -- the outcome of a job, given the results for the paths of a plan
 abbrev pub outcome_in : List Answer → Job → Outcome
 outcome_in answers job =
-    outcome_of job (result_for_path answers job.image) (option_map (result_for_path answers) job.expect_signature)
-    (option_map (result_for_path answers) (console_path job.expect_console))
+    outcome_of job (result_or_unreadable answers job.image) (option_map (result_or_unreadable answers) job.expect_signature)
+    (option_map (result_or_unreadable answers) (console_path job.expect_console))
 
 -- the state in which the run of a job begins, given the results for the paths of a plan, or the refusal
 abbrev pub start_in : List Answer → Job → Result State Refusal
 start_in answers job =
-    start_of job (result_for_path answers job.image) (option_map (result_for_path answers) job.expect_signature)
-    (option_map (result_for_path answers) (console_path job.expect_console))
+    start_of job (result_or_unreadable answers job.image) (option_map (result_or_unreadable answers) job.expect_signature)
+    (option_map (result_or_unreadable answers) (console_path job.expect_console))
 
 -- the bytes of a file; `None` if the job names no file, or it was not read
 abbrev pub content_if_read : Option Kept → Option (List ℕ)
@@ -43,20 +43,20 @@ image_if_read isa (Some file) = result_ok (image_of isa file)
 
 -- the image of a job; `None` if its file was not read, or is not an image
 abbrev pub image_in : List Answer → Job → Option Image
-image_in answers job = image_if_read job.isa (content_if_read (Some (result_for_path answers job.image)))
+image_in answers job = image_if_read job.isa (content_if_read (Some (result_or_unreadable answers job.image)))
 
 -- the bytes of the file with a job's expected signature; `None` if the job names no file, or it was not read
 abbrev pub signature_reference_bytes : List Answer → Job → Option (List ℕ)
-signature_reference_bytes answers job = content_if_read (option_map (result_for_path answers) job.expect_signature)
+signature_reference_bytes answers job = content_if_read (option_map (result_or_unreadable answers) job.expect_signature)
 
 -- the bytes of the file with a job's expected console text; `None` if the job names no file, or it was not read
 abbrev pub expected_console_bytes : List Answer → Job → Option (List ℕ)
 expected_console_bytes answers job =
-    content_if_read (option_map (result_for_path answers) (console_path job.expect_console))
+    content_if_read (option_map (result_or_unreadable answers) (console_path job.expect_console))
 
 -- the outcome of the job that the `same_as` of this job names; `None` without `same_as`
-abbrev pub named_job_outcome : Planned → Job → Option Outcome
-named_job_outcome plan job =
+abbrev pub same_as_outcome : Planned → Job → Option Outcome
+same_as_outcome plan job =
     option_map (outcome_in plan.answers) (option_and_then (slice_get plan.jobs) job.same_as)
 
 -- the row with this name, outcome and verdict
@@ -76,7 +76,7 @@ row_of plan job =
     let outcome = outcome_in plan.answers job in
     row_of_outcome job.name outcome
     (verdict_of job outcome (signature_reference_bytes plan.answers job) (expected_console_bytes plan.answers job)
-    (named_job_outcome plan job))
+    (same_as_outcome plan job))
 
 -- the rows of all jobs of a plan, in list order
 unfoldable pub rows_of : Planned → List Row

@@ -19,8 +19,8 @@ use Rattle.rv_report.specs.declared.row.Verdict.TheVariants as verdict
 use Rattle.rv_report.specs.Report.{word_line}
 
 -- whether a job has expectations
-abbrev pub expects_anything : Job → Bool
-expects_anything job =
+abbrev pub has_expectations : Job → Bool
+has_expectations job =
     is_some job.expect_exit || (is_some job.expect_end || (is_some job.expect_console
     || (is_some job.expect_signature || is_some job.same_as)))
 
@@ -114,10 +114,10 @@ are_same_outcomes outcome other = are_alike_endings outcome.ending other.ending
 
 -- whether an outcome equals the outcome `other` of the job that `same_as` names, as `are_same_outcomes` compares them; true if there is no
 -- `same_as`
-abbrev pub is_same_as_named : Option ℕ → Option Outcome → Outcome → Bool
-is_same_as_named None other outcome = true
-is_same_as_named (Some place) None outcome = false
-is_same_as_named (Some place) (Some other) outcome = are_same_outcomes outcome other
+abbrev pub matches_same_as : Option ℕ → Option Outcome → Outcome → Bool
+matches_same_as None other outcome = true
+matches_same_as (Some place) None outcome = false
+matches_same_as (Some place) (Some other) outcome = are_same_outcomes outcome other
 
 -- ---- all expectations
 
@@ -129,12 +129,12 @@ meets_all_expectations job outcome reference console other =
     && (has_expected_end job.expect_end outcome.ending
     && (has_expected_console job.expect_console console outcome
     && (has_expected_signature job.expect_signature reference outcome
-    && is_same_as_named job.same_as other outcome)))
+    && matches_same_as job.same_as other outcome)))
 
 -- the verdict on an outcome, given the bytes of the files with the expected signature and console, if they were read, and the outcome of
 -- the job that `same_as` names
 unfoldable pub verdict_of :
     Job → Outcome → Option (List ℕ) → Option (List ℕ) → Option Outcome → Verdict
 verdict_of job outcome reference console other =
-    if not (expects_anything job) then verdict.Unasked
+    if not (has_expectations job) then verdict.Unasked
     else (if meets_all_expectations job outcome reference console other then verdict.Pass else verdict.Fail)

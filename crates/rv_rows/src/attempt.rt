@@ -6,9 +6,9 @@ ghost use Rattle.rv_elf.specs.Image.{IsImageOf, image_of};
 ghost use Rattle.rv_elf.specs.Loading.{map_check};
 ghost use Rattle.rv_elf.specs.Symbols.{signature_check, symbol_of};
 ghost use Rattle.rv_elf.specs.Rows.{accepted};
-ghost use Rattle.rv_report.specs.Limits.{most_script};
+ghost use Rattle.rv_report.specs.Limits.{max_script_len};
 ghost use Rattle.rv_machine.specs.Machine.{state_of};
-ghost use Rattle.rv_rows.specs.Attempt.{HasSignature, IsReadable, outcome_in_bus, outcome_of_attempt};
+ghost use Rattle.rv_rows.specs.Attempt.{HasValidRange, HasReadableSignature, outcome_in_bus, outcome_of_attempt};
 ghost use Rattle.rv_rows.specs.Outcome.{row_end, end_of_signature, image_file_or_refusal, file_outcome_of, loadable_image, loaded_state};
 ghost use Rattle.rv_rows.specs.Outcome.{outcome_of, outcome_of_run, signature_range, reference_or_refusal, refusal_in};
 ghost use Rattle.rv_rows.specs.Outcome.{start_if_loadable};
@@ -59,14 +59,14 @@ pub(crate) fn refusal_of_job(
         (option_map (λ kept. kept.now) console.entry)).ending) }
 {
     match image_file_or_refusal(image, reference, console) {
-        Ok(file) => refusal_over_image(alloc, job, file),
+        Ok(file) => refusal_of_image(alloc, job, file),
         Err(why) => Ok(Some(why)),
     }
 }
 
 // Returns the reason why a job is refused, given the bytes of its image; `None` if it is not refused.
 #[tactic(auto, unfolding(crate::specs::Outcome::file_outcome_of))]
-fn refusal_over_image(alloc: Global, job: &Job, file: &[u8]) -> Result<Option<Refusal>, AllocError>
+fn refusal_of_image(alloc: Global, job: &Job, file: &[u8]) -> Result<Option<Refusal>, AllocError>
     requires { IfSome job.now.signature (λ names. (0 < length names.begin)
         × (0 < length names.end)) }
     ensures { IfOk result
@@ -81,14 +81,14 @@ fn refusal_over_image(alloc: Global, job: &Job, file: &[u8]) -> Result<Option<Re
 
 /// Returns the machine in which a job runs, before its first step, given the bytes of its image and the image read from them, or the
 /// refusal. Runs nothing.
-pub(crate) fn machine_over_image(
+pub(crate) fn machine_of_image(
     alloc: Global,
     job: &Job,
     file: &[u8],
     image: &Image,
     spare: &mut Spare,
 ) -> Result<Result<Machine, Refusal>, AllocError>
-    requires script { length job.now.script ≤ most_script }
+    requires script { length job.now.script ≤ max_script_len }
     requires named { IfSome job.now.signature (λ names. (0 < length names.begin)
         × (0 < length names.end)) }
     requires image { image_of job.now.isa file.now ≡ Ok image.now }
@@ -117,18 +117,18 @@ fn check_file_was_read(file: Option<&Kept>) -> Result<(), Refusal>
 
 /// Runs a job, given the bytes of its image, and returns the result, which may be a refusal.
 #[tactic(auto, unfolding(crate::specs::Outcome::file_outcome_of))]
-pub(crate) fn attempt_over_image(
+pub(crate) fn run_image(
     alloc: Global,
     job: &Job,
     file: &[u8],
     spare: &mut Spare,
 ) -> Result<Attempt, AllocError>
-    requires script { length job.now.script ≤ most_script }
+    requires script { length job.now.script ≤ max_script_len }
     requires named { IfSome job.now.signature (λ names. (0 < length names.begin)
         × (0 < length names.end)) }
     ensures outcome { IfOk result (λ attempt. outcome_of_attempt attempt
         ≡ file_outcome_of job.now file.now) }
-    ensures readable { IfOk result IsReadable }
+    ensures readable { IfOk result HasReadableSignature }
 {
     match loadable_image(alloc, job, file) {
         Ok(loadable) => {
@@ -214,7 +214,7 @@ fn loaded_machine(
     image: &Image,
     spare: &mut Spare,
 ) -> Result<Machine, AllocError>
-    requires script { length job.now.script ≤ most_script }
+    requires script { length job.now.script ≤ max_script_len }
     requires image { image_of job.now.isa file.now ≡ Ok image.now }
     requires fits { map_check image.now.segments job.now.regions job.now.load ≡ accepted }
     ensures { IfOk result (λ machine. state_of machine ≡ loaded_state job.now file.now image.now) }
@@ -238,7 +238,7 @@ pub(crate) fn ended_run(machine: Machine, ran: Outcome, range: Option<SignatureR
         (λ range. signature_check range.begin range.end (state_of machine).bus.regions ≡ accepted) }
     ensures outcome { outcome_in_bus result
         ≡ outcome_of_run (record { ending = ran.ending; steps = ran.steps; state = state_of machine }) range }
-    ensures readable { HasSignature result }
+    ensures readable { HasValidRange result }
 {
     EndedRun {
         ending: row_end(ran.ending),

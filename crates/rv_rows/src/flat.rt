@@ -3,7 +3,7 @@
 ghost use Rattle.std.specs.Prelude.{◌≡◌, ◌≤◌, ℕ, IfOk, length};
 ghost use Rattle.rv_machine.specs.Bus.{byte_at};
 ghost use Rattle.rv_machine.specs.Machine.{state_of};
-ghost use Rattle.rv_rows.specs.Flat.{flat_byte, flat_contents, flat_outcome_of, flat_row_of, flat_state, image_room};
+ghost use Rattle.rv_rows.specs.Flat.{flat_byte, flat_contents, flat_outcome_of, flat_row_of, flat_state, max_image_size};
 
 use crate::attempt::ended_run;
 use crate::outcome::{Outcome, refused_outcome};
@@ -13,7 +13,7 @@ use rv_report::{Refusal, Row, Verdict};
 use std::alloc::{AllocError, Global};
 
 /// The size of the default map's region in bytes, the maximum size of a flat image.
-const IMAGE_ROOM: usize = 0x10_0000;
+const MAX_IMAGE_SIZE: usize = 0x10_0000;
 
 /// The address of a flat image, which is its entry.
 const ENTRY: u32 = 0x8000_0000;
@@ -32,7 +32,7 @@ pub fn flat_row(alloc: Global, bytes: &[u8], budget: u32) -> Result<Row, AllocEr
 fn flat_outcome(alloc: Global, bytes: &[u8], budget: u32) -> Result<Outcome, AllocError>
     ensures { IfOk result (λ outcome. outcome ≡ flat_outcome_of bytes.now budget) }
 {
-    if IMAGE_ROOM < bytes.len() {
+    if MAX_IMAGE_SIZE < bytes.len() {
         return Ok(refused_outcome(alloc, Refusal::ImageTooLong));
     }
     let mut machine = flat_machine(alloc, bytes)?;
@@ -42,7 +42,7 @@ fn flat_outcome(alloc: Global, bytes: &[u8], budget: u32) -> Result<Outcome, All
 
 // Returns the machine in which a flat image runs, before its first step.
 fn flat_machine(alloc: Global, bytes: &[u8]) -> Result<Machine, AllocError>
-    requires { length bytes.now ≤ image_room }
+    requires { length bytes.now ≤ max_image_size }
     ensures { IfOk result (λ machine. state_of machine ≡ flat_state bytes.now) }
 {
     Machine::new(alloc, flat_bus(alloc, bytes)?, ENTRY, Isa::Imc)
@@ -50,7 +50,7 @@ fn flat_machine(alloc: Global, bytes: &[u8]) -> Result<Machine, AllocError>
 
 // Returns the bus of a flat image: its bytes are at 0x8000_0000 in memory that is otherwise zero.
 fn flat_bus(alloc: Global, bytes: &[u8]) -> Result<Bus, AllocError>
-    requires { length bytes.now ≤ image_room }
+    requires { length bytes.now ≤ max_image_size }
     ensures contents { IfOk result (λ bus. bus ≡ flat_contents bytes.now) }
     ensures memory { IfOk result (λ bus. (address : ℕ) → byte_at bus.memory address
         ≡ flat_byte bytes.now address) }

@@ -4,10 +4,10 @@ ghost use Rattle.std.specs.Prelude.{ℕ, ◌≡◌, List, IsTrue, Some, slice_ge
 ghost use Rattle.std.specs.List.{All};
 ghost use Rattle.rv_jobs.specs.declared.answers.Answer.{Answer};
 ghost use Rattle.rv_jobs.specs.declared_job.Job.{Job};
-ghost use Rattle.rv_jobs.specs.Jobs.{AreJobs};
+ghost use Rattle.rv_jobs.specs.Jobs.{AreValidJobs};
 ghost use Rattle.rv_jobs.specs.Plans.{Planned, jobs_needed_for};
 ghost use Rattle.rv_report.specs.declared.row.Row.{Row};
-ghost use Rattle.rv_rows.specs.Narrower.{is_end_of_any_set, widened_plan};
+ghost use Rattle.rv_rows.specs.Narrower.{is_end_independent_of_isa, widened_plan};
 ghost use Rattle.rv_rows.specs.Rows.{rows_at, rows_of};
 ghost use Rattle.rv_rows.specs.Wholes.{HaveSameResults, plan_of_jobs};
 
@@ -15,9 +15,9 @@ ghost use Rattle.rv_rows.specs.Wholes.{HaveSameResults, plan_of_jobs};
 /// its own instruction set. If the job's row in the first plan is not a refusal and not a fault `illegal` or `fetch-misaligned`, then the
 /// second plan has the same row.
 pub fn narrower_sets_only_refuse()
-    ensures { (plan : Planned) (place : ℕ) (row : Row) → AreJobs plan.jobs
+    ensures { (plan : Planned) (place : ℕ) (row : Row) → AreValidJobs plan.jobs
         → slice_get (rows_of plan) place ≡ Some row
-        → IsTrue (is_end_of_any_set row.ending) → slice_get (rows_of (widened_plan place plan)) place
+        → IsTrue (is_end_independent_of_isa row.ending) → slice_get (rows_of (widened_plan place plan)) place
         ≡ Some row }
 {}
 

@@ -14,7 +14,7 @@ mod outcome;
 mod plan_rows;
 mod recent_outcomes;
 mod reporter;
-mod rest_of_run;
+mod complete_run;
 mod spare_bus;
 mod verdict;
 
@@ -27,10 +27,10 @@ pub use plan_rows::{
 };
 pub use recent_outcomes::Recent;
 pub use reporter::RowReporter;
-pub use rest_of_run::row_from;
+pub use complete_run::row_from;
 pub use spare_bus::Spare;
 pub use verdict::{
-    are_alike_endings, are_same_outcomes, are_same_signatures, did_run, expects_anything,
+    are_alike_endings, are_same_outcomes, are_same_signatures, did_run, has_expectations,
     has_expected_end, has_expected_exit,
 };
 
@@ -45,7 +45,7 @@ pub use rv_jobs::{
 };
 pub use rv_machine::{FaultKind, Isa, Machine, Region};
 pub use rv_report::{
-    Bytes, Extent, LINE, Numbers, PartialReport, ReadError, Refusal, Report, Row, RowEnd, Rows,
+    Bytes, Extent, WORD_LINE_LEN, Numbers, PartialReport, ReadError, Refusal, Report, Row, RowEnd, Rows,
     SavedReport, Sequence, Shard, Sink, SinkFailed, Span, Text, Verdict, Words, WriteError,
     is_name, is_utf8, push_extent_line, push_number, push_row, push_spans, push_text, put_all,
     read_partial_report, read_report, tail_from, word_line, write_report, write_saved_report,

@@ -3,7 +3,7 @@
 ghost use Rattle.std.specs.Prelude.{◌≡◌, IfOk, IfSome, option_map};
 ghost use Rattle.rv_elf.specs.Rows.{accepted};
 ghost use Rattle.rv_elf.specs.Symbols.{signature_check};
-ghost use Rattle.rv_rows.specs.Attempt.{HasSignature, IsReadable, outcome_in_bus, outcome_of_attempt};
+ghost use Rattle.rv_rows.specs.Attempt.{HasValidRange, HasReadableSignature, outcome_in_bus, outcome_of_attempt};
 ghost use Rattle.rv_rows.specs.Outcome.{refused_outcome, signature_words_between};
 
 use rv_elf::Image;
@@ -57,7 +57,7 @@ pub(crate) enum Attempt {
 impl Attempt {
     /// Returns the outcome of this result, copied to memory of its own.
     pub(crate) fn outcome(&self, alloc: Global) -> Result<Outcome, AllocError>
-        requires { IsReadable self.now }
+        requires { HasReadableSignature self.now }
         ensures { IfOk result (λ outcome. outcome ≡ outcome_of_attempt self.now) }
     {
         match self {
@@ -78,11 +78,11 @@ impl Attempt {
 impl EndedRun {
     /// Returns the outcome of this run, copied to memory of its own.
     pub(crate) fn outcome(&self, alloc: Global) -> Result<Outcome, AllocError>
-        requires { HasSignature self.now }
+        requires { HasValidRange self.now }
         ensures { IfOk result (λ outcome. outcome ≡ outcome_in_bus self.now) }
     {
         let console = self.bus.console().to_vec(alloc)?;
-        let signature = signature_if_asked(alloc, &self.bus, self.range)?;
+        let signature = signature_if_requested(alloc, &self.bus, self.range)?;
         Ok(Outcome {
             ending: self.ending,
             steps: self.steps,
@@ -142,7 +142,7 @@ pub(crate) fn refused_outcome(alloc: Global, why: Refusal) -> Outcome
 }
 
 // Returns the words of memory in the range of a signature; `None` if no signature is requested.
-fn signature_if_asked(
+fn signature_if_requested(
     alloc: Global,
     bus: &Bus,
     range: Option<SignatureRange>,

@@ -4,16 +4,16 @@ ghost use Rattle.std.specs.Prelude.{◌≡◌, ◌<◌, ◌≤◌, IfOk, IfSome,
 ghost use Rattle.std.specs.Prelude.{option_map, option_and_then, slice_index_or};
 ghost use Rattle.rv_jobs.specs.declared_job.Job.{Job as AJob};
 ghost use Rattle.rv_machine.specs.Machine.{state_of};
-ghost use Rattle.rv_rows.specs.Attempt.{IsReadable, outcome_of_attempt};
+ghost use Rattle.rv_rows.specs.Attempt.{HasReadableSignature, outcome_of_attempt};
 ghost use Rattle.rv_rows.specs.ImageRefusals.{image_refusal_in};
 ghost use Rattle.rv_rows.specs.Outcome.{refusal_in};
-ghost use Rattle.rv_rows.specs.Recent.{AreOutcomes, outcome_at};
-ghost use Rattle.rv_rows.specs.Rows.{content_if_read, expected_console_bytes, named_job_outcome, outcome_in, signature_reference_bytes, row_of, row_of_outcome};
+ghost use Rattle.rv_rows.specs.Recent.{AreOutcomesOfPlan, outcome_at};
+ghost use Rattle.rv_rows.specs.Rows.{content_if_read, expected_console_bytes, same_as_outcome, outcome_in, signature_reference_bytes, row_of, row_of_outcome};
 ghost use Rattle.rv_rows.specs.Rows.{image_in, rows_of, start_in};
-ghost use Rattle.rv_rows.specs.Verdict.{are_same_outcomes, is_same_as_named};
+ghost use Rattle.rv_rows.specs.Verdict.{are_same_outcomes, matches_same_as};
 
 use crate::attempt::{
-    attempt_over_image, image_file_or_refusal, machine_over_image, refusal_of_job,
+    run_image, image_file_or_refusal, machine_of_image, refusal_of_job,
 };
 use crate::outcome::{Attempt, Outcome};
 use crate::recent_outcomes::{MOST, Recent};
@@ -46,23 +46,23 @@ pub fn row_at_with_recent(
     recent: &mut Recent,
 ) -> Result<Row, AllocError>
     requires place { i < length plan.now.jobs }
-    requires recent { AreOutcomes plan.now recent.old }
+    requires recent { AreOutcomesOfPlan plan.now recent.old }
     ensures row { IfOk result (λ row. (d : AJob) → row
         ≡ row_of plan.now (slice_index_or plan.now.jobs i d)) }
-    ensures recent { OnOk result (AreOutcomes plan.now recent.new) }
+    ensures recent { OnOk result (AreOutcomesOfPlan plan.now recent.new) }
 {
-    let attempt = attempt_at(alloc, plan, i, spare)?;
+    let attempt = run_job_at(alloc, plan, i, spare)?;
     let outcome = attempt.outcome(alloc)?;
     spare.keep(attempt);
-    let same = is_same_as_named(plan, plan.job(i), &outcome, spare, recent)?;
-    keep_outcome_if_named(alloc, plan, i, &outcome, recent)?;
-    judged_row(alloc, plan, i, outcome, same)
+    let same = matches_same_as(plan, plan.job(i), &outcome, spare, recent)?;
+    cache_outcome_if_named(alloc, plan, i, &outcome, recent)?;
+    row_with_verdict(alloc, plan, i, outcome, same)
 }
 
 /// Returns the row of the job at an index with this outcome. `same` says whether the outcome equals the outcome of the job that `same_as`
 /// names.
 #[tactic(auto, unfolding(crate::specs::Rows::row_of))]
-pub(crate) fn judged_row(
+pub(crate) fn row_with_verdict(
     alloc: Global,
     plan: &Plan,
     i: usize,
@@ -72,7 +72,7 @@ pub(crate) fn judged_row(
     requires place { i < length plan.now.jobs }
     requires outcome { outcome_at plan.now i ≡ Some outcome }
     requires same { (d : AJob) → let job = slice_index_or plan.now.jobs i d in same
-        ≡ is_same_as_named job.same_as (named_job_outcome plan.now job) outcome }
+        ≡ matches_same_as job.same_as (same_as_outcome plan.now job) outcome }
     ensures { IfOk result (λ row. (d : AJob) → row
         ≡ row_of plan.now (slice_index_or plan.now.jobs i d)) }
 {
@@ -89,7 +89,7 @@ pub(crate) fn judged_row(
 
 // Runs the job at an index, unless it is refused, and returns the result.
 #[tactic(auto, unfolding(crate::specs::Outcome::outcome_of))]
-fn attempt_at(
+fn run_job_at(
     alloc: Global,
     plan: &Plan,
     i: usize,
@@ -98,11 +98,11 @@ fn attempt_at(
     requires { i < length plan.now.jobs }
     ensures outcome { IfOk result (λ attempt. (d : AJob) → outcome_of_attempt attempt
         ≡ outcome_in plan.now.answers (slice_index_or plan.now.jobs i d)) }
-    ensures readable { IfOk result IsReadable }
+    ensures readable { IfOk result HasReadableSignature }
 {
     let job = plan.job(i);
     match image_file_or_refusal(plan.image(i), plan.reference(i), plan.console_reference(i)) {
-        Ok(file) => attempt_over_image(alloc, job, file, spare),
+        Ok(file) => run_image(alloc, job, file, spare),
         Err(why) => Ok(Attempt::Refused(why)),
     }
 }
@@ -169,13 +169,13 @@ pub fn machine_at_reusing(
         (λ why. start_in plan.now.answers (slice_index_or plan.now.jobs i d) ≡ Err why)) }
 {
     match image_file_or_refusal(plan.image(i), plan.reference(i), plan.console_reference(i)) {
-        Ok(file) => machine_over_image(alloc, plan.job(i), file, image, spare),
+        Ok(file) => machine_of_image(alloc, plan.job(i), file, image, spare),
         Err(why) => Ok(Err(why)),
     }
 }
 
 /// Whether an outcome equals the outcome of the job that `same_as` names; true if there is no `same_as`.
-pub(crate) fn is_same_as_named(
+pub(crate) fn matches_same_as(
     plan: &Plan,
     job: &Job,
     outcome: &Outcome,
@@ -183,19 +183,19 @@ pub(crate) fn is_same_as_named(
     recent: &mut Recent,
 ) -> Result<bool, AllocError>
     requires place { IfSome job.now.same_as (λ place. place < length plan.now.jobs) }
-    requires recent { AreOutcomes plan.now recent.old }
+    requires recent { AreOutcomesOfPlan plan.now recent.old }
     ensures same { IfOk result
-        (λ same. same ≡ is_same_as_named job.now.same_as (named_job_outcome plan.now job.now) outcome.now) }
-    ensures recent { OnOk result (AreOutcomes plan.now recent.new) }
+        (λ same. same ≡ matches_same_as job.now.same_as (same_as_outcome plan.now job.now) outcome.now) }
+    ensures recent { OnOk result (AreOutcomesOfPlan plan.now recent.new) }
 {
     match job.same_as {
-        Some(place) => is_same_as_job_at(plan, place, outcome, spare, recent),
+        Some(place) => equals_outcome_at(plan, place, outcome, spare, recent),
         None => Ok(true),
     }
 }
 
 // Whether an outcome equals the outcome of the job at an index, which is run again unless its outcome is cached.
-fn is_same_as_job_at(
+fn equals_outcome_at(
     plan: &Plan,
     place: usize,
     outcome: &Outcome,
@@ -203,17 +203,17 @@ fn is_same_as_job_at(
     recent: &mut Recent,
 ) -> Result<bool, AllocError>
     requires place { place < length plan.now.jobs }
-    requires recent { AreOutcomes plan.now recent.old }
+    requires recent { AreOutcomesOfPlan plan.now recent.old }
     ensures same { IfOk result (λ same. (d : AJob) → same
         ≡ are_same_outcomes outcome.now
         (outcome_in plan.now.answers (slice_index_or plan.now.jobs place d))) }
-    ensures recent { OnOk result (AreOutcomes plan.now recent.new) }
+    ensures recent { OnOk result (AreOutcomesOfPlan plan.now recent.new) }
 {
     if let Some(other) = recent.find(place) {
         return Ok(are_same_outcomes(outcome, other));
     }
     let alloc = recent.alloc();
-    let other = attempt_at(alloc, plan, place, spare)?;
+    let other = run_job_at(alloc, plan, place, spare)?;
     let same = is_same_as_attempt(outcome, &other);
     if recent.make_room(other.size()) {
         recent.keep(place, other.outcome(alloc)?)?;
@@ -223,7 +223,7 @@ fn is_same_as_job_at(
 }
 
 // Caches a copy of the outcome of the job at an index, if it is small enough and one of the next jobs names the job in its `same_as`.
-fn keep_outcome_if_named(
+fn cache_outcome_if_named(
     alloc: Global,
     plan: &Plan,
     i: usize,
@@ -232,8 +232,8 @@ fn keep_outcome_if_named(
 ) -> Result<(), AllocError>
     requires place { i < length plan.now.jobs }
     requires outcome { outcome_at plan.now i ≡ Some outcome.now }
-    requires recent { AreOutcomes plan.now recent.old }
-    ensures { OnOk result (AreOutcomes plan.now recent.new) }
+    requires recent { AreOutcomesOfPlan plan.now recent.old }
+    ensures { OnOk result (AreOutcomesOfPlan plan.now recent.new) }
 {
     if is_named_by_next_jobs(plan, i) && recent.make_room(outcome.size()) {
         recent.keep(i, outcome.copy(alloc)?)?;

@@ -2,7 +2,7 @@
 
 ghost use Rattle.std.specs.Prelude.{◌≡◌, IfSome, OnOk, Some};
 ghost use Rattle.rv_jobs.specs.Plans.{Planned};
-ghost use Rattle.rv_rows.specs.Recent.{AreOutcomes, outcome_at};
+ghost use Rattle.rv_rows.specs.Recent.{AreOutcomesOfPlan, outcome_at};
 
 use crate::outcome::Outcome;
 use std::alloc::{AllocError, Global};
@@ -39,7 +39,7 @@ impl Model for Recent {
 impl Recent {
     /// Returns an empty cache. Does not allocate.
     pub fn new(alloc: Global) -> Recent
-        ensures { (plan : Planned) → AreOutcomes plan result }
+        ensures { (plan : Planned) → AreOutcomesOfPlan plan result }
     {
         Recent {
             items: Vec::new(alloc),
@@ -53,7 +53,7 @@ impl Recent {
 
     /// Returns the outcome of the job at an index if it is cached; otherwise `None`.
     pub fn find(&self, place: usize) -> Option<&Outcome>
-        ensures { (plan : Planned) → AreOutcomes plan self.now
+        ensures { (plan : Planned) → AreOutcomesOfPlan plan self.now
             → IfSome result (λ found. outcome_at plan place ≡ Some found.now) }
     {
         for kept in &self.items {
@@ -67,7 +67,7 @@ impl Recent {
     /// Returns whether an outcome whose console and signature have `size` bytes is small enough to be cached. If so, drops the oldest
     /// cached outcomes until there is room for it.
     pub fn make_room(&mut self, size: usize) -> bool
-        ensures { (plan : Planned) → AreOutcomes plan self.old → AreOutcomes plan self.new }
+        ensures { (plan : Planned) → AreOutcomesOfPlan plan self.old → AreOutcomesOfPlan plan self.new }
     {
         if ROOM < size {
             return false;
@@ -80,9 +80,9 @@ impl Recent {
 
     /// Adds the outcome of the job at an index to the cache, which has room for it.
     pub fn keep(&mut self, place: usize, outcome: Outcome) -> Result<(), AllocError>
-        ensures { (plan : Planned) → AreOutcomes plan self.old → outcome_at plan place
+        ensures { (plan : Planned) → AreOutcomesOfPlan plan self.old → outcome_at plan place
             ≡ Some outcome
-            → OnOk result (AreOutcomes plan self.new) }
+            → OnOk result (AreOutcomesOfPlan plan self.new) }
     {
         self.items.push(CachedOutcome { place, outcome })?;
         Ok(())

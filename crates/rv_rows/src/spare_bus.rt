@@ -40,12 +40,12 @@ impl Spare {
     /// Stores the bus of an ended run, whose outcome is no longer needed, so that the next run can use its memory.
     pub(crate) fn keep(&mut self, attempt: Attempt) {
         if let Attempt::Ran(run) = attempt {
-            self.keep_bus(run.bus);
+            self.recycle_bus(run.bus);
         }
     }
 
     /// Stores a bus that is no longer needed, so that the next run can use its memory.
-    pub fn keep_bus(&mut self, bus: Bus) {
+    pub fn recycle_bus(&mut self, bus: Bus) {
         self.bus = Some(bus);
     }
 }

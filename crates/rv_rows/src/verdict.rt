@@ -2,10 +2,10 @@
 
 ghost use Rattle.std.specs.Prelude.{◌≡◌, Option, bytes_eq, option_map};
 ghost use Rattle.rv_rows.specs.declared.outcome.Outcome.{Outcome as AnOutcome};
-ghost use Rattle.rv_rows.specs.Attempt.{HasSignature, IsReadable, outcome_in_bus, outcome_of_attempt};
+ghost use Rattle.rv_rows.specs.Attempt.{HasValidRange, HasReadableSignature, outcome_in_bus, outcome_of_attempt};
 ghost use Rattle.rv_rows.specs.Verdict.{are_alike_endings, are_same_outcomes, ends_by, exits_with, has_expected_console};
 ghost use Rattle.rv_rows.specs.Verdict.{has_expected_end, has_expected_exit, has_expected_signature};
-ghost use Rattle.rv_rows.specs.Verdict.{is_same_as_named, expects_anything, did_run, lines_of_signature, ran_with_console, are_same_signatures, verdict_of};
+ghost use Rattle.rv_rows.specs.Verdict.{matches_same_as, has_expectations, did_run, lines_of_signature, ran_with_console, are_same_signatures, verdict_of};
 
 use crate::outcome::{Attempt, EndedRun, Outcome};
 use rv_jobs::{ExpectedConsole, ExpectedEnd, Job};
@@ -22,11 +22,11 @@ pub(crate) fn verdict_of(
     same: bool,
 ) -> Verdict
     // For every outcome of the named job such that `same` correctly states whether the two are equal.
-    ensures { (other : Option AnOutcome) → same ≡ is_same_as_named job.now.same_as other outcome.now
+    ensures { (other : Option AnOutcome) → same ≡ matches_same_as job.now.same_as other outcome.now
         → result ≡ verdict_of job.now outcome.now (option_map (λ bytes. bytes.now) reference.entry)
         (option_map (λ bytes. bytes.now) console.entry) other }
 {
-    if !expects_anything(job) {
+    if !has_expectations(job) {
         return Verdict::Unasked;
     }
     if !has_expected_exit(job.expect_exit, outcome.ending) {
@@ -48,8 +48,8 @@ pub(crate) fn verdict_of(
 }
 
 /// Whether a job has expectations.
-pub fn expects_anything(job: &Job) -> bool
-    ensures { result ≡ expects_anything job.now }
+pub fn has_expectations(job: &Job) -> bool
+    ensures { result ≡ has_expectations job.now }
 {
     job.expect_exit.is_some()
         || job.expect_end.is_some()
@@ -178,7 +178,7 @@ pub fn are_same_outcomes(outcome: &Outcome, other: &Outcome) -> bool
 
 /// Whether an outcome equals the outcome of a job's result, as [`are_same_outcomes`] compares them, without copying the latter.
 pub(crate) fn is_same_as_attempt(outcome: &Outcome, other: &Attempt) -> bool
-    requires { IsReadable other.now }
+    requires { HasReadableSignature other.now }
     ensures { result ≡ are_same_outcomes outcome.now (outcome_of_attempt other.now) }
 {
     match other {
@@ -189,7 +189,7 @@ pub(crate) fn is_same_as_attempt(outcome: &Outcome, other: &Attempt) -> bool
 
 // Whether an outcome equals the outcome of an ended run, as [`are_same_outcomes`] compares them.
 fn has_same_outcome_as_run(outcome: &Outcome, run: &EndedRun) -> bool
-    requires { HasSignature run.now }
+    requires { HasValidRange run.now }
     ensures { result ≡ are_same_outcomes outcome.now (outcome_in_bus run.now) }
 {
     if !are_alike_endings(outcome.ending, run.ending) {
@@ -203,7 +203,7 @@ fn has_same_outcome_as_run(outcome: &Outcome, run: &EndedRun) -> bool
 
 // Whether the signature of an ended run has these words, or both signatures are missing.
 fn has_run_signature(run: &EndedRun, signature: &Option<Words>) -> bool
-    requires { HasSignature run.now }
+    requires { HasValidRange run.now }
     ensures { result ≡ are_same_signatures signature.now (outcome_in_bus run.now).signature }
 {
     match (signature, run.range) {

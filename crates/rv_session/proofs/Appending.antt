@@ -2,30 +2,30 @@
 use Rattle.std.proofs.Common.{◌≡◌, ◌∙◌, ◌++◌, [], ℕ, Bool, true, false, List, Some, ap, append-nil, append_assoc, refl, subst, sym}
 use Rattle.std.specs.Prelude.{Option, Result, Ok, Err}
 use Rattle.std.specs.Result.{IfOk, OnOk}
-use Rattle.rv_gdb_protocol.specs.Frames.{Frame, frame_after, incoming_at}
+use Rattle.rv_gdb_protocol.specs.Frames.{Frame, state_after_byte, incoming_at}
 use Rattle.rv_gdb_protocol.specs.Packets.{request_of}
 use Rattle.rv_gdb_protocol.specs.declared.frame.Incoming.{Incoming}
 use Rattle.rv_session.specs.Answers.{IsAnswered}
-use Rattle.rv_session.specs.Incoming.{IsAppended, IsByteReceived, IsRespondedTo, IsResponse, IsResponseUnless, IsPacketAnswered, acknowledgement, packets_of, with_sent}
+use Rattle.rv_session.specs.Incoming.{AppendsSome, IsByteReceived, IsRespondedTo, IsResponse, IsResponseUnless, IsPacketResponse, acknowledgement, packets_of, with_sent}
 use Rattle.rv_session.specs.declared.reply.Reply.{Reply}
 use Rattle.rv_session.specs.declared.session.Session.{Session}
 
 -- nothing is appended
-pub nothing_more : (old : List ℕ) (IsSuch : List ℕ → Type 0) → IsSuch [] → IsAppended old old IsSuch
+pub nothing_more : (old : List ℕ) (IsSuch : List ℕ → Type 0) → IsSuch [] → AppendsSome old old IsSuch
 nothing_more old IsSuch such = record { out = []; new_is = sym (append-nil old); such = such }
 
 -- these bytes are
-pub these_more : (old new out : List ℕ) (IsSuch : List ℕ → Type 0) → new ≡ old ++ out → IsSuch out → IsAppended old new IsSuch
+pub these_more : (old new out : List ℕ) (IsSuch : List ℕ → Type 0) → new ≡ old ++ out → IsSuch out → AppendsSome old new IsSuch
 these_more old new out IsSuch is such = record { out = out; new_is = is; such = such }
 
 -- what is appended to nothing
-pub to_nothing : (old new : List ℕ) (IsSuch : List ℕ → Type 0) → old ≡ [] → IsAppended old new IsSuch → IsSuch new
+pub to_nothing : (old new : List ℕ) (IsSuch : List ℕ → Type 0) → old ≡ [] → AppendsSome old new IsSuch → IsSuch new
 to_nothing old new IsSuch none more =
     subst IsSuch (ap (λ (front : List ℕ). front ++ more.out) (sym none) ∙ sym more.new_is) more.such
 
 -- what is appended has another name
 pub named_otherwise : (old new : List ℕ) (IsSuch IsOther : List ℕ → Type 0) → ((out : List ℕ) → IsSuch out → IsOther out)
-    → IsAppended old new IsSuch → IsAppended old new IsOther
+    → AppendsSome old new IsSuch → AppendsSome old new IsOther
 named_otherwise old new IsSuch IsOther other more =
     record { out = more.out; new_is = more.new_is; such = other more.out more.such }
 
@@ -53,7 +53,7 @@ over session received is = subst (λ (over : Bool). IsResponseUnless over sessio
 pub taken : (session behind next : Session) (body old middle last : List ℕ) (reply : Reply)
     → middle ≡ old ++ acknowledgement session → IsAnswered session (request_of body) reply behind
     → last ≡ middle ++ packets_of reply → next ≡ with_sent behind reply
-    → IsAppended old last (λ out. IsPacketAnswered session body out next)
+    → AppendsSome old last (λ out. IsPacketResponse session body out next)
 taken session behind next body old middle last reply acknowledged answered sent kept = record {
   out = acknowledgement session ++ packets_of reply;
   new_is = sent ∙ ap (λ (front : List ℕ). front ++ packets_of reply) acknowledged
@@ -65,7 +65,7 @@ taken session behind next body old middle last reply acknowledged answered sent 
 
 -- a byte is heard by the reader first
 pub byte_heard : (session next : Session) (reader : Frame) (received : Option Incoming) (byte : ℕ) (out : List ℕ)
-    → reader ≡ frame_after session.reader byte → received ≡ incoming_at session.reader byte
+    → reader ≡ state_after_byte session.reader byte → received ≡ incoming_at session.reader byte
     → IsRespondedTo (record session { reader = reader }) received out next → IsByteReceived session byte out next
 byte_heard session next reader received byte out is same response =
     subst (λ (f : Frame). IsRespondedTo (record session { reader = f }) (incoming_at session.reader byte) out next) is

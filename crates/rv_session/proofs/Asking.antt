@@ -3,7 +3,7 @@ use Rattle.std.proofs.Common.{◌≡◌, ◌∙◌, ◌&&◌, ℕ, List, Bool, t
 use Rattle.std.specs.Prelude.{Option, Result, Ok, Err, if◌then◌else◌, nat_le}
 use Rattle.rv_history.specs.Places.{last_step}
 use Rattle.rv_history.specs.declared.stops.Stops.{Stops}
-use Rattle.rv_gdb_protocol.specs.Frames.{frame_after, incoming_at}
+use Rattle.rv_gdb_protocol.specs.Frames.{state_after_byte, incoming_at}
 use Rattle.rv_gdb_protocol.specs.Packets.{request_of}
 use Rattle.rv_gdb_protocol.specs.declared.frame.Incoming.{Incoming}
 use Rattle.rv_gdb_protocol.specs.declared.frame.Incoming.TheVariants as received
@@ -13,8 +13,8 @@ use Rattle.rv_gdb_protocol.specs.declared.request.Register.{Register}
 use Rattle.rv_gdb_protocol.specs.declared.request.Register.TheVariants as reg
 use Rattle.rv_gdb_protocol.specs.declared.request.Request.{Request}
 use Rattle.rv_gdb_protocol.specs.declared.request.Request.TheVariants as ask
-use Rattle.rv_session.specs.Answers.{IsAnswered, IsSet, IsWritten, is_reset}
-use Rattle.rv_session.specs.Incoming.{IsByteReceived, IsJudged, IsRespondedTo, IsResponse, IsResponseUnless, IsPacketAnswered, is_wrong_checksum, with_sent}
+use Rattle.rv_session.specs.Answers.{IsAnswered, IsSetReply, IsRegisterWriteHandled, is_reset}
+use Rattle.rv_session.specs.Incoming.{IsByteReceived, IsCheckedPacketResponse, IsRespondedTo, IsResponse, IsResponseUnless, IsPacketResponse, is_wrong_checksum, with_sent}
 use Rattle.rv_session.specs.Replies.{refused}
 use Rattle.rv_session.specs.Sessions.{IsOpenIfRequested, at_place}
 use Rattle.rv_session.specs.declared.reply.Reply.{Reply}
@@ -30,12 +30,12 @@ placed_unasked session next place true none is = unasked next (at_place session 
 placed_unasked session next place false none is = unasked next session is none
 
 set_unasked : (session next : Session) (outcome : Result Stops Refusal) (reply : Reply) → session.requested ≡ None
-    → IsSet session outcome reply next → next.requested ≡ None
+    → IsSetReply session outcome reply next → next.requested ≡ None
 set_unasked session next (Ok stops) reply none set = unasked next (record session { stops = stops }) set.1 none
 set_unasked session next (Err refusal) reply none set = unasked next session set.1 none
 
 written_unasked : (session next : Session) (register : Register) (value : ℕ) (reply : Reply) → session.requested ≡ None
-    → IsWritten session register value reply next → next.requested ≡ None
+    → IsRegisterWriteHandled session register value reply next → next.requested ≡ None
 written_unasked session next (reg.Hart number) value reply none written = unasked next session written.1 none
 written_unasked session next reg.Steps value reply none written =
     placed_unasked session next value (nat_le value (last_step session.history.budget session.history.start)) none written.1
@@ -56,7 +56,7 @@ answered_may session next (ask.Command text) reply going none answered =
 answered_may session next request reply going none answered = inl (unasked next _ answered.1 none)
 
 taken_may : (session next : Session) (body out : List ℕ) → session.is_over ≡ false → session.requested ≡ None
-    → IsPacketAnswered session body out next → IsOpenIfRequested next
+    → IsPacketResponse session body out next → IsOpenIfRequested next
 taken_may session next body out going none took =
     elim (answered_may session took.after_reply (request_of body) took.reply going none took.answered) [
       | inl unasks ↦ inl (unasked next (with_sent took.after_reply took.reply) took.next_is unasks)
@@ -64,7 +64,7 @@ taken_may session next body out going none took =
     ]
 
 judged_may : (session next : Session) (again : Bool) (body out : List ℕ) → session.is_over ≡ false → session.requested ≡ None
-    → IsJudged session again body out next → IsOpenIfRequested next
+    → IsCheckedPacketResponse session again body out next → IsOpenIfRequested next
 judged_may session next true body out going none judged = inl (unasked next session judged.1 none)
 judged_may session next false body out going none judged = taken_may session next body out going none judged
 
@@ -92,4 +92,4 @@ responded_may session next (Some received) out none response =
 pub byte_may : (session next : Session) (byte : ℕ) (out : List ℕ) → session.requested ≡ None → IsByteReceived session byte out next
     → IsOpenIfRequested next
 byte_may session next byte out none fed =
-    responded_may (record session { reader = frame_after session.reader byte }) next (incoming_at session.reader byte) out none fed
+    responded_may (record session { reader = state_after_byte session.reader byte }) next (incoming_at session.reader byte) out none fed

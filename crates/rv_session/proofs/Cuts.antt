@@ -5,10 +5,10 @@ use Rattle.rv_session.specs.Incoming.{IsByteReceived, IsReceived, IsRequestedMov
 use Rattle.rv_session.specs.declared.session.Session.{Session}
 
 -- what comes next of bytes, and of those behind them
-next_of_both : (bytes rest : List ℕ) (behind : Bool)
+next_of_nodes : (bytes rest : List ℕ) (behind : Bool)
     → is_interrupted bytes (is_interrupted rest behind) ≡ is_interrupted (bytes ++ rest) behind
-next_of_both [] rest behind = refl
-next_of_both (byte ∷ more) rest behind = refl
+next_of_nodes [] rest behind = refl
+next_of_nodes (byte ∷ more) rest behind = refl
 
 pub fed_both : (end_text : List ℕ) (behind : Bool) (rest : List ℕ) (session between next : Session) (front out more : List ℕ)
     → IsReceived end_text (is_interrupted rest behind) session front out between → IsReceived end_text behind between rest more next
@@ -21,7 +21,7 @@ fed_both end_text behind rest session between next front out more (byte_first sa
 fed_both end_text behind rest session between next front out more (move_first same middle last bytes told sent made first) second =
     subst (λ (all : List ℕ). IsReceived end_text behind session (front ++ rest) all next) (sym (append_assoc told sent more))
     (move_first session middle next (front ++ rest) told (sent ++ more)
-    (subst (λ (may : Bool). IsRequestedMoveMade end_text may session told middle) (next_of_both front rest behind) made)
+    (subst (λ (may : Bool). IsRequestedMoveMade end_text may session told middle) (next_of_nodes front rest behind) made)
     (fed_both end_text behind rest middle between next front sent more first second))
 
 one_byte : (end_text : List ℕ) (behind : Bool) (session next : Session) (byte : ℕ) (out : List ℕ) → session.requested ≡ None

@@ -13,7 +13,7 @@ use Rattle.rv_history.specs.declared.stops.Watch.{Watch}
 use Rattle.rv_history.proofs.Public.{one_first_with, one_next_step, one_next_stop, one_step_before, one_stop_before}
 use Rattle.rv_history.specs.State.{State}
 use Rattle.rv_history.specs.Bus.{Contents}
-use Rattle.rv_gdb_protocol.specs.Frames.{frame_after, incoming_at}
+use Rattle.rv_gdb_protocol.specs.Frames.{state_after_byte, incoming_at}
 use Rattle.rv_gdb_protocol.specs.Packets.{request_of}
 use Rattle.rv_gdb_protocol.specs.Stops.{stop_text}
 use Rattle.rv_gdb_protocol.specs.declared.frame.Incoming.{Incoming}
@@ -29,12 +29,12 @@ use Rattle.rv_gdb_protocol.specs.declared.request.Request.{Request}
 use Rattle.rv_gdb_protocol.specs.declared.request.Request.TheVariants as ask
 use Rattle.rv_gdb_protocol.specs.declared.request.Stoppoint.{Stoppoint}
 use Rattle.rv_gdb_protocol.specs.declared.request.Stoppoint.TheVariants as trap
-use Rattle.rv_session.specs.Answers.{IsAnswered, IsSet, IsSought, IsSoughtAs, IsStoppointSet, IsWritten}
-use Rattle.rv_session.specs.Incoming.{HasNoInterrupt, IsByteReceived, IsReceived, IsJudged, IsRespondedTo, IsResponse, IsResponseUnless, IsPacketAnswered, IsRequestedMoveMade, acknowledgement, byte_first, is_interrupted, is_wrong_checksum, move_first, no_bytes, packets_of, with_sent}
-use Rattle.rv_session.specs.Moved.{IsMoveResult, IsMoved, end_text_at, printed_on, shown_on, stop_of}
-use Rattle.rv_session.specs.Replies.{granted_if, stopping}
+use Rattle.rv_session.specs.Answers.{IsAnswered, IsSetReply, IsSeekHandled, IsSeekResult, IsStoppointSet, IsRegisterWriteHandled}
+use Rattle.rv_session.specs.Incoming.{HasNoInterrupt, IsByteReceived, IsReceived, IsCheckedPacketResponse, IsRespondedTo, IsResponse, IsResponseUnless, IsPacketResponse, IsRequestedMoveMade, acknowledgement, byte_first, is_interrupted, is_wrong_checksum, move_first, no_bytes, packets_of, with_sent}
+use Rattle.rv_session.specs.Moved.{IsMoveResult, IsMoved, end_text_at, console_before_stop, console_sent_after, stop_of}
+use Rattle.rv_session.specs.Replies.{ok_if, stopping}
 use Rattle.rv_session.specs.Sessions.{at_place, state_at}
-use Rattle.rv_session.specs.Stoppoints.{IsAdded, IsAddedUnless, IsStoppointAdded, is_on, is_set, stoppoint_refusal, watches_of, with_watches}
+use Rattle.rv_session.specs.Stoppoints.{IsTableAdded, IsAddedUnless, IsStoppointAdded, is_on, is_set, stoppoint_refusal, watches_of, with_watches}
 use Rattle.rv_session.specs.declared.reply.Reply.{Reply}
 use Rattle.rv_session.specs.declared.session.Session.{Session}
 
@@ -64,11 +64,11 @@ moved_one end_text may_break session one other requested reply again never first
     session.history.start first.found second.found first.gone second.gone
     (unbroken may_break first.found never first.broken_off) (unbroken may_break second.found never second.broken_off) in
     let said : ℕ → Found → Reply = λ place found.
-    stopping (printed_on session requested (state_at session place)) (end_text_at end_text found)
+    stopping (console_before_stop session requested (state_at session place)) (end_text_at end_text found)
     (stop_text (stop_of session requested place found)) in
     let stands : ℕ → Found → Session = λ place found. record session {
       history = record session.history { place = place };
-      shown = shown_on session requested (state_at session place);
+      shown = console_sent_after session requested (state_at session place);
       last = stop_of session requested place found;
     } in (
       first.reply_is ∙ ap (λ (k : ℕ). said k first.found) same.0 ∙ ap (said second.place) same.1 ∙ sym second.reply_is,
@@ -78,7 +78,7 @@ moved_one end_text may_break session one other requested reply again never first
 -- ---- seeks
 
 sought_as_one : (session one other : Session) (count : Count) (value : ℕ) (grants again : Bool)
-    → IsSoughtAs grants session count value one → IsSoughtAs again session count value other
+    → IsSeekResult grants session count value one → IsSeekResult again session count value other
     → (grants ≡ again) × (one.history.place ≡ other.history.place)
 sought_as_one session one other count value true true first second = (
   refl,
@@ -93,15 +93,15 @@ sought_as_one session one other count value false false first second =
     (refl, ap (λ (s : Session). s.history.place) (first.1 ∙ sym second.1))
 
 sought_one : (session one other : Session) (count : Count) (value : ℕ) (reply again : Reply)
-    → IsSought session count value reply one → IsSought session count value again other → (reply ≡ again) × (one ≡ other)
+    → IsSeekHandled session count value reply one → IsSeekHandled session count value again other → (reply ≡ again) × (one ≡ other)
 sought_one session one other count value reply again first second =
     let same = sought_as_one session one other count value first.is_granted second.is_granted first.sought second.sought in (
-      first.reply_is ∙ ap (λ (is : Bool). granted_if is refusal.NotReached) same.0 ∙ sym second.reply_is,
+      first.reply_is ∙ ap (λ (is : Bool). ok_if is refusal.NotReached) same.0 ∙ sym second.reply_is,
       first.run ∙ ap (at_place session) same.1 ∙ sym second.run,
     )
 
 written_one : (session one other : Session) (register : Register) (value : ℕ) (reply again : Reply)
-    → IsWritten session register value reply one → IsWritten session register value again other → (reply ≡ again) × (one ≡ other)
+    → IsRegisterWriteHandled session register value reply one → IsRegisterWriteHandled session register value again other → (reply ≡ again) × (one ≡ other)
 written_one session one other (reg.Hart number) value reply again first second =
     (first.0 ∙ sym second.0, first.1 ∙ sym second.1)
 written_one session one other reg.Steps value reply again first second = (first.0 ∙ sym second.0, first.1 ∙ sym second.1)
@@ -138,7 +138,7 @@ watch_one range one other first second =
     (eqb-true one.address range.address here.0 ∙ sym (eqb-true other.address range.address there.0))
     (eqb-true one.count range.count here.1 ∙ sym (eqb-true other.count range.count there.1))
 
-added_one : (stops one other : Stops) (place : Stoppoint) → IsAdded stops place one → IsAdded stops place other → one ≡ other
+added_one : (stops one other : Stops) (place : Stoppoint) → IsTableAdded stops place one → IsTableAdded stops place other → one ≡ other
 added_one stops one other (trap.Break address) first second = first ∙ sym second
 added_one stops one other (trap.Watch kind range) first second =
     let same : first.watches ≡ second.watches = first.added.next_is
@@ -162,8 +162,8 @@ trapped_one stops bus place (Err one) (Ok other) first second =
     let none : stoppoint_refusal stops bus place ≡ None = second.0 in absurd (cc (none, first))
 trapped_one stops bus place (Err one) (Err other) first second = cc (first, second)
 
-set_one : (session one other : Session) (outcome : Result Stops Refusal) (reply again : Reply) → IsSet session outcome reply one
-    → IsSet session outcome again other → (reply ≡ again) × (one ≡ other)
+set_one : (session one other : Session) (outcome : Result Stops Refusal) (reply again : Reply) → IsSetReply session outcome reply one
+    → IsSetReply session outcome again other → (reply ≡ again) × (one ≡ other)
 set_one session one other (Ok stops) reply again first second = (first.0 ∙ sym second.0, first.1 ∙ sym second.1)
 set_one session one other (Err refusal) reply again first second = (first.0 ∙ sym second.0, first.1 ∙ sym second.1)
 
@@ -173,7 +173,7 @@ trap_one session one other place reply again first second =
     let same = trapped_one session.stops (state_at session session.history.place).bus place first.outcome second.outcome
     first.trapped second.trapped in
     set_one session one other second.outcome reply again
-    (subst (λ (o : Result Stops Refusal). IsSet session o reply one) same first.set) second.set
+    (subst (λ (o : Result Stops Refusal). IsSetReply session o reply one) same first.set) second.set
 
 -- ---- answers
 
@@ -185,8 +185,8 @@ answered_one session one other (ask.Set place) reply again first second =
     trap_one session one other place reply again first second
 answered_one session one other request reply again first second = (first.0 ∙ sym second.0, first.1 ∙ sym second.1)
 
-taken_one : (session one other : Session) (body out more : List ℕ) → IsPacketAnswered session body out one
-    → IsPacketAnswered session body more other → (out ≡ more) × (one ≡ other)
+taken_one : (session one other : Session) (body out more : List ℕ) → IsPacketResponse session body out one
+    → IsPacketResponse session body more other → (out ≡ more) × (one ≡ other)
 taken_one session one other body out more first second =
     let same = answered_one session first.after_reply second.after_reply (request_of body) first.reply second.reply
     first.answered second.answered in (
@@ -195,8 +195,8 @@ taken_one session one other body out more first second =
           ∙ sym second.next_is,
     )
 
-judged_one : (session one other : Session) (again : Bool) (body out more : List ℕ) → IsJudged session again body out one
-    → IsJudged session again body more other → (out ≡ more) × (one ≡ other)
+judged_one : (session one other : Session) (again : Bool) (body out more : List ℕ) → IsCheckedPacketResponse session again body out one
+    → IsCheckedPacketResponse session again body more other → (out ≡ more) × (one ≡ other)
 judged_one session one other true body out more first second = (first.0 ∙ sym second.0, first.1 ∙ sym second.1)
 judged_one session one other false body out more first second = taken_one session one other body out more first second
 
@@ -223,7 +223,7 @@ responded_one session one other (Some received) out more first second =
 byte_one : (session one other : Session) (byte : ℕ) (out more : List ℕ) → IsByteReceived session byte out one
     → IsByteReceived session byte more other → (out ≡ more) × (one ≡ other)
 byte_one session one other byte out more first second =
-    responded_one (record session { reader = frame_after session.reader byte }) one other (incoming_at session.reader byte) out more
+    responded_one (record session { reader = state_after_byte session.reader byte }) one other (incoming_at session.reader byte) out more
     first second
 
 -- ---- bytes and moves

@@ -11,7 +11,7 @@ use Rattle.rv_history.specs.declared_ending.FaultKind.{FaultKind}
 use Rattle.rv_history.specs.declared_ending.FaultKind.TheVariants as fault
 use Rattle.rv_gdb_protocol.specs.Stops.{NoEnding, Told, end_kind_of_stop, end_kind_of_fault}
 use Rattle.rv_gdb_protocol.specs.declared.request.Move.{Move}
-use Rattle.rv_session.specs.Endings.{text_with, end_kind_of_ending, end_kind_of_found}
+use Rattle.rv_session.specs.Endings.{text_with, end_kind_of_ending, end_kind_of_move_result}
 use Rattle.rv_session.specs.Moved.{IsMoved, end_stop, end_text_at, is_forward, stop_of, watch_between, stop_of_watch_hit}
 use Rattle.rv_session.specs.declared.reply.Reply.{Reply}
 use Rattle.rv_session.specs.declared.session.Session.{Session}
@@ -28,7 +28,7 @@ end_is_told (ending.Fault kind pc value) = refl
 end_is_told ending.Budget = refl
 
 stop_is_told : (session : Session) (requested : Move) (place : ℕ) (found : Found)
-    → end_kind_of_stop (stop_of session requested place found) ≡ end_kind_of_found found
+    → end_kind_of_stop (stop_of session requested place found) ≡ end_kind_of_move_result found
 stop_is_told session requested place found.Done = refl
 stop_is_told session requested place found.Break = refl
 stop_is_told session requested place found.Change = watch_is_none
@@ -50,7 +50,7 @@ fault_has_text fault.Breakpoint end_text = refl
 fault_has_text fault.UnknownCall end_text = refl
 fault_has_text fault.ConsoleFull end_text = refl
 
-text_is_told : (end_text : List ℕ) (found : Found) → end_text_at end_text found ≡ text_with (end_kind_of_found found) end_text
+text_is_told : (end_text : List ℕ) (found : Found) → end_text_at end_text found ≡ text_with (end_kind_of_move_result found) end_text
 text_is_told end_text (found.End (ending.Exit code)) = refl
 text_is_told end_text (found.End (ending.Fault kind pc value)) = sym (fault_has_text kind end_text)
 text_is_told end_text (found.End ending.Budget) = refl
@@ -62,9 +62,9 @@ text_is_told end_text found.Interrupted = refl
 
 pub end_told : (end_text : List ℕ) (may_break : Bool) (session next : Session) (requested : Move) (reply : Reply)
     (moved : IsMoved end_text may_break session requested reply next)
-    → (end_kind_of_stop next.last ≡ end_kind_of_found moved.found) × (reply.end_text ≡ text_with (end_kind_of_stop next.last) end_text)
+    → (end_kind_of_stop next.last ≡ end_kind_of_move_result moved.found) × (reply.end_text ≡ text_with (end_kind_of_stop next.last) end_text)
 end_told end_text may_break session next requested reply moved =
-    let told : end_kind_of_stop next.last ≡ end_kind_of_found moved.found =
+    let told : end_kind_of_stop next.last ≡ end_kind_of_move_result moved.found =
     ap (λ (s : Session). end_kind_of_stop s.last) moved.next_is ∙ stop_is_told session requested moved.place moved.found in (
       told,
       ap (λ (r : Reply). r.end_text) moved.reply_is ∙ text_is_told end_text moved.found

@@ -1,7 +1,7 @@
 -- Moves, and the stops that are told.
 use Rattle.std.proofs.Common.{◌≡◌, ◌∙◌, ◌<◌, ◌≤◌, ℕ, Bool, List, true, ap, arith, subst, sym}
 use Rattle.std.proofs.lemmas.Bool.{false≢true}
-use Rattle.rv_history.specs.Moves.{IsInterrupted, IsNextStep, IsStopAhead}
+use Rattle.rv_history.specs.Moves.{IsInterrupted, IsNextStep, IsForwardStop}
 use Rattle.rv_history.specs.Places.{IsReached, last_step}
 use Rattle.rv_history.specs.declared.bounds.Bounds.{Bounds}
 use Rattle.rv_history.specs.declared.bounds.Bounds.TheVariants as bounds
@@ -15,7 +15,7 @@ use Rattle.rv_gdb_protocol.specs.declared.request.Move.TheVariants as move
 use Rattle.rv_gdb_protocol.specs.declared.stop.Stop.{Stop}
 use Rattle.rv_history.proofs.Public.{completes}
 use Rattle.rv_history.specs.Trace.{state_after}
-use Rattle.rv_session.specs.Moved.{CanReportHit, IsMoveResult, IsMoved, end_text_at, is_forward, printed_on, shown_on, stop_of}
+use Rattle.rv_session.specs.Moved.{CanReportHit, IsMoveResult, IsMoved, end_text_at, is_forward, console_before_stop, console_sent_after, stop_of}
 use Rattle.rv_session.specs.Replies.{stopping}
 use Rattle.rv_session.specs.Sessions.{at_place, here, state_at}
 use Rattle.rv_session.specs.declared.reply.Reply.{Reply}
@@ -32,9 +32,9 @@ stands session start place s starts is within same =
     })
 
 changes_within : (stops : Stops) (limits : Bounds) (budget from place : ℕ) (start : State) (what : Found)
-    → IsStopAhead stops limits budget start from place what → what ≡ found.Change → place < last_step budget start
+    → IsForwardStop stops limits budget start from place what → what ≡ found.Change → place < last_step budget start
 changes_within stops limits budget from place start what meets is =
-    let change = subst (λ (f : Found). IsStopAhead stops limits budget start from place f) is meets in change.0.completes
+    let change = subst (λ (f : Found). IsForwardStop stops limits budget start from place f) is meets in change.0.completes
 
 step_changes_within : (stops : Stops) (budget from place : ℕ) (start : State) (what : Found)
     → IsNextStep stops budget start from place what → what ≡ found.Change → place < last_step budget start
@@ -71,18 +71,18 @@ can_tell session between requested found same gone is forward =
 moved_at : (end_text : List ℕ) (may_break : Bool) (session next : Session) (requested : Move) (reply : Reply) (place : ℕ) (found : Found) (told : Stop)
     → IsMoveResult requested session.stops session.history.budget session.history.start session.history.place place found
     → (IsInterrupted found → may_break ≡ true) → told ≡ stop_of (at_place session place) requested place found
-    → reply ≡ stopping (printed_on session requested (state_at session place)) (end_text_at end_text found) (stop_text told)
-    → next ≡ record (at_place session place) { shown = shown_on session requested (state_at session place); last = told }
+    → reply ≡ stopping (console_before_stop session requested (state_at session place)) (end_text_at end_text found) (stop_text told)
+    → next ≡ record (at_place session place) { shown = console_sent_after session requested (state_at session place); last = told }
     → IsMoved end_text may_break session requested reply next
 moved_at end_text may_break session next requested reply place found told gone broken is said stands = record {
   place = place;
   found = found;
   gone = gone;
   broken_off = broken;
-  reply_is = said ∙ ap (λ (stop : Stop). stopping (printed_on session requested (state_at session place)) (end_text_at end_text found)
+  reply_is = said ∙ ap (λ (stop : Stop). stopping (console_before_stop session requested (state_at session place)) (end_text_at end_text found)
       (stop_text stop)) is;
   next_is = stands ∙ ap (λ (stop : Stop). record (at_place session place) {
-    shown = shown_on session requested (state_at session place);
+    shown = console_sent_after session requested (state_at session place);
     last = stop;
   }) is;
 }
@@ -91,11 +91,11 @@ pub moved : (end_text : List ℕ) (may_break : Bool) (session between next : Ses
     → between ≡ at_place session between.history.place
     → IsMoveResult requested session.stops session.history.budget session.history.start session.history.place between.history.place found
     → (IsInterrupted found → may_break ≡ true) → told ≡ stop_of between requested between.history.place found
-    → reply ≡ stopping (printed_on between requested (here between)) (end_text_at end_text found) (stop_text told)
-    → next ≡ record between { shown = shown_on between requested (here between); last = told } → IsMoved end_text may_break session requested reply next
+    → reply ≡ stopping (console_before_stop between requested (here between)) (end_text_at end_text found) (stop_text told)
+    → next ≡ record between { shown = console_sent_after between requested (here between); last = told } → IsMoved end_text may_break session requested reply next
 moved end_text may_break session between next requested reply found told same gone broken =
     let place = between.history.place in
     subst (λ (b : Session). told ≡ stop_of b requested place found
-    → reply ≡ stopping (printed_on b requested (state_at b place)) (end_text_at end_text found) (stop_text told)
-    → next ≡ record b { shown = shown_on b requested (state_at b place); last = told } → IsMoved end_text may_break session requested reply next)
+    → reply ≡ stopping (console_before_stop b requested (state_at b place)) (end_text_at end_text found) (stop_text told)
+    → next ≡ record b { shown = console_sent_after b requested (state_at b place); last = told } → IsMoved end_text may_break session requested reply next)
     (sym same) (moved_at end_text may_break session next requested reply place found told gone broken)

@@ -2,7 +2,7 @@
 use Rattle.std.proofs.Common.{◌≡◌, ◌∙◌, ◌&&◌, ℕ, List, Bool, true, false, Some, None, ap, refl}
 use Rattle.std.specs.Prelude.{Result, Ok, Err, Option, if◌then◌else◌, nat_le}
 use Rattle.rv_history.specs.Places.{last_step}
-use Rattle.rv_gdb_protocol.specs.Frames.{frame_after, incoming_at}
+use Rattle.rv_gdb_protocol.specs.Frames.{state_after_byte, incoming_at}
 use Rattle.rv_gdb_protocol.specs.Packets.{request_of}
 use Rattle.rv_gdb_protocol.specs.declared.frame.Incoming.{Incoming}
 use Rattle.rv_gdb_protocol.specs.declared.frame.Incoming.TheVariants as received
@@ -13,8 +13,8 @@ use Rattle.rv_gdb_protocol.specs.declared.request.Request.{Request}
 use Rattle.rv_gdb_protocol.specs.declared.request.Request.TheVariants as ask
 use Rattle.rv_history.specs.declared.stops.Stops.{Stops}
 use Rattle.rv_gdb_protocol.specs.declared.request.Refusal.TheVariants as refusal
-use Rattle.rv_session.specs.Answers.{IsAnswered, IsSet, IsWritten, is_reset}
-use Rattle.rv_session.specs.Incoming.{IsByteReceived, IsReceived, IsJudged, IsRespondedTo, IsResponse, IsResponseUnless, IsPacketAnswered, IsRequestedMoveMade, byte_first, is_interrupted, is_wrong_checksum, move_first, no_bytes, with_sent}
+use Rattle.rv_session.specs.Answers.{IsAnswered, IsSetReply, IsRegisterWriteHandled, is_reset}
+use Rattle.rv_session.specs.Incoming.{IsByteReceived, IsReceived, IsCheckedPacketResponse, IsRespondedTo, IsResponse, IsResponseUnless, IsPacketResponse, IsRequestedMoveMade, byte_first, is_interrupted, is_wrong_checksum, move_first, no_bytes, with_sent}
 use Rattle.rv_session.specs.Replies.{refused}
 use Rattle.rv_session.specs.Sessions.{IsSameRun, at_place}
 use Rattle.rv_session.specs.declared.reply.Reply.{Reply}
@@ -78,14 +78,14 @@ stays_or_goes : (session next : Session) (place : ℕ) (moves : Bool)
 stays_or_goes session next place true is = goes session next place is
 stays_or_goes session next place false is = stays session next is
 
-set_quiet : (session next : Session) (outcome : Result Stops Refusal) (reply : Reply) → IsSet session outcome reply next
+set_quiet : (session next : Session) (outcome : Result Stops Refusal) (reply : Reply) → IsSetReply session outcome reply next
     → IsQuiet session next
 set_quiet session next (Ok stops) reply set =
     by_fields session next (record session { stops = stops }) set.1 refl refl refl refl refl
 set_quiet session next (Err refusal) reply set = stays session next set.1
 
 written_quiet : (session next : Session) (register : Register) (value : ℕ) (reply : Reply)
-    → IsWritten session register value reply next → IsQuiet session next
+    → IsRegisterWriteHandled session register value reply next → IsQuiet session next
 written_quiet session next (reg.Hart number) value reply written = stays session next written.1
 written_quiet session next reg.Steps value reply written =
     stays_or_goes session next value (nat_le value (last_step session.history.budget session.history.start)) written.1
@@ -110,12 +110,12 @@ answered_quiet session next request reply answered = stays session next answered
 sent_quiet : (session next : Session) (reply : Reply) → next ≡ with_sent session reply → IsQuiet session next
 sent_quiet session next reply is = by_fields session next (with_sent session reply) is refl refl refl refl refl
 
-taken_quiet : (session next : Session) (body out : List ℕ) → IsPacketAnswered session body out next → IsQuiet session next
+taken_quiet : (session next : Session) (body out : List ℕ) → IsPacketResponse session body out next → IsQuiet session next
 taken_quiet session next body out took = quiet_on session took.after_reply next
     (answered_quiet session took.after_reply (request_of body) took.reply took.answered)
     (sent_quiet took.after_reply next took.reply took.next_is)
 
-judged_quiet : (session next : Session) (again : Bool) (body out : List ℕ) → IsJudged session again body out next
+judged_quiet : (session next : Session) (again : Bool) (body out : List ℕ) → IsCheckedPacketResponse session again body out next
     → IsQuiet session next
 judged_quiet session next true body out judged = stays session next judged.1
 judged_quiet session next false body out judged = taken_quiet session next body out judged
@@ -141,7 +141,7 @@ responded_quiet session next (Some received) out response = unless_quiet session
 
 byte_quiet : (session next : Session) (byte : ℕ) (out : List ℕ) → IsByteReceived session byte out next → IsQuiet session next
 byte_quiet session next byte out fed =
-    let listening : Session = record session { reader = frame_after session.reader byte } in
+    let listening : Session = record session { reader = state_after_byte session.reader byte } in
     let received = responded_quiet listening next (incoming_at session.reader byte) out fed in record {
       run = record {
         start_is = received.run.start_is;

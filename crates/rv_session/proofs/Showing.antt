@@ -12,9 +12,9 @@ use Rattle.rv_history.proofs.Public.{printed_stays}
 use Rattle.rv_history.specs.State.{State}
 use Rattle.rv_gdb_protocol.specs.declared.request.Move.{Move}
 use Rattle.rv_gdb_protocol.specs.declared.request.Move.TheVariants as move
-use Rattle.rv_session.specs.Console.{HasShown, printed_by}
+use Rattle.rv_session.specs.Console.{HasSentConsole, console_of_run}
 use Rattle.rv_session.specs.Incoming.{IsByteReceived}
-use Rattle.rv_session.specs.Moved.{IsMoveResult, IsMoved, is_forward, printed_on, shown_on}
+use Rattle.rv_session.specs.Moved.{IsMoveResult, IsMoved, is_forward, console_before_stop, console_sent_after}
 use Rattle.rv_session.specs.Sessions.{state_at}
 use Rattle.rv_history.specs.Trace.{state_after}
 use Rattle.rv_session.proofs.Same.{byte_same, byte_shows_none}
@@ -83,9 +83,9 @@ shows_forward session s end rest shown is first within =
 shows_on : (session : Session) (requested : Move) (place : ℕ) (found : Found) (shown : List ℕ) (forward : Bool)
     → is_forward requested ≡ forward
     → IsMoveResult requested session.stops session.history.budget session.history.start session.history.place place found
-    → HasShown session shown
+    → HasSentConsole session shown
     → Shows session (state_at session (last_step session.history.budget session.history.start))
-    (printed_on session requested (state_at session place)) (shown_on session requested (state_at session place)) shown
+    (console_before_stop session requested (state_at session place)) (console_sent_after session requested (state_at session place)) shown
 shows_on session requested place found shown true forward gone before =
     let last = last_step session.history.budget session.history.start in
     let within = went_within requested session.stops session.history.budget session.history.place place session.history.start found
@@ -96,33 +96,33 @@ shows_on session requested place found shown true forward gone before =
 shows_on session requested place found shown false forward gone before =
     rw forward (append-nil shown ∙ before.first_bytes, before.within)
 
-pub shown_once : (end_text : List ℕ) (may_break : Bool) (session next : Session) (requested : Move) (reply : Reply) (shown : List ℕ) → HasShown session shown
-    → IsMoved end_text may_break session requested reply next → HasShown next (shown ++ reply.printed)
+pub shown_once : (end_text : List ℕ) (may_break : Bool) (session next : Session) (requested : Move) (reply : Reply) (shown : List ℕ) → HasSentConsole session shown
+    → IsMoved end_text may_break session requested reply next → HasSentConsole next (shown ++ reply.printed)
 shown_once end_text may_break session next requested reply shown before moved =
     let last = last_step session.history.budget session.history.start in
     let shows = shows_on session requested moved.place moved.found shown (is_forward requested) refl moved.gone before in
-    let printed : reply.printed ≡ printed_on session requested (state_at session moved.place) =
+    let printed : reply.printed ≡ console_before_stop session requested (state_at session moved.place) =
     ap (λ (r : Reply). r.printed) moved.reply_is in
-    let same : printed_by next ≡ printed_by session = ap printed_by moved.next_is in
-    let counted : next.shown ≡ shown_on session requested (state_at session moved.place) =
+    let same : console_of_run next ≡ console_of_run session = ap console_of_run moved.next_is in
+    let counted : next.shown ≡ console_sent_after session requested (state_at session moved.place) =
     ap (λ (s : Session). s.shown) moved.next_is in record {
       first_bytes = ap (λ (text : List ℕ). shown ++ text) printed ∙ shows.0
-          ∙ ap (λ (k : ℕ). take k (printed_by session)) (sym counted) ∙ ap (take next.shown) (sym same);
+          ∙ ap (λ (k : ℕ). take k (console_of_run session)) (sym counted) ∙ ap (take next.shown) (sym same);
       within = subst (λ (text : List ℕ). next.shown ≤ length text) (sym same)
-          (subst (λ (k : ℕ). k ≤ length (printed_by session)) (sym counted) shows.1);
+          (subst (λ (k : ℕ). k ≤ length (console_of_run session)) (sym counted) shows.1);
     }
 
 -- ---- of bytes that are heard
 
-pub shown_still : (session next : Session) (byte : ℕ) (out shown : List ℕ) → HasShown session shown → IsByteReceived session byte out next
-    → HasShown next shown
+pub shown_still : (session next : Session) (byte : ℕ) (out shown : List ℕ) → HasSentConsole session shown → IsByteReceived session byte out next
+    → HasSentConsole next shown
 shown_still session next byte out shown before fed =
     let run = byte_same session next byte out fed in
     let counted = byte_shows_none session next byte out fed in
-    let same : printed_by next ≡ printed_by session =
+    let same : console_of_run next ≡ console_of_run session =
     ap (λ (start : State). (state_after (last_step next.history.budget start) start).bus.output) run.start_is
     ∙ ap (λ (budget : ℕ). (state_at session (last_step budget session.history.start)).bus.output) run.budget_is in record {
-      first_bytes = before.first_bytes ∙ ap (λ (k : ℕ). take k (printed_by session)) (sym counted) ∙ ap (take next.shown) (sym same);
+      first_bytes = before.first_bytes ∙ ap (λ (k : ℕ). take k (console_of_run session)) (sym counted) ∙ ap (take next.shown) (sym same);
       within = subst (λ (text : List ℕ). next.shown ≤ length text) (sym same)
-          (subst (λ (k : ℕ). k ≤ length (printed_by session)) (sym counted) before.within);
+          (subst (λ (k : ℕ). k ≤ length (console_of_run session)) (sym counted) before.within);
     }

@@ -5,7 +5,7 @@ use Rattle.std.specs.Int.{w32, to_be_bytes}
 use Rattle.std.specs.List.{flat_map}
 use Rattle.std.specs.Str.{bytes_eq}
 use Rattle.hex.specs.Hex.{encode_lower}
-use Rattle.rv_history.specs.Counts.{IsFirstWith, IsFound}
+use Rattle.rv_history.specs.Counts.{IsFirstStepWith, IsFound}
 use Rattle.rv_history.specs.Places.{last_step}
 use Rattle.rv_history.specs.declared.counts.Count.{Count}
 use Rattle.rv_history.specs.declared.counts.Count.TheVariants as count
@@ -25,7 +25,7 @@ use Rattle.rv_gdb_protocol.specs.declared.request.Stoppoint.{Stoppoint}
 use Rattle.rv_gdb_protocol.specs.declared.stop.Stop.TheVariants as stop
 use Rattle.rv_gdb_protocol.specs.declared.target.TheConstants.{TARGET}
 use Rattle.rv_session.specs.Memory.{bytes_from, has_bytes_at}
-use Rattle.rv_session.specs.Replies.{granted, granted_if, printing, refused, with_body, silent}
+use Rattle.rv_session.specs.Replies.{granted, ok_if, printing, refused, with_body, silent}
 use Rattle.rv_session.specs.Sessions.{at_place, here}
 use Rattle.rv_session.specs.Stoppoints.{IsStoppointAdded, without_stoppoint}
 use Rattle.rv_session.specs.declared.monitor.TheConstants.{HELP}
@@ -54,8 +54,8 @@ value_of session reg.Printed = shown_count (length (here session).bus.output)
 value_of session reg.Taken = shown_count (script_bytes_consumed session)
 
 -- the values of x0 to x31 and the pc at the current step, as hexadecimal digits
-abbrev pub registers_here : Session → List ℕ
-registers_here session = registers_text (here session).registers (here session).pc
+abbrev pub current_registers : Session → List ℕ
+current_registers session = registers_text (here session).registers (here session).pc
 
 -- the reply with these bytes of memory as hexadecimal digits; `E01` if there are none
 abbrev pub memory_reply : List ℕ → Reply
@@ -66,12 +66,12 @@ abbrev pub counted : ℕ → List ℕ
 counted number = codes "F" ++ (encode_lower (to_be_bytes w32 number) ++ codes ";")
 
 -- the maximum number of bytes of the image file in one reply
-abbrev pub most_file_part : ℕ
-most_file_part = 8180
+abbrev pub max_file_part : ℕ
+max_file_part = 8180
 
--- the requested part of the image file, with at most `most_file_part` bytes
+-- the requested part of the image file, with at most `max_file_part` bytes
 abbrev pub file_part : List ℕ → Part → List ℕ
-file_part image part = take (min most_file_part part.count) (drop part.offset image)
+file_part image part = take (min max_file_part part.count) (drop part.offset image)
 
 -- the reply with these bytes of the image file, preceded by their number
 abbrev pub file_reply : List ℕ → Reply
@@ -87,13 +87,13 @@ abbrev pub size_reply : ℕ → Reply
 size_reply size = with_body (counted 64 ++ flat_map (to_be_bytes w32) (stat_words (shown_count size)))
 
 -- the reply to a request whose reply is the same in every session; an empty reply for any other request
-abbrev pub fixed_answer : Request → Reply
-fixed_answer request = with_body (unwrap_or (fixed_reply request) [])
+abbrev pub common_reply : Request → Reply
+common_reply request = with_body (unwrap_or (fixed_reply request) [])
 
 -- the reply to a request that does not change the session
 abbrev pub shown_reply : Session → Request → Reply
 shown_reply session ask.LastStop = with_body (stop_text session.last)
-shown_reply session ask.Registers = with_body (registers_here session)
+shown_reply session ask.Registers = with_body (current_registers session)
 shown_reply session (ask.Register register) = with_body (register_text (value_of session register))
 shown_reply session (ask.ReadMemory range) = memory_reply (bytes_from (here session).bus range)
 shown_reply session (ask.Description part) = with_body (part_text TARGET.now part)
@@ -103,10 +103,10 @@ shown_reply session (ask.OpenFile path) =
 shown_reply session ask.FileSize = size_reply (length session.program.image)
 shown_reply session (ask.ReadFile part) = file_reply (file_part session.program.image part)
 shown_reply session (ask.WriteRegisters bytes) =
-    granted_if (bytes_eq (registers_here session) (encode_lower bytes)) refusal.WouldChange
+    ok_if (bytes_eq (current_registers session) (encode_lower bytes)) refusal.WouldChange
 shown_reply session (ask.WriteMemory address bytes) =
-    granted_if (has_bytes_at (here session).bus address bytes) refusal.WouldChange
-shown_reply session request = fixed_answer request
+    ok_if (has_bytes_at (here session).bus address bytes) refusal.WouldChange
+shown_reply session request = common_reply request
 
 -- ---- commands
 
@@ -127,46 +127,46 @@ command_text session text =
 
 -- if the Bool is true, `next` is the session at the first step at which `count` has this value; if it is false, `count` never has it, and
 -- the session is unchanged
-abbrev pub IsSoughtAs : Bool → Session → Count → ℕ → Session → Type 0
-IsSoughtAs true session count value next =
-    IsFirstWith count value session.history.budget session.history.start next.history.place
-IsSoughtAs false session count value next =
+abbrev pub IsSeekResult : Bool → Session → Count → ℕ → Session → Type 0
+IsSeekResult true session count value next =
+    IsFirstStepWith count value session.history.budget session.history.start next.history.place
+IsSeekResult false session count value next =
     IsFound count value session.history.budget session.history.start None × (next ≡ session)
 
 -- a request to move to the first step at which `count` has this value: the reply is `OK` if there is such a step; otherwise it is a
 -- refusal, and the session is unchanged
-pub record IsSought (session : Session) (count : Count) (value : ℕ) (reply : Reply) (next : Session) : Type 0 where
+pub record IsSeekHandled (session : Session) (count : Count) (value : ℕ) (reply : Reply) (next : Session) : Type 0 where
   pub is_granted : Bool
-  pub reply_is : reply ≡ granted_if is_granted refusal.NotReached
-  pub sought : IsSoughtAs is_granted session count value next
+  pub reply_is : reply ≡ ok_if is_granted refusal.NotReached
+  pub sought : IsSeekResult is_granted session count value next
   pub run : next ≡ at_place session next.history.place
 
 -- a request to move to the step `place`: the reply is `OK` if the run reaches it; otherwise it is a refusal, and the session is unchanged
-abbrev pub IsPlaceSought : Session → ℕ → Reply → Session → Type 0
-IsPlaceSought session place reply next =
-    (reply ≡ granted_if (nat_le place (last_step session.history.budget session.history.start)) refusal.NotReached)
+abbrev pub IsStepSeekHandled : Session → ℕ → Reply → Session → Type 0
+IsStepSeekHandled session place reply next =
+    (reply ≡ ok_if (nat_le place (last_step session.history.budget session.history.start)) refusal.NotReached)
     × (next ≡ (if nat_le place (last_step session.history.budget session.history.start) then at_place session place else session))
 
 -- a write to a register: if it is a register of the hart, the write is granted only if the value does not change; if it is a count of the
 -- run, the session moves to the first step at which the count has the value
-abbrev pub IsWritten : Session → Register → ℕ → Reply → Session → Type 0
-IsWritten session (reg.Hart number) value reply next =
-    (reply ≡ granted_if (value_of session (reg.Hart number) == value) refusal.WouldChange) × (next ≡ session)
-IsWritten session reg.Steps value reply next = IsPlaceSought session value reply next
-IsWritten session reg.Printed value reply next = IsSought session count.Printed value reply next
-IsWritten session reg.Taken value reply next = IsSought session count.Taken value reply next
+abbrev pub IsRegisterWriteHandled : Session → Register → ℕ → Reply → Session → Type 0
+IsRegisterWriteHandled session (reg.Hart number) value reply next =
+    (reply ≡ ok_if (value_of session (reg.Hart number) == value) refusal.WouldChange) × (next ≡ session)
+IsRegisterWriteHandled session reg.Steps value reply next = IsStepSeekHandled session value reply next
+IsRegisterWriteHandled session reg.Printed value reply next = IsSeekHandled session count.Printed value reply next
+IsRegisterWriteHandled session reg.Taken value reply next = IsSeekHandled session count.Taken value reply next
 
 -- the reply to a request to set a stoppoint, given its result: `OK`, and `next` has the new stops; or the refusal, and `next` is the
 -- unchanged session
-abbrev pub IsSet : Session → Result Stops Refusal → Reply → Session → Type 0
-IsSet session (Ok stops) reply next = (reply ≡ granted) × (next ≡ record session { stops = stops })
-IsSet session (Err refusal) reply next = (reply ≡ refused refusal) × (next ≡ session)
+abbrev pub IsSetReply : Session → Result Stops Refusal → Reply → Session → Type 0
+IsSetReply session (Ok stops) reply next = (reply ≡ granted) × (next ≡ record session { stops = stops })
+IsSetReply session (Err refusal) reply next = (reply ≡ refused refusal) × (next ≡ session)
 
 -- `reply` is the reply to a request to set the stoppoint `place`, and `next` is the session after it
 pub record IsStoppointSet (session : Session) (place : Stoppoint) (reply : Reply) (next : Session) : Type 0 where
   pub outcome : Result Stops Refusal
   pub trapped : IsStoppointAdded session.stops (here session).bus place outcome
-  pub set : IsSet session outcome reply next
+  pub set : IsSetReply session outcome reply next
 
 -- the reply to a `monitor` command: `OK` for a reset, and otherwise its output followed by `OK`
 abbrev pub command_reply : Session → List ℕ → Reply
@@ -174,19 +174,19 @@ command_reply session text = if is_reset text then granted else printing (comman
 
 -- `reply` is the reply to the `monitor` command `text`, and `next` is the session after it: at step 0 after a reset, and unchanged
 -- otherwise
-abbrev pub IsCommanded : Session → List ℕ → Reply → Session → Type 0
-IsCommanded session text reply next =
+abbrev pub IsCommandHandled : Session → List ℕ → Reply → Session → Type 0
+IsCommandHandled session text reply next =
     (reply ≡ command_reply session text) × (next ≡ (if is_reset text then at_place session 0 else session))
 
 -- `reply` is the reply to the request, and `next` is the session after it; a requested move is only recorded, and its reply follows once it
 -- has been made
 abbrev pub IsAnswered : Session → Request → Reply → Session → Type 0
 IsAnswered session (ask.Move requested) reply next = (reply ≡ silent) × (next ≡ record session { requested = Some requested })
-IsAnswered session (ask.WriteRegister register value) reply next = IsWritten session register value reply next
+IsAnswered session (ask.WriteRegister register value) reply next = IsRegisterWriteHandled session register value reply next
 IsAnswered session (ask.Set place) reply next = IsStoppointSet session place reply next
 IsAnswered session (ask.Clear place) reply next =
     (reply ≡ granted) × (next ≡ record session { stops = without_stoppoint session.stops place })
-IsAnswered session (ask.Command text) reply next = IsCommanded session text reply next
+IsAnswered session (ask.Command text) reply next = IsCommandHandled session text reply next
 IsAnswered session ask.Restart reply next =
     (reply ≡ with_body (stop_text stop.Here)) × (next ≡ record (at_place session 0) { last = stop.Here })
 IsAnswered session ask.NoAcknowledgements reply next = (reply ≡ granted) × (next ≡ record session { acknowledges = false })

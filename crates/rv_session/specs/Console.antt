@@ -5,11 +5,11 @@ use Rattle.rv_session.specs.Sessions.{state_at}
 use Rattle.rv_session.specs.declared.session.Session.{Session}
 
 -- the console output of the session's whole run
-abbrev pub printed_by : Session → List ℕ
-printed_by session = (state_at session (last_step session.history.budget session.history.start)).bus.output
+abbrev pub console_of_run : Session → List ℕ
+console_of_run session = (state_at session (last_step session.history.budget session.history.start)).bus.output
 
 -- `shown` is the console output that was sent to gdb so far: a prefix of the output of the whole run, of the length that the session
 -- records
-pub record HasShown (session : Session) (shown : List ℕ) : Type 0 where
-  pub first_bytes : shown ≡ take session.shown (printed_by session)
-  pub within : session.shown ≤ length (printed_by session)
+pub record HasSentConsole (session : Session) (shown : List ℕ) : Type 0 where
+  pub first_bytes : shown ≡ take session.shown (console_of_run session)
+  pub within : session.shown ≤ length (console_of_run session)

@@ -13,13 +13,13 @@ end_kind_of_ending (ending.Fault kind pc value) = end_kind_of_fault kind
 end_kind_of_ending ending.Budget = UsedUp
 
 -- the kind of end that a move with this result reports; `NoEnding` if it did not reach the end of the run
-abbrev pub end_kind_of_found : Found → Told
-end_kind_of_found (found.End ending) = end_kind_of_ending ending
-end_kind_of_found found.Done = NoEnding
-end_kind_of_found found.Break = NoEnding
-end_kind_of_found found.Change = NoEnding
-end_kind_of_found found.Begin = NoEnding
-end_kind_of_found found.Interrupted = NoEnding
+abbrev pub end_kind_of_move_result : Found → Told
+end_kind_of_move_result (found.End ending) = end_kind_of_ending ending
+end_kind_of_move_result found.Done = NoEnding
+end_kind_of_move_result found.Break = NoEnding
+end_kind_of_move_result found.Change = NoEnding
+end_kind_of_move_result found.Begin = NoEnding
+end_kind_of_move_result found.Interrupted = NoEnding
 
 -- the text if a stop reports an end of the run, and an empty text for `NoEnding`
 abbrev pub text_with : Told → List ℕ → List ℕ

@@ -2,7 +2,7 @@
 use Rattle.std.specs.Prelude.{ℕ, List, ⊤, [], ◌∷◌, ◌++◌, ◌≡◌, ◌≢◌, ◌&&◌, ◌+◌, ◌*◌, ◌-◌, ◌/◌, ◌==◌, Bool, true, false, Option, Some, None, drop, if◌then◌else◌, length, take}
 use Rattle.std.specs.List.{flat_map, range_with_len}
 use Rattle.hex.specs.Hex.{encode_lower}
-use Rattle.rv_gdb_protocol.specs.Frames.{frame_after, incoming_at}
+use Rattle.rv_gdb_protocol.specs.Frames.{state_after_byte, incoming_at}
 use Rattle.rv_gdb_protocol.specs.Packets.{request_of}
 use Rattle.rv_gdb_protocol.specs.Sums.{framed}
 use Rattle.rv_gdb_protocol.specs.declared.frame.Incoming.{Incoming}
@@ -20,12 +20,12 @@ use Rattle.rv_session.specs.declared.session.Session.{Session}
 -- ---- sent packets
 
 -- the maximum number of console bytes in a packet; each byte takes two hexadecimal digits
-abbrev pub most_printed : ℕ
-most_printed = 8184
+abbrev pub max_printed : ℕ
+max_printed = 8184
 
 -- the bytes of the console output `printed` in its packet `number`, counted from 0
 abbrev pub printed_part : List ℕ → ℕ → List ℕ
-printed_part printed number = take most_printed (drop (number * most_printed) printed)
+printed_part printed number = take max_printed (drop (number * max_printed) printed)
 
 -- packet `number` of the console output: `O` and its bytes as hexadecimal digits
 abbrev pub printed_packet : List ℕ → ℕ → List ℕ
@@ -34,7 +34,7 @@ printed_packet printed number = framed (79 ∷ encode_lower (printed_part printe
 -- the packets with all bytes of the console output, in order
 unfoldable pub printed_packets : List ℕ → List ℕ
 printed_packets printed =
-    flat_map (printed_packet printed) (range_with_len 0 ((length printed + (most_printed - 1)) / most_printed))
+    flat_map (printed_packet printed) (range_with_len 0 ((length printed + (max_printed - 1)) / max_printed))
 
 -- the packet with this body; empty if there is no body
 abbrev pub body_packet : Option (List ℕ) → List ℕ
@@ -59,11 +59,11 @@ abbrev pub acknowledgement : Session → List ℕ
 acknowledgement session = if session.acknowledges then 43 ∷ [] else []
 
 -- the last packet that was sent, if packets are acknowledged; empty otherwise
-abbrev pub sent_again : Session → List ℕ
-sent_again session = if session.acknowledges then session.sent else []
+abbrev pub last_packet_if_acknowledged : Session → List ℕ
+last_packet_if_acknowledged session = if session.acknowledges then session.sent else []
 
 -- `new` is `old` followed by some bytes that satisfy `IsSuch`
-pub record IsAppended (old new : List ℕ) (IsSuch : List ℕ → Type 0) : Type 0 where
+pub record AppendsSome (old new : List ℕ) (IsSuch : List ℕ → Type 0) : Type 0 where
   pub out : List ℕ
   pub new_is : new ≡ old ++ out
   pub such : IsSuch out
@@ -72,7 +72,7 @@ pub record IsAppended (old new : List ℕ) (IsSuch : List ℕ → Type 0) : Type
 
 -- a packet with this body is received: `out` is its acknowledgement, if packets are acknowledged, followed by the reply to its request, and
 -- `next` is the session after it
-pub record IsPacketAnswered (session : Session) (body out : List ℕ) (next : Session) : Type 0 where
+pub record IsPacketResponse (session : Session) (body out : List ℕ) (next : Session) : Type 0 where
   pub reply : Reply
   -- the session after the reply
   pub after_reply : Session
@@ -82,9 +82,9 @@ pub record IsPacketAnswered (session : Session) (body out : List ℕ) (next : Se
 
 -- `out` is sent for a packet with this body: `-`, which requests it again, if the Bool says that its checksum must be rejected; otherwise
 -- its acknowledgement and the reply
-abbrev pub IsJudged : Session → Bool → List ℕ → List ℕ → Session → Type 0
-IsJudged session true body out next = (out ≡ 45 ∷ []) × (next ≡ session)
-IsJudged session false body out next = IsPacketAnswered session body out next
+abbrev pub IsCheckedPacketResponse : Session → Bool → List ℕ → List ℕ → Session → Type 0
+IsCheckedPacketResponse session true body out next = (out ≡ 45 ∷ []) × (next ≡ session)
+IsCheckedPacketResponse session false body out next = IsPacketResponse session body out next
 
 -- whether a checksum is wrong
 abbrev pub is_wrong_checksum : Checksum → Bool
@@ -95,11 +95,11 @@ is_wrong_checksum verdict.Right = false
 abbrev pub IsResponse : Session → Incoming → List ℕ → Session → Type 0
 IsResponse session received.Interrupt out next = (out ≡ []) × (next ≡ session)
 IsResponse session received.Arrived out next = (out ≡ []) × (next ≡ session)
-IsResponse session received.Again out next = (out ≡ sent_again session) × (next ≡ session)
+IsResponse session received.Again out next = (out ≡ last_packet_if_acknowledged session) × (next ≡ session)
 IsResponse session received.TooLong out next =
     (out ≡ acknowledgement session ++ packets_of (refused refusal.TooLong)) × (next ≡ with_sent session (refused refusal.TooLong))
 IsResponse session (received.Packet body sum) out next =
-    IsJudged session (session.acknowledges && is_wrong_checksum sum) body out next
+    IsCheckedPacketResponse session (session.acknowledges && is_wrong_checksum sum) body out next
 
 -- `out` is sent for a received item, and `next` is the session after it; if the Bool says that the session is over, nothing is sent and
 -- nothing changes
@@ -115,7 +115,7 @@ IsRespondedTo session (Some received) out next = IsResponseUnless session.is_ove
 
 -- `out` is sent when this byte is received, and `next` is the session after it
 abbrev pub IsByteReceived : Session → ℕ → List ℕ → Session → Type 0
-IsByteReceived session byte out next = IsRespondedTo (record session { reader = frame_after session.reader byte })
+IsByteReceived session byte out next = IsRespondedTo (record session { reader = state_after_byte session.reader byte })
     (incoming_at session.reader byte) out next
 
 -- the session makes the requested move: `out` is sent for it, and `next` is the session after it; `may_break` says whether the move can be

@@ -80,12 +80,12 @@ stop_of session requested place found.Interrupted = stop.Interrupt
 
 -- the console output that is sent before the stop in the state `s`: after a forward move, all output that was not sent before; after a
 -- backward move, nothing
-abbrev pub printed_on : Session → Move → State → List ℕ
-printed_on session requested s = if is_forward requested then drop session.shown s.bus.output else []
+abbrev pub console_before_stop : Session → Move → State → List ℕ
+console_before_stop session requested s = if is_forward requested then drop session.shown s.bus.output else []
 
 -- the number of console bytes that have been sent once a move has stopped in the state `s`
-abbrev pub shown_on : Session → Move → State → ℕ
-shown_on session requested s = if is_forward requested then max session.shown (length s.bus.output) else session.shown
+abbrev pub console_sent_after : Session → Move → State → ℕ
+console_sent_after session requested s = if is_forward requested then max session.shown (length s.bus.output) else session.shown
 
 -- `end_text`, the text about the end of the run, if the move reached the end; otherwise an empty text
 abbrev pub end_text_at : List ℕ → Found → List ℕ
@@ -104,10 +104,10 @@ pub record IsMoved (end_text : List ℕ) (may_break : Bool) (session : Session) 
   pub found : Found
   pub gone : IsMoveResult requested session.stops session.history.budget session.history.start session.history.place place found
   pub broken_off : IsInterrupted found → may_break ≡ true
-  pub reply_is : reply ≡ stopping (printed_on session requested (state_at session place)) (end_text_at end_text found)
+  pub reply_is : reply ≡ stopping (console_before_stop session requested (state_at session place)) (end_text_at end_text found)
       (stop_text (stop_of session requested place found))
   pub next_is : next ≡ record session {
     history = record session.history { place = place };
-    shown = shown_on session requested (state_at session place);
+    shown = console_sent_after session requested (state_at session place);
     last = stop_of session requested place found;
   }

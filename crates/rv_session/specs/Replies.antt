@@ -29,5 +29,5 @@ abbrev pub refused : Refusal → Reply
 refused refusal = with_body (refusal_text refusal)
 
 -- the reply `OK` if the Bool is true, because the request is granted, and the refusal otherwise
-abbrev pub granted_if : Bool → Refusal → Reply
-granted_if is_granted refusal = if is_granted then granted else refused refusal
+abbrev pub ok_if : Bool → Refusal → Reply
+ok_if is_granted refusal = if is_granted then granted else refused refusal

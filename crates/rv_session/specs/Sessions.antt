@@ -10,8 +10,8 @@ use Rattle.rv_session.specs.declared.program.Program.{Program}
 use Rattle.rv_session.specs.declared.session.Session.{Session}
 
 -- the session at step 0 of the run from `start` within `budget`, before gdb has sent anything
-abbrev pub at_first : Start → ℕ → Program → Session
-at_first start budget program = record {
+abbrev pub at_start : Start → ℕ → Program → Session
+at_start start budget program = record {
   reader = between;
   history = record { start = start_of start; budget = budget; place = 0 };
   program = program;

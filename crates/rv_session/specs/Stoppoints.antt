@@ -14,8 +14,8 @@ use Rattle.rv_gdb_protocol.specs.declared.request.Watched.{Watched}
 use Rattle.rv_gdb_protocol.specs.declared.request.Watched.TheVariants as watch
 
 -- the maximum number of breakpoints and watchpoints together
-abbrev pub most_stoppoints : ℕ
-most_stoppoints = 1024
+abbrev pub max_stoppoints : ℕ
+max_stoppoints = 1024
 
 -- whether the watchpoint is for exactly this range
 abbrev pub is_on : Range → Watch → Bool
@@ -48,16 +48,16 @@ abbrev pub can_be_set : Contents → Stoppoint → Bool
 can_be_set bus (trap.Break address) = true
 can_be_set bus (trap.Watch kind range) = nat_le (range.address + range.count) 4294967296 && has_byte bus range
 
--- whether the number of breakpoints and watchpoints has reached `most_stoppoints`
+-- whether the number of breakpoints and watchpoints has reached `max_stoppoints`
 abbrev pub is_full : Stops → Bool
-is_full stops = nat_le most_stoppoints ((length stops.breaks + length stops.watches) + (length stops.reads + length stops.accesses))
+is_full stops = nat_le max_stoppoints ((length stops.breaks + length stops.watches) + (length stops.reads + length stops.accesses))
 
 -- why the stoppoint cannot be set: it is invalid, or it is not set yet and the maximum number is reached; `None` if it can be set
 abbrev pub stoppoint_refusal : Stops → Contents → Stoppoint → Option Refusal
 stoppoint_refusal stops bus place =
     if not (can_be_set bus place) then Some refusal.Malformed
     else if is_set stops place then None
-    else if is_full stops then Some refusal.TooManyTraps else None
+    else if is_full stops then Some refusal.TooManyStoppoints else None
 
 -- the stops without this stoppoint
 abbrev pub without_stoppoint : Stops → Stoppoint → Stops
@@ -79,14 +79,14 @@ pub record IsKindAdded (stops : Stops) (kind : Watched) (range : Range) (next : 
   pub next_is : next ≡ with_watches stops kind watches
 
 -- `next` is `stops` with this stoppoint added
-abbrev pub IsAdded : Stops → Stoppoint → Stops → Type 0
-IsAdded stops (trap.Break address) next = next ≡ record stops { breaks = stops.breaks ++ address ∷ [] }
-IsAdded stops (trap.Watch kind range) next = IsKindAdded stops kind range next
+abbrev pub IsTableAdded : Stops → Stoppoint → Stops → Type 0
+IsTableAdded stops (trap.Break address) next = next ≡ record stops { breaks = stops.breaks ++ address ∷ [] }
+IsTableAdded stops (trap.Watch kind range) next = IsKindAdded stops kind range next
 
 -- `next` is `stops` with this stoppoint added, or `stops` itself if the Bool says that the stoppoint is already set
 abbrev pub IsAddedUnless : Bool → Stops → Stoppoint → Stops → Type 0
 IsAddedUnless true stops place next = next ≡ stops
-IsAddedUnless false stops place next = IsAdded stops place next
+IsAddedUnless false stops place next = IsTableAdded stops place next
 
 -- the result of a request to set the stoppoint `place`: the new stops, which are unchanged if it was already set, or the refusal
 abbrev pub IsStoppointAdded : Stops → Contents → Stoppoint → Result Stops Refusal → Type 0

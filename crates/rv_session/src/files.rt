@@ -15,7 +15,7 @@ use rv_gdb_protocol::{Part, Refusal};
 use std::alloc::{AllocError, Global};
 
 /// The maximum number of bytes in one part of the image file, each of which may have to be escaped.
-const MOST_PART: usize = 8180;
+const MAX_PART: usize = 8180;
 
 /// The size of gdb's `struct stat` in bytes.
 const STAT_BYTES: u32 = 64;
@@ -42,7 +42,7 @@ impl Session {
     {
         let size = shown_count(self.program.image.as_slice().len());
         let mut body = Vec::new(alloc);
-        push_count(&mut body, STAT_BYTES)?;
+        push_file_reply_prefix(&mut body, STAT_BYTES)?;
         push_words(&mut body, &stat_words(size))?;
         Ok(Reply::with_body(alloc, body))
     }
@@ -53,19 +53,19 @@ impl Session {
     {
         let bytes = file_part(self.program.image.as_slice(), part);
         let mut body = Vec::new(alloc);
-        push_count(&mut body, bytes.len() as u32)?;
+        push_file_reply_prefix(&mut body, bytes.len() as u32)?;
         body.extend_from_slice(bytes)?;
         Ok(Reply::with_body(alloc, body))
     }
 }
 
-// Returns the requested part of the image file, with at most [`MOST_PART`] bytes.
+// Returns the requested part of the image file, with at most [`MAX_PART`] bytes.
 fn file_part(image: &[u8], part: Part) -> &[u8]
     ensures bytes { result.now ≡ file_part image.now part }
     ensures short { length result.now ≤ 8180 }
 {
     let rest = &image[image.len().min(part.offset as usize)..];
-    let count = MOST_PART.min(part.count as usize);
+    let count = MAX_PART.min(part.count as usize);
     &rest[..rest.len().min(count)]
 }
 
@@ -104,7 +104,7 @@ fn push_words(body: &mut Vec<u8>, words: &[u32]) -> Result<(), AllocError>
 }
 
 // Appends `F`, the count as eight hexadecimal digits, and `;`.
-fn push_count(body: &mut Vec<u8>, count: u32) -> Result<(), AllocError>
+fn push_file_reply_prefix(body: &mut Vec<u8>, count: u32) -> Result<(), AllocError>
     ensures { OnOk result (body.new.items ≡ body.old.items ++ counted count) }
 {
     let mut digits = [0u8; 8];

@@ -3,8 +3,8 @@
 ghost use Rattle.std.specs.Prelude.{◌≡◌, ◌++◌, ℕ, Bool, List, None, false};
 ghost use Rattle.rv_gdb_protocol.specs.Stops.{end_kind_of_stop};
 ghost use Rattle.rv_gdb_protocol.specs.declared.request.Move.{Move};
-ghost use Rattle.rv_session.specs.Console.{HasShown};
-ghost use Rattle.rv_session.specs.Endings.{text_with, end_kind_of_found};
+ghost use Rattle.rv_session.specs.Console.{HasSentConsole};
+ghost use Rattle.rv_session.specs.Endings.{text_with, end_kind_of_move_result};
 ghost use Rattle.rv_session.specs.Incoming.{HasNoInterrupt, IsByteReceived, IsReceived, is_interrupted};
 ghost use Rattle.rv_session.specs.Moved.{IsMoved};
 ghost use Rattle.rv_session.specs.declared.reply.Reply.{Reply};
@@ -19,23 +19,23 @@ pub fn reads_can_be_split()
 
 /// If no 0x03 is received, the session and the received bytes determine the bytes that are sent and the resulting session, once all
 /// requested moves have been made.
-pub fn answers_are_determined()
+pub fn replies_are_determined()
     ensures { (end_text : List ℕ) (session one other : Session) (bytes out more : List ℕ)
         → HasNoInterrupt bytes → IsReceived end_text false session bytes out one → one.requested ≡ None
         → IsReceived end_text false session bytes more other → other.requested ≡ None → (out ≡ more) × (one ≡ other) }
 {}
 
 /// The console output that is sent before stops is a prefix of the output of the run: it is sent in order, and each byte once.
-pub fn printed_bytes_go_out_once()
+pub fn console_is_sent_once()
     ensures { (end_text : List ℕ) (may_break : Bool) (session next : Session) (requested : Move) (reply : Reply) (shown : List ℕ)
-        → HasShown session shown → IsMoved end_text may_break session requested reply next
-        → HasShown next (shown ++ reply.printed) }
+        → HasSentConsole session shown → IsMoved end_text may_break session requested reply next
+        → HasSentConsole next (shown ++ reply.printed) }
 {}
 
 /// Console output of the run is sent only for moves, never for received bytes.
-pub fn only_moves_show_printed_bytes()
+pub fn console_is_sent_only_for_moves()
     ensures { (session next : Session) (byte : ℕ) (out shown : List ℕ)
-        → HasShown session shown → IsByteReceived session byte out next → HasShown next shown }
+        → HasSentConsole session shown → IsByteReceived session byte out next → HasSentConsole next shown }
 {}
 
 /// A move reports the end of the run if it reaches it, and otherwise reports no end. The text about the run's end is sent with the stop at
@@ -43,5 +43,5 @@ pub fn only_moves_show_printed_bytes()
 pub fn ends_are_reported()
     ensures { (end_text : List ℕ) (may_break : Bool) (session next : Session) (requested : Move) (reply : Reply)
         (moved : IsMoved end_text may_break session requested reply next)
-        → (end_kind_of_stop next.last ≡ end_kind_of_found moved.found) × (reply.end_text ≡ text_with (end_kind_of_stop next.last) end_text) }
+        → (end_kind_of_stop next.last ≡ end_kind_of_move_result moved.found) × (reply.end_text ≡ text_with (end_kind_of_stop next.last) end_text) }
 {}

@@ -22,7 +22,7 @@ mod writing;
 
 pub use end_text::EndText;
 pub use law::{
-    answers_are_determined, ends_are_reported, printed_bytes_go_out_once, reads_can_be_split,
+    replies_are_determined, ends_are_reported, console_is_sent_once, reads_can_be_split,
 };
 pub use program::Program;
 pub use reply::Reply;

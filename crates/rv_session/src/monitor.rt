@@ -2,7 +2,7 @@
 
 ghost use Rattle.std.specs.Prelude.{◌≡◌, ◌++◌, IfOk, codes};
 ghost use Rattle.std.specs.Fmt.{decimal};
-ghost use Rattle.rv_session.specs.Answers.{IsCommanded, command_text, is_reset, script_bytes_consumed};
+ghost use Rattle.rv_session.specs.Answers.{IsCommandHandled, command_text, is_reset, script_bytes_consumed};
 
 use crate::reading::are_same;
 use crate::reply::Reply;
@@ -16,7 +16,7 @@ const HELP: &str =
 impl Session {
     /// Handles `qRcmd,`: runs a `monitor` command, and returns its output and `OK`.
     pub(crate) fn command(&mut self, alloc: Global, text: &[u8]) -> Result<Reply, AllocError>
-        ensures { IfOk result (λ reply. IsCommanded self.old text.now reply self.new) }
+        ensures { IfOk result (λ reply. IsCommandHandled self.old text.now reply self.new) }
     {
         if is_reset(text) {
             self.go_to_start(alloc)?;

@@ -4,7 +4,7 @@ ghost use Rattle.std.specs.Prelude.{◌≡◌, IfOk, None, OnOk, is_some, true};
 ghost use Rattle.rv_history.specs.Moves.{IsInterrupted};
 ghost use Rattle.rv_history.specs.declared.found.Found.TheVariants as found;
 ghost use Rattle.rv_gdb_protocol.specs.Stops.{stop_text};
-ghost use Rattle.rv_session.specs.Moved.{CanReportHit, IsMoveResult, IsMoved, end_stop, end_text_at, is_forward, printed_on, shown_on, stop_of, watch_stop, stop_of_watch_hit};
+ghost use Rattle.rv_session.specs.Moved.{CanReportHit, IsMoveResult, IsMoved, end_stop, end_text_at, is_forward, console_before_stop, console_sent_after, stop_of, watch_stop, stop_of_watch_hit};
 ghost use Rattle.rv_session.specs.Incoming.{IsRequestedMoveMade};
 ghost use Rattle.rv_session.specs.Replies.{stopping};
 ghost use Rattle.rv_session.specs.Sessions.{IsSameRun, at_place, here};
@@ -35,14 +35,14 @@ impl Session {
         let Some(requested) = self.requested.take() else {
             return Ok(Vec::new(alloc));
         };
-        let reply = self.move_as(alloc, end, requested, interrupt)?;
+        let reply = self.make_requested_move(alloc, end, requested, interrupt)?;
         let mut out = Vec::new(alloc);
         self.send(alloc, &mut out, &reply)?;
         Ok(out)
     }
 
     // Handles `vCont;`, `c`, `s`, `bc` and `bs`: makes the move, and returns the reply that reports where it stopped.
-    fn move_as<E: EndText, I: Interrupt>(
+    fn make_requested_move<E: EndText, I: Interrupt>(
         &mut self,
         alloc: Global,
         end: &E,
@@ -107,7 +107,7 @@ impl Session {
         ensures { IfOk result (λ stop. stop ≡ watch_stop self.now requested self.now.history.place) }
     {
         if is_forward(requested) {
-            let ahead = self.history.watch_ahead(alloc, &self.stops)?;
+            let ahead = self.history.watch_hit_by_next_step(alloc, &self.stops)?;
             Ok(stop_of_watch_hit(ahead))
         } else {
             let behind = self.history.watch_hit_by_last_step(alloc, &self.stops)?;
@@ -145,8 +145,8 @@ impl Session {
         text: Vec<u8>,
     ) -> Result<Reply, AllocError>
         ensures reply { IfOk result
-            (λ reply. reply ≡ stopping (printed_on self.old requested (here self.old)) text.items (stop_text stop)) }
-        ensures next { OnOk result (self.new ≡ record self.old { shown = shown_on self.old requested (here self.old); last = stop }) }
+            (λ reply. reply ≡ stopping (console_before_stop self.old requested (here self.old)) text.items (stop_text stop)) }
+        ensures next { OnOk result (self.new ≡ record self.old { shown = console_sent_after self.old requested (here self.old); last = stop }) }
     {
         let mut body = Vec::new(alloc);
         push_stop(&mut body, stop)?;
@@ -161,8 +161,8 @@ impl Session {
 
     // Returns the console output that was not sent yet and counts it as sent, if the move was forwards; otherwise returns an empty text.
     fn show(&mut self, alloc: Global, requested: Move) -> Result<Vec<u8>, AllocError>
-        ensures printed { IfOk result (λ printed. printed.items ≡ printed_on self.old requested (here self.old)) }
-        ensures shown { IfOk result (λ printed. self.new ≡ record self.old { shown = shown_on self.old requested (here self.old) }) }
+        ensures printed { IfOk result (λ printed. printed.items ≡ console_before_stop self.old requested (here self.old)) }
+        ensures shown { IfOk result (λ printed. self.new ≡ record self.old { shown = console_sent_after self.old requested (here self.old) }) }
     {
         if !is_forward(requested) {
             return Ok(Vec::new(alloc));

@@ -3,7 +3,7 @@
 ghost use Rattle.std.specs.Prelude.{◌≡◌, IfOk};
 ghost use Rattle.std.specs.Str.{bytes_eq};
 ghost use Rattle.rv_gdb_protocol.specs.Shown.{register_text};
-ghost use Rattle.rv_session.specs.Answers.{hart_value, memory_reply, registers_here, shown_count, script_bytes_consumed, value_of};
+ghost use Rattle.rv_session.specs.Answers.{hart_value, memory_reply, current_registers, shown_count, script_bytes_consumed, value_of};
 ghost use Rattle.rv_session.specs.Memory.{bytes_requested, bytes_from};
 ghost use Rattle.rv_session.specs.Replies.{with_body};
 ghost use Rattle.rv_session.specs.Sessions.{here};
@@ -20,7 +20,7 @@ const MOST_BYTES: u32 = 8184;
 impl Session {
     /// Handles `g`: returns the reply with the values of x0 to x31 and the pc.
     pub(crate) fn registers(&self, alloc: Global) -> Result<Reply, AllocError>
-        ensures { IfOk result (λ reply. reply ≡ with_body (registers_here self.now)) }
+        ensures { IfOk result (λ reply. reply ≡ with_body (current_registers self.now)) }
     {
         let machine = self.history.machine();
         let mut body = Vec::new(alloc);

@@ -2,7 +2,7 @@
 
 ghost use Rattle.std.specs.Prelude.{◌≡◌, ◌++◌, ◌∷◌, ◌&&◌, [], IfOk, None, OnOk, Some};
 ghost use Rattle.rv_gdb_protocol.specs.Sums.{framed};
-ghost use Rattle.rv_session.specs.Incoming.{IsAppended, IsByteReceived, IsRespondedTo, IsPacketAnswered, acknowledgement, is_wrong_checksum, packets_of, printed_packet, printed_packets, printed_part, sent_again, with_sent};
+ghost use Rattle.rv_session.specs.Incoming.{AppendsSome, IsByteReceived, IsRespondedTo, IsPacketResponse, acknowledgement, is_wrong_checksum, packets_of, printed_packet, printed_packets, printed_part, last_packet_if_acknowledged, with_sent};
 ghost use Rattle.rv_session.specs.Replies.{refused};
 ghost use Rattle.rv_session.specs.Sessions.{IsSameRun, IsOpenIfRequested};
 ghost use Rattle.rv_gdb_protocol.specs.declared.request.Refusal.TheVariants as refusal;
@@ -15,7 +15,7 @@ use rv_gdb_protocol::{
 use std::alloc::{AllocError, Global};
 
 /// The maximum number of console bytes in a packet, which has two digits for each.
-const MOST_PRINTED: usize = 8184;
+const MAX_PRINTED: usize = 8184;
 
 impl Session {
     /// Receives a byte from gdb and returns the bytes to send. If the byte requests a move, [`Session::work`] must make it before another
@@ -33,7 +33,7 @@ impl Session {
 
     // Appends the bytes to send when this byte is received.
     fn receive_byte(&mut self, alloc: Global, out: &mut Vec<u8>, byte: u8) -> Result<(), AllocError>
-        ensures { OnOk result (IsAppended out.old.items out.new.items
+        ensures { OnOk result (AppendsSome out.old.items out.new.items
             (λ told. IsByteReceived self.old byte told self.new)) }
     {
         match self.reader.take(alloc, byte)? {
@@ -49,7 +49,7 @@ impl Session {
         out: &mut Vec<u8>,
         received: &Incoming,
     ) -> Result<(), AllocError>
-        ensures { OnOk result (IsAppended out.old.items out.new.items
+        ensures { OnOk result (AppendsSome out.old.items out.new.items
             (λ told. IsRespondedTo self.old (Some received.now) told self.new)) }
     {
         if self.is_over {
@@ -58,11 +58,11 @@ impl Session {
         match received {
             Incoming::Interrupt => Ok(()),
             Incoming::Arrived => Ok(()),
-            Incoming::Again => self.send_again(out),
-            Incoming::TooLong => self.refuse_long(alloc, out),
+            Incoming::Again => self.resend(out),
+            Incoming::TooLong => self.reject_long_packet(alloc, out),
             Incoming::Packet(body, sum) => {
                 if self.is_refused(*sum) {
-                    return ask_again(out);
+                    return request_resend(out);
                 }
                 self.take_body(alloc, out, body.as_slice())
             }
@@ -70,8 +70,8 @@ impl Session {
     }
 
     // Appends the last packet that was sent, if packets are acknowledged; otherwise nothing.
-    fn send_again(&self, out: &mut Vec<u8>) -> Result<(), AllocError>
-        ensures { OnOk result (out.new.items ≡ out.old.items ++ sent_again self.now) }
+    fn resend(&self, out: &mut Vec<u8>) -> Result<(), AllocError>
+        ensures { OnOk result (out.new.items ≡ out.old.items ++ last_packet_if_acknowledged self.now) }
     {
         if self.acknowledges {
             out.extend_from_slice(self.sent.as_slice())?;
@@ -80,7 +80,7 @@ impl Session {
     }
 
     // Appends the acknowledgement of a packet that is too long, and the reply that refuses it.
-    fn refuse_long(&mut self, alloc: Global, out: &mut Vec<u8>) -> Result<(), AllocError>
+    fn reject_long_packet(&mut self, alloc: Global, out: &mut Vec<u8>) -> Result<(), AllocError>
         ensures out { OnOk result (out.new.items
             ≡ out.old.items ++ (acknowledgement self.old ++ packets_of (refused refusal.TooLong))) }
         ensures next { OnOk result (self.new ≡ with_sent self.old (refused refusal.TooLong)) }
@@ -99,8 +99,8 @@ impl Session {
 
     // Appends the acknowledgement of a packet, if packets are acknowledged, and the reply to its request.
     fn take_body(&mut self, alloc: Global, out: &mut Vec<u8>, body: &[u8]) -> Result<(), AllocError>
-        ensures { OnOk result (IsAppended out.old.items out.new.items
-            (λ told. IsPacketAnswered self.old body.now told self.new)) }
+        ensures { OnOk result (AppendsSome out.old.items out.new.items
+            (λ told. IsPacketResponse self.old body.now told self.new)) }
     {
         self.acknowledge(out)?;
         let request = parse_request(alloc, body)?;
@@ -150,7 +150,7 @@ impl Session {
 }
 
 // Appends `-`, which asks gdb to send its last packet again.
-fn ask_again(out: &mut Vec<u8>) -> Result<(), AllocError>
+fn request_resend(out: &mut Vec<u8>) -> Result<(), AllocError>
     ensures { OnOk result (out.new.items ≡ out.old.items ++ 45 ∷ []) }
 {
     out.push(b'-')?;
@@ -172,7 +172,7 @@ fn is_wrong_checksum(sum: Checksum) -> bool
 fn push_printed_packets(alloc: Global, out: &mut Vec<u8>, printed: &[u8]) -> Result<(), AllocError>
     ensures { OnOk result (out.new.items ≡ out.old.items ++ printed_packets printed.now) }
 {
-    let packets = (printed.len() + (MOST_PRINTED - 1)) / MOST_PRINTED;
+    let packets = (printed.len() + (MAX_PRINTED - 1)) / MAX_PRINTED;
     for number in 0..packets {
         push_printed_packet(alloc, out, printed, number)?;
     }
@@ -197,7 +197,7 @@ fn push_printed_packet(
 fn printed_part(printed: &[u8], number: usize) -> &[u8]
     ensures { result.now ≡ printed_part printed.now number }
 {
-    let from = printed.len().min(number.saturating_mul(MOST_PRINTED));
+    let from = printed.len().min(number.saturating_mul(MAX_PRINTED));
     let rest = &printed[from..];
-    &rest[..rest.len().min(MOST_PRINTED)]
+    &rest[..rest.len().min(MAX_PRINTED)]
 }

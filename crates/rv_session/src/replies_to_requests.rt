@@ -4,7 +4,7 @@ ghost use Rattle.std.specs.Prelude.{◌≡◌, IfOk, Some, false, true};
 ghost use Rattle.rv_gdb_protocol.specs.Replies.{part_text};
 ghost use Rattle.rv_gdb_protocol.specs.Stops.{stop_text};
 ghost use Rattle.rv_gdb_protocol.specs.declared.stop.Stop.TheVariants as stop;
-ghost use Rattle.rv_session.specs.Answers.{IsAnswered, IsStoppointSet, fixed_answer, shown_reply};
+ghost use Rattle.rv_session.specs.Answers.{IsAnswered, IsStoppointSet, common_reply, shown_reply};
 ghost use Rattle.rv_session.specs.Replies.{granted, with_body, silent};
 ghost use Rattle.rv_session.specs.Sessions.{at_place};
 ghost use Rattle.rv_session.specs.Stoppoints.{without_stoppoint};
@@ -143,7 +143,7 @@ impl Session {
 
 // Returns the reply to a request whose reply is the same in every session; an empty reply for any other request.
 fn fixed(alloc: Global, request: &Request) -> Result<Reply, AllocError>
-    ensures { IfOk result (λ reply. reply ≡ fixed_answer request.now) }
+    ensures { IfOk result (λ reply. reply ≡ common_reply request.now) }
 {
     Reply::with_text(alloc, fixed_reply(request).unwrap_or(""))
 }

@@ -17,7 +17,7 @@ pub struct Reply {
 }
 
 impl Reply {
-    ghost use Rattle.rv_session.specs.Replies.{granted, granted_if, printing, refused, with_body, silent};
+    ghost use Rattle.rv_session.specs.Replies.{granted, ok_if, printing, refused, with_body, silent};
 
     /// Creates a reply with only this body.
     pub(crate) fn with_body(alloc: Global, body: Vec<u8>) -> Reply
@@ -75,12 +75,12 @@ impl Reply {
     }
 
     /// Creates the reply `OK` if `is_granted` is true, and the refusal otherwise.
-    pub(crate) fn granted_if(
+    pub(crate) fn ok_if(
         alloc: Global,
         is_granted: bool,
         refusal: Refusal,
     ) -> Result<Reply, AllocError>
-        ensures { IfOk result (λ reply. reply ≡ granted_if is_granted refusal) }
+        ensures { IfOk result (λ reply. reply ≡ ok_if is_granted refusal) }
     {
         if is_granted {
             Reply::granted(alloc)

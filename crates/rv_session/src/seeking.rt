@@ -1,7 +1,7 @@
 //! Seeks: gdb writes one of the run's counts, and the session moves to the first step with that value.
 
 ghost use Rattle.std.specs.Prelude.{◌≡◌, IfOk, OnOk};
-ghost use Rattle.rv_session.specs.Answers.{IsPlaceSought, IsSought};
+ghost use Rattle.rv_session.specs.Answers.{IsStepSeekHandled, IsSeekHandled};
 ghost use Rattle.rv_session.specs.Sessions.{at_place};
 
 use crate::reply::Reply;
@@ -21,11 +21,11 @@ impl Session {
 
     /// Handles `P21=`: moves to the step with this number, and returns `OK`. If the run does not reach this step, returns a refusal and
     /// does not move.
-    pub(crate) fn seek_place(&mut self, alloc: Global, place: u32) -> Result<Reply, AllocError>
-        ensures { IfOk result (λ reply. IsPlaceSought self.old place reply self.new) }
+    pub(crate) fn seek_step(&mut self, alloc: Global, place: u32) -> Result<Reply, AllocError>
+        ensures { IfOk result (λ reply. IsStepSeekHandled self.old place reply self.new) }
     {
         let granted = self.history.seek(alloc, place)?;
-        Reply::granted_if(alloc, granted, Refusal::NotReached)
+        Reply::ok_if(alloc, granted, Refusal::NotReached)
     }
 
     /// Handles `P22=` and `P23=`: moves to the first step at which a count has this value, and returns `OK`. If there is no such step,
@@ -36,9 +36,9 @@ impl Session {
         count: Count,
         value: u32,
     ) -> Result<Reply, AllocError>
-        ensures { IfOk result (λ reply. IsSought self.old count value reply self.new) }
+        ensures { IfOk result (λ reply. IsSeekHandled self.old count value reply self.new) }
     {
         let granted = self.history.seek_count(alloc, count, value)?;
-        Reply::granted_if(alloc, granted, Refusal::NotReached)
+        Reply::ok_if(alloc, granted, Refusal::NotReached)
     }
 }

@@ -2,7 +2,7 @@
 
 ghost use Rattle.std.specs.Prelude.{◌≡◌, ◌≤◌, IfOk, is_some};
 ghost use Rattle.rv_history.specs.Places.{last_step};
-ghost use Rattle.rv_session.specs.Sessions.{at_first};
+ghost use Rattle.rv_session.specs.Sessions.{at_start};
 
 use crate::program::Program;
 use rv_gdb_protocol::{Bytes, Move, Reader, Sequence, Stop};
@@ -39,7 +39,7 @@ impl Session {
         budget: u32,
         program: Program,
     ) -> Result<Session, AllocError>
-        ensures { IfOk result (λ session. session ≡ at_first start budget program) }
+        ensures { IfOk result (λ session. session ≡ at_start start budget program) }
     {
         let script = start.bus.script_remaining();
         let history = History::new(alloc, start, budget)?;
@@ -64,10 +64,10 @@ impl Session {
     }
 
     /// Limits the session's memory to `megabytes`, from 64 to 4,096. The default is 256. No reply depends on it.
-    pub fn set_memory(&mut self, alloc: Global, megabytes: u32)
+    pub fn limit_memory(&mut self, alloc: Global, megabytes: u32)
         ensures { self.new ≡ self.old }
     {
-        self.history.set_memory(alloc, megabytes);
+        self.history.limit_memory(alloc, megabytes);
     }
 
     /// Returns the current step: how many steps of the run are completed.

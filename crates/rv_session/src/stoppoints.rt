@@ -10,7 +10,7 @@ use rv_history::{Bus, Stops, Watch};
 use std::alloc::{AllocError, Global};
 
 /// The maximum number of breakpoints and watchpoints together.
-const MOST_TRAPS: usize = 1024;
+const MAX_STOPPOINTS: usize = 1024;
 
 /// Returns the stops with this stoppoint, which are unchanged if it is already set, or the reason why it cannot be set.
 pub(crate) fn with_stoppoint(
@@ -49,7 +49,7 @@ fn is_full(stops: &Stops) -> bool
     let watches = stops.watches.as_slice().len();
     let reads = stops.reads.as_slice().len();
     let accesses = stops.accesses.as_slice().len();
-    (breaks + watches) + (reads + accesses) >= MOST_TRAPS
+    (breaks + watches) + (reads + accesses) >= MAX_STOPPOINTS
 }
 
 // Returns the stops with a breakpoint at this address, or the reason why it cannot be set.
@@ -65,7 +65,7 @@ fn with_break(
         return Ok(Ok(same));
     }
     if is_full(stops) {
-        return Ok(Err(Refusal::TooManyTraps));
+        return Ok(Err(Refusal::TooManyStoppoints));
     }
     let mut breaks = Vec::from_slice(alloc, stops.breaks.as_slice())?;
     breaks.push(address)?;
@@ -96,7 +96,7 @@ fn with_watch(
         return Ok(Ok(same));
     }
     if is_full(stops) {
-        return Ok(Err(Refusal::TooManyTraps));
+        return Ok(Err(Refusal::TooManyStoppoints));
     }
     let mut watches = Vec::from_slice(alloc, watches_of(stops, kind))?;
     watches.push(Watch {

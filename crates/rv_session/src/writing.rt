@@ -5,9 +5,9 @@ ghost use Rattle.std.specs.FinMap as fin;
 ghost use Rattle.std.specs.Str.{bytes_eq};
 ghost use Rattle.hex.specs.Hex.{encode_lower};
 ghost use Rattle.rv_gdb_protocol.specs.declared.request.Refusal.TheVariants as refusal;
-ghost use Rattle.rv_session.specs.Answers.{IsWritten, registers_here};
+ghost use Rattle.rv_session.specs.Answers.{IsRegisterWriteHandled, current_registers};
 ghost use Rattle.rv_session.specs.Memory.{end_of_addresses, is_byte, has_bytes_at};
-ghost use Rattle.rv_session.specs.Replies.{granted_if};
+ghost use Rattle.rv_session.specs.Replies.{ok_if};
 ghost use Rattle.rv_session.specs.Sessions.{here};
 
 use crate::reading::are_same;
@@ -24,7 +24,7 @@ impl Session {
     /// Handles `G`: returns `OK` if the write would change no register, and otherwise a refusal.
     pub(crate) fn write_registers(&self, alloc: Global, bytes: &[u8]) -> Result<Reply, AllocError>
         ensures { IfOk result (λ reply. reply
-            ≡ granted_if (bytes_eq (registers_here self.now) (encode_lower bytes.now)) refusal.WouldChange) }
+            ≡ ok_if (bytes_eq (current_registers self.now) (encode_lower bytes.now)) refusal.WouldChange) }
     {
         let machine = self.history.machine();
         let mut here = Vec::new(alloc);
@@ -32,7 +32,7 @@ impl Session {
         let mut requested = Vec::new(alloc);
         push_memory(alloc, &mut requested, bytes)?;
         let same = are_same(here.as_slice(), requested.as_slice());
-        Reply::granted_if(alloc, same, Refusal::WouldChange)
+        Reply::ok_if(alloc, same, Refusal::WouldChange)
     }
 
     /// Handles `P`: a write to a register of the hart is granted only if the value does not change; a write to a count of the run moves to
@@ -43,14 +43,14 @@ impl Session {
         register: Register,
         value: u32,
     ) -> Result<Reply, AllocError>
-        ensures { IfOk result (λ reply. IsWritten self.old register value reply self.new) }
+        ensures { IfOk result (λ reply. IsRegisterWriteHandled self.old register value reply self.new) }
     {
         match register {
             Register::Hart(_) => {
                 let same = self.value(register) == value;
-                Reply::granted_if(alloc, same, Refusal::WouldChange)
+                Reply::ok_if(alloc, same, Refusal::WouldChange)
             }
-            Register::Steps => self.seek_place(alloc, value),
+            Register::Steps => self.seek_step(alloc, value),
             Register::Printed => self.seek_count(alloc, Count::Printed, value),
             Register::Taken => self.seek_count(alloc, Count::Taken, value),
         }
@@ -64,10 +64,10 @@ impl Session {
         bytes: &[u8],
     ) -> Result<Reply, AllocError>
         ensures { IfOk result (λ reply. reply
-            ≡ granted_if (has_bytes_at (here self.now).bus address bytes.now) refusal.WouldChange) }
+            ≡ ok_if (has_bytes_at (here self.now).bus address bytes.now) refusal.WouldChange) }
     {
         let same = has_bytes_at(self.history.machine().bus(), address, bytes);
-        Reply::granted_if(alloc, same, Refusal::WouldChange)
+        Reply::ok_if(alloc, same, Refusal::WouldChange)
     }
 }
 

@@ -5,13 +5,13 @@ use Rattle.std.specs.List.{AllByRecursion}
 use Rattle.std.specs.Str.{bytes_eq}
 use Rattle.rv_count_tables.specs.declared.table.CountTable.{CountTable}
 use Rattle.rv_count_tables.specs.declared.table.ImageCounts.{ImageCounts}
-use Rattle.rv_count_tables.specs.Sum.{Agree, IsSum}
-use Rattle.rv_count_tables.specs.Table.{executed_at, taken_at, executed_in, taken_in, path_in, name_at, name_in, arrivals_in, steps_in, digests_rise, is_greater_than_last, least_path_of, IsImage, IsTable}
+use Rattle.rv_count_tables.specs.Sum.{Agree, IsSumOfTables}
+use Rattle.rv_count_tables.specs.Table.{executed_at, taken_at, executed_in, taken_in, next_path, name_at, truncated_name, arrivals_in, steps_in, digests_increase_from, is_greater_than_last, min_text_of, IsValidImage, IsTable}
 use Rattle.rv_counting.proofs.Public.{no_names, no_owners, no_spots}
-use Rattle.rv_counting.specs.JobTables.{jobs_at, IsTableOfPlaces}
+use Rattle.rv_counting.specs.JobTables.{jobs_at, IsTableOfJobsAt}
 use Rattle.rv_counting.specs.Plans.{Planned}
-use Rattle.rv_count_tables.specs.Trees.{arrivals_at, steps_at}
-use Rattle.rv_stacks.specs.StackTables.{image_without_stacks, without_stacks, AreStacksOfPlaces, IsNamedBy, IsTableWithStacks}
+use Rattle.rv_count_tables.specs.Trees.{calls_at, steps_at}
+use Rattle.rv_stacks.specs.StackTables.{image_without_stacks, without_stacks, AreStacksOfJobsAt, IsNamedBy, IsTableWithStacks}
 use Rattle.rv_stacks.proofs.Tables.{no_addresses}
 use Rattle.rv_stacks.proofs.WithStacks.{each_so, of_places, with_itself, IsOfJobs}
 
@@ -20,7 +20,7 @@ bare is = map image_without_stacks is
 
 -- ---- a table that can be
 
-each_bare : (is : List ImageCounts) → AllByRecursion IsImage is → AllByRecursion IsImage (bare is)
+each_bare : (is : List ImageCounts) → AllByRecursion IsValidImage is → AllByRecursion IsValidImage (bare is)
 each_bare [] h = tt
 each_bare (i ∷ is) h = (
   record {
@@ -36,8 +36,8 @@ each_bare (i ∷ is) h = (
   each_bare is h.1,
 )
 
-bare_rises : (last : Option (List ℕ)) (is : List ImageCounts) → digests_rise last (bare is) ≡ digests_rise last is
-unfolding digests_rise
+bare_rises : (last : Option (List ℕ)) (is : List ImageCounts) → digests_increase_from last (bare is) ≡ digests_increase_from last is
+unfolding digests_increase_from
 bare_rises last [] = refl
 bare_rises last (i ∷ is) = ap (λ (b : Bool). is_greater_than_last last i.digest && b) (bare_rises (Some i.digest) is)
 
@@ -53,7 +53,7 @@ bare_is_table t h = record {
 
 -- ---- what it says
 
-none_picked : (b : Bool) (o : Option (List ℕ)) → least_path_of (cond b None None) o ≡ o
+none_picked : (b : Bool) (o : Option (List ℕ)) → min_text_of (cond b None None) o ≡ o
 none_picked true o = refl
 none_picked false o = refl
 
@@ -72,13 +72,13 @@ module _ (digest : List ℕ) where
   same_taken address (i ∷ is) =
       ap (λ (n : ℕ). cond (bytes_eq i.digest digest) (taken_at address i.addresses) 0 + n) (same_taken address is)
 
-  same_path : (is : List ImageCounts) → path_in digest (bare is) ≡ path_in digest is
+  same_path : (is : List ImageCounts) → next_path digest (bare is) ≡ next_path digest is
   same_path [] = refl
-  same_path (i ∷ is) = ap (least_path_of (cond (bytes_eq i.digest digest) (Some i.path) None)) (same_path is)
+  same_path (i ∷ is) = ap (min_text_of (cond (bytes_eq i.digest digest) (Some i.path) None)) (same_path is)
 
-  no_name : (f : ℕ) (is : List ImageCounts) → name_in digest f (bare is) ≡ None
+  no_name : (f : ℕ) (is : List ImageCounts) → truncated_name digest f (bare is) ≡ None
   no_name f [] = refl
-  no_name f (i ∷ is) = none_picked (bytes_eq i.digest digest) (name_in digest f (bare is)) ∙ no_name f is
+  no_name f (i ∷ is) = none_picked (bytes_eq i.digest digest) (truncated_name digest f (bare is)) ∙ no_name f is
 
   no_arrivals : (path : List ℕ) (is : List ImageCounts) → arrivals_in digest path (bare is) ≡ 0
   no_arrivals path [] = refl
@@ -89,7 +89,7 @@ module _ (digest : List ℕ) where
   no_steps path (i ∷ is) = zero_picked (bytes_eq i.digest digest) (steps_in digest path (bare is)) (no_steps path is)
 
 counts_of_jobs : (plan : Planned) (places : List ℕ) (t : CountTable) → IsOfJobs plan.answers (jobs_at plan places) t
-    → IsTableOfPlaces plan places (without_stacks t)
+    → IsTableOfJobsAt plan places (without_stacks t)
 counts_of_jobs plan places t h = record {
   table = bare_is_table t h.table;
   begun = λ digest address. same_begun digest address t.images ∙ h.begun digest address;
@@ -104,7 +104,7 @@ counts_of_jobs plan places t h = record {
 }
 
 pub counts_alone : (plan : Planned) (places : List ℕ) (t : CountTable) → IsTableWithStacks plan places t
-    → IsTableOfPlaces plan places (without_stacks t)
+    → IsTableOfJobsAt plan places (without_stacks t)
 counts_alone plan places t is = counts_of_jobs plan places t (of_places plan places t is)
 
 -- ---- the stacks alone
@@ -124,7 +124,7 @@ stacked is = map image_without_counts is
 abbrev stacks_alone : CountTable → CountTable
 stacks_alone t = record { images = stacked t.images; runs = 0 }
 
-each_stacked : (is : List ImageCounts) → AllByRecursion IsImage is → AllByRecursion IsImage (stacked is)
+each_stacked : (is : List ImageCounts) → AllByRecursion IsValidImage is → AllByRecursion IsValidImage (stacked is)
 each_stacked [] h = tt
 each_stacked (i ∷ is) h = (
   record {
@@ -140,8 +140,8 @@ each_stacked (i ∷ is) h = (
   each_stacked is h.1,
 )
 
-stacked_rises : (last : Option (List ℕ)) (is : List ImageCounts) → digests_rise last (stacked is) ≡ digests_rise last is
-unfolding digests_rise
+stacked_rises : (last : Option (List ℕ)) (is : List ImageCounts) → digests_increase_from last (stacked is) ≡ digests_increase_from last is
+unfolding digests_increase_from
 stacked_rises last [] = refl
 stacked_rises last (i ∷ is) = ap (λ (b : Bool). is_greater_than_last last i.digest && b) (stacked_rises (Some i.digest) is)
 
@@ -166,20 +166,20 @@ module _ (digest : List ℕ) where
   no_taken address (i ∷ is) =
       zero_picked (bytes_eq i.digest digest) (taken_in digest address (stacked is)) (no_taken address is)
 
-  stacked_path : (is : List ImageCounts) → path_in digest (stacked is) ≡ path_in digest is
+  stacked_path : (is : List ImageCounts) → next_path digest (stacked is) ≡ next_path digest is
   stacked_path [] = refl
-  stacked_path (i ∷ is) = ap (least_path_of (cond (bytes_eq i.digest digest) (Some i.path) None)) (stacked_path is)
+  stacked_path (i ∷ is) = ap (min_text_of (cond (bytes_eq i.digest digest) (Some i.path) None)) (stacked_path is)
 
-  same_name : (f : ℕ) (is : List ImageCounts) → name_in digest f (stacked is) ≡ name_in digest f is
+  same_name : (f : ℕ) (is : List ImageCounts) → truncated_name digest f (stacked is) ≡ truncated_name digest f is
   same_name f [] = refl
   same_name f (i ∷ is) =
-      ap (least_path_of (cond (bytes_eq i.digest digest) (name_at f i.functions) None)) (same_name f is)
+      ap (min_text_of (cond (bytes_eq i.digest digest) (name_at f i.functions) None)) (same_name f is)
 
   same_arrivals : (path : List ℕ) (is : List ImageCounts)
       → arrivals_in digest path (stacked is) ≡ arrivals_in digest path is
   same_arrivals path [] = refl
   same_arrivals path (i ∷ is) =
-      ap (λ (n : ℕ). cond (bytes_eq i.digest digest) (arrivals_at path i.spots) 0 + n) (same_arrivals path is)
+      ap (λ (n : ℕ). cond (bytes_eq i.digest digest) (calls_at path i.spots) 0 + n) (same_arrivals path is)
 
   same_steps : (path : List ℕ) (is : List ImageCounts) → steps_in digest path (stacked is) ≡ steps_in digest path is
   same_steps path [] = refl
@@ -187,7 +187,7 @@ module _ (digest : List ℕ) where
       ap (λ (n : ℕ). cond (bytes_eq i.digest digest) (steps_at path i.spots) 0 + n) (same_steps path is)
 
 stacks_of_jobs : (plan : Planned) (places : List ℕ) (t : CountTable) → IsOfJobs plan.answers (jobs_at plan places) t
-    → AreStacksOfPlaces plan places (stacks_alone t)
+    → AreStacksOfJobsAt plan places (stacks_alone t)
 stacks_of_jobs plan places t h = record {
   table = stacks_are_table t h.table;
   begun = λ digest address. no_begun digest address t.images;
@@ -202,7 +202,7 @@ stacks_of_jobs plan places t h = record {
   budgets = h.budgets;
 }
 
-both_sum : (t : CountTable) → IsTable t → IsSum (without_stacks t) (stacks_alone t) t
+both_sum : (t : CountTable) → IsTable t → IsSumOfTables (without_stacks t) (stacks_alone t) t
 both_sum t table = record {
   table = table;
   begun = λ digest address.
@@ -213,11 +213,11 @@ both_sum t table = record {
       let p = same_taken digest address t.images in
       let q = no_taken digest address t.images in
       omega (arith, p, q);
-  paths = λ digest. sym (with_itself (path_in digest t.images))
-      ∙ (λ i. least_path_of (sym (same_path digest t.images) i) (sym (stacked_path digest t.images) i));
+  paths = λ digest. sym (with_itself (next_path digest t.images))
+      ∙ (λ i. min_text_of (sym (same_path digest t.images) i) (sym (stacked_path digest t.images) i));
   agree = λ digest f.
-      subst (λ (o : Option (List ℕ)). Agree o (name_in digest f (stacked t.images))) (sym (no_name digest f t.images)) tt;
-  names = λ digest f. sym (λ i. least_path_of (no_name digest f t.images i) (same_name digest f t.images i));
+      subst (λ (o : Option (List ℕ)). Agree o (truncated_name digest f (stacked t.images))) (sym (no_name digest f t.images)) tt;
+  names = λ digest f. sym (λ i. min_text_of (no_name digest f t.images i) (same_name digest f t.images i));
   arrivals = λ digest path.
       let p = no_arrivals digest path t.images in
       let q = same_arrivals digest path t.images in

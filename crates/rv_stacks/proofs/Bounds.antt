@@ -5,15 +5,15 @@ use Rattle.rv_calls.specs.declared.frames.Frame.{Frame}
 use Rattle.rv_calls.specs.declared.transfer.Transfer.{Transfer}
 use Rattle.rv_calls.specs.Calls.{transfer_of}
 use Rattle.rv_calls.specs.Stack.{after_transfer}
-use Rattle.rv_counting.specs.Coverage.{behind, executed_in_run, fetch_at, is_executed, once_if}
-use Rattle.rv_counting.specs.JobTables.{begun_from}
+use Rattle.rv_counting.specs.Coverage.{behind, executed_in_run, fetch_at, is_executed, one_if}
+use Rattle.rv_counting.specs.JobTables.{executed_from}
 use Rattle.rv_counting.specs.declared_ending.Ending.{Ending}
 use Rattle.rv_counting.specs.Run.{step_of}
 use Rattle.rv_counting.specs.State.{State}
-use Rattle.rv_stacks.specs.Stacks.{arrivals_by, arrivals_in, calls_to, jumps_to, path_at, steps_in}
-use Rattle.rv_stacks.specs.StackTables.{arrivals_from, steps_from}
+use Rattle.rv_stacks.specs.Stacks.{calls_by, arrivals_in, calls_to, jumps_to, path_at, steps_in}
+use Rattle.rv_stacks.specs.StackTables.{calls_from, steps_from}
 
-pub once_at_most : (b : Bool) → once_if b ≤ 1
+pub once_at_most : (b : Bool) → one_if b ≤ 1
 once_at_most true = omega arith
 once_at_most false = omega arith
 
@@ -22,7 +22,7 @@ behind_at_most (Ok t) rest n h = h t
 behind_at_most (Err e) rest n h = omega arith
 
 module _ (function : ℕ → ℕ) (path : List ℕ) where
-  two_at_most : (frames : List Frame) (t : Transfer) → arrivals_by function path frames t ≤ 2
+  two_at_most : (frames : List Frame) (t : Transfer) → calls_by function path frames t ≤ 2
   two_at_most frames t =
       let a = once_at_most (jumps_to function path frames t) in
       let b = once_at_most (calls_to function path frames t) in
@@ -33,7 +33,7 @@ module _ (function : ℕ → ℕ) (path : List ℕ) where
   few_arrivals zero frames s = omega arith
   few_arrivals (suc n) frames s =
       behind_at_most (step_of s)
-      (λ t. arrivals_by function path frames (transfer_of s t)
+      (λ t. calls_by function path frames (transfer_of s t)
       + arrivals_in function path n (after_transfer frames (transfer_of s t)) t)
       (suc n + suc n)
       (λ t. let a = two_at_most frames (transfer_of s t) in
@@ -50,7 +50,7 @@ module _ (function : ℕ → ℕ) (path : List ℕ) where
       (λ t. few_steps n (after_transfer frames (transfer_of s t)) t) in
       omega (arith, a, b)
 
-  pub arrivals_at_most : (n : ℕ) (o : Option State) → arrivals_from function path n o ≤ 1 + n + n
+  pub arrivals_at_most : (n : ℕ) (o : Option State) → calls_from function path n o ≤ 1 + n + n
   arrivals_at_most n None = omega arith
   arrivals_at_most n (Some s) =
       let a = once_at_most (bytes_eq (function s.pc ∷ []) path) in
@@ -69,6 +69,6 @@ few_begun address (suc n) s =
     let b = behind_at_most (step_of s) (λ t. executed_in_run address n t) n (λ t. few_begun address n t) in
     omega (arith, a, b)
 
-pub begun_at_most : (address n : ℕ) (o : Option State) → begun_from address n o ≤ n
+pub begun_at_most : (address n : ℕ) (o : Option State) → executed_from address n o ≤ n
 begun_at_most address n None = omega arith
 begun_at_most address n (Some s) = few_begun address n s

@@ -5,27 +5,27 @@ use Rattle.std.specs.Str.{bytes_eq}
 use Rattle.rv_calls.specs.declared.frames.Frame.{Frame}
 use Rattle.rv_calls.specs.Calls.{transfer_of}
 use Rattle.rv_calls.specs.Stack.{after_transfer}
-use Rattle.rv_counting.specs.Coverage.{behind, executed_steps, completes, fetch_at, is_executed, once_if, IsStateAfter}
+use Rattle.rv_counting.specs.Coverage.{behind, executed_steps, completes, fetch_at, is_executed, one_if, IsStateAfter}
 use Rattle.rv_counting.specs.declared_ending.Ending.{Ending}
 use Rattle.rv_counting.specs.Run.{step_of}
 use Rattle.rv_counting.specs.State.{State}
 use Rattle.rv_stacks.specs.declared.walk.Walk.{Walk}
-use Rattle.rv_stacks.specs.Nodes.{all_arrivals, all_steps}
-use Rattle.rv_stacks.specs.Stacks.{arrivals_by, arrivals_in, executed_in_function, path_at, steps_in, AreStacksOf}
+use Rattle.rv_stacks.specs.Nodes.{all_calls, all_steps}
+use Rattle.rv_stacks.specs.Stacks.{calls_by, arrivals_in, executed_in_function, path_at, steps_in, AreStacksOf}
 use Rattle.rv_count_tables.specs.declared_spot.Spot.{Spot}
 use Rattle.rv_stacks.specs.declared.node.Node.{Node}
-use Rattle.rv_stacks.specs.Walks.{AreSpotsOf}
-use Rattle.rv_stacks.specs.StackSteps.{AreNodesOf, BeginsAt, SoFar, StacksStep}
+use Rattle.rv_stacks.specs.Walks.{ArePreorderOf}
+use Rattle.rv_stacks.specs.StackSteps.{AreNodesOf, HasEnteredFirst, SoFar, StacksStep}
 
 -- ---- one step ahead
 
 pub all_next : (n i : ℕ) (s : State) → i < n → executed_steps (n - i) s
-    ≡ once_if (is_executed (fetch_at s)) + behind (step_of s) (λ t. executed_steps (n - (i + 1)) t)
+    ≡ one_if (is_executed (fetch_at s)) + behind (step_of s) (λ t. executed_steps (n - (i + 1)) t)
 unfolding executed_steps
 all_next n i s h = let e : n - i ≡ suc (n - (i + 1)) = omega arith in ap (λ (m : ℕ). executed_steps m s) e
 
 pub own_next : (function : ℕ → ℕ) (f n i : ℕ) (s : State) → i < n → executed_in_function function f (n - i) s
-    ≡ once_if (is_executed (fetch_at s) && (function s.pc == f)) + behind (step_of s) (λ t. executed_in_function function f (n - (i + 1)) t)
+    ≡ one_if (is_executed (fetch_at s) && (function s.pc == f)) + behind (step_of s) (λ t. executed_in_function function f (n - (i + 1)) t)
 unfolding executed_in_function
 own_next function f n i s h =
     let e : n - i ≡ suc (n - (i + 1)) = omega arith in ap (λ (m : ℕ). executed_in_function function f m s) e
@@ -36,7 +36,7 @@ no_own function f n i s h = let e : n - i ≡ 0 = omega arith in ap (λ (m : ℕ
 
 pub steps_next : (function : ℕ → ℕ) (path : List ℕ) (n i : ℕ) (frames : List Frame) (s : State) → i < n
     → steps_in function path (n - i) frames s
-    ≡ once_if (is_executed (fetch_at s) && bytes_eq (path_at function frames s.pc) path)
+    ≡ one_if (is_executed (fetch_at s) && bytes_eq (path_at function frames s.pc) path)
     + behind (step_of s) (λ t. steps_in function path (n - (i + 1)) (after_transfer frames (transfer_of s t)) t)
 unfolding steps_in
 steps_next function path n i frames s h =
@@ -44,7 +44,7 @@ steps_next function path n i frames s h =
 
 pub arrivals_next : (function : ℕ → ℕ) (path : List ℕ) (n i : ℕ) (frames : List Frame) (s : State) → i < n
     → arrivals_in function path (n - i) frames s ≡ behind (step_of s)
-    (λ t. arrivals_by function path frames (transfer_of s t)
+    (λ t. calls_by function path frames (transfer_of s t)
     + arrivals_in function path (n - (i + 1)) (after_transfer frames (transfer_of s t)) t)
 unfolding arrivals_in
 arrivals_next function path n i frames s h =
@@ -75,17 +75,17 @@ behind_ended : (r : Result State Ending) (rest : State → ℕ) → false ≡ co
 behind_ended (Ok u) rest h = absurd (false≢true h)
 behind_ended (Err e) rest h = refl
 
-at_most_once : (t : Bool) → once_if t ≤ 1
+at_most_once : (t : Bool) → one_if t ≤ 1
 at_most_once true = omega arith
 at_most_once false = omega arith
 
 -- ---- the loop
 
-pub none_so_far : (function : ℕ → ℕ) (n : ℕ) (s : State) (walk : Walk) → BeginsAt (function s.pc) walk
+pub none_so_far : (function : ℕ → ℕ) (n : ℕ) (s : State) (walk : Walk) → HasEnteredFirst (function s.pc) walk
     → SoFar function n 0 s s [] walk
 none_so_far function n s walk h =
     let e : n - 0 ≡ n = omega arith in
-    let arrived = h.all_arrivals in
+    let arrived = h.all_calls in
     let stepped = h.all_steps in record {
       within = omega arith;
       at = record { walk = h.walk; path = h.path };
@@ -144,7 +144,7 @@ module _ (function : ℕ → ℕ) (n i : ℕ) (start s t : State) (frames after 
         arrivals = λ path.
             let b = step.goes.2 path in
             let k = arrivals_next function path n i frames s under in
-            let d = behind_completed (step_of s) s t (λ u. arrivals_by function path frames (transfer_of s u)
+            let d = behind_completed (step_of s) s t (λ u. calls_by function path frames (transfer_of s u)
             + arrivals_in function path (n - (i + 1)) (after_transfer frames (transfer_of s u)) u) step.completed step.state in
             let e = ap (λ (fs : List Frame). arrivals_in function path (n - (i + 1)) fs t) same in
             let all = h.arrivals path in
@@ -163,7 +163,7 @@ module _ (function : ℕ → ℕ) (n i : ℕ) (start s t : State) (frames after 
     arrivals = λ path.
         let b = step.goes path in
         let k = arrivals_next function path n i frames s under in
-        let d = behind_ended (step_of s) (λ u. arrivals_by function path frames (transfer_of s u)
+        let d = behind_ended (step_of s) (λ u. calls_by function path frames (transfer_of s u)
         + arrivals_in function path (n - (i + 1)) (after_transfer frames (transfer_of s u)) u) step.completed in
         let all = h.arrivals path in
         omega (arith, b, k, d, all);
@@ -193,7 +193,7 @@ used_up function n i start s frames walk h over = record {
 
 -- the nodes of a run as spots
 pub stacks_of_nodes : (function : ℕ → ℕ) (n : ℕ) (s : State) (nodes : List Node) (spots : List Spot)
-    → AreNodesOf function n s nodes → AreSpotsOf nodes spots → AreStacksOf function n s spots
+    → AreNodesOf function n s nodes → ArePreorderOf nodes spots → AreStacksOf function n s spots
 stacks_of_nodes function n s nodes spots h k = record {
   tree = k.tree;
   some = k.some;

@@ -5,13 +5,13 @@ use Rattle.std.proofs.lemmas.List.{take_all}
 use Rattle.std.specs.List.{list_all}
 use Rattle.std.specs.Str.{bytes_eq}
 use Rattle.rv_count_tables.specs.declared_spot.Spot.{Spot}
-use Rattle.rv_count_tables.specs.Trees.{arrivals_of, counted_after, counted_in_all, last_path, path_after, steps_if, steps_of, HasArrivals, IsTree, FollowsInPreorder}
+use Rattle.rv_count_tables.specs.Trees.{calls_of_node, sum_over_path, sum_over_nodes, last_path, path_after, steps_if, steps_of, HasCalls, IsTree, FollowsInPreorder}
 use Rattle.rv_count_tables.specs.Trees as spots
 use Rattle.rv_count_tables.proofs.Public.{last_parts, stand_of_parts}
 use Rattle.rv_stacks.specs.declared.flat.Flat.{Flat}
 use Rattle.rv_stacks.specs.declared.node.Node.{Node}
-use Rattle.rv_stacks.specs.Nodes.{all_steps, arrivals_at, is_empty, own_in, path_below, path_of, steps_at, weighted_sum, weighted_sum_after}
-use Rattle.rv_stacks.specs.Walks.{AreSpotsOf, GoesBack, IsFlat, IsNext, IsTrail, Moves}
+use Rattle.rv_stacks.specs.Nodes.{all_steps, calls_at, is_empty, own_steps_of, path_below, path_of, steps_at, weighted_sum, weighted_sum_after}
+use Rattle.rv_stacks.specs.Walks.{ArePreorderOf, ReturnsToParent, IsPreorderBuilder, IsNextChild, IsTrail, Moves}
 use Rattle.rv_stacks.proofs.Growing.{trail_longer, trail_stays}
 use Rattle.rv_stacks.proofs.Nodes.{first_paths, path_with, paths_with, weighed_with, IsOfSame}
 use Rattle.std.proofs.Common.{length-set}
@@ -19,17 +19,17 @@ use Rattle.std.proofs.Common.{length-set}
 -- ---- a spot more
 
 counted_more : (count : Spot → ℕ) (path front : List ℕ) (ss : List Spot) (s : Spot)
-    → counted_after count path front (ss ++ s ∷ [])
-    ≡ counted_after count path front ss + cond (bytes_eq (path_after (last_path front ss) s) path) (count s) 0
+    → sum_over_path count path front (ss ++ s ∷ [])
+    ≡ sum_over_path count path front ss + cond (bytes_eq (path_after (last_path front ss) s) path) (count s) 0
 counted_more count path front [] s = omega arith
 counted_more count path front (x ∷ xs) s =
     let rest = counted_more count path (path_after front x) xs s in omega (arith, rest)
 
-sum_more : (count : Spot → ℕ) (ss : List Spot) (s : Spot) → counted_in_all count (ss ++ s ∷ []) ≡ counted_in_all count ss + count s
+sum_more : (count : Spot → ℕ) (ss : List Spot) (s : Spot) → sum_over_nodes count (ss ++ s ∷ []) ≡ sum_over_nodes count ss + count s
 sum_more count [] s = omega arith
 sum_more count (x ∷ xs) s = let rest = sum_more count xs s in omega (arith, rest)
 
-some_more : (ss : List Spot) (s : Spot) → HasArrivals ss → 0 < s.arrivals → HasArrivals (ss ++ s ∷ [])
+some_more : (ss : List Spot) (s : Spot) → HasCalls ss → 0 < s.arrivals → HasCalls (ss ++ s ∷ [])
 some_more [] s h k = (k, tt)
 some_more (x ∷ xs) s h k = (h.0, some_more xs s h.1 k)
 
@@ -40,7 +40,7 @@ no_weight false = refl
 -- ---- a node whose counts move
 
 module _ (nodes : List Node) (old new : Flat) (number : ℕ) (node : Node) (depth : ℕ)
-    (h : IsFlat nodes old) (each : (d : ℕ) → IsNext (get_or old.trail.items (length old.path.items) d) old.from number nodes)
+    (h : IsPreorderBuilder nodes old) (each : (d : ℕ) → IsNextChild (get_or old.trail.items (length old.path.items) d) old.from number nodes)
     (is : node ≡ get_or nodes (number - 1) node) (deep : depth ≡ length old.path.items)
     (path : new.path.items ≡ old.path.items ++ node.function ∷ []) (trail : new.trail.items ≡ old.trail.items ++ number ∷ [])
     (spot_is : new.spots.items ≡ old.spots.items
@@ -57,7 +57,7 @@ module _ (nodes : List Node) (old new : Flat) (number : ℕ) (node : Node) (dept
   abbrev emptied : Node
   emptied = record { parent = node.parent; function = node.function; arrivals = 0; steps = 0 }
 
-  next : IsNext parent old.from number nodes
+  next : IsNextChild parent old.from number nodes
   next = each 0
 
   some : 0 < number
@@ -110,11 +110,11 @@ module _ (nodes : List Node) (old new : Flat) (number : ℕ) (node : Node) (dept
       let own = ap (λ (x : Node). x.arrivals) is in
       omega (arith, there, own)
 
-  flat : IsFlat (set nodes (number - 1) emptied) new
+  flat : IsPreorderBuilder (set nodes (number - 1) emptied) new
   flat =
       let last = ap length of_last in record {
         tree = subst (λ (ss : List Spot). IsTree ss) (sym spot_is) (stand_of_parts [] old.spots.items (spot ∷ []) h.tree (stands, tt));
-        some = subst (λ (ss : List Spot). HasArrivals ss) (sym spot_is) (some_more old.spots.items spot h.some arrives);
+        some = subst (λ (ss : List Spot). HasCalls ss) (sym spot_is) (some_more old.spots.items spot h.some arrives);
         trail = subst (λ (p : List ℕ). IsTrail (set nodes (number - 1) emptied) p new.trail.items) (sym path)
             (subst (λ (t : List ℕ). IsTrail (set nodes (number - 1) emptied) (old.path.items ++ node.function ∷ []) t) (sym trail)
             (trail_stays nodes (set nodes (number - 1) emptied) (old.path.items ++ node.function ∷ []) (old.trail.items ++ number ∷ [])
@@ -142,8 +142,8 @@ module _ (nodes : List Node) (old new : Flat) (number : ℕ) (node : Node) (dept
   moved = record {
     flat = flat;
     arrivals = λ at.
-        let grown = ap (spots.arrivals_at at) spot_is ∙ counted_more arrivals_of at [] old.spots.items spot in
-        let kept = moved_weight (λ p n. cond (bytes_eq p at) n.arrivals 0) (spots.arrivals_at at old.spots.items)
+        let grown = ap (spots.calls_at at) spot_is ∙ counted_more calls_of_node at [] old.spots.items spot in
+        let kept = moved_weight (λ p n. cond (bytes_eq p at) n.arrivals 0) (spots.calls_at at old.spots.items)
         (cond (bytes_eq (path_after front spot) at) spot.arrivals 0)
         (ap (λ (p : List ℕ). cond (bytes_eq p at) node.arrivals 0) of_both) (no_weight (bytes_eq (path_of number nodes) at)) in
         omega (arith, grown, kept);
@@ -154,8 +154,8 @@ module _ (nodes : List Node) (old new : Flat) (number : ℕ) (node : Node) (dept
         (ap (λ (p : List ℕ). cond (bytes_eq p at) node.steps 0) of_both) (no_weight (bytes_eq (path_of number nodes) at)) in
         omega (arith, grown, kept);
     own = λ f.
-        let grown = ap (spots.own_in f) spot_is ∙ sum_more (λ s. steps_if (s.function == f) s.steps) old.spots.items spot in
-        let kept = moved_weight (λ p n. steps_if (n.function == f) n.steps) (spots.own_in f old.spots.items)
+        let grown = ap (spots.own_steps_of f) spot_is ∙ sum_more (λ s. steps_if (s.function == f) s.steps) old.spots.items spot in
+        let kept = moved_weight (λ p n. steps_if (n.function == f) n.steps) (spots.own_steps_of f old.spots.items)
         (steps_if (node.function == f) node.steps) refl (no_weight (node.function == f)) in
         omega (arith, grown, kept);
     all_steps = (let grown = ap spots.all_steps spot_is ∙ sum_more steps_of old.spots.items spot in
@@ -164,26 +164,26 @@ module _ (nodes : List Node) (old new : Flat) (number : ℕ) (node : Node) (dept
   }
 
 -- nothing moves on the way back
-pub went_back : (nodes : List Node) (old new : Flat) → GoesBack nodes old new → Moves nodes old nodes new
+pub went_back : (nodes : List Node) (old new : Flat) → ReturnsToParent nodes old new → Moves nodes old nodes new
 went_back nodes old new h = record {
   flat = h.flat;
-  arrivals = λ path. ap (λ (ss : List Spot). spots.arrivals_at path ss + arrivals_at path nodes) h.spots;
+  arrivals = λ path. ap (λ (ss : List Spot). spots.calls_at path ss + calls_at path nodes) h.spots;
   steps = λ path. ap (λ (ss : List Spot). spots.steps_at path ss + steps_at path nodes) h.spots;
-  own = λ f. ap (λ (ss : List Spot). spots.own_in f ss + own_in f nodes) h.spots;
+  own = λ f. ap (λ (ss : List Spot). spots.own_steps_of f ss + own_steps_of f nodes) h.spots;
   all_steps = ap (λ (ss : List Spot). spots.all_steps ss + all_steps nodes) h.spots;
 }
 
 -- ---- from the first on
 
 pub no_spot : (nodes : List Node) (flat : Flat) → flat.path.items ≡ [] → flat.trail.items ≡ 0 ∷ [] → flat.spots.items ≡ []
-    → IsFlat nodes flat
+    → IsPreorderBuilder nodes flat
 no_spot nodes flat path trail spots_are =
     let long = ap length path in
     let one = ap length trail in
     let none = ap (λ (ss : List Spot). length (last_path [] ss)) spots_are in
     let first = λ (k d : ℕ) (at : k ≡ 0). ap (λ (xs : List ℕ). get_or xs k d) trail ∙ ap (λ (j : ℕ). get_or (0 ∷ []) j d) at in record {
       tree = subst (λ (ss : List Spot). IsTree ss) (sym spots_are) tt;
-      some = subst (λ (ss : List Spot). HasArrivals ss) (sym spots_are) tt;
+      some = subst (λ (ss : List Spot). HasCalls ss) (sym spots_are) tt;
       trail = record {
         long = omega (arith, long, one);
         within = λ k d less. let e = first k d (omega (arith, less, one)) in omega (arith, e);
@@ -200,18 +200,18 @@ no_spot nodes flat path trail spots_are =
 
 -- what is left of nodes, and what is in spots, is what was counted
 pub record Conserves (start left : List Node) (flat : Flat) : Type 0 where
-  pub standing : IsFlat left flat
-  pub arrivals : (path : List ℕ) → spots.arrivals_at path flat.spots.items + arrivals_at path left ≡ arrivals_at path start
+  pub standing : IsPreorderBuilder left flat
+  pub arrivals : (path : List ℕ) → spots.calls_at path flat.spots.items + calls_at path left ≡ calls_at path start
   pub steps : (path : List ℕ) → spots.steps_at path flat.spots.items + steps_at path left ≡ steps_at path start
-  pub own : (f : ℕ) → spots.own_in f flat.spots.items + own_in f left ≡ own_in f start
+  pub own : (f : ℕ) → spots.own_steps_of f flat.spots.items + own_steps_of f left ≡ own_steps_of f start
   pub all_steps : spots.all_steps flat.spots.items + all_steps left ≡ all_steps start
 
-pub none_moved : (nodes : List Node) (flat : Flat) → IsFlat nodes flat → flat.spots.items ≡ [] → Conserves nodes nodes flat
+pub none_moved : (nodes : List Node) (flat : Flat) → IsPreorderBuilder nodes flat → flat.spots.items ≡ [] → Conserves nodes nodes flat
 none_moved nodes flat h none = record {
   standing = h;
-  arrivals = λ path. let e = ap (λ (ss : List Spot). spots.arrivals_at path ss) none in omega (arith, e);
+  arrivals = λ path. let e = ap (λ (ss : List Spot). spots.calls_at path ss) none in omega (arith, e);
   steps = λ path. let e = ap (λ (ss : List Spot). spots.steps_at path ss) none in omega (arith, e);
-  own = λ f. let e = ap (λ (ss : List Spot). spots.own_in f ss) none in omega (arith, e);
+  own = λ f. let e = ap (λ (ss : List Spot). spots.own_steps_of f ss) none in omega (arith, e);
   all_steps = (let e = ap (λ (ss : List Spot). spots.all_steps ss) none in omega (arith, e));
 }
 
@@ -247,7 +247,7 @@ zero_if true n h = h
 zero_if false n h = refl
 
 pub all_moved : (start left : List Node) (flat : Flat) → Conserves start left flat → list_all is_empty left ≡ true
-    → AreSpotsOf start flat.spots.items
+    → ArePreorderOf start flat.spots.items
 all_moved start left flat h empty = record {
   tree = h.standing.tree;
   some = h.standing.some;

@@ -4,11 +4,11 @@ use Rattle.std.proofs.lemmas.Bool.{cases_Bool}
 use Rattle.std.proofs.lemmas.Bool.Decides.{nat_tests}
 use Rattle.std.proofs.lemmas.List.{get_or_default, take_more}
 use Rattle.std.specs.Str.{bytes_eq}
-use Rattle.rv_counting.specs.Coverage.{once_if}
+use Rattle.rv_counting.specs.Coverage.{one_if}
 use Rattle.rv_stacks.specs.declared.walk.Walk.{Walk}
-use Rattle.rv_stacks.specs.Nodes.{all_arrivals, all_steps, arrivals_at, own_in, steps_at}
+use Rattle.rv_stacks.specs.Nodes.{all_calls, all_steps, calls_at, own_steps_of, steps_at}
 use Rattle.rv_stacks.specs.Walks.{Arrives, Returns}
-use Rattle.rv_stacks.specs.StackSteps.{GoesOn}
+use Rattle.rv_stacks.specs.StackSteps.{ContinuesIn}
 
 equal_test : (x y : ℕ) → x ≡ y → (x == y) ≡ true
 equal_test x y h = grind (arith, nat_tests)
@@ -27,7 +27,7 @@ module _ (old new : Walk) (depth function x : ℕ) (within : depth < length old.
   at_depth : get_or old.path.items depth 0 ≡ x
   at_depth = get_or_default old.path.items depth 0 x within ∙ sym is
 
-  pub goes_on_there : x ≡ function → Returns (depth + 1) old new → GoesOn depth function old new
+  pub goes_on_there : x ≡ function → Returns (depth + 1) old new → ContinuesIn depth function old new
   goes_on_there same back =
       let path : new.path.items ≡ take depth old.path.items ++ function ∷ [] =
       back.path ∙ take_more old.path.items depth x within
@@ -37,17 +37,17 @@ module _ (old new : Walk) (depth function x : ℕ) (within : depth < length old.
         walk = back.walk;
         path = path;
         arrivals = λ at.
-            let moved = ap (arrivals_at at) back.nodes in
-            let none = ap (λ (b : Bool). once_if (not b && bytes_eq (take depth old.path.items ++ function ∷ []) at)) test in
+            let moved = ap (calls_at at) back.nodes in
+            let none = ap (λ (b : Bool). one_if (not b && bytes_eq (take depth old.path.items ++ function ∷ []) at)) test in
             omega (arith, moved, none);
         steps = λ at. ap (steps_at at) back.nodes;
-        own = λ f. ap (own_in f) back.nodes;
-        few = (let moved = ap all_arrivals back.nodes in omega (arith, moved));
+        own = λ f. ap (own_steps_of f) back.nodes;
+        few = (let moved = ap all_calls back.nodes in omega (arith, moved));
         all_steps = ap all_steps back.nodes;
       }
 
   pub goes_elsewhere : (x ≡ function → ⊥) → Arrives (take depth old.path.items ++ function ∷ []) old new
-      → GoesOn depth function old new
+      → ContinuesIn depth function old new
   goes_elsewhere other arrives =
       let test : (get_or old.path.items depth 0 == function) ≡ false =
       unequal_test (get_or old.path.items depth 0) function (λ e. other (sym at_depth ∙ e)) in record {
@@ -55,10 +55,10 @@ module _ (old new : Walk) (depth function x : ℕ) (within : depth < length old.
         path = arrives.path;
         arrivals = λ at.
             let more = arrives.arrivals at in
-            let once = ap (λ (b : Bool). once_if (not b && bytes_eq (take depth old.path.items ++ function ∷ []) at)) test in
+            let once = ap (λ (b : Bool). one_if (not b && bytes_eq (take depth old.path.items ++ function ∷ []) at)) test in
             omega (arith, more, once);
         steps = arrives.steps;
         own = arrives.own;
-        few = (let more = arrives.all_arrivals in omega (arith, more));
+        few = (let more = arrives.all_calls in omega (arith, more));
         all_steps = arrives.all_steps;
       }

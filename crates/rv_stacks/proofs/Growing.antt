@@ -4,10 +4,10 @@ use Rattle.std.proofs.lemmas.Bool.{cases_lt}
 use Rattle.std.proofs.lemmas.List.{get_or_append_left, take-append-le, take_all}
 use Rattle.std.proofs.Math.Seq.{get_or-append_seam}
 use Rattle.std.specs.Str.{bytes_eq}
-use Rattle.rv_count_tables.specs.Trees.{ends_with, once_if, steps_if}
+use Rattle.rv_count_tables.specs.Trees.{ends_with, one_if, steps_if}
 use Rattle.rv_stacks.specs.declared.node.Node.{Node}
 use Rattle.rv_stacks.specs.declared.walk.Walk.{Walk}
-use Rattle.rv_stacks.specs.Nodes.{all_arrivals, all_steps, arrivals_at, own_in, path_below, paths_appended, path_of, paths_of, steps_at, weighted_sum, ArrivesOnce, HasChild, IsChild, KeepsPaths, StepsMore, times_if}
+use Rattle.rv_stacks.specs.Nodes.{all_calls, all_steps, calls_at, own_steps_of, path_below, paths_appended, path_of, paths_of, steps_at, weighted_sum, EntersOnce, HasChild, IsChild, KeepsPaths, StepsMore, times_if}
 use Rattle.rv_stacks.specs.Walks.{Arrives, IsTrail, Returns}
 use Rattle.rv_stacks.proofs.Nodes.{first_paths, long_paths, path_with, paths_more, paths_with, weighed_more, weighed_with, IsOfSame}
 
@@ -35,7 +35,7 @@ found_child parent function number nodes h =
       arrivals = λ path. refl;
       steps = λ path. refl;
       own = λ f. refl;
-      all_arrivals = refl;
+      all_calls = refl;
       all_steps = refl;
     }
 
@@ -74,7 +74,7 @@ module _ (parent function : ℕ) (nodes : List Node) (within : parent < length n
         arrivals = λ path. same_weight (λ p n. cond (bytes_eq p path) n.arrivals 0) (λ p. no_weight (bytes_eq p path));
         steps = λ path. same_weight (λ p n. cond (bytes_eq p path) n.steps 0) (λ p. no_weight (bytes_eq p path));
         own = λ f. same_weight (λ p n. steps_if (n.function == f) n.steps) (λ p. no_weight (function == f));
-        all_arrivals = same_weight (λ p n. n.arrivals) (λ p. refl);
+        all_calls = same_weight (λ p n. n.arrivals) (λ p. refl);
         all_steps = same_weight (λ p n. n.steps) (λ p. refl);
       }
 
@@ -143,16 +143,16 @@ module _ (nodes : List Node) (number : ℕ) (some : 0 < number) (within : number
       ∙ ends_at root nodes (number - 1) old f (omega (arith, some, within))
       ∙ ap (λ (x : Node). x.function == f) (sym is)
 
-  pub arrived_once : ArrivesOnce number nodes
+  pub arrived_once : EntersOnce number nodes
       (set nodes (number - 1) (record { parent = old.parent; function = old.function; arrivals = old.arrivals + 1; steps = old.steps }))
   arrived_once =
       let n : Node = record { parent = old.parent; function = old.function; arrivals = old.arrivals + 1; steps = old.steps } in record {
         kept = kept n refl refl;
-        arrivals = λ path. more (λ p x. cond (bytes_eq p path) x.arrivals 0) n (once_if (bytes_eq (path_of number nodes) path)) refl refl
+        arrivals = λ path. more (λ p x. cond (bytes_eq p path) x.arrivals 0) n (one_if (bytes_eq (path_of number nodes) path)) refl refl
             (sum_if (bytes_eq (path_of number nodes) path) old.arrivals 1);
         steps = λ path. same (λ p x. cond (bytes_eq p path) x.steps 0) n refl refl refl;
         own = λ f. same (λ p x. steps_if (x.function == f) x.steps) n refl refl refl;
-        all_arrivals = more (λ p x. x.arrivals) n 1 refl refl refl;
+        all_calls = more (λ p x. x.arrivals) n 1 refl refl refl;
         all_steps = same (λ p x. x.steps) n refl refl refl;
       }
 
@@ -166,8 +166,8 @@ module _ (nodes : List Node) (number : ℕ) (some : 0 < number) (within : number
             (sum_if (bytes_eq (path_of number nodes) path) old.steps k);
         own = λ f. more (λ p x. steps_if (x.function == f) x.steps) n (times_if k (old.function == f)) refl refl
             (sum_if (old.function == f) old.steps k)
-            ∙ ap (λ (b : Bool). own_in f nodes + times_if k b) (sym (ends_here f));
-        all_arrivals = same (λ p x. x.arrivals) n refl refl refl;
+            ∙ ap (λ (b : Bool). own_steps_of f nodes + times_if k b) (sym (ends_here f));
+        all_calls = same (λ p x. x.arrivals) n refl refl refl;
         all_steps = more (λ p x. x.steps) n k refl refl refl;
       }
 
@@ -223,7 +223,7 @@ some_number w (suc number) here some = omega arith
 
 pub arrived : (old mid new : Walk) (parent depth function number : ℕ) (made : List Node) → Returns depth old mid
     → path_of parent mid.nodes.items ≡ mid.path.items
-    → HasChild parent function mid.nodes.items number made → ArrivesOnce number made new.nodes.items
+    → HasChild parent function mid.nodes.items number made → EntersOnce number made new.nodes.items
     → new.path.items ≡ mid.path.items ++ function ∷ [] → new.trail.items ≡ mid.trail.items ++ number ∷ []
     → Arrives (take depth old.path.items ++ function ∷ []) old new
 arrived old mid new parent depth function number made back here child once path trail =
@@ -241,14 +241,14 @@ arrived old mid new parent depth function number made back here child once path 
       arrivals = λ at.
           let a = once.arrivals at in
           let b = child.arrivals at in
-          let c = ap (arrivals_at at) back.nodes in
-          let d = ap (λ (p : List ℕ). once_if (bytes_eq p at)) now in
+          let c = ap (calls_at at) back.nodes in
+          let d = ap (λ (p : List ℕ). one_if (bytes_eq p at)) now in
           omega (arith, a, b, c, d);
       steps = λ at. once.steps at ∙ child.steps at ∙ ap (steps_at at) back.nodes;
-      own = λ f. once.own f ∙ child.own f ∙ ap (own_in f) back.nodes;
-      all_arrivals = (let a = once.all_arrivals in
-          let b = child.all_arrivals in
-          let c = ap all_arrivals back.nodes in
+      own = λ f. once.own f ∙ child.own f ∙ ap (own_steps_of f) back.nodes;
+      all_calls = (let a = once.all_calls in
+          let b = child.all_calls in
+          let c = ap all_calls back.nodes in
           omega (arith, a, b, c));
       all_steps = once.all_steps ∙ child.all_steps ∙ ap all_steps back.nodes;
     }

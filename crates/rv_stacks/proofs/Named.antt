@@ -7,10 +7,10 @@ use Rattle.std.specs.List.{AllByRecursion}
 use Rattle.std.specs.Str.{bytes_eq}
 use Rattle.rv_count_tables.proofs.Public.{first_is}
 use Rattle.rv_count_tables.specs.declared.table.ImageCounts.{ImageCounts}
-use Rattle.rv_count_tables.specs.Table.{arrivals_in, has_name, least_path_of, name_at, name_in, IsImage, IsSpot}
+use Rattle.rv_count_tables.specs.Table.{arrivals_in, has_name, min_text_of, name_at, truncated_name, IsValidImage, IsValidNode}
 use Rattle.rv_count_tables.specs.declared_spot.Spot.{Spot}
-use Rattle.rv_count_tables.specs.Profiles.{is_last_of_some}
-use Rattle.rv_count_tables.specs.Trees.{arrivals_at, arrivals_of, counted_after, ends_with, path_after}
+use Rattle.rv_count_tables.specs.Profiles.{ends_some_path}
+use Rattle.rv_count_tables.specs.Trees.{calls_at, calls_of_node, sum_over_path, ends_with, path_after}
 use Rattle.rv_stacks.proofs.Steps.{last_of}
 
 here_counts : (b : Bool) (n m : ℕ) → b ≡ true → 0 < n → 0 < cond b n 0 + m
@@ -25,9 +25,9 @@ further_counts b n m h = omega (arith, h)
 record IsLastOf (f : ℕ) (front : List ℕ) (ss : List Spot) : Type 0 where
   pub path : List ℕ
   pub ends : ends_with f path ≡ true
-  pub some : 0 < counted_after arrivals_of path front ss
+  pub some : 0 < sum_over_path calls_of_node path front ss
 
-last_of_list : (f : ℕ) (front : List ℕ) (ss : List Spot) → AllByRecursion IsSpot ss → is_last_of_some f ss ≡ true
+last_of_list : (f : ℕ) (front : List ℕ) (ss : List Spot) → AllByRecursion IsValidNode ss → ends_some_path f ss ≡ true
     → IsLastOf f front ss
 last_of_list f front [] h some = absurd (false≢true some)
 last_of_list f front (s ∷ ss) h some = elim (cases_Bool (s.function == f)) [
@@ -36,22 +36,22 @@ last_of_list f front (s ∷ ss) h some = elim (cases_Bool (s.function == f)) [
       record {
         path = path;
         ends = last_of f (take s.depth front) s.function ∙ t;
-        some = here_counts (bytes_eq path path) s.arrivals (counted_after arrivals_of path path ss)
+        some = here_counts (bytes_eq path path) s.arrivals (sum_over_path calls_of_node path path ss)
             ((bytes_decides path path).1 refl) h.0.some;
       }
   | inr t ↦
-      let k = last_of_list f (path_after front s) ss h.1 (sym (ap (λ (b : Bool). b || is_last_of_some f ss) t) ∙ some) in
+      let k = last_of_list f (path_after front s) ss h.1 (sym (ap (λ (b : Bool). b || ends_some_path f ss) t) ∙ some) in
       record {
         path = k.path;
         ends = k.ends;
         some = further_counts (bytes_eq (path_after front s) k.path) s.arrivals
-            (counted_after arrivals_of k.path (path_after front s) ss) k.some;
+            (sum_over_path calls_of_node k.path (path_after front s) ss) k.some;
       }
 ]
 
 -- ---- in the image of a digest
 
-either_named : (o p : Option (List ℕ)) → has_name (least_path_of o p) ≡ true → (has_name o ≡ true) ⊎ (has_name p ≡ true)
+either_named : (o p : Option (List ℕ)) → has_name (min_text_of o p) ≡ true → (has_name o ≡ true) ⊎ (has_name p ≡ true)
 either_named None p h = inr h
 either_named (Some name) p h = inl refl
 
@@ -64,11 +64,11 @@ pub record IsComeTo (f : ℕ) (digest : List ℕ) (is : List ImageCounts) : Type
   pub ends : ends_with f path ≡ true
   pub some : 0 < arrivals_in digest path is
 
-pub come_to : (f : ℕ) (digest : List ℕ) (is : List ImageCounts) → AllByRecursion IsImage is
-    → has_name (name_in digest f is) ≡ true → IsComeTo f digest is
+pub come_to : (f : ℕ) (digest : List ℕ) (is : List ImageCounts) → AllByRecursion IsValidImage is
+    → has_name (truncated_name digest f is) ≡ true → IsComeTo f digest is
 come_to f digest [] h named = absurd (false≢true named)
 come_to f digest (i ∷ is) h named =
-    elim (either_named (cond (bytes_eq i.digest digest) (name_at f i.functions) None) (name_in digest f is) named) [
+    elim (either_named (cond (bytes_eq i.digest digest) (name_at f i.functions) None) (truncated_name digest f is) named) [
       | inl t ↦
           let here = named_here (bytes_eq i.digest digest) (name_at f i.functions) t in
           let last = sym (h.0.of_spots f) ∙ ap has_name (first_is i.functions 0 f h.0.names.rising) ∙ here.1 in
@@ -76,13 +76,13 @@ come_to f digest (i ∷ is) h named =
           record {
             path = k.path;
             ends = k.ends;
-            some = here_counts (bytes_eq i.digest digest) (arrivals_at k.path i.spots) (arrivals_in digest k.path is) here.0 k.some;
+            some = here_counts (bytes_eq i.digest digest) (calls_at k.path i.spots) (arrivals_in digest k.path is) here.0 k.some;
           }
       | inr t ↦
           let k = come_to f digest is h.1 t in
           record {
             path = k.path;
             ends = k.ends;
-            some = further_counts (bytes_eq i.digest digest) (arrivals_at k.path i.spots) (arrivals_in digest k.path is) k.some;
+            some = further_counts (bytes_eq i.digest digest) (calls_at k.path i.spots) (arrivals_in digest k.path is) k.some;
           }
     ]

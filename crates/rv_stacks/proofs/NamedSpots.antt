@@ -8,13 +8,13 @@ use Rattle.std.specs.Str.{bytes_eq, IsUtf8}
 use Rattle.rv_count_tables.proofs.Public.{are_more, last_of_more, name_with, not_named}
 use Rattle.rv_count_tables.specs.declared.table.FunctionName.{FunctionName}
 use Rattle.rv_count_tables.specs.Lines.{lacks}
-use Rattle.rv_count_tables.specs.ReadSteps.{with_name, AgreesWith}
-use Rattle.rv_count_tables.specs.Table.{has_name, name_of, IsSpot}
+use Rattle.rv_count_tables.specs.ReadSteps.{with_name, AgreesWithName}
+use Rattle.rv_count_tables.specs.Table.{has_name, name_of, IsValidNode}
 use Rattle.rv_counting.proofs.Public.{no_names}
 use Rattle.rv_count_tables.specs.declared_spot.Spot.{Spot}
-use Rattle.rv_count_tables.specs.Profiles.{is_last_of_some}
-use Rattle.rv_count_tables.specs.Sums.{FitsSpot}
-use Rattle.rv_count_tables.specs.Trees.{arrivals_of, counted_after, ends_with, path_after, HasArrivals}
+use Rattle.rv_count_tables.specs.Profiles.{ends_some_path}
+use Rattle.rv_count_tables.specs.Sums.{FitsFields}
+use Rattle.rv_count_tables.specs.Trees.{calls_of_node, sum_over_path, ends_with, path_after, HasCalls}
 use Rattle.rv_stacks.specs.StackTables.{AreNamesBy}
 use Rattle.rv_stacks.proofs.Steps.{last_of}
 
@@ -42,18 +42,18 @@ picked_name : (b : Bool) (text other : List ℕ) (o : Option (List ℕ)) → (b 
 picked_name true text other o h k some = ap Some (h refl)
 picked_name false text other o h k some = k some
 
-agrees_if_none : (text : List ℕ) (o : Option (List ℕ)) → o ≡ None → AgreesWith text o
-agrees_if_none text o h = subst (AgreesWith text) (sym h) tt
+agrees_if_none : (text : List ℕ) (o : Option (List ℕ)) → o ≡ None → AgreesWithName text o
+agrees_if_none text o h = subst (AgreesWithName text) (sym h) tt
 
 module _ (name : ℕ → List ℕ) (spots : List Spot) (s : Spot) (names : List FunctionName)
     (h : AreNamesBy name spots names) where
   known : (f : ℕ) → has_name (name_of s.function names) ≡ true
-      → has_name (name_of f names) ≡ is_last_of_some f (spots ++ s ∷ [])
+      → has_name (name_of f names) ≡ ends_some_path f (spots ++ s ∷ [])
   known f has = elim (cases_Bool (s.function == f)) [
     | inl t ↦
         ap (λ (g : ℕ). has_name (name_of g names)) (sym (eqb-true s.function f t)) ∙ has
-        ∙ sym (last_of_more f spots s ∙ or_with (is_last_of_some f spots) (s.function == f) t)
-    | inr t ↦ h.of_spots f ∙ sym (last_of_more f spots s ∙ or_without (is_last_of_some f spots) (s.function == f) t)
+        ∙ sym (last_of_more f spots s ∙ or_with (ends_some_path f spots) (s.function == f) t)
+    | inr t ↦ h.of_spots f ∙ sym (last_of_more f spots s ∙ or_without (ends_some_path f spots) (s.function == f) t)
   ]
 
   -- a function that has a name
@@ -70,7 +70,7 @@ module _ (name : ℕ → List ℕ) (spots : List Spot) (s : Spot) (names : List 
       λ f. name_with n names f (agrees_if_none text (name_of s.function names) (not_named (name_of s.function names) none)) in record {
         sound = are_more n names (record { function = fits; name = line; text = utf8 }) h.sound;
         of_spots = λ f. ap has_name (says f)
-            ∙ either_named (s.function == f) (is_last_of_some f spots) text (name_of f names) (h.of_spots f)
+            ∙ either_named (s.function == f) (ends_some_path f spots) text (name_of f names) (h.of_spots f)
             ∙ sym (last_of_more f spots s);
         each = λ f some. says f
             ∙ picked_name (s.function == f) text (name f) (name_of f names)
@@ -84,7 +84,7 @@ pub each_push : {X : Type 0} (P : X → Type 0) (xs : List X) (x : X) → AllByR
 each_push P [] x h p = (p, tt)
 each_push P (y ∷ ys) x h p = (h.0, each_push P ys x h.1 p)
 
-pub can_stand : (ss : List Spot) → AllByRecursion FitsSpot ss → HasArrivals ss → AllByRecursion IsSpot ss
+pub can_stand : (ss : List Spot) → AllByRecursion FitsFields ss → HasCalls ss → AllByRecursion IsValidNode ss
 can_stand [] h some = tt
 can_stand (s ∷ ss) h some = (
   record {
@@ -103,15 +103,15 @@ added : (b : Bool) (n m : ℕ) → b ≡ false → 0 < cond b n 0 + m → 0 < m
 added b n m h some = let e = ap (λ (t : Bool). cond t n 0) h in omega (arith, e, some)
 
 pub last_if_come : (f : ℕ) (path front : List ℕ) (ss : List Spot) → ends_with f path ≡ true
-    → 0 < counted_after arrivals_of path front ss → is_last_of_some f ss ≡ true
+    → 0 < sum_over_path calls_of_node path front ss → ends_some_path f ss ≡ true
 last_if_come f path front [] ends some = absurd (omega (arith, some))
 last_if_come f path front (s ∷ ss) ends some = elim (cases_Bool (bytes_eq (path_after front s) path)) [
   | inl t ↦
       let same = (bytes_decides (path_after front s) path).0 t in
       let here : (s.function == f) ≡ true = sym (last_of f (take s.depth front) s.function) ∙ ap (ends_with f) same ∙ ends in
-      ap (λ (b : Bool). b || is_last_of_some f ss) here
+      ap (λ (b : Bool). b || ends_some_path f ss) here
   | inr t ↦
-      or_with (s.function == f) (is_last_of_some f ss)
+      or_with (s.function == f) (ends_some_path f ss)
       (last_if_come f path (path_after front s) ss ends
-      (added (bytes_eq (path_after front s) path) s.arrivals (counted_after arrivals_of path (path_after front s) ss) t some))
+      (added (bytes_eq (path_after front s) path) s.arrivals (sum_over_path calls_of_node path (path_after front s) ss) t some))
 ]

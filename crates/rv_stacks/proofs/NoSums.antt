@@ -5,13 +5,13 @@ use Rattle.std.proofs.lemmas.List.Sums.{sum_by-cons}
 use Rattle.std.specs.List.{AllByRecursion, sum_by}
 use Rattle.std.specs.Result.{result_ok}
 use Rattle.std.specs.Prelude.{is_ok}
-use Rattle.rv_count_tables.specs.Limits.{most_jobs}
+use Rattle.rv_count_tables.specs.Limits.{max_jobs}
 use Rattle.rv_count_tables.specs.declared.sum.SumError.{SumError}
 use Rattle.rv_count_tables.specs.declared.sum.SumError.TheVariants.{OutOfMemory, Count, Spot, Names, Runs}
 use Rattle.rv_count_tables.specs.declared.table.CountTable.{CountTable}
 use Rattle.rv_count_tables.specs.Sum.{HaveNoSum}
 use Rattle.rv_count_tables.specs.Table.{executed_in, arrivals_in, steps_in}
-use Rattle.rv_counting.specs.JobTables.{begun_by, begun_from, jobs_at, runs_by, start_over}
+use Rattle.rv_counting.specs.JobTables.{executed_by, executed_from, jobs_at, runs_by, start_over}
 use Rattle.rv_counting.proofs.Public.{not_over}
 use Rattle.rv_counting.specs.declared_answers.Answer.{Answer}
 use Rattle.rv_counting.specs.State.{State}
@@ -20,7 +20,7 @@ use Rattle.rv_counting.specs.declared_job.Job.{Job}
 use Rattle.rv_counting.specs.Jobs.{single_job}
 use Rattle.rv_counting.specs.Plans.{Planned}
 use Rattle.rv_calls.specs.Rows.{start_in}
-use Rattle.rv_stacks.specs.StackTables.{arrivals_by_job, arrivals_from, function_of_job, steps_by_job, steps_from, HaveNoTableWithStacks, HasNextNoSum, IsOfNamesOrMemory, IsTableWithStacks, RunsWithinABudget}
+use Rattle.rv_stacks.specs.StackTables.{calls_by_job, calls_from, function_of_job, steps_by_job, steps_from, HaveNoTableWithStacks, IsNextTableNotAdded, IsOfNamesOrMemory, IsTableWithStacks, RunsWithinABudget}
 use Rattle.rv_stacks.proofs.Bounds.{arrivals_at_most, begun_at_most, once_at_most, steps_at_most}
 use Rattle.rv_stacks.proofs.WithStacks.{of_places, IsOfJobs}
 
@@ -68,14 +68,14 @@ module _ (plan : Planned) (places : List ℕ) (budgets : AllByRecursion (RunsWit
   small_table t h = record {
     begun = λ digest address.
         let e = h.begun digest address in
-        let few = few_jobs (begun_by plan.answers digest address)
-        (λ job. few_if_run plan.answers job digest (begun_from address)
+        let few = few_jobs (executed_by plan.answers digest address)
+        (λ job. few_if_run plan.answers job digest (executed_from address)
         (λ n o. let b = begun_at_most address n o in omega (arith, b)) (λ n. refl)) in
         omega (arith, e, few);
     arrivals = λ digest path.
         let e = h.arrivals digest path in
-        let few = few_jobs (arrivals_by_job plan.answers digest path)
-        (λ job. few_if_run plan.answers job digest (arrivals_from (function_of_job plan.answers job) path)
+        let few = few_jobs (calls_by_job plan.answers digest path)
+        (λ job. few_if_run plan.answers job digest (calls_from (function_of_job plan.answers job) path)
         (arrivals_at_most (function_of_job plan.answers job) path) (λ n. refl)) in
         omega (arith, e, few);
     steps = λ digest path.
@@ -119,15 +119,15 @@ told n m t u Runs few h k no_sum =
     let b = k.runs in
     absurd (omega (arith, few, a, b, no_sum))
 
-told_of_next : (plan : Planned) (places : List ℕ) (error : SumError) → length places ≤ most_jobs → HasNextNoSum plan places error
+told_of_next : (plan : Planned) (places : List ℕ) (error : SumError) → length places ≤ max_jobs → IsNextTableNotAdded plan places error
     → IsOfNamesOrMemory error
 told_of_next plan places error few h =
     let before = take h.count places in
     let long = length-take h.count places in
     let lt = h.within in
-    told (length before) 1 h.first h.next error (omega (arith, few, long, lt)) (small plan before h.first h.of_first)
+    told (length before) 1 h.first h.next error (omega (arith, few, long, lt)) (small plan before h.first h.node_of_first)
     (small plan (get_or places h.count 0 ∷ []) h.next h.of_next) h.refused
 
-pub no_other_reason : (plan : Planned) (places : List ℕ) (error : SumError) → length places ≤ most_jobs
+pub no_other_reason : (plan : Planned) (places : List ℕ) (error : SumError) → length places ≤ max_jobs
     → HaveNoTableWithStacks plan places error → IsOfNamesOrMemory error
 no_other_reason plan places error few = ⊎_elim inl (told_of_next plan places error few)

@@ -8,10 +8,10 @@ use Rattle.rv_count_tables.specs.declared.table.AddressCounts.{AddressCounts}
 use Rattle.rv_count_tables.specs.declared.table.CountTable.{CountTable}
 use Rattle.rv_count_tables.specs.declared.table.FunctionName.{FunctionName}
 use Rattle.rv_count_tables.specs.Sum.{no_counts}
-use Rattle.rv_count_tables.specs.Table.{executed_at, name_at, taken_at, least_path_of, IsTable}
+use Rattle.rv_count_tables.specs.Table.{executed_at, name_at, taken_at, min_text_of, IsTable}
 use Rattle.rv_counting.proofs.Public.{no_counts_is_table, none_if_no_ok, not_ok_if_none, not_over, over, picked_begun, picked_path, picked_taken}
-use Rattle.rv_counting.specs.Coverage.{once_if, AreCountsOf}
-use Rattle.rv_counting.specs.JobTables.{begun_from, taken_from}
+use Rattle.rv_counting.specs.Coverage.{one_if, AreCountsOf}
+use Rattle.rv_counting.specs.JobTables.{executed_from, taken_from}
 use Rattle.rv_counting.specs.declared_image.Image.{Image}
 use Rattle.rv_counting.specs.declared_answers.Answer.{Answer}
 use Rattle.rv_counting.specs.declared_job.Job.{Job}
@@ -19,17 +19,17 @@ use Rattle.rv_counting.specs.State.{State}
 use Rattle.rv_counting.specs.declared_row.Refusal.{Refusal}
 use Rattle.rv_calls.specs.Rows.{image_in, start_in}
 use Rattle.rv_count_tables.specs.declared_spot.Spot.{Spot}
-use Rattle.rv_count_tables.specs.Trees.{arrivals_at, steps_at, HasArrivals, IsTree}
+use Rattle.rv_count_tables.specs.Trees.{calls_at, steps_at, HasCalls, IsTree}
 use Rattle.rv_stacks.specs.Stacks.{function_at, AreCountsAndStacksOfJob, AreStacksOf}
-use Rattle.rv_stacks.specs.StackTables.{arrivals_by_job, arrivals_from, function_in, function_of_job, name_in_image, name_of_function, steps_by_job, steps_from, table_of_run, AreNamesBy, IsNamedBy, IsTableOfRun, RunsWithinABudget}
+use Rattle.rv_stacks.specs.StackTables.{calls_by_job, calls_from, function_in, function_of_job, name_in_image, name_of_function, steps_by_job, steps_from, table_of_run, AreNamesBy, IsNamedBy, IsTableOfRun, RunsWithinABudget}
 use Rattle.rv_count_tables.specs.Printable.{printable_text}
 use Rattle.rv_stacks.proofs.NamedSpots.{last_if_come}
 use Rattle.rv_stacks.proofs.WithStacks.{IsOfJobs}
 use Rattle.rv_counting.specs.Trace.{image_bytes}
 
 picked_arrivals : (b : Bool) (n : ℕ) (function : ℕ → ℕ) (path : List ℕ) (budget : ℕ) (s : State)
-    → n ≡ arrivals_from function path budget (Some s)
-    → cond b n 0 ≡ arrivals_from function path budget (cond b (Some s) None)
+    → n ≡ calls_from function path budget (Some s)
+    → cond b n 0 ≡ calls_from function path budget (cond b (Some s) None)
 picked_arrivals true n function path budget s h = h
 picked_arrivals false n function path budget s h = refl
 
@@ -48,22 +48,22 @@ module _ (answers : List Answer) (job : Job) where
   nothing_run : ((s : State) → start_in answers job ≡ Ok s → ⊥) → IsOfJobs answers (job ∷ []) no_counts
   nothing_run no_start =
       let none = none_if_no_ok (start_in answers job) no_start in
-      let no_arrivals : (digest path : List ℕ) → arrivals_by_job answers digest path job ≡ 0 =
-      λ digest path. ap (arrivals_from (function_of_job answers job) path job.budget) (not_over answers job digest none) in record {
+      let no_arrivals : (digest path : List ℕ) → calls_by_job answers digest path job ≡ 0 =
+      λ digest path. ap (calls_from (function_of_job answers job) path job.budget) (not_over answers job digest none) in record {
         table = no_counts_is_table;
         begun = λ digest address.
-            let e = ap (begun_from address job.budget) (not_over answers job digest none) in omega (arith, e);
+            let e = ap (executed_from address job.budget) (not_over answers job digest none) in omega (arith, e);
         taken = λ digest address.
             let e = ap (taken_from address job.budget) (not_over answers job digest none) in omega (arith, e);
         paths = λ digest.
-            sym (ap (λ (o : Option State). least_path_of (option_map (λ (s : State). printable_text job.image) o) None)
+            sym (ap (λ (o : Option State). min_text_of (option_map (λ (s : State). printable_text job.image) o) None)
             (not_over answers job digest none));
         arrivals = λ digest path. let e = no_arrivals digest path in omega (arith, e);
         steps = λ digest path.
             let e = ap (steps_from (function_of_job answers job) path job.budget) (not_over answers job digest none) in
             omega (arith, e);
         names = λ digest f. (λ path ends some. absurd (let e = no_arrivals digest path in omega (arith, e, some)), tt);
-        runs = (let e = ap once_if (not_ok_if_none (start_in answers job) none) in omega (arith, e));
+        runs = (let e = ap one_if (not_ok_if_none (start_in answers job) none) in omega (arith, e));
         budgets = (λ s start. absurd (no_start s start), tt);
       }
 
@@ -78,11 +78,11 @@ module _ (answers : List Answer) (job : Job) where
         (stacks : AreStacksOf (function_at image file) job.budget s spots)
         (named : AreNamesBy (name_of_function image file) spots functions) where
       arrivals_are : (digest path : List ℕ)
-          → cond (bytes_eq (sha256 file) digest) (arrivals_at path spots) 0 ≡ arrivals_by_job answers digest path job
+          → cond (bytes_eq (sha256 file) digest) (calls_at path spots) 0 ≡ calls_by_job answers digest path job
       arrivals_are digest path =
-          picked_arrivals (bytes_eq (sha256 file) digest) (arrivals_at path spots) (function_at image file) path job.budget s
+          picked_arrivals (bytes_eq (sha256 file) digest) (calls_at path spots) (function_at image file) path job.budget s
           (stacks.arrivals path)
-          ∙ (λ i. arrivals_from (function_in (sym read i) (sym bytes i)) path job.budget (sym (over answers job digest file s bytes start) i))
+          ∙ (λ i. calls_from (function_in (sym read i) (sym bytes i)) path job.budget (sym (over answers job digest file s bytes start) i))
 
       steps_are : (digest path : List ℕ)
           → cond (bytes_eq (sha256 file) digest) (steps_at path spots) 0 ≡ steps_by_job answers digest path job
@@ -94,11 +94,11 @@ module _ (answers : List Answer) (job : Job) where
       it_is_named : (digest : List ℕ) (f : ℕ)
           → IsNamedBy answers (table_of_run job.image file addresses functions spots) digest f job
       it_is_named digest f path ends some =
-          let came = if_some (bytes_eq (sha256 file) digest) (arrivals_at path spots)
+          let came = if_some (bytes_eq (sha256 file) digest) (calls_at path spots)
           (subst (λ (n : ℕ). 0 < n) (sym (arrivals_are digest path)) some) in
           let has = named.of_spots f ∙ last_if_come f path [] spots ends came.1 in
-          ap (λ (b : Bool). least_path_of (cond b (name_at f functions) None) None) came.0
-          ∙ ap (λ (o : Option (List ℕ)). least_path_of o None)
+          ap (λ (b : Bool). min_text_of (cond b (name_at f functions) None) None) came.0
+          ∙ ap (λ (o : Option (List ℕ)). min_text_of o None)
           (sym (first_is functions 0 f named.sound.rising) ∙ named.each f has)
           ∙ (λ i. Some (name_in_image (sym read i) (sym bytes i) f))
 
@@ -109,7 +109,7 @@ module _ (answers : List Answer) (job : Job) where
         begun = λ digest address.
             let here = bytes_eq (sha256 file) digest in
             let e = picked_begun here (executed_at address addresses) address job.budget s (counts.begun address) in
-            let k = ap (begun_from address job.budget) (over answers job digest file s bytes start) in
+            let k = ap (executed_from address job.budget) (over answers job digest file s bytes start) in
             omega (arith, e, k);
         taken = λ digest address.
             let here = bytes_eq (sha256 file) digest in
@@ -118,13 +118,13 @@ module _ (answers : List Answer) (job : Job) where
             omega (arith, e, k);
         paths = λ digest.
             let path = printable_text job.image in
-            ap (λ (o : Option (List ℕ)). least_path_of o None)
+            ap (λ (o : Option (List ℕ)). min_text_of o None)
             (picked_path (bytes_eq (sha256 file) digest) path s
             ∙ sym (ap (λ (o : Option State). option_map (λ (t : State). path) o) (over answers job digest file s bytes start)));
         arrivals = λ digest path. let e = arrivals_are digest path in omega (arith, e);
         steps = λ digest path. let e = steps_are digest path in omega (arith, e);
         names = λ digest f. (it_is_named digest f, tt);
-        runs = (let e = ap (λ (r : Result State Refusal). once_if (is_ok r)) start in omega (arith, e));
+        runs = (let e = ap (λ (r : Result State Refusal). one_if (is_ok r)) start in omega (arith, e));
         budgets = (small, tt);
       }
 
@@ -143,7 +143,7 @@ module _ (answers : List Answer) (job : Job) where
         by (Err why) start both = absurd both
 
 pub tree_of_job : (function : ℕ → ℕ) (n : ℕ) (r : Result State Refusal) (both : List AddressCounts × List Spot)
-    → AreCountsAndStacksOfJob function n r (Some both) → IsTree both.1 × HasArrivals both.1
+    → AreCountsAndStacksOfJob function n r (Some both) → IsTree both.1 × HasCalls both.1
 tree_of_job function n (Ok s) both h = (h.1.tree, h.1.some)
 tree_of_job function n (Err why) both h = absurd h
 

@@ -8,12 +8,12 @@ use Rattle.rv_calls.specs.declared.action.StackAction.{StackAction}
 use Rattle.rv_calls.specs.declared.action.StackAction.TheVariants as action
 use Rattle.rv_calls.specs.declared.frames.Frame.{Frame}
 use Rattle.rv_calls.specs.declared.transfer.Transfer.{Transfer}
-use Rattle.rv_calls.specs.Stack.{after_transfer, depth_below, depth_left, depth_up_to_return, frame_of, is_pushed, popped}
-use Rattle.rv_counting.specs.Coverage.{once_if}
+use Rattle.rv_calls.specs.Stack.{after_transfer, depth_below, remaining_depth, depth_up_to_return, frame_of, is_pushed, popped}
+use Rattle.rv_counting.specs.Coverage.{one_if}
 use Rattle.rv_stacks.specs.declared.walk.Walk.{Walk}
 use Rattle.rv_stacks.specs.Walks.{Arrives}
-use Rattle.rv_stacks.specs.Stacks.{back_at, calls_to, goes_on_at, jumps_to, path_at}
-use Rattle.rv_stacks.specs.StackSteps.{Follows, GoesOn, IsAt}
+use Rattle.rv_stacks.specs.Stacks.{back_at, calls_to, continues_at, jumps_to, path_at}
+use Rattle.rv_stacks.specs.StackSteps.{Follows, ContinuesIn, IsAt}
 
 -- ---- what is left of frames
 
@@ -24,7 +24,7 @@ after_return : (b : Bool) (up above all : ℕ) → up ≤ all → above ≤ all 
 after_return true up above all h k = k
 after_return false up above all h k = omega arith
 
-left_of_action : (a : StackAction) (to sp : ℕ) (frames : List Frame) → depth_left a to sp frames ≤ length frames
+left_of_action : (a : StackAction) (to sp : ℕ) (frames : List Frame) → remaining_depth a to sp frames ≤ length frames
 left_of_action action.Keep to sp frames = omega arith
 left_of_action action.Push to sp frames = omega arith
 left_of_action action.Pop to sp frames =
@@ -34,7 +34,7 @@ left_of_action action.PopThenPush to sp frames =
 
 module _ (function : ℕ → ℕ) (frames : List Frame) (t : Transfer) where
   abbrev left : ℕ
-  left = depth_left t.action t.to t.sp frames
+  left = remaining_depth t.action t.to t.sp frames
 
   abbrev callers : List Frame → List ℕ
   callers fs = map (λ f. function f.call) fs
@@ -77,7 +77,7 @@ module _ (function : ℕ → ℕ) (frames : List Frame) (t : Transfer) where
     unfolding after_transfer
     after_call = ap (λ (b : Bool). cond b (popped frames t ++ frame_of t ∷ []) (popped frames t)) calls
 
-    at_call : goes_on_at frames t ≡ t.from
+    at_call : continues_at frames t ≡ t.from
     at_call = ap (λ (b : Bool). cond b t.from t.to) calls
 
     path_of_call : path_at function (after_transfer frames t) t.to ≡ path_at function (popped frames t) t.from ++ function t.to ∷ []
@@ -85,7 +85,7 @@ module _ (function : ℕ → ℕ) (frames : List Frame) (t : Transfer) where
         ap (λ (fs : List Frame). path_at function fs t.to) after_call
         ∙ ap (λ (fs : List ℕ). fs ++ function t.to ∷ []) (map-append (λ (f : Frame). function f.call) (popped frames t) (frame_of t ∷ []))
 
-    pub follows_call : (old mid new : Walk) (caller called : ℕ) → IsAt function frames t.from old → GoesOn left caller old mid
+    pub follows_call : (old mid new : Walk) (caller called : ℕ) → IsAt function frames t.from old → ContinuesIn left caller old mid
         → caller ≡ function t.from → called ≡ function t.to
         → Arrives (take (left + 1) mid.path.items ++ called ∷ []) mid new → Follows function frames t old new
     follows_call old mid new caller called at on from to arrives =
@@ -103,24 +103,24 @@ module _ (function : ℕ → ℕ) (frames : List Frame) (t : Transfer) where
         (λ i. whole i ++ to i ∷ []) ∙ sym path_of_call in
         let back : get_or old.path.items left 0 ≡ function (back_at frames t) =
         ap (λ (p : List ℕ). get_or p left 0) at.path ∙ back_there in
-        let next : caller ≡ function (goes_on_at frames t) = from ∙ ap function (sym at_call) in
-        let went : take left old.path.items ++ caller ∷ [] ≡ path_at function (popped frames t) (goes_on_at frames t) =
+        let next : caller ≡ function (continues_at frames t) = from ∙ ap function (sym at_call) in
+        let went : take left old.path.items ++ caller ∷ [] ≡ path_at function (popped frames t) (continues_at frames t) =
         came ∙ ap (path_at function (popped frames t)) (sym at_call) in record {
           at = record { walk = arrives.walk; path = arrives.path ∙ behind };
           arrivals = λ at_path.
               let a = on.arrivals at_path in
               let b = arrives.arrivals at_path in
-              let jump : once_if (not (get_or old.path.items left 0 == caller)
-              && bytes_eq (take left old.path.items ++ caller ∷ []) at_path) ≡ once_if (jumps_to function at_path frames t) =
-              λ i. once_if (not (back i == next i) && bytes_eq (went i) at_path) in
-              let call : once_if (bytes_eq (take (left + 1) mid.path.items ++ called ∷ []) at_path)
-              ≡ once_if (calls_to function at_path frames t) =
-              ap (λ (p : List ℕ). once_if (bytes_eq p at_path)) behind
-              ∙ ap (λ (b : Bool). once_if (b && bytes_eq (path_at function (after_transfer frames t) t.to) at_path)) (sym calls) in
+              let jump : one_if (not (get_or old.path.items left 0 == caller)
+              && bytes_eq (take left old.path.items ++ caller ∷ []) at_path) ≡ one_if (jumps_to function at_path frames t) =
+              λ i. one_if (not (back i == next i) && bytes_eq (went i) at_path) in
+              let call : one_if (bytes_eq (take (left + 1) mid.path.items ++ called ∷ []) at_path)
+              ≡ one_if (calls_to function at_path frames t) =
+              ap (λ (p : List ℕ). one_if (bytes_eq p at_path)) behind
+              ∙ ap (λ (b : Bool). one_if (b && bytes_eq (path_at function (after_transfer frames t) t.to) at_path)) (sym calls) in
               omega (arith, a, b, jump, call);
           steps = λ at_path. arrives.steps at_path ∙ on.steps at_path;
           own = λ f. arrives.own f ∙ on.own f;
-          few = (let a = on.few in let b = arrives.all_arrivals in omega (arith, a, b));
+          few = (let a = on.few in let b = arrives.all_calls in omega (arith, a, b));
           all_steps = arrives.all_steps ∙ on.all_steps;
         }
 
@@ -131,18 +131,18 @@ module _ (function : ℕ → ℕ) (frames : List Frame) (t : Transfer) where
     unfolding after_transfer
     after_jump = ap (λ (b : Bool). cond b (popped frames t ++ frame_of t ∷ []) (popped frames t)) jumps
 
-    at_jump : goes_on_at frames t ≡ t.to
+    at_jump : continues_at frames t ≡ t.to
     at_jump = ap (λ (b : Bool). cond b t.from t.to) jumps
 
-    pub follows_jump : (old new : Walk) (function_to : ℕ) → IsAt function frames t.from old → GoesOn left function_to old new
+    pub follows_jump : (old new : Walk) (function_to : ℕ) → IsAt function frames t.from old → ContinuesIn left function_to old new
         → function_to ≡ function t.to → Follows function frames t old new
     follows_jump old new function_to at on to =
         let came : take left old.path.items ++ function_to ∷ [] ≡ path_at function (popped frames t) t.to =
         λ i. (ap (take left) at.path ∙ first_left t.from) i ++ to i ∷ [] in
         let back : get_or old.path.items left 0 ≡ function (back_at frames t) =
         ap (λ (p : List ℕ). get_or p left 0) at.path ∙ back_there in
-        let next : function_to ≡ function (goes_on_at frames t) = to ∙ ap function (sym at_jump) in
-        let went : take left old.path.items ++ function_to ∷ [] ≡ path_at function (popped frames t) (goes_on_at frames t) =
+        let next : function_to ≡ function (continues_at frames t) = to ∙ ap function (sym at_jump) in
+        let went : take left old.path.items ++ function_to ∷ [] ≡ path_at function (popped frames t) (continues_at frames t) =
         came ∙ ap (path_at function (popped frames t)) (sym at_jump) in record {
           at = record {
             walk = on.walk;
@@ -150,11 +150,11 @@ module _ (function : ℕ → ℕ) (frames : List Frame) (t : Transfer) where
           };
           arrivals = λ at_path.
               let a = on.arrivals at_path in
-              let jump : once_if (not (get_or old.path.items left 0 == function_to)
-              && bytes_eq (take left old.path.items ++ function_to ∷ []) at_path) ≡ once_if (jumps_to function at_path frames t) =
-              λ i. once_if (not (back i == next i) && bytes_eq (went i) at_path) in
-              let call : once_if (calls_to function at_path frames t) ≡ 0 =
-              ap (λ (b : Bool). once_if (b && bytes_eq (path_at function (after_transfer frames t) t.to) at_path)) jumps in
+              let jump : one_if (not (get_or old.path.items left 0 == function_to)
+              && bytes_eq (take left old.path.items ++ function_to ∷ []) at_path) ≡ one_if (jumps_to function at_path frames t) =
+              λ i. one_if (not (back i == next i) && bytes_eq (went i) at_path) in
+              let call : one_if (calls_to function at_path frames t) ≡ 0 =
+              ap (λ (b : Bool). one_if (b && bytes_eq (path_at function (after_transfer frames t) t.to) at_path)) jumps in
               omega (arith, a, jump, call);
           steps = on.steps;
           own = on.own;
@@ -174,7 +174,7 @@ pushed_length frames t true is =
     let one = length-append (popped frames t) (frame_of t ∷ []) in
     omega (arith, e, one)
 
-pub is_call : (frames : List Frame) (t : Transfer) → depth_left t.action t.to t.sp frames < length (after_transfer frames t)
+pub is_call : (frames : List Frame) (t : Transfer) → remaining_depth t.action t.to t.sp frames < length (after_transfer frames t)
     → is_pushed (popped frames t) t ≡ true
 is_call frames t more = elim (cases_Bool (is_pushed (popped frames t) t)) [
   | inl hit ↦ hit
@@ -183,7 +183,7 @@ is_call frames t more = elim (cases_Bool (is_pushed (popped frames t) t)) [
       absurd (omega (arith, e, l, more))
 ]
 
-pub is_jump : (frames : List Frame) (t : Transfer) → length (after_transfer frames t) ≤ depth_left t.action t.to t.sp frames
+pub is_jump : (frames : List Frame) (t : Transfer) → length (after_transfer frames t) ≤ remaining_depth t.action t.to t.sp frames
     → is_pushed (popped frames t) t ≡ false
 is_jump frames t less = elim (cases_Bool (is_pushed (popped frames t) t)) [
   | inl hit ↦ let e = pushed_length frames t true hit in
@@ -194,7 +194,7 @@ is_jump frames t less = elim (cases_Bool (is_pushed (popped frames t) t)) [
 
 -- the functions that are left are those of some frame, or all
 pub inside_path : (function : ℕ → ℕ) (frames : List Frame) (t : Transfer) (pc : ℕ)
-    → depth_left t.action t.to t.sp frames < length (path_at function frames pc)
+    → remaining_depth t.action t.to t.sp frames < length (path_at function frames pc)
 inside_path function frames t pc =
     let w = within function frames t in
     let a = length-append (map (λ (f : Frame). function f.call) frames) (function pc ∷ []) in

@@ -14,8 +14,8 @@ use Rattle.rv_count_tables.specs.Lines.{lacks}
 use Rattle.rv_count_tables.specs.ReadSteps.{inserted, with_name}
 use Rattle.rv_count_tables.specs.Table.{has_name, name_of}
 use Rattle.rv_count_tables.specs.declared_spot.Spot.{Spot}
-use Rattle.rv_count_tables.specs.Profiles.{is_last_of_some}
-use Rattle.rv_count_tables.specs.Sums.{FitsSpot}
+use Rattle.rv_count_tables.specs.Profiles.{ends_some_path}
+use Rattle.rv_count_tables.specs.Sums.{FitsFields}
 use Rattle.rv_stacks.specs.StackTables.{AreNamedUpTo, AreNamesBy}
 use Rattle.rv_stacks.proofs.NamedSpots.{each_push, none_named, one_known, one_named, or_with}
 
@@ -71,10 +71,10 @@ none_named_yet name = record { named = none_named name; below = tt; last = λ f 
 
 module _ (name : ℕ → List ℕ) (spots : List Spot) (next : ℕ) (names : List FunctionName) (s : Spot)
     (h : AreNamedUpTo name spots next names) (rises : next ≤ s.function + 1) where
-  last_is : (f : ℕ) → f + 1 ≡ s.function + 1 → is_last_of_some f (spots ++ s ∷ []) ≡ true
+  last_is : (f : ℕ) → f + 1 ≡ s.function + 1 → ends_some_path f (spots ++ s ∷ []) ≡ true
   last_is f at =
       last_of_more f spots s
-      ∙ or_with (is_last_of_some f spots) (s.function == f) (equal s.function f (omega (arith, at)))
+      ∙ or_with (ends_some_path f spots) (s.function == f) (equal s.function f (omega (arith, at)))
 
   pub stays_named : s.function < next → AreNamedUpTo name (spots ++ s ∷ []) (s.function + 1) names
   stays_named less =
@@ -109,7 +109,7 @@ named_in_order name spots sorted names same h = record {
   each = h.each;
 }
 
-pub fit_in_order : (spots sorted : List Spot) → IsPermutation spots sorted → AllByRecursion FitsSpot sorted
-    → AllByRecursion FitsSpot spots
-fit_in_order spots sorted same h = recursion_from_All FitsSpot spots
-    (All-permutation FitsSpot sorted spots (IsPermutation-sym spots sorted same) (All-from_recursion FitsSpot sorted h))
+pub fit_in_order : (spots sorted : List Spot) → IsPermutation spots sorted → AllByRecursion FitsFields sorted
+    → AllByRecursion FitsFields spots
+fit_in_order spots sorted same h = recursion_from_All FitsFields spots
+    (All-permutation FitsFields sorted spots (IsPermutation-sym spots sorted same) (All-from_recursion FitsFields sorted h))

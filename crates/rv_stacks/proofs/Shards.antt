@@ -11,7 +11,7 @@ use Rattle.rv_counting.proofs.Public.{all_parts, joined_parts}
 use Rattle.rv_counting.specs.JobTables.{jobs_at, SumsTo}
 use Rattle.rv_counting.specs.declared_job.Job.{Job}
 use Rattle.rv_counting.specs.Plans.{Planned}
-use Rattle.rv_stacks.specs.StackTables.{places_of_shard, AreTablesWithStacksOfParts, IsTableWithStacks}
+use Rattle.rv_stacks.specs.StackTables.{indices_of_shard, AreTablesWithStacksOfParts, IsTableWithStacks}
 use Rattle.rv_stacks.proofs.Apart.{counts_and_stacks}
 use Rattle.rv_stacks.proofs.WithStacks.{in_order, of_both, of_none, of_places, one_table, IsOfJobs}
 
@@ -88,33 +88,33 @@ parts_moved ps qs =
 -- ---- shards
 
 module _ (shards : ℕ) (places numbers : List ℕ) where
-  in_line : (from n : ℕ) → flat_map (λ p. p) (map (places_of_shard shards places) (range_with_len from n))
+  in_line : (from n : ℕ) → flat_map (λ p. p) (map (indices_of_shard shards places) (range_with_len from n))
       ≡ joined_parts (λ (place : ℕ). place % shards) from n places
   in_line from zero = refl
-  in_line from (suc n) = ap (λ ps. places_of_shard shards places from ++ ps) (in_line (from + 1) n)
+  in_line from (suc n) = ap (λ ps. indices_of_shard shards places from ++ ps) (in_line (from + 1) n)
 
   shards_are_all : 0 < shards → IsPermutation (range_with_len 0 shards) numbers
-      → IsPermutation (flat_map (λ p. p) (map (places_of_shard shards places) numbers)) places
+      → IsPermutation (flat_map (λ p. p) (map (indices_of_shard shards places) numbers)) places
   shards_are_all some p =
-      let here = map (places_of_shard shards places) (range_with_len 0 shards) in
-      let there = map (places_of_shard shards places) numbers in
+      let here = map (indices_of_shard shards places) (range_with_len 0 shards) in
+      let there = map (indices_of_shard shards places) numbers in
       IsPermutation-trans _ _ _
       (IsPermutation-sym _ _
-      (parts_moved here there (IsPermutation-map (places_of_shard shards places) (range_with_len 0 shards) numbers p)))
+      (parts_moved here there (IsPermutation-map (indices_of_shard shards places) (range_with_len 0 shards) numbers p)))
       (subst (λ ps. IsPermutation ps places) (sym (in_line 0 shards))
       (all_parts (λ (place : ℕ). place % shards) shards places (λ place. omega (arith, some))))
 
 pub sum_of_shards : (plan : Planned) (shards : ℕ) (places numbers : List ℕ) (ts : List CountTable) (sum : CountTable)
     → 0 < shards → IsPermutation (range_with_len 0 shards) numbers
-    → AreTablesWithStacksOfParts plan (map (places_of_shard shards places) numbers) ts → SumsTo no_counts ts sum
+    → AreTablesWithStacksOfParts plan (map (indices_of_shard shards places) numbers) ts → SumsTo no_counts ts sum
     → IsTableWithStacks plan places sum
 sum_of_shards plan shards places numbers ts sum some p =
-    sum_of_parts plan places (map (places_of_shard shards places) numbers) ts sum (shards_are_all shards places numbers some p)
+    sum_of_parts plan places (map (indices_of_shard shards places) numbers) ts sum (shards_are_all shards places numbers some p)
 
 pub text_of_shards : (plan : Planned) (shards : ℕ) (places numbers : List ℕ) (ts : List CountTable) (sum whole : CountTable)
     → 0 < shards → IsPermutation (range_with_len 0 shards) numbers
-    → AreTablesWithStacksOfParts plan (map (places_of_shard shards places) numbers) ts → SumsTo no_counts ts sum
+    → AreTablesWithStacksOfParts plan (map (indices_of_shard shards places) numbers) ts → SumsTo no_counts ts sum
     → IsTableWithStacks plan places whole → table_text sum ≡ table_text whole
 text_of_shards plan shards places numbers ts sum whole some p =
-    text_of_parts plan places (map (places_of_shard shards places) numbers) ts sum whole
+    text_of_parts plan places (map (indices_of_shard shards places) numbers) ts sum whole
     (shards_are_all shards places numbers some p)

@@ -7,27 +7,27 @@ use Rattle.rv_calls.specs.declared.frames.Frame.{Frame}
 use Rattle.rv_calls.specs.declared.transfer.Transfer.{Transfer}
 use Rattle.rv_calls.specs.Calls.{transfer_of}
 use Rattle.rv_calls.specs.Stack.{after_transfer}
-use Rattle.rv_counting.specs.Coverage.{completes, fetch_at, is_executed, once_if, IsStateAfter}
+use Rattle.rv_counting.specs.Coverage.{completes, fetch_at, is_executed, one_if, IsStateAfter}
 use Rattle.rv_counting.specs.declared_ending.Ending.{Ending}
-use Rattle.rv_counting.specs.Run.{Ran, run_rest, run_of, step_of}
+use Rattle.rv_counting.specs.Run.{Ran, run_after_step, run_of, step_of}
 use Rattle.rv_counting.specs.State.{State}
 use Rattle.rv_stacks.specs.declared.walk.Walk.{Walk}
 use Rattle.rv_count_tables.specs.Trees.{ends_with}
-use Rattle.rv_stacks.specs.Nodes.{all_steps, own_in, steps_at}
+use Rattle.rv_stacks.specs.Nodes.{all_steps, own_steps_of, steps_at}
 use Rattle.rv_stacks.specs.Walks.{Steps}
-use Rattle.rv_stacks.specs.Stacks.{arrivals_by, path_at}
-use Rattle.rv_stacks.specs.StackSteps.{CountsHere, Follows, IsAt, StacksStep}
+use Rattle.rv_stacks.specs.Stacks.{calls_by, path_at}
+use Rattle.rv_stacks.specs.StackSteps.{CountsStepIf, Follows, IsAt, StacksStep}
 
 -- ---- counted or not
 
-pub counted : (old new : Walk) → Steps 1 old new → CountsHere true old new
+pub counted : (old new : Walk) → Steps 1 old new → CountsStepIf true old new
 counted old new h = record {
   walk = h.walk;
   path = h.path;
   arrivals = h.arrivals;
   steps = h.steps;
   own = h.own;
-  all_arrivals = h.all_arrivals;
+  all_calls = h.all_calls;
   all_steps = h.all_steps;
 }
 
@@ -50,7 +50,7 @@ some_of function frames pc w h =
     let here = ap length h.path in let some = some_path function frames pc in omega (arith, here, some)
 
 pub still_at : (function : ℕ → ℕ) (frames : List Frame) (pc : ℕ) (begun : Bool) (old mid : Walk)
-    → IsAt function frames pc old → CountsHere begun old mid → IsAt function frames pc mid
+    → IsAt function frames pc old → CountsStepIf begun old mid → IsAt function frames pc mid
 still_at function frames pc begun old mid h counts = record { walk = counts.walk; path = counts.path ∙ h.path }
 
 -- ---- a step that ends the run
@@ -59,7 +59,7 @@ still_at function frames pc begun old mid h counts = record { walk = counts.walk
 abbrev EndsAs : State → Result State Ending → Ran → Type 0
 EndsAs s r ran = is_ok r ≡ false → (r ≡ Err ran.ending) × (ran.state ≡ s)
 
-ends_as : (s : State) (r : Result State Ending) → EndsAs s r (run_rest r s (λ t. run_of 0 t))
+ends_as : (s : State) (r : Result State Ending) → EndsAs s r (run_after_step r s (λ t. run_of 0 t))
 ends_as s (Ok t) h = absurd (false≢true (sym h))
 ends_as s (Err e) h = (refl, refl)
 
@@ -81,25 +81,25 @@ stays (Err e) s t h same = same
 
 pub ended_step : (function : ℕ → ℕ) (s t : State) (frames after : List Frame) (begun : Bool) (old new : Walk)
     → IsAt function frames s.pc old → is_ok (step_of s) ≡ false → begun ≡ is_executed (fetch_at s) → t ≡ s
-    → CountsHere begun old new → StacksStep function s frames old false t after new
+    → CountsStepIf begun old new → StacksStep function s frames old false t after new
 ended_step function s t frames after begun old new at over is same counts = record {
   walk = counts.walk;
   completed = not_completed (step_of s) over;
   state = stays (step_of s) s t over same;
   goes = counts.arrivals;
   steps = λ path. counts.steps path
-      ∙ (λ i. steps_at path old.nodes.items + once_if (is i && bytes_eq (at.path i) path));
+      ∙ (λ i. steps_at path old.nodes.items + one_if (is i && bytes_eq (at.path i) path));
   own = λ f. counts.own f
-      ∙ (λ i. own_in f old.nodes.items + once_if (is i && (ap (ends_with f) at.path ∙ ends_at function frames s.pc f) i));
-  few = (let a = counts.all_arrivals in omega (arith, a));
-  all_steps = counts.all_steps ∙ ap (λ (b : Bool). all_steps old.nodes.items + once_if b) is;
+      ∙ (λ i. own_steps_of f old.nodes.items + one_if (is i && (ap (ends_with f) at.path ∙ ends_at function frames s.pc f) i));
+  few = (let a = counts.all_calls in omega (arith, a));
+  all_steps = counts.all_steps ∙ ap (λ (b : Bool). all_steps old.nodes.items + one_if b) is;
 }
 
 -- ---- one that completes
 
 pub whole_step : (function : ℕ → ℕ) (s t : State) (tr : Transfer) (frames after : List Frame) (old mid new : Walk)
     → IsAt function frames s.pc old → step_of s ≡ Ok t → tr ≡ transfer_of s t → is_executed (fetch_at s) ≡ true
-    → CountsHere true old mid → after ≡ after_transfer frames tr → Follows function frames tr mid new
+    → CountsStepIf true old mid → after ≡ after_transfer frames tr → Follows function frames tr mid new
     → StacksStep function s frames old true t after new
 whole_step function s t tr frames after old mid new at steps is begun counts frames_are follows =
     let there : after ≡ after_transfer frames (transfer_of s t) = frames_are ∙ ap (after_transfer frames) is in
@@ -112,12 +112,12 @@ whole_step function s t tr frames after old mid new at steps is begun counts fra
         there,
         subst (λ (fs : List Frame). IsAt function fs t.pc new) (sym there) goes.at,
         λ path. goes.arrivals path
-            ∙ ap (λ (n : ℕ). n + arrivals_by function path frames (transfer_of s t)) (counts.arrivals path),
+            ∙ ap (λ (n : ℕ). n + calls_by function path frames (transfer_of s t)) (counts.arrivals path),
       );
       steps = λ path. goes.steps path ∙ counts.steps path
-          ∙ (λ i. steps_at path old.nodes.items + once_if (sym begun i && bytes_eq (at.path i) path));
+          ∙ (λ i. steps_at path old.nodes.items + one_if (sym begun i && bytes_eq (at.path i) path));
       own = λ f. goes.own f ∙ counts.own f
-          ∙ (λ i. own_in f old.nodes.items + once_if (sym begun i && (ap (ends_with f) at.path ∙ ends_at function frames s.pc f) i));
-      few = (let a = goes.few in let b = counts.all_arrivals in omega (arith, a, b));
-      all_steps = goes.all_steps ∙ counts.all_steps ∙ ap (λ (b : Bool). all_steps old.nodes.items + once_if b) (sym begun);
+          ∙ (λ i. own_steps_of f old.nodes.items + one_if (sym begun i && (ap (ends_with f) at.path ∙ ends_at function frames s.pc f) i));
+      few = (let a = goes.few in let b = counts.all_calls in omega (arith, a, b));
+      all_steps = goes.all_steps ∙ counts.all_steps ∙ ap (λ (b : Bool). all_steps old.nodes.items + one_if b) (sym begun);
     }

@@ -7,15 +7,15 @@ use Rattle.std.specs.List.{AllByRecursion, sum_by}
 use Rattle.std.specs.List.Sorted.{IsPermutation}
 use Rattle.rv_count_tables.proofs.Public.{one_table_of}
 use Rattle.rv_count_tables.specs.declared.table.CountTable.{CountTable}
-use Rattle.rv_count_tables.specs.Sum.{IsSum, no_counts}
-use Rattle.rv_count_tables.specs.Table.{executed_in, taken_in, path_in, name_in, arrivals_in, steps_in, has_name, is_before, least_path_of, IsTable}
+use Rattle.rv_count_tables.specs.Sum.{IsSumOfTables, no_counts}
+use Rattle.rv_count_tables.specs.Table.{executed_in, taken_in, next_path, truncated_name, arrivals_in, steps_in, has_name, is_before, min_text_of, IsTable}
 use Rattle.rv_counting.proofs.Public.{first_moved, first_path-append, no_counts_is_table}
-use Rattle.rv_counting.specs.JobTables.{begun_by, first_path, jobs_at, runs_by, taken_by}
+use Rattle.rv_counting.specs.JobTables.{executed_by, first_path, jobs_at, runs_by, taken_by}
 use Rattle.rv_counting.specs.declared_answers.Answer.{Answer}
 use Rattle.rv_counting.specs.declared_job.Job.{Job}
 use Rattle.rv_counting.specs.Plans.{Planned}
 use Rattle.rv_count_tables.specs.Trees.{ends_with}
-use Rattle.rv_stacks.specs.StackTables.{arrivals_by_job, steps_by_job, IsNamedBy, IsTableWithStacks, RunsWithinABudget}
+use Rattle.rv_stacks.specs.StackTables.{calls_by_job, steps_by_job, IsNamedBy, IsTableWithStacks, RunsWithinABudget}
 use Rattle.rv_stacks.proofs.Named.{come_to}
 use Rattle.rv_stacks.proofs.Tables.{budgets_of_both, names_of_both, same_either}
 
@@ -23,12 +23,12 @@ use Rattle.rv_stacks.proofs.Tables.{budgets_of_both, names_of_both, same_either}
 pub record IsOfJobs (answers : List Answer) (jobs : List Job) (t : CountTable) : Type 0 where
   pub table : IsTable t
   pub begun : (digest : List ℕ) (address : ℕ)
-      → executed_in digest address t.images ≡ sum_by (begun_by answers digest address) jobs
+      → executed_in digest address t.images ≡ sum_by (executed_by answers digest address) jobs
   pub taken : (digest : List ℕ) (address : ℕ)
       → taken_in digest address t.images ≡ sum_by (taken_by answers digest address) jobs
-  pub paths : (digest : List ℕ) → path_in digest t.images ≡ first_path answers digest jobs
+  pub paths : (digest : List ℕ) → next_path digest t.images ≡ first_path answers digest jobs
   pub arrivals : (digest path : List ℕ)
-      → arrivals_in digest path t.images ≡ sum_by (arrivals_by_job answers digest path) jobs
+      → arrivals_in digest path t.images ≡ sum_by (calls_by_job answers digest path) jobs
   pub steps : (digest path : List ℕ) → steps_in digest path t.images ≡ sum_by (steps_by_job answers digest path) jobs
   pub names : (digest : List ℕ) (f : ℕ) → AllByRecursion (IsNamedBy answers t digest f) jobs
   pub runs : t.runs ≡ sum_by (runs_by answers) jobs
@@ -36,7 +36,7 @@ pub record IsOfJobs (answers : List Answer) (jobs : List Job) (t : CountTable) :
 
 -- ---- counts, and stacks beside them
 
-pub with_itself : (o : Option (List ℕ)) → least_path_of o o ≡ o
+pub with_itself : (o : Option (List ℕ)) → min_text_of o o ≡ o
 with_itself None = refl
 with_itself (Some path) = ap (λ (p : List ℕ). Some p) (same_either (is_before path path) path)
 
@@ -59,7 +59,7 @@ of_places plan places t h = record {
       let q = h.stacked.taken digest address in
       omega (arith, s, p, q);
   paths = λ digest. h.sum.paths digest
-      ∙ (λ i. least_path_of (h.counted.paths digest i) (h.stacked.paths digest i))
+      ∙ (λ i. min_text_of (h.counted.paths digest i) (h.stacked.paths digest i))
       ∙ with_itself (first_path plan.answers digest (jobs_at plan places));
   arrivals = λ digest path.
       let s = h.sum.arrivals digest path in
@@ -74,7 +74,7 @@ of_places plan places t h = record {
   names = λ digest f.
       each_so (IsNamedBy plan.answers h.stacks digest f) (IsNamedBy plan.answers t digest f) (jobs_at plan places)
       (λ job named path ends some. h.sum.names digest f
-      ∙ ap (λ (o : Option (List ℕ)). least_path_of o (name_in digest f h.stacks.images)) (h.counted.stacks.names digest f)
+      ∙ ap (λ (o : Option (List ℕ)). min_text_of o (truncated_name digest f h.stacks.images)) (h.counted.stacks.names digest f)
       ∙ named path ends some)
       (h.stacked.names digest f);
   runs = (let s = h.sum.runs in
@@ -100,7 +100,7 @@ of_none answers = record {
 }
 
 module _ (answers : List Answer) where
-  pub of_both : (js ks : List Job) (t u sum : CountTable) → IsOfJobs answers js t → IsOfJobs answers ks u → IsSum t u sum
+  pub of_both : (js ks : List Job) (t u sum : CountTable) → IsOfJobs answers js t → IsOfJobs answers ks u → IsSumOfTables t u sum
       → IsOfJobs answers (js ++ ks) sum
   of_both js ks t u sum h k is = record {
     table = is.table;
@@ -108,7 +108,7 @@ module _ (answers : List Answer) where
         let s = is.begun digest address in
         let p = h.begun digest address in
         let q = k.begun digest address in
-        let e = sum_by-append (begun_by answers digest address) js ks in
+        let e = sum_by-append (executed_by answers digest address) js ks in
         omega (arith, s, p, q, e);
     taken = λ digest address.
         let s = is.taken digest address in
@@ -117,13 +117,13 @@ module _ (answers : List Answer) where
         let e = sum_by-append (taken_by answers digest address) js ks in
         omega (arith, s, p, q, e);
     paths = λ digest.
-        is.paths digest ∙ (λ i. least_path_of (h.paths digest i) (k.paths digest i))
+        is.paths digest ∙ (λ i. min_text_of (h.paths digest i) (k.paths digest i))
         ∙ sym (first_path-append answers digest js ks);
     arrivals = λ digest path.
         let s = is.arrivals digest path in
         let p = h.arrivals digest path in
         let q = k.arrivals digest path in
-        let e = sum_by-append (arrivals_by_job answers digest path) js ks in
+        let e = sum_by-append (calls_by_job answers digest path) js ks in
         omega (arith, s, p, q, e);
     steps = λ digest path.
         let s = is.steps digest path in
@@ -145,11 +145,11 @@ module _ (answers : List Answer) where
   pub in_order : (js ks : List Job) (t : CountTable) → IsPermutation js ks → IsOfJobs answers js t → IsOfJobs answers ks t
   in_order js ks t p h = record {
     table = h.table;
-    begun = λ digest address. h.begun digest address ∙ sym (sum_by-IsPermutation (begun_by answers digest address) js ks p);
+    begun = λ digest address. h.begun digest address ∙ sym (sum_by-IsPermutation (executed_by answers digest address) js ks p);
     taken = λ digest address. h.taken digest address ∙ sym (sum_by-IsPermutation (taken_by answers digest address) js ks p);
     paths = λ digest. h.paths digest ∙ first_moved answers digest js ks p;
     arrivals = λ digest path.
-        h.arrivals digest path ∙ sym (sum_by-IsPermutation (arrivals_by_job answers digest path) js ks p);
+        h.arrivals digest path ∙ sym (sum_by-IsPermutation (calls_by_job answers digest path) js ks p);
     steps = λ digest path. h.steps digest path ∙ sym (sum_by-IsPermutation (steps_by_job answers digest path) js ks p);
     names = λ digest f.
         recursion_from_All (IsNamedBy answers t digest f) ks
@@ -168,12 +168,12 @@ module _ (answers : List Answer) where
 
   -- the job whose run came to the function names it in both
   named_by_a_job : (t u : CountTable) (digest : List ℕ) (f : ℕ) (path : List ℕ) (jobs : List Job) → ends_with f path ≡ true
-      → 0 < sum_by (arrivals_by_job answers digest path) jobs → AllByRecursion (IsNamedBy answers t digest f) jobs
-      → AllByRecursion (IsNamedBy answers u digest f) jobs → name_in digest f t.images ≡ name_in digest f u.images
+      → 0 < sum_by (calls_by_job answers digest path) jobs → AllByRecursion (IsNamedBy answers t digest f) jobs
+      → AllByRecursion (IsNamedBy answers u digest f) jobs → truncated_name digest f t.images ≡ truncated_name digest f u.images
   named_by_a_job t u digest f path [] ends some h k = absurd (omega (arith, some))
-  named_by_a_job t u digest f path (j ∷ js) ends some h k = elim (none_or_some (arrivals_by_job answers digest path j)) [
+  named_by_a_job t u digest f path (j ∷ js) ends some h k = elim (none_or_some (calls_by_job answers digest path j)) [
     | inl e ↦
-        let parts = sum_by-cons (arrivals_by_job answers digest path) j js in
+        let parts = sum_by-cons (calls_by_job answers digest path) j js in
         named_by_a_job t u digest f path js ends (omega (arith, some, parts, e)) h.1 k.1
     | inr more ↦ h.0 path ends more ∙ sym (k.0 path ends more)
   ]
@@ -184,9 +184,9 @@ module _ (answers : List Answer) where
   same_if_either (Some name) p f g = f refl
 
   same_names : (jobs : List Job) (t u : CountTable) → IsOfJobs answers jobs t → IsOfJobs answers jobs u → (digest : List ℕ) (f : ℕ)
-      → name_in digest f t.images ≡ name_in digest f u.images
+      → truncated_name digest f t.images ≡ truncated_name digest f u.images
   same_names jobs t u h k digest f =
-      same_if_either (name_in digest f t.images) (name_in digest f u.images)
+      same_if_either (truncated_name digest f t.images) (truncated_name digest f u.images)
       (λ named. let c = come_to f digest t.images h.table.images named in
       let e = h.arrivals digest c.path in
       let some = c.some in

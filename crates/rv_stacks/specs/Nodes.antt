@@ -1,7 +1,7 @@
 -- Nodes: paths of functions, each of which called the next. A node stores the number of its parent and its own function.
 use Rattle.std.specs.Prelude.{◌≡◌, ◌==◌, ◌+◌, ◌<◌, ◌≤◌, ◌&&◌, ℕ, Bool, if◌then◌else◌, List, [], ◌∷◌, ◌++◌, length, slice_index_or}
 use Rattle.std.specs.Str.{bytes_eq}
-use Rattle.rv_count_tables.specs.Trees.{ends_with, once_if, steps_if}
+use Rattle.rv_count_tables.specs.Trees.{ends_with, one_if, steps_if}
 use Rattle.rv_stacks.specs.declared.node.Node.{Node}
 
 -- ---- the path of a node
@@ -37,20 +37,20 @@ abbrev pub weighted_sum : (List ℕ → Node → ℕ) → List Node → ℕ
 weighted_sum weight nodes = weighted_sum_after weight ([] ∷ []) nodes
 
 -- how often a run entered the path `path`, according to the counts of the nodes
-abbrev pub arrivals_at : List ℕ → List Node → ℕ
-arrivals_at path nodes = weighted_sum (λ p n. if bytes_eq p path then n.arrivals else 0) nodes
+abbrev pub calls_at : List ℕ → List Node → ℕ
+calls_at path nodes = weighted_sum (λ p n. if bytes_eq p path then n.arrivals else 0) nodes
 
 -- how many instructions a run executed on the path `path`, according to the counts of the nodes
 abbrev pub steps_at : List ℕ → List Node → ℕ
 steps_at path nodes = weighted_sum (λ p n. if bytes_eq p path then n.steps else 0) nodes
 
 -- the number of instructions executed in a function itself: the sum over the nodes whose path ends with it
-abbrev pub own_in : ℕ → List Node → ℕ
-own_in function nodes = weighted_sum (λ p n. steps_if (n.function == function) n.steps) nodes
+abbrev pub own_steps_of : ℕ → List Node → ℕ
+own_steps_of function nodes = weighted_sum (λ p n. steps_if (n.function == function) n.steps) nodes
 
 -- the number of entries into all nodes together
-abbrev pub all_arrivals : List Node → ℕ
-all_arrivals nodes = weighted_sum (λ p n. n.arrivals) nodes
+abbrev pub all_calls : List Node → ℕ
+all_calls nodes = weighted_sum (λ p n. n.arrivals) nodes
 
 -- the number of instructions executed in all nodes together
 abbrev pub all_steps : List Node → ℕ
@@ -77,10 +77,10 @@ pub record HasChild (parent function : ℕ) (old : List Node) (number : ℕ) (ne
   pub longer : length old ≤ length new
   pub path : path_of number new ≡ path_of parent old ++ function ∷ []
   pub paths : (k : ℕ) → k < length old + 1 → path_of k new ≡ path_of k old
-  pub arrivals : (path : List ℕ) → arrivals_at path new ≡ arrivals_at path old
+  pub arrivals : (path : List ℕ) → calls_at path new ≡ calls_at path old
   pub steps : (path : List ℕ) → steps_at path new ≡ steps_at path old
-  pub own : (f : ℕ) → own_in f new ≡ own_in f old
-  pub all_arrivals : all_arrivals new ≡ all_arrivals old
+  pub own : (f : ℕ) → own_steps_of f new ≡ own_steps_of f old
+  pub all_calls : all_calls new ≡ all_calls old
   pub all_steps : all_steps new ≡ all_steps old
 
 -- ---- counting in a node
@@ -91,12 +91,12 @@ pub record KeepsPaths (old new : List Node) : Type 0 where
   pub paths : paths_of new ≡ paths_of old
 
 -- the nodes `new` are the nodes `old` with one more entry into the node `number`; nothing else has changed
-pub record ArrivesOnce (number : ℕ) (old new : List Node) : Type 0 where
+pub record EntersOnce (number : ℕ) (old new : List Node) : Type 0 where
   pub kept : KeepsPaths old new
-  pub arrivals : (path : List ℕ) → arrivals_at path new ≡ arrivals_at path old + once_if (bytes_eq (path_of number old) path)
+  pub arrivals : (path : List ℕ) → calls_at path new ≡ calls_at path old + one_if (bytes_eq (path_of number old) path)
   pub steps : (path : List ℕ) → steps_at path new ≡ steps_at path old
-  pub own : (f : ℕ) → own_in f new ≡ own_in f old
-  pub all_arrivals : all_arrivals new ≡ all_arrivals old + 1
+  pub own : (f : ℕ) → own_steps_of f new ≡ own_steps_of f old
+  pub all_calls : all_calls new ≡ all_calls old + 1
   pub all_steps : all_steps new ≡ all_steps old
 
 -- `n` if the Boolean is true, and 0 if it is false
@@ -106,8 +106,8 @@ times_if n test = if test then n else 0
 -- the nodes `new` are the nodes `old` with `n` more instructions in the node `number`; nothing else has changed
 pub record StepsMore (n number : ℕ) (old new : List Node) : Type 0 where
   pub kept : KeepsPaths old new
-  pub arrivals : (path : List ℕ) → arrivals_at path new ≡ arrivals_at path old
+  pub arrivals : (path : List ℕ) → calls_at path new ≡ calls_at path old
   pub steps : (path : List ℕ) → steps_at path new ≡ steps_at path old + times_if n (bytes_eq (path_of number old) path)
-  pub own : (f : ℕ) → own_in f new ≡ own_in f old + times_if n (ends_with f (path_of number old))
-  pub all_arrivals : all_arrivals new ≡ all_arrivals old
+  pub own : (f : ℕ) → own_steps_of f new ≡ own_steps_of f old + times_if n (ends_with f (path_of number old))
+  pub all_calls : all_calls new ≡ all_calls old
   pub all_steps : all_steps new ≡ all_steps old + n

@@ -11,10 +11,10 @@ use Rattle.rv_count_tables.specs.declared.table.AddressCounts.{AddressCounts}
 use Rattle.rv_count_tables.specs.declared.table.CountTable.{CountTable}
 use Rattle.rv_count_tables.specs.declared.table.FunctionName.{FunctionName}
 use Rattle.rv_count_tables.specs.declared.table.ImageCounts.{ImageCounts}
-use Rattle.rv_count_tables.specs.Sum.{HaveNoSum, IsSum}
-use Rattle.rv_count_tables.specs.Table.{executed_in, taken_in, path_in, name_in, arrivals_in, steps_in, has_name, name_of, AreNames, AreNamesOf, IsTable}
-use Rattle.rv_counting.specs.Coverage.{once_if}
-use Rattle.rv_counting.specs.JobTables.{first_path, jobs_at, start_over, IsTableOfPlaces}
+use Rattle.rv_count_tables.specs.Sum.{HaveNoSum, IsSumOfTables}
+use Rattle.rv_count_tables.specs.Table.{executed_in, taken_in, next_path, truncated_name, arrivals_in, steps_in, has_name, name_of, AreValidNames, AreNamesOf, IsTable}
+use Rattle.rv_counting.specs.Coverage.{one_if}
+use Rattle.rv_counting.specs.JobTables.{first_path, jobs_at, start_over, IsTableOfJobsAt}
 use Rattle.rv_counting.specs.declared_image.Image.{Image}
 use Rattle.rv_counting.specs.SymbolSearch.{symbol_at}
 use Rattle.rv_counting.specs.declared_answers.Answer.{Answer}
@@ -23,7 +23,7 @@ use Rattle.rv_counting.specs.Plans.{Planned}
 use Rattle.rv_counting.specs.State.{State}
 use Rattle.rv_calls.specs.Rows.{image_in, start_in}
 use Rattle.rv_count_tables.specs.declared_spot.Spot.{Spot}
-use Rattle.rv_count_tables.specs.Profiles.{is_last_of_some}
+use Rattle.rv_count_tables.specs.Profiles.{ends_some_path}
 use Rattle.rv_count_tables.specs.Trees.{ends_with}
 use Rattle.rv_stacks.specs.Stacks as run
 use Rattle.rv_count_tables.specs.Printable.{printable_text}
@@ -47,7 +47,7 @@ name_of_function image file f = printable_text (name_in_file image file f)
 -- `names` has each function with which the path of a node of `spots` ends, once, and with the name that the function `name` returns; it has
 -- no other function
 pub record AreNamesBy (name : ℕ → List ℕ) (spots : List Spot) (names : List FunctionName) : Type 0 where
-  pub sound : AreNames names
+  pub sound : AreValidNames names
   pub of_spots : AreNamesOf spots names
   pub each : (f : ℕ) → has_name (name_of f names) ≡ true → name_of f names ≡ Some (name f)
 
@@ -56,7 +56,7 @@ pub record AreNamesBy (name : ℕ → List ℕ) (spots : List Spot) (names : Lis
 pub record AreNamedUpTo (name : ℕ → List ℕ) (spots : List Spot) (next : ℕ) (names : List FunctionName) : Type 0 where
   pub named : AreNamesBy name spots names
   pub below : AllByRecursion (λ n. n.function < next) names
-  pub last : (f : ℕ) → f + 1 ≡ next → is_last_of_some f spots ≡ true
+  pub last : (f : ℕ) → f + 1 ≡ next → ends_some_path f spots ≡ true
 
 -- the table of one run: for the image with this path and these bytes, it has these counts, function names and nodes
 abbrev pub table_of_run : List ℕ → List ℕ → List AddressCounts → List FunctionName → List Spot → CountTable
@@ -101,10 +101,10 @@ abbrev pub name_of_job : List Answer → Job → ℕ → List ℕ
 name_of_job answers job = name_in_image (image_in answers job) (image_bytes answers job)
 
 -- how often a run of at most `n` steps from this state enters a path, including the entry into its first function; 0 without a state
-abbrev pub arrivals_from : (ℕ → ℕ) → List ℕ → ℕ → Option State → ℕ
-arrivals_from function path n None = 0
-arrivals_from function path n (Some s) =
-    once_if (bytes_eq (function s.pc ∷ []) path) + run.arrivals_in function path n [] s
+abbrev pub calls_from : (ℕ → ℕ) → List ℕ → ℕ → Option State → ℕ
+calls_from function path n None = 0
+calls_from function path n (Some s) =
+    one_if (bytes_eq (function s.pc ∷ []) path) + run.arrivals_in function path n [] s
 
 -- how many instructions a run of at most `n` steps from this state executes on a path; 0 without a state
 abbrev pub steps_from : (ℕ → ℕ) → List ℕ → ℕ → Option State → ℕ
@@ -112,9 +112,9 @@ steps_from function path n None = 0
 steps_from function path n (Some s) = run.steps_in function path n [] s
 
 -- how often a job's run enters a path; 0 if its image does not have this digest
-abbrev pub arrivals_by_job : List Answer → List ℕ → List ℕ → Job → ℕ
-arrivals_by_job answers digest path job =
-    arrivals_from (function_of_job answers job) path job.budget (start_over answers digest job)
+abbrev pub calls_by_job : List Answer → List ℕ → List ℕ → Job → ℕ
+calls_by_job answers digest path job =
+    calls_from (function_of_job answers job) path job.budget (start_over answers digest job)
 
 -- how many instructions a job's run executes on a path; 0 if its image does not have this digest
 abbrev pub steps_by_job : List Answer → List ℕ → List ℕ → Job → ℕ
@@ -125,7 +125,7 @@ steps_by_job answers digest path job =
 -- image
 abbrev pub IsNamedBy : List Answer → CountTable → List ℕ → ℕ → Job → Type 0
 IsNamedBy answers t digest f job = (path : List ℕ) → ends_with f path ≡ true
-    → 0 < arrivals_by_job answers digest path job → name_in digest f t.images ≡ Some (name_of_job answers job f)
+    → 0 < calls_by_job answers digest path job → truncated_name digest f t.images ≡ Some (name_of_job answers job f)
 
 -- the job is refused, or its budget is below 2^32
 abbrev pub RunsWithinABudget : List Answer → Job → Type 0
@@ -138,9 +138,9 @@ pub record AreStacksOfJobs (answers : List Answer) (jobs : List Job) (t : CountT
   pub table : IsTable t
   pub begun : (digest : List ℕ) (address : ℕ) → executed_in digest address t.images ≡ 0
   pub taken : (digest : List ℕ) (address : ℕ) → taken_in digest address t.images ≡ 0
-  pub paths : (digest : List ℕ) → path_in digest t.images ≡ first_path answers digest jobs
+  pub paths : (digest : List ℕ) → next_path digest t.images ≡ first_path answers digest jobs
   pub arrivals : (digest path : List ℕ)
-      → arrivals_in digest path t.images ≡ sum_by (arrivals_by_job answers digest path) jobs
+      → arrivals_in digest path t.images ≡ sum_by (calls_by_job answers digest path) jobs
   pub steps : (digest path : List ℕ) → steps_in digest path t.images
       ≡ sum_by (steps_by_job answers digest path) jobs
   pub names : (digest : List ℕ) (f : ℕ) → AllByRecursion (IsNamedBy answers t digest f) jobs
@@ -148,8 +148,8 @@ pub record AreStacksOfJobs (answers : List Answer) (jobs : List Job) (t : CountT
   pub budgets : AllByRecursion (RunsWithinABudget answers) jobs
 
 -- `t` is the table of only the call trees of a plan's jobs at these indices
-abbrev pub AreStacksOfPlaces : Planned → List ℕ → CountTable → Type 0
-AreStacksOfPlaces plan places t = AreStacksOfJobs plan.answers (jobs_at plan places) t
+abbrev pub AreStacksOfJobsAt : Planned → List ℕ → CountTable → Type 0
+AreStacksOfJobsAt plan places t = AreStacksOfJobs plan.answers (jobs_at plan places) t
 
 -- ---- counts and call trees
 
@@ -157,23 +157,23 @@ AreStacksOfPlaces plan places t = AreStacksOfJobs plan.answers (jobs_at plan pla
 pub record IsTableWithStacks (plan : Planned) (places : List ℕ) (t : CountTable) : Type 0 where
   pub counts : CountTable
   pub stacks : CountTable
-  pub counted : IsTableOfPlaces plan places counts
-  pub stacked : AreStacksOfPlaces plan places stacks
-  pub sum : IsSum counts stacks t
+  pub counted : IsTableOfJobsAt plan places counts
+  pub stacked : AreStacksOfJobsAt plan places stacks
+  pub sum : IsSumOfTables counts stacks t
 
 -- the table of the jobs at the first `count` indices and the table of the job at the next index cannot be added, because of this error
-pub record HasNextNoSum (plan : Planned) (places : List ℕ) (error : SumError) : Type 0 where
+pub record IsNextTableNotAdded (plan : Planned) (places : List ℕ) (error : SumError) : Type 0 where
   pub count : ℕ
   pub within : count < length places
   pub first : CountTable
   pub next : CountTable
-  pub of_first : IsTableWithStacks plan (take count places) first
+  pub node_of_first : IsTableWithStacks plan (take count places) first
   pub of_next : IsTableWithStacks plan (slice_index_or places count 0 ∷ []) next
   pub refused : HaveNoSum error first next
 
 -- why there is no table for the jobs at these indices: memory ran out, or the tables of some of them cannot be added
 abbrev pub HaveNoTableWithStacks : Planned → List ℕ → SumError → Type 0
-HaveNoTableWithStacks plan places error = (error ≡ OutOfMemory) ⊎ HasNextNoSum plan places error
+HaveNoTableWithStacks plan places error = (error ≡ OutOfMemory) ⊎ IsNextTableNotAdded plan places error
 
 -- the error says that memory ran out or that a function has two names
 abbrev pub IsOfNamesOrMemory : SumError → Type 0
@@ -188,8 +188,8 @@ AreTablesWithStacksOfParts plan (p ∷ ps) (t ∷ ts) = IsTableWithStacks plan p
 AreTablesWithStacksOfParts plan _ _ = ⊥
 
 -- the indices of the shard `number`: the indices that leave the remainder `number` when divided by `shards`
-abbrev pub places_of_shard : ℕ → List ℕ → ℕ → List ℕ
-places_of_shard shards places number = filter (λ place. place % shards == number) places
+abbrev pub indices_of_shard : ℕ → List ℕ → ℕ → List ℕ
+indices_of_shard shards places number = filter (λ place. place % shards == number) places
 
 -- ---- tables without call trees
 

@@ -6,14 +6,14 @@ use Rattle.rv_calls.specs.declared.transfer.Transfer.{Transfer}
 use Rattle.rv_calls.specs.Calls.{transfer_of}
 use Rattle.rv_calls.specs.Stack.{after_transfer, frame_of, is_pushed, popped}
 use Rattle.rv_count_tables.specs.declared.table.AddressCounts.{AddressCounts}
-use Rattle.rv_counting.specs.Coverage.{behind, executed_steps, fetch_at, is_executed, once_if, AreCountsOf}
+use Rattle.rv_counting.specs.Coverage.{behind, executed_steps, fetch_at, is_executed, one_if, AreCountsOf}
 use Rattle.rv_counting.specs.declared_image.Image.{Image}
 use Rattle.rv_counting.specs.SymbolSearch.{symbol_at}
 use Rattle.rv_counting.specs.Run.{step_of}
 use Rattle.rv_counting.specs.State.{State}
 use Rattle.rv_counting.specs.declared_row.Refusal.{Refusal}
 use Rattle.rv_count_tables.specs.declared_spot.Spot.{Spot}
-use Rattle.rv_count_tables.specs.Trees.{all_steps, arrivals_at, own_in, steps_at, HasArrivals, IsTree}
+use Rattle.rv_count_tables.specs.Trees.{all_steps, calls_at, own_steps_of, steps_at, HasCalls, IsTree}
 
 -- ---- functions
 
@@ -49,14 +49,14 @@ back_at frames t = (slice_index_or frames (length (popped frames t)) (frame_of t
 
 -- the address at which control continues in the frames that remain after the pops: the call instruction if the transfer pushes a frame, and
 -- otherwise its target
-abbrev pub goes_on_at : List Frame → Transfer → ℕ
-goes_on_at frames t = if is_pushed (popped frames t) t then t.from else t.to
+abbrev pub continues_at : List Frame → Transfer → ℕ
+continues_at frames t = if is_pushed (popped frames t) t then t.from else t.to
 
 -- whether a transfer enters `path` by continuing in another function, by a jump or by running past the end of a function; the new function
 -- replaces the last one of the path, so a tail call replaces its caller
 abbrev pub jumps_to : (ℕ → ℕ) → List ℕ → List Frame → Transfer → Bool
-jumps_to function path frames t = not (function (back_at frames t) == function (goes_on_at frames t))
-    && bytes_eq (path_at function (popped frames t) (goes_on_at frames t)) path
+jumps_to function path frames t = not (function (back_at frames t) == function (continues_at frames t))
+    && bytes_eq (path_at function (popped frames t) (continues_at frames t)) path
 
 -- whether a transfer enters `path` by a call, which appends the function of its target to the path
 abbrev pub calls_to : (ℕ → ℕ) → List ℕ → List Frame → Transfer → Bool
@@ -64,8 +64,8 @@ calls_to function path frames t = is_pushed (popped frames t) t
     && bytes_eq (path_at function (after_transfer frames t) t.to) path
 
 -- how often a transfer enters a path, at most twice: by continuing in another function, and by a call
-abbrev pub arrivals_by : (ℕ → ℕ) → List ℕ → List Frame → Transfer → ℕ
-arrivals_by function path frames t = once_if (jumps_to function path frames t) + once_if (calls_to function path frames t)
+abbrev pub calls_by : (ℕ → ℕ) → List ℕ → List Frame → Transfer → ℕ
+calls_by function path frames t = one_if (jumps_to function path frames t) + one_if (calls_to function path frames t)
 
 -- ---- a run
 
@@ -73,31 +73,31 @@ arrivals_by function path frames t = once_if (jumps_to function path frames t) +
 unfoldable pub steps_in : (ℕ → ℕ) → List ℕ → ℕ → List Frame → State → ℕ
 steps_in function path zero frames s = 0
 steps_in function path (suc n) frames s =
-    once_if (is_executed (fetch_at s) && bytes_eq (path_at function frames s.pc) path)
+    one_if (is_executed (fetch_at s) && bytes_eq (path_at function frames s.pc) path)
     + behind (step_of s) (λ t. steps_in function path n (after_transfer frames (transfer_of s t)) t)
 
 -- how often a run of at most `n` steps from the state `s`, which begins with these frames, enters a path
 unfoldable pub arrivals_in : (ℕ → ℕ) → List ℕ → ℕ → List Frame → State → ℕ
 arrivals_in function path zero frames s = 0
 arrivals_in function path (suc n) frames s = behind (step_of s)
-    (λ t. arrivals_by function path frames (transfer_of s t)
+    (λ t. calls_by function path frames (transfer_of s t)
     + arrivals_in function path n (after_transfer frames (transfer_of s t)) t)
 
 -- how many instructions a run of at most `n` steps from the state `s` executes in the function `f`, on all paths that end with it
 unfoldable pub executed_in_function : (ℕ → ℕ) → ℕ → ℕ → State → ℕ
 executed_in_function function f zero s = 0
 executed_in_function function f (suc n) s =
-    once_if (is_executed (fetch_at s) && (function s.pc == f)) + behind (step_of s) (λ t. executed_in_function function f n t)
+    one_if (is_executed (fetch_at s) && (function s.pc == f)) + behind (step_of s) (λ t. executed_in_function function f n t)
 
 -- `spots` are the call-tree nodes of the run of at most `n` steps from the state `s`, which begins without frames, and so by entering its
 -- first function
 pub record AreStacksOf (function : ℕ → ℕ) (n : ℕ) (s : State) (spots : List Spot) : Type 0 where
   pub tree : IsTree spots
-  pub some : HasArrivals spots
+  pub some : HasCalls spots
   pub steps : (path : List ℕ) → steps_at path spots ≡ steps_in function path n [] s
-  pub arrivals : (path : List ℕ) → arrivals_at path spots
-      ≡ once_if (bytes_eq (function s.pc ∷ []) path) + arrivals_in function path n [] s
-  pub own : (f : ℕ) → own_in f spots ≡ executed_in_function function f n s
+  pub arrivals : (path : List ℕ) → calls_at path spots
+      ≡ one_if (bytes_eq (function s.pc ∷ []) path) + arrivals_in function path n [] s
+  pub own : (f : ℕ) → own_steps_of f spots ≡ executed_in_function function f n s
   pub all : all_steps spots ≡ executed_steps n s
 
 -- the `Option` has the counts and the call tree of the job that begins in this state, within a budget of `n` steps; it is `None` if the job

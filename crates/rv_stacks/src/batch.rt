@@ -5,7 +5,7 @@ ghost use Rattle.rv_stacks.specs.StackTables.{HaveNoTableWithStacks, IsOfNamesOr
 
 use crate::stack_work::StackWork;
 use rv_count_tables::{CountTable, SumError};
-use rv_counting::{Batch, Crew, JobTable, TableSum, run_jobs};
+use rv_counting::{Batch, Crew, JobsTable, TableSum, run_jobs};
 use std::marker::Brand;
 use std::sync::Wait;
 use std::thread::Threads;
@@ -22,7 +22,7 @@ pub fn count_batch_with_stacks<R: Threads + Wait + Sync>(
     ensures reasons { IfErr result IsOfNamesOrMemory }
 {
     let work = StackWork { batch };
-    let (sum, ran) = run_jobs::<Brand, JobTable, R, StackWork<'_>, TableSum>(
+    let (sum, ran) = run_jobs::<Brand, JobsTable, R, StackWork<'_>, TableSum>(
         crew,
         &work,
         TableSum::new(crew.alloc),

@@ -2,14 +2,14 @@
 
 ghost use Rattle.std.specs.Prelude.{◌≡◌, ◌*◌, ◌+◌, ◌%◌, ◌^◌, IfSome, true};
 ghost use Rattle.rv_stacks.specs.Nodes.{IsChild};
-ghost use Rattle.rv_stacks.specs.Walks.{IsNext};
+ghost use Rattle.rv_stacks.specs.Walks.{IsNextChild};
 
 use crate::node::Node;
 use std::alloc::{AllocError, Global};
 use std::collections::BTreeMap;
 
 /// The maximum number of nodes in a chain, which a lookup walks through.
-const MOST_IN_CHAIN: u32 = 8;
+const MAX_CHAIN: u32 = 8;
 
 /// The children of each node: a chain of the first ones, and an index of the others.
 ///
@@ -59,7 +59,7 @@ impl Children {
         number: usize,
     ) -> Result<(), AllocError> {
         let above = self.links_of(parent);
-        if MOST_IN_CHAIN <= above.many {
+        if MAX_CHAIN <= above.many {
             self.links.push(UNLINKED)?;
             self.others
                 .insert(key_of(parent, u64::from(function)), number)?;
@@ -103,10 +103,10 @@ impl Children {
     /// Returns the number of the child of the node `parent` that a run entered and whose function is the lowest that is not below `from`;
     /// `None` if there is none.
     pub(crate) fn next(&self, nodes: &[Node], parent: usize, from: u64) -> Option<usize>
-        ensures { IfSome result (λ number. IsNext parent from number nodes.now) }
+        ensures { IfSome result (λ number. IsNextChild parent from number nodes.now) }
     {
         let above = self.links_of(parent);
-        let mut next = self.next_of_others(nodes, parent, from);
+        let mut next = self.next_unchained_child(nodes, parent, from);
         let mut number = above.first;
         for _ in 0..above.many {
             if is_next(nodes, parent, from, number) && is_lower(nodes, number, next) {
@@ -119,8 +119,8 @@ impl Children {
 
     // Returns the number of the next child of the node `parent` that is not in a chain and whose function is not below `from`; `None` if
     // there is none.
-    fn next_of_others(&self, nodes: &[Node], parent: usize, from: u64) -> Option<usize>
-        ensures { IfSome result (λ number. IsNext parent from number nodes.now) }
+    fn next_unchained_child(&self, nodes: &[Node], parent: usize, from: u64) -> Option<usize>
+        ensures { IfSome result (λ number. IsNextChild parent from number nodes.now) }
     {
         let number = *self.others.range(key_of(parent, from)..).next()?.1;
         if is_next(nodes, parent, from, number) {
@@ -149,7 +149,7 @@ fn is_child(nodes: &[Node], parent: usize, function: u32, number: usize) -> bool
 
 // Whether the node `number` is a child of the node `parent` that a run entered, and its function is not below `from`.
 fn is_next(nodes: &[Node], parent: usize, from: u64, number: usize) -> bool
-    ensures { result ≡ true → IsNext parent from number nodes.now }
+    ensures { result ≡ true → IsNextChild parent from number nodes.now }
 {
     if number <= parent || nodes.len() < number {
         return false;

@@ -4,7 +4,7 @@ ghost use Rattle.std.specs.Prelude.{◌≡◌, [], ℕ, List, IfOk, OnOk, length
 ghost use Rattle.std.specs.List.{list_all};
 ghost use Rattle.rv_stacks.specs.declared.node.Node.{Node as ANode};
 ghost use Rattle.rv_stacks.specs.Nodes.{is_empty};
-ghost use Rattle.rv_stacks.specs.Walks.{AreSpotsOf, GoesBack, IsFlat, IsNext, Moves};
+ghost use Rattle.rv_stacks.specs.Walks.{ArePreorderOf, ReturnsToParent, IsPreorderBuilder, IsNextChild, Moves};
 
 use crate::children::Children;
 use crate::node::Node;
@@ -24,12 +24,12 @@ pub struct Flat {
 }
 
 /// Returns the nodes in preorder. Allocates only the result.
-pub(crate) fn spots_of_nodes(
+pub(crate) fn preorder_of_nodes(
     alloc: Global,
     nodes: Vec<Node>,
     children: &Children,
 ) -> Result<Spots, AllocError>
-    ensures { IfOk result (AreSpotsOf nodes.items) }
+    ensures { IfOk result (ArePreorderOf nodes.items) }
 {
     let mut left = nodes;
     let mut flat = Flat::new(alloc)?;
@@ -61,7 +61,7 @@ fn is_empty(node: &Node) -> bool
 impl Flat {
     // Creates the conversion's state before the first node.
     fn new(alloc: Global) -> Result<Flat, AllocError>
-        ensures { IfOk result (λ flat. (nodes : List ANode) → IsFlat nodes flat × (flat.spots.items ≡ [])) }
+        ensures { IfOk result (λ flat. (nodes : List ANode) → IsPreorderBuilder nodes flat × (flat.spots.items ≡ [])) }
     {
         let mut trail = Vec::new(alloc);
         trail.push(0)?;
@@ -75,12 +75,12 @@ impl Flat {
 
     // Moves to the next child of the current node, or back to its parent if there is no further child.
     fn turn(&mut self, left: &mut Vec<Node>, children: &Children) -> Result<(), AllocError>
-        requires { IsFlat left.old.items self.old }
+        requires { IsPreorderBuilder left.old.items self.old }
         ensures { OnOk result (Moves left.old.items self.old left.new.items self.new) }
     {
         let parent = self.trail[self.trail.len() - 1];
         match children.next(left.as_slice(), parent, self.from) {
-            Some(number) => self.move_in(left, number),
+            Some(number) => self.enter_child(left, number),
             None => {
                 self.go_back();
                 Ok(())
@@ -89,9 +89,9 @@ impl Flat {
     }
 
     // Moves the counts of the node `number`, a child of the current node, to the preorder nodes, and makes it the current node.
-    fn move_in(&mut self, left: &mut Vec<Node>, number: usize) -> Result<(), AllocError>
-        requires flat { IsFlat left.old.items self.old }
-        requires next { (d : ℕ) → IsNext (slice_index_or self.old.trail.items (length self.old.path.items) d) self.old.from number
+    fn enter_child(&mut self, left: &mut Vec<Node>, number: usize) -> Result<(), AllocError>
+        requires flat { IsPreorderBuilder left.old.items self.old }
+        requires next { (d : ℕ) → IsNextChild (slice_index_or self.old.trail.items (length self.old.path.items) d) self.old.from number
             left.old.items }
         ensures { OnOk result (Moves left.old.items self.old left.new.items self.new) }
     {
@@ -116,7 +116,7 @@ impl Flat {
 
     // Moves from the current node back to its parent.
     fn go_back(&mut self)
-        ensures { (nodes : List ANode) → IsFlat nodes self.old → GoesBack nodes self.old self.new }
+        ensures { (nodes : List ANode) → IsPreorderBuilder nodes self.old → ReturnsToParent nodes self.old self.new }
     {
         let Some(function) = self.path.pop() else {
             return;

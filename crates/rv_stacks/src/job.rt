@@ -1,7 +1,7 @@
 //! The counts and the call tree of a job.
 
 ghost use Rattle.std.specs.Prelude.{IfOk, IfSome};
-ghost use Rattle.rv_count_tables.specs.Table.{AreCounts};
+ghost use Rattle.rv_count_tables.specs.Table.{AreValidCounts};
 ghost use Rattle.rv_counting.specs.declared_job.Job.{Job as AJob};
 ghost use Rattle.rv_calls.specs.Rows.{start_in};
 ghost use Rattle.rv_stacks.specs.Stacks.{function_at, AreCountsAndStacksOfJob};
@@ -25,7 +25,7 @@ pub fn count_job_with_stacks(
         (function_at symbols.now.image.now symbols.now.bytes.now)
         (job_at job.now.plan.now job.now.place d).budget
         (start_in job.now.plan.now.answers (job_at job.now.plan.now job.now.place d)) both) }
-    ensures table { IfOk result (λ both. IfSome both (λ both. AreCounts both.0)) }
+    ensures table { IfOk result (λ both. IfSome both (λ both. AreValidCounts both.0)) }
     ensures budget { (d : AJob) → IfOk result (λ _. RunsWithinABudget job.now.plan.now.answers
         (job_at job.now.plan.now job.now.place d)) }
 {

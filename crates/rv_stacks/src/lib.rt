@@ -28,8 +28,8 @@ pub use flat::Flat;
 pub use functions::{CachedFunction, function_of};
 pub use job::count_job_with_stacks;
 pub use law::{
-    jobs_have_one_table_with_stacks, names_alone_refuse_a_table_with_stacks,
-    own_steps_are_the_counts_of_addresses, run_has_one_list_of_spots,
+    jobs_have_one_table_with_stacks, only_names_prevent_a_table_with_stacks,
+    own_steps_are_the_counts_of_addresses, run_has_one_call_tree,
     table_without_stacks_is_that_of_counts, tables_with_stacks_of_parts_sum_to_that_of_all,
     tables_with_stacks_of_shards_sum_to_that_of_all,
 };

@@ -7,7 +7,7 @@ ghost use Rattle.std.specs.Str.{IsUtf8};
 ghost use Rattle.rv_count_tables.specs.Lines.{lacks};
 ghost use Rattle.rv_counting.specs.SymbolSearch.{symbol_at};
 ghost use Rattle.rv_count_tables.specs.declared_spot.Spot.{Spot as ASpot};
-ghost use Rattle.rv_count_tables.specs.Sums.{FitsSpot};
+ghost use Rattle.rv_count_tables.specs.Sums.{FitsFields};
 ghost use Rattle.rv_stacks.specs.StackTables.{name_in_file, name_of_function, symbol_name, AreNamedUpTo, AreNamesBy};
 
 use crate::functions::LAST_ADDRESS;
@@ -17,13 +17,13 @@ use std::alloc::{AllocError, Global};
 
 /// Returns the names of the functions with which the paths of the nodes end, each once. Needs a symbol lookup for each function, a sort of
 /// the nodes, and memory for a copy of them.
-pub(crate) fn names_of_spots(
+pub(crate) fn names_of_functions(
     alloc: Global,
     symbols: &CodeSymbols<'_>,
     spots: &[Spot],
 ) -> Result<FunctionNames, AllocError>
     ensures names { IfOk result (AreNamesBy (name_of_function symbols.now.image.now symbols.now.bytes.now) spots.now) }
-    ensures fits { IfOk result (λ _. AllByRecursion FitsSpot spots.now) }
+    ensures fits { IfOk result (λ _. AllByRecursion FitsFields spots.now) }
 {
     let sorted = by_function(alloc, spots)?;
     names_in_order(alloc, symbols, sorted.as_slice())
@@ -50,19 +50,19 @@ fn names_in_order(
 ) -> Result<FunctionNames, AllocError>
     requires { IsNonDecreasingBy (λ s. s.function) spots.now }
     ensures names { IfOk result (AreNamesBy (name_of_function symbols.now.image.now symbols.now.bytes.now) spots.now) }
-    ensures fits { IfOk result (λ _. AllByRecursion FitsSpot spots.now) }
+    ensures fits { IfOk result (λ _. AllByRecursion FitsFields spots.now) }
 {
     let mut names = Vec::new(alloc);
     let mut next = 0;
     for spot in spots {
-        name_spot(alloc, symbols, &mut names, next, *spot)?;
+        name_function_of(alloc, symbols, &mut names, next, *spot)?;
         next = spot.function as u64 + 1;
     }
     Ok(FunctionNames::new(names))
 }
 
 // Appends the name of a node's function, unless the function is below `next`, since those functions have been named already.
-fn name_spot(
+fn name_function_of(
     alloc: Global,
     symbols: &CodeSymbols<'_>,
     names: &mut Vec<FunctionName>,
@@ -74,7 +74,7 @@ fn name_spot(
         → next ≤ spot.function + 1
         → OnOk result (AreNamedUpTo (name_of_function symbols.now.image.now symbols.now.bytes.now) (spots ++ spot ∷ [])
         (spot.function + 1) names.new.items) }
-    ensures fits { FitsSpot spot }
+    ensures fits { FitsFields spot }
 {
     let known = (spot.function as u64) < next;
     if known {

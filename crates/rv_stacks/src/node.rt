@@ -1,7 +1,7 @@
 //! Call-tree nodes, and counting in them.
 
 ghost use Rattle.std.specs.Prelude.{◌+◌, ◌^◌, ◌<◌, IfOk, length};
-ghost use Rattle.rv_stacks.specs.Nodes.{all_arrivals, all_steps, ArrivesOnce, HasChild, StepsMore};
+ghost use Rattle.rv_stacks.specs.Nodes.{all_calls, all_steps, EntersOnce, HasChild, StepsMore};
 
 use crate::children::Children;
 use std::alloc::AllocError;
@@ -44,11 +44,11 @@ pub(crate) fn number_of_child(
 }
 
 /// Counts an entry into the node `number`.
-pub(crate) fn count_arrival(nodes: &mut Vec<Node>, number: usize)
+pub(crate) fn count_call(nodes: &mut Vec<Node>, number: usize)
     requires some { 0 < number }
     requires within { number < length nodes.old.items + 1 }
-    requires few { all_arrivals nodes.old.items < 2 ^ 63 }
-    ensures { ArrivesOnce number nodes.old.items nodes.new.items }
+    requires few { all_calls nodes.old.items < 2 ^ 63 }
+    ensures { EntersOnce number nodes.old.items nodes.new.items }
 {
     let old = nodes[number - 1];
     nodes[number - 1] = Node {

@@ -25,7 +25,7 @@ pub fn count_with_stacks(
         (state_of machine) both.1) }
 {
     let (counter, stacks) = follow_run(alloc, machine, budget, symbols)?;
-    let spots = stacks.walk.into_spots(alloc)?;
+    let spots = stacks.walk.into_preorder(alloc)?;
     Ok((counter.into_addresses(), spots))
 }
 

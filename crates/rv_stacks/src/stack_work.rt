@@ -1,7 +1,7 @@
 //! The table of each job of a batch, with its call tree.
 
 use crate::table::stack_table_of_job;
-use rv_counting::{Batch, JobTable, Work, WorkerState};
+use rv_counting::{Batch, JobsTable, Work, WorkerState};
 use std::alloc::{AllocError, Global};
 
 /// The work of a batch: one table for each of its jobs, with its counts and its call tree.
@@ -10,7 +10,7 @@ pub(crate) struct StackWork<'a> {
     pub(crate) batch: &'a Batch<'a>,
 }
 
-impl Work<JobTable> for StackWork<'_> {
+impl Work<JobsTable> for StackWork<'_> {
     ghost use Rattle.std.specs.Prelude.{◌∷◌, [], ℕ, length, slice_index_or};
     ghost use Rattle.rv_stacks.specs.StackTables.{IsTableWithStacks};
 
@@ -37,8 +37,8 @@ impl Work<JobTable> for StackWork<'_> {
         alloc: Global,
         number: usize,
         _bench: &mut WorkerState,
-    ) -> Result<JobTable, AllocError> {
+    ) -> Result<JobsTable, AllocError> {
         let table = stack_table_of_job(alloc, self.batch.plan, self.batch.places[number])?;
-        Ok(JobTable::new(table))
+        Ok(JobsTable::new(table))
     }
 }

@@ -1,12 +1,12 @@
 //! The table of one job of a plan, with its call tree.
 
 ghost use Rattle.std.specs.Prelude.{◌<◌, ◌∷◌, [], IfOk, length};
-ghost use Rattle.rv_count_tables.specs.Table.{AreCounts};
-ghost use Rattle.rv_count_tables.specs.Trees.{HasArrivals, IsTree};
+ghost use Rattle.rv_count_tables.specs.Table.{AreValidCounts};
+ghost use Rattle.rv_count_tables.specs.Trees.{HasCalls, IsTree};
 ghost use Rattle.rv_stacks.specs.StackTables.{name_of_function, IsTableOfRun, IsTableWithStacks};
 
 use crate::job::count_job_with_stacks;
-use crate::names::names_of_spots;
+use crate::names::names_of_functions;
 use rv_count_tables::{Addresses, CountTable, ImageCounts, Spots};
 use rv_counting::{
     CodeSymbols, JobImage, Plan, digest_of, empty_table, image_bytes, image_of_bytes,
@@ -53,13 +53,13 @@ fn table_of_run(
     addresses: Addresses,
     spots: Spots,
 ) -> Result<CountTable, AllocError>
-    requires counts { AreCounts addresses }
+    requires counts { AreValidCounts addresses }
     requires tree { IsTree spots }
-    requires some { HasArrivals spots }
+    requires some { HasCalls spots }
     ensures { IfOk result (IsTableOfRun (name_of_function symbols.now.image.now symbols.now.bytes.now) path.now
         symbols.now.bytes.now addresses spots) }
 {
-    let functions = names_of_spots(alloc, symbols, spots.as_slice())?;
+    let functions = names_of_functions(alloc, symbols, spots.as_slice())?;
     let digest = digest_of(alloc, symbols.bytes)?;
     let path = shown_text(alloc, path.as_bytes())?;
     let images = images_of_one(

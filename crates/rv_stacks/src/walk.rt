@@ -1,12 +1,12 @@
 //! A walk from node to node.
 
 ghost use Rattle.std.specs.Prelude.{◌≡◌, ◌∷◌, ◌++◌, ◌+◌, ◌^◌, ◌<◌, ◌≤◌, [], ℕ, IfOk, OnOk, length, slice_index_or, take};
-ghost use Rattle.rv_stacks.specs.Nodes.{all_arrivals, all_steps, paths_of};
-ghost use Rattle.rv_stacks.specs.Walks.{Arrives, AreSpotsOf, IsWalk, Returns, Steps};
+ghost use Rattle.rv_stacks.specs.Nodes.{all_calls, all_steps, paths_of};
+ghost use Rattle.rv_stacks.specs.Walks.{Arrives, ArePreorderOf, IsWalk, Returns, Steps};
 
 use crate::children::Children;
-use crate::flat::spots_of_nodes;
-use crate::node::{Node, count_arrival, count_steps, number_of_child};
+use crate::flat::preorder_of_nodes;
+use crate::node::{Node, count_call, count_steps, number_of_child};
 use rv_count_tables::Spots;
 use std::alloc::{AllocError, Global};
 
@@ -44,13 +44,13 @@ impl Walk {
     pub fn arrive(&mut self, depth: usize, function: u32) -> Result<(), AllocError>
         requires walk { IsWalk self.old }
         requires depth { depth ≤ length self.old.path.items }
-        requires few { all_arrivals self.old.nodes.items < 2 ^ 63 }
+        requires few { all_calls self.old.nodes.items < 2 ^ 63 }
         ensures { OnOk result (Arrives (take depth self.old.path.items ++ function ∷ []) self.old self.new) }
     {
         self.return_to(depth);
         let parent = self.last_number();
         let number = number_of_child(&mut self.nodes, &mut self.children, parent, function)?;
-        count_arrival(&mut self.nodes, number);
+        count_call(&mut self.nodes, number);
         self.path.push(function)?;
         self.trail.push(number)?;
         Ok(())
@@ -78,10 +78,10 @@ impl Walk {
     }
 
     /// Returns the nodes of the walk in preorder.
-    pub fn into_spots(self, alloc: Global) -> Result<Spots, AllocError>
-        ensures { IfOk result (AreSpotsOf self.nodes.items) }
+    pub fn into_preorder(self, alloc: Global) -> Result<Spots, AllocError>
+        ensures { IfOk result (ArePreorderOf self.nodes.items) }
     {
-        spots_of_nodes(alloc, self.nodes, &self.children)
+        preorder_of_nodes(alloc, self.nodes, &self.children)
     }
 
     // Returns the number of the current node; 0 if the walk has entered no node.

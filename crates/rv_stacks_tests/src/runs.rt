@@ -109,7 +109,7 @@ fn told(alloc: Global, row: &str) -> Result<String, Fail> {
 
 // Runs have the call-tree nodes that were found by hand.
 #[test]
-fn runs_have_these_spots(rt: HostRuntime) -> Result<(), Fail> {
+fn runs_have_the_expected_nodes(rt: HostRuntime) -> Result<(), Fail> {
     has_lines(RUNS, 14)?;
     for row in RUNS.lines() {
         agree(row, told(rt.alloc(), row)?.as_str(), cell_of(row, 4))?;

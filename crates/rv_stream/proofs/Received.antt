@@ -7,7 +7,7 @@ use Rattle.std.specs.List.{concat}
 use Rattle.rv_base.proofs.Public.{beginning_of_longer}
 use Rattle.rv_fleet.specs.declared_engine.RunError.{RunError}
 use Rattle.rv_fleet.specs.declared_listener.Flow.{Flow}
-use Rattle.rv_fleet.specs.declared_listener.Flow.TheVariants.{GoOn, Stop}
+use Rattle.rv_fleet.specs.declared_listener.Flow.TheVariants.{Continue, Stop}
 use Rattle.rv_fleet.specs.Results.{IsRunDelivered, HasReceived}
 use Rattle.rv_expect.specs.Judgement.{Judging, fails}
 use Rattle.rv_fleet.proofs.Public.{rows_count}
@@ -16,11 +16,11 @@ use Rattle.rv_fleet.specs.Batches.{batch_rows}
 use Rattle.rv_fleet.specs.Jobs.{single_job}
 use Rattle.rv_fleet.specs.declared_row.Row.{Row}
 use Rattle.rv_fleet.specs.Rows.{row_of, rows_at}
-use Rattle.rv_base.specs.Sinks.{AppendsBeginning}
+use Rattle.rv_base.specs.Sinks.{AppendsPrefix}
 use Rattle.rv_stream.specs.declared.reported_row.ReportedRow.{ReportedRow}
 use Rattle.rv_stream.specs.Limits.{rows_up_to}
 use Rattle.rv_stream.specs.Streams.{joined_row_texts, row_text_list}
-use Rattle.rv_stream.specs.Seen.{text_by_index, HasSeenRows, HasSeenSomeRows, IsReportOf}
+use Rattle.rv_stream.specs.Seen.{text_by_index, HasSeenRows, HasSeenSomeRows, IsReportAt}
 use Rattle.rv_stream.specs.ReportedRows.{rows_of_reported, texts_of_reported, AreRowsUpToFailure, IsReportedRow}
 use Rattle.rv_stream.proofs.Limits.{ended_there, first_of}
 use Rattle.rv_stream.proofs.Tellings.{told_append}
@@ -37,7 +37,7 @@ rows_first f (p ∷ ps) (t ∷ ts) few each =
     ∷ rows_first f ps ts (omega (arith, few)) (λ k d lt. each (suc k) d (omega (arith, lt))) i)
 
 texts_first : (line : ℕ → Row → List ℕ) (ps : List ℕ) (told : List ReportedRow) → length told ≤ length ps
-    → ((k : ℕ) (d : ReportedRow) → k < length told → IsReportOf line (get_or ps k 0) (get_or told k d))
+    → ((k : ℕ) (d : ReportedRow) → k < length told → IsReportAt line (get_or ps k 0) (get_or told k d))
     → texts_of_reported told ≡ row_text_list line ps (rows_of_reported told)
 texts_first line [] [] few each = refl
 texts_first line (p ∷ ps) [] few each = refl
@@ -154,13 +154,13 @@ module _ (line : ℕ → Row → List ℕ) (batch : Batch) (most : Option ℕ) (
   -- however a run ended, the first rows were received
   pub has_begun : (ran : Result Flow RunError) → IsRunDelivered (IsReportedRow line batch) (length batch.places.now) received stops ran
       → HasSeenSomeRows received line batch.places.now (rows_up_to most (fails judging) (batch_rows batch))
-  has_begun (Ok GoOn) run = begins (length batch.places.now) run.0
+  has_begun (Ok Continue) run = begins (length batch.places.now) run.0
   has_begun (Ok Stop) run = begins run.0.count run.0.hears
   has_begun (Err error) run = begins run.count run.hears
 
   pub has_ended : (flow : Flow) → IsRunDelivered (IsReportedRow line batch) (length batch.places.now) received stops (Ok flow)
       → refused ≡ false → (flow ≡ Stop → left ≡ Some 0) → HasEnded received line batch.places.now (rows_up_to most (fails judging) (batch_rows batch)) kept
-  has_ended GoOn run there ends =
+  has_ended Continue run there ends =
       let hears = run.0 in
       let told = hears.results in
       let long = hears.count_is in
@@ -216,8 +216,8 @@ on_error (Err e) P p = p
 -- a beginning of the texts of the first rows is one of the texts of all
 pub begun_of_all : (has_seen : List ReportedRow → Type 0) (line : ℕ → Row → List ℕ) (places : List ℕ) (rows : List Row)
     (seen : HasSeenSomeRows has_seen line places rows) (before now : Option (List ℕ))
-    → AppendsBeginning before now (concat (texts_of_reported seen.seen.reported))
-    → AppendsBeginning before now (joined_row_texts line places rows)
+    → AppendsPrefix before now (concat (texts_of_reported seen.seen.reported))
+    → AppendsPrefix before now (joined_row_texts line places rows)
 begun_of_all has_seen line places rows seen before now part =
     let first = seen.first in
     let few : length first ≤ length places =
@@ -228,5 +228,5 @@ begun_of_all has_seen line places rows seen before now part =
     beginning_of_longer before now (joined_row_texts line places first)
     (joined_row_texts line (drop (length first) places) seen.rest)
     (joined_row_texts line places rows)
-    (subst (AppendsBeginning before now) (seen_texts has_seen line places first seen.seen) part)
+    (subst (AppendsPrefix before now) (seen_texts has_seen line places first seen.seen) part)
     (ap (joined_row_texts line places) (sym seen.whole) ∙ told_append line places first seen.rest few)

@@ -7,7 +7,7 @@ use Rattle.std.proofs.KnownBytes.{Appends-nil, Appends-trans}
 use Rattle.std.proofs.lemmas.List.{map-append}
 use Rattle.std.proofs.lemmas.List.Folds.{concat-append}
 use Rattle.rv_base.specs.Counts.{one_more}
-use Rattle.rv_base.specs.Sinks.{AppendsBeginning}
+use Rattle.rv_base.specs.Sinks.{AppendsPrefix}
 use Rattle.rv_fleet.specs.declared_report.WriteError.{WriteError}
 use Rattle.rv_fleet.specs.declared_report.WriteError.TheVariants.{Failed, OutOfMemory}
 use Rattle.rv_stream.specs.declared.reported_row.ReportedRow.{ReportedRow}
@@ -93,7 +93,7 @@ module _ (before now : Option (List ℕ)) (failures_before failures : ℕ) (unse
 
   -- a beginning of it did
   pub part_went : (failed : Option WriteError) (after : Option (List ℕ)) (count : ℕ) (waits : List ℕ) → failed ≡ None
-      → AppendsBeginning now after unsent → count ≡ one_more failures
+      → AppendsPrefix now after unsent → count ≡ one_more failures
       → IsSent before now failures_before failures failed unsent text
       → IsSent before after failures_before count (Some Failed) waits text
   part_went failed after count waits none begun once sent =
@@ -109,7 +109,7 @@ module _ (before now : Option (List ℕ)) (failures_before failures : ℕ) (unse
 
   -- a beginning is out, whatever happened
   pub begun : (failed : Option WriteError) → IsSent before now failures_before failures failed unsent text
-      → AppendsBeginning before now text
+      → AppendsPrefix before now text
   begun None sent = record { part = sent.sent; rest = unsent; whole = sym sent.whole; appended = sent.appended }
   begun (Some OutOfMemory) sent = sent.0
   begun (Some Failed) sent = sent.0
@@ -125,8 +125,8 @@ module _ (before now : Option (List ℕ)) (failures_before failures : ℕ) (unse
       → IsSent before now failures_before failures failed unsent text → count ≡ failures_before
   counted_out failed count none same sent = same ∙ (under_way failed none sent).counted
 
-  pub part_out : (after : Option (List ℕ)) (failed : Option WriteError) → failed ≡ None → AppendsBeginning now after unsent
-      → IsSent before now failures_before failures failed unsent text → AppendsBeginning before after text
+  pub part_out : (after : Option (List ℕ)) (failed : Option WriteError) → failed ≡ None → AppendsPrefix now after unsent
+      → IsSent before now failures_before failures failed unsent text → AppendsPrefix before after text
   part_out after failed none begins sent =
       let was = under_way failed none sent in record {
         part = was.sent ++ begins.part;

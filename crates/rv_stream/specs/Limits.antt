@@ -1,6 +1,6 @@
 -- The rows of a run that stops after some failures.
 use Rattle.std.specs.Prelude.{ℕ, zero, suc, Bool, List, [], ◌∷◌, Option, Some, None, if◌then◌else◌}
-use Rattle.rv_expect.specs.Judgement.{fails, judging_of}
+use Rattle.rv_expect.specs.Judgement.{fails, judge_view}
 use Rattle.rv_stream.specs.declared.failure_limit.FailureLimit.{FailureLimit}
 use Rattle.rv_fleet.specs.declared_row.Row.{Row}
 
@@ -23,4 +23,4 @@ rows_up_to (Some most) fails rows = rows_until fails most rows
 
 -- the rows of a run with this limit, given the rows of the run without a limit
 abbrev pub rows_within : FailureLimit → List Row → List Row
-rows_within limit rows = rows_up_to limit.failures (fails (judging_of limit.judge)) rows
+rows_within limit rows = rows_up_to limit.failures (fails (judge_view limit.judge)) rows

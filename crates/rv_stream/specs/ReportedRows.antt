@@ -23,12 +23,12 @@ abbrev pub texts_of_reported : List ReportedRow → List (List ℕ)
 texts_of_reported told = map (λ (t : ReportedRow). t.text.items) told
 
 -- the number of further failures that stop the run after these rows; `None` without a limit
-abbrev pub failures_left : Option ℕ → Judging → List Row → Option ℕ
-failures_left most judging rows = option_map (λ number. failures_left_after (fails judging) number rows) most
+abbrev pub failures_left_after_row : Option ℕ → Judging → List Row → Option ℕ
+failures_left_after_row most judging rows = option_map (λ number. failures_left_after (fails judging) number rows) most
 
 -- `kept` are the rows up to the failure that stops the run, unless an allocation failed, as `refused` says; `left` is the number of further
 -- failures that stop the run
 pub record AreRowsUpToFailure (most : Option ℕ) (judging : Judging) (left : Option ℕ) (refused : Bool) (kept rows : List Row) : Type 0 where
   pub kept_all : refused ≡ false → kept ≡ rows
-  pub left_is : left ≡ failures_left most judging rows
+  pub left_is : left ≡ failures_left_after_row most judging rows
   pub within : rows_up_to most (fails judging) rows ≡ rows

@@ -2,7 +2,7 @@
 use Rattle.std.specs.Prelude.{◌≡◌, ◌++◌, ℕ, List, Option, Some, None}
 use Rattle.std.specs.Io.KnownBytes.{Appends}
 use Rattle.rv_base.specs.Counts.{one_more}
-use Rattle.rv_base.specs.Sinks.{AppendsBeginning}
+use Rattle.rv_base.specs.Sinks.{AppendsPrefix}
 use Rattle.rv_fleet.specs.declared_report.WriteError.{WriteError}
 use Rattle.rv_fleet.specs.declared_report.WriteError.TheVariants.{Failed, OutOfMemory}
 
@@ -17,6 +17,6 @@ pub record IsWriteInProgress (before now : Option (List ℕ)) (failures_before f
 abbrev pub IsSent : Option (List ℕ) → Option (List ℕ) → ℕ → ℕ → Option WriteError → List ℕ → List ℕ → Type 0
 IsSent before now failures_before failures None unsent text = IsWriteInProgress before now failures_before failures unsent text
 IsSent before now failures_before failures (Some OutOfMemory) unsent text =
-    AppendsBeginning before now text × (failures ≡ failures_before)
+    AppendsPrefix before now text × (failures ≡ failures_before)
 IsSent before now failures_before failures (Some Failed) unsent text =
-    AppendsBeginning before now text × (failures ≡ one_more failures_before)
+    AppendsPrefix before now text × (failures ≡ one_more failures_before)

@@ -2,8 +2,8 @@
 
 ghost use Rattle.std.specs.Prelude.{◌≡◌, ◌++◌, [], ℕ, List, None, OnErr, OnOk, is_some, true};
 ghost use Rattle.std.specs.Io.KnownBytes.{Appends};
-ghost use Rattle.rv_fleet.specs.declared_listener.Flow.TheVariants.{GoOn, Stop};
-ghost use Rattle.rv_base.specs.Sinks.{AppendsBeginning};
+ghost use Rattle.rv_fleet.specs.declared_listener.Flow.TheVariants.{Continue, Stop};
+ghost use Rattle.rv_base.specs.Sinks.{AppendsPrefix};
 ghost use Rattle.rv_stream.specs.Texts.{IsSent};
 
 use crate::reported_row::ReportedRow;
@@ -52,11 +52,11 @@ impl<J: StreamSpec, W: Sink + Drop> Outbox<J, W> {
             → IsSent J.before (W.taken self.old.out) J.failures (W.failed self.old.out) self.old.failed self.old.unsent.items text
             → IsSent J.before (W.taken self.new.out) J.failures (W.failed self.new.out) self.new.failed self.new.unsent.items
             (text ++ T.line reporter.now made.now.index made.now.row) }
-        ensures goes { result ≡ GoOn → self.new.failed ≡ None }
+        ensures goes { result ≡ Continue → self.new.failed ≡ None }
         ensures stops { result ≡ Stop → is_some self.new.failed ≡ true }
     {
         match reporter.push_row_text(alloc, made.index, &made.row, &mut self.unsent) {
-            Ok(()) => Flow::GoOn,
+            Ok(()) => Flow::Continue,
             Err(_) => {
                 // Out of memory: a reporter fails for that alone.
                 self.failed = Some(WriteError::OutOfMemory);
@@ -71,13 +71,13 @@ impl<J: StreamSpec, W: Sink + Drop> Outbox<J, W> {
         ensures sent { (text : List ℕ)
             → IsSent J.before (W.taken self.old.out) J.failures (W.failed self.old.out) self.old.failed self.old.unsent.items text
             → IsSent J.before (W.taken self.new.out) J.failures (W.failed self.new.out) self.new.failed self.new.unsent.items text }
-        ensures goes { result ≡ GoOn → self.new.failed ≡ None }
+        ensures goes { result ≡ Continue → self.new.failed ≡ None }
         ensures stops { result ≡ Stop → is_some self.new.failed ≡ true }
     {
         match put_all(&mut self.out, self.unsent.as_slice()) {
             Ok(()) => {
                 self.unsent.clear();
-                Flow::GoOn
+                Flow::Continue
             }
             Err(_) => {
                 self.failed = Some(WriteError::Failed);
@@ -92,10 +92,10 @@ impl<J: StreamSpec, W: Sink + Drop> Outbox<J, W> {
             → OnOk result.1 (Appends J.before (W.taken result.0) text
             × (W.failed result.0 ≡ J.failures)) }
         ensures part { (text : List ℕ) → IsSent J.before (W.taken self.out) J.failures (W.failed self.out) self.failed self.unsent.items text
-            → OnErr result.1 (AppendsBeginning J.before (W.taken result.0) text) }
+            → OnErr result.1 (AppendsPrefix J.before (W.taken result.0) text) }
         ensures goes { OnOk result.1 (self.failed ≡ None) }
         ensures begun { (text : List ℕ) → IsSent J.before (W.taken self.out) J.failures (W.failed self.out) self.failed self.unsent.items text
-            → AppendsBeginning J.before (W.taken result.0) text }
+            → AppendsPrefix J.before (W.taken result.0) text }
     {
         let Outbox {
             out,

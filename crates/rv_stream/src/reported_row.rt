@@ -23,14 +23,14 @@ pub(crate) struct ReportedRowWork<'b, 't, T: RowReporter> {
 
 impl<T: RowReporter> Work<ReportedRow> for ReportedRowWork<'_, '_, T> {
     ghost use Rattle.std.specs.Prelude.{length};
-    ghost use Rattle.rv_fleet.specs.Recent.{AreOutcomes};
+    ghost use Rattle.rv_fleet.specs.Recent.{AreOutcomesOfPlan};
     ghost use Rattle.rv_stream.specs.ReportedRows.{IsReportedRow};
 
     ghost jobs = { λ s. length s.batch.now.places.now };
 
     ghost is_made = { λ s number told. IsReportedRow (T.line s.reporter.now) s.batch.now number told };
 
-    ghost is_worker_state = { λ s worker_state. AreOutcomes s.batch.now.plan.now worker_state.recent };
+    ghost is_worker_state = { λ s worker_state. AreOutcomesOfPlan s.batch.now.plan.now worker_state.recent };
 
     // Returns the number of jobs in the batch.
     fn jobs(&self) -> usize {

@@ -2,7 +2,7 @@
 
 ghost use Rattle.std.specs.Prelude.{◌≡◌, [], ℕ, List, None, IfSome, OnErr, OnOk, is_some, true};
 ghost use Rattle.std.specs.Io.KnownBytes.{Appends};
-ghost use Rattle.rv_base.specs.Sinks.{AppendsBeginning};
+ghost use Rattle.rv_base.specs.Sinks.{AppendsPrefix};
 ghost use Rattle.rv_stream.specs.Texts.{IsSent};
 
 use crate::outbox::Outbox;
@@ -52,7 +52,7 @@ impl<'t, J: StreamSpec, T: RowReporter, W: Sink + Drop> RowSender<'t, J, T, W> {
             → OnOk result.1 (IfSome result.0 (λ out. Appends J.before (W.taken out) text × (W.failed out ≡ J.failures))) }
         ensures part { (text : List ℕ)
             → IfSome self.entry.outbox (λ box. IsSent J.before (W.taken box.out) J.failures (W.failed box.out) box.failed box.unsent.items text)
-            → OnErr result.1 (IfSome result.0 (λ out. AppendsBeginning J.before (W.taken out) text)) }
+            → OnErr result.1 (IfSome result.0 (λ out. AppendsPrefix J.before (W.taken out) text)) }
         ensures goes { OnOk result.1 (IfSome self.entry.outbox (λ box. box.failed ≡ None)) }
         ensures failed { OnErr result.1 (J.sends ≡ true) }
     {
@@ -83,7 +83,7 @@ impl<J: StreamSpec, T: RowReporter, W: Sink + Drop> Observer<ReportedRow>
         let (alloc, reporter) = (self.alloc, self.reporter);
         match &mut self.outbox {
             Some(outbox) => outbox.push_text(alloc, reporter, made),
-            None => Flow::GoOn,
+            None => Flow::Continue,
         }
     }
 
@@ -91,7 +91,7 @@ impl<J: StreamSpec, T: RowReporter, W: Sink + Drop> Observer<ReportedRow>
     fn pause(&mut self) -> Flow {
         match &mut self.outbox {
             Some(outbox) => outbox.send(),
-            None => Flow::GoOn,
+            None => Flow::Continue,
         }
     }
 }

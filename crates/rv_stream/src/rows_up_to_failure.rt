@@ -1,7 +1,7 @@
 //! A listener that keeps rows up to a failure.
 
 ghost use Rattle.std.specs.Prelude.{◌≡◌, ◌-◌, ◌++◌, ◌∷◌, [], false, if◌then◌else◌, option_map};
-ghost use Rattle.rv_expect.specs.Judgement.{judging_of};
+ghost use Rattle.rv_expect.specs.Judgement.{judge_view};
 ghost use Rattle.rv_stream.specs.ReportedRows.{AreRowsUpToFailure};
 
 use crate::failure_limit::FailureLimit;
@@ -29,8 +29,8 @@ impl<'k, J: StreamSpec> RowsUpToFailure<'k, J> {
     /// Creates a listener that has received no rows.
     pub(crate) fn new(alloc: Global, limit: &FailureLimit<'k>) -> RowsUpToFailure<'k, J>
         requires most { J.most ≡ limit.now.failures }
-        requires judging { J.judging ≡ judging_of limit.now.judge }
-        ensures judging { judging_of result.judge ≡ J.judging }
+        requires judging { J.judging ≡ judge_view limit.now.judge }
+        ensures judging { judge_view result.judge ≡ J.judging }
         ensures first { AreRowsUpToFailure J.most J.judging result.left result.refused result.rows.items [] }
         ensures left { result.left ≡ J.most }
         ensures refused { result.refused ≡ false }
@@ -47,10 +47,10 @@ impl<'k, J: StreamSpec> RowsUpToFailure<'k, J> {
 
 impl<J: StreamSpec> Listener<ReportedRow> for RowsUpToFailure<'_, J> {
     ghost use Rattle.std.specs.Prelude.{◌≡◌, ◌⊎◌, Some, true};
-    ghost use Rattle.rv_expect.specs.Judgement.{judging_of};
+    ghost use Rattle.rv_expect.specs.Judgement.{judge_view};
     ghost use Rattle.rv_stream.specs.ReportedRows.{rows_of_reported, AreRowsUpToFailure};
 
-    ghost has_received = { λ s told. (judging_of s.judge ≡ J.judging)
+    ghost has_received = { λ s told. (judge_view s.judge ≡ J.judging)
         × AreRowsUpToFailure J.most J.judging s.left s.refused s.rows.items (rows_of_reported told) };
 
     ghost stops = { λ s. (s.left ≡ Some 0) ⊎ (s.refused ≡ true) };
@@ -58,18 +58,18 @@ impl<J: StreamSpec> Listener<ReportedRow> for RowsUpToFailure<'_, J> {
     // Stores a row, and returns whether the run should continue: not after the failure that stops it.
     fn receive(&mut self, made: ReportedRow) -> Flow {
         let failed = self.judge.fails(&made.row);
-        self.left = failures_left(self.left, failed);
+        self.left = failures_left_after_row(self.left, failed);
         self.refused = keep_row(&mut self.rows, made.row);
         if self.refused || self.left == Some(0) {
             Flow::Stop
         } else {
-            Flow::GoOn
+            Flow::Continue
         }
     }
 
     // Does nothing, and returns that the run should continue.
     fn pause(&mut self) -> Flow {
-        Flow::GoOn
+        Flow::Continue
     }
 }
 
@@ -82,7 +82,7 @@ fn keep_row(rows: &mut Vec<Row>, row: Row) -> bool
 }
 
 // Returns the number of further failures that stop the run after one more row, given whether this row failed; `None` without a limit.
-fn failures_left(left: Option<u32>, failed: bool) -> Option<u32>
+fn failures_left_after_row(left: Option<u32>, failed: bool) -> Option<u32>
     ensures { result ≡ (if failed then option_map (λ n. n - 1) left else left) }
 {
     if failed {

@@ -3,9 +3,9 @@
 ghost use Rattle.std.specs.Prelude.{◌≡◌, ◌≤◌, [], IfErr, IfOk, Ok, OnErr, OnOk, Some, false, is_ok, length, true};
 ghost use Rattle.std.specs.Io.KnownBytes.{Appends};
 ghost use Rattle.rv_fleet.specs.declared_listener.Flow.TheVariants.{Stop};
-ghost use Rattle.rv_expect.specs.Judgement.{fails, judging_of};
+ghost use Rattle.rv_expect.specs.Judgement.{fails, judge_view};
 ghost use Rattle.rv_fleet.specs.Batches.{batch_rows};
-ghost use Rattle.rv_base.specs.Sinks.{AppendsBeginning};
+ghost use Rattle.rv_base.specs.Sinks.{AppendsPrefix};
 ghost use Rattle.rv_stream.specs.Limits.{rows_up_to, rows_within};
 ghost use Rattle.rv_stream.specs.Seen.{HasSeenRows, HasSeenSomeRows};
 ghost use Rattle.rv_stream.specs.Streams.{joined_row_texts};
@@ -49,7 +49,7 @@ pub fn stream_rows<
     observer: B,
 ) -> (W, B, Result<Rows, StreamError>)
     requires before { (J.before ≡ W.taken to.out) × (J.failures ≡ W.failed to.out) }
-    requires ends { (J.most ≡ limit.now.failures) × (J.judging ≡ judging_of limit.now.judge) }
+    requires ends { (J.most ≡ limit.now.failures) × (J.judging ≡ judge_view limit.now.judge) }
     requires seen { B.has_seen observer [] }
     requires goes { B.stops observer → ⊥ }
     ensures rows { IfOk result.2 (λ rows. rows ≡ rows_within limit.now (batch_rows batch.now)) }
@@ -57,7 +57,7 @@ pub fn stream_rows<
     ensures all { OnOk result.2 (Appends (W.taken to.entry.out) (W.taken result.0) (joined_row_texts (T.line to.entry.reporter.now)
         batch.now.places.now (rows_within limit.now (batch_rows batch.now)))) }
     ensures counted { OnOk result.2 (W.failed result.0 ≡ W.failed to.entry.out) }
-    ensures part { OnErr result.2 (AppendsBeginning (W.taken to.entry.out) (W.taken result.0)
+    ensures part { OnErr result.2 (AppendsPrefix (W.taken to.entry.out) (W.taken result.0)
         (joined_row_texts (T.line to.entry.reporter.now) batch.now.places.now (rows_within limit.now (batch_rows batch.now)))) }
     ensures seen { OnOk result.2 (HasSeenRows (B.has_seen result.1) (T.line to.entry.reporter.now) batch.now.places.now
         (rows_within limit.now (batch_rows batch.now))) }

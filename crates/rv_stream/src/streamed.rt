@@ -29,7 +29,7 @@ pub trait StreamSpec {
 
 impl StreamSpec for Brand {
     ghost use Rattle.std.specs.Prelude.{None, [], false};
-    ghost use Rattle.rv_expect.specs.Judgement.{judging_by_rule};
+    ghost use Rattle.rv_expect.specs.Judgement.{judge_by_rule};
     ghost use Rattle.rv_expect.specs.declared.passing.Rule.TheVariants.{Strict};
 
     ghost before = { None };
@@ -38,7 +38,7 @@ impl StreamSpec for Brand {
 
     ghost most = { None };
 
-    ghost judging = { judging_by_rule Strict };
+    ghost judging = { judge_by_rule Strict };
 
     ghost sends = { false };
 

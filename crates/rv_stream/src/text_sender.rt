@@ -45,7 +45,7 @@ impl<J: StreamSpec, W: Sink + Drop> Observer<ReportedRow> for TextSender<J, W> {
     // Buffers the text of a row, and returns whether the run should continue.
     fn see(&mut self, made: &ReportedRow) -> Flow {
         match self.outbox.unsent.extend_from_slice(made.text.as_slice()) {
-            Ok(()) => Flow::GoOn,
+            Ok(()) => Flow::Continue,
             Err(_) => {
                 // Out of memory: `extend_from_slice` fails by that alone.
                 self.outbox.failed = Some(WriteError::OutOfMemory);

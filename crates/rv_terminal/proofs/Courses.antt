@@ -6,8 +6,8 @@ use Rattle.std.proofs.lemmas.List.Sums.{fold-append}
 use Rattle.std.specs.Io.KnownBytes.{Appends, Keeps}
 use Rattle.std.proofs.KnownBytes.{Appends-nil}
 use Rattle.rv_terminal.specs.Colors.{InText, beginning, colored, place_after, uncolored}
-use Rattle.rv_terminal.specs.ColorSinks.{IsMarkBegun, IsOutputState, IsOut, IsOutInPart, IsPutBy, IsShownInPart}
-use Rattle.rv_terminal.specs.ColorSinks.{IsShownUpTo, first_state, is_cut_off, results_of}
+use Rattle.rv_terminal.specs.ColorSinks.{IsMarkPrefix, IsOutputState, IsColoredAs, IsPartlyColoredAs, IsWrittenInState, IsColoredWithPrefix}
+use Rattle.rv_terminal.specs.ColorSinks.{IsColoredUpTo, first_state, is_cut_off, results_of}
 use Rattle.rv_terminal.specs.declared.colors.Colors.{Colors}
 use Rattle.rv_terminal.specs.declared.colors.Colors.TheVariants as colors
 use Rattle.rv_terminal.specs.declared.output_state.OutputState.{OutputState}
@@ -50,7 +50,7 @@ results_shown before text =
 -- ---- a put
 
 -- the text and more of it
-module _ (here : Place) (before old more : List ℕ) (shown : IsShownUpTo here before old) where
+module _ (here : Place) (before old more : List ℕ) (shown : IsColoredUpTo here before old) where
   longer : old ++ colored here more ≡ before ++ colored beginning (shown.text ++ more)
   longer =
       ap (λ xs. xs ++ colored here more) shown.shown
@@ -59,7 +59,7 @@ module _ (here : Place) (before old more : List ℕ) (shown : IsShownUpTo here b
       (ap (λ place. colored beginning shown.text ++ colored place more) shown.place
       ∙ sym (colored_append beginning shown.text more)))
 
-  pub shown_further : IsShownUpTo (fold place_after here more) before (old ++ colored here more)
+  pub shown_further : IsColoredUpTo (fold place_after here more) before (old ++ colored here more)
   shown_further = record {
     text = shown.text ++ more;
     shown = longer;
@@ -77,7 +77,7 @@ module _ (here : Place) (before old more : List ℕ) (shown : IsShownUpTo here b
       ∙ ap (λ xs. before ++ uncolored InText (drop (length before) xs)) (sym shown.shown))))
 
 -- the same, and the first bytes of a mark behind it
-module _ (here : Place) (before old new more part : List ℕ) (shown : IsShownUpTo here before old) (begun : IsMarkBegun part)
+module _ (here : Place) (before old new more part : List ℕ) (shown : IsColoredUpTo here before old) (begun : IsMarkPrefix part)
     (out : new ≡ old ++ (colored here more ++ part)) where
   in_part : new ≡ before ++ (colored beginning (shown.text ++ more) ++ part)
   in_part =
@@ -85,7 +85,7 @@ module _ (here : Place) (before old new more part : List ℕ) (shown : IsShownUp
       ∙ (ap (λ xs. xs ++ part) (longer here before old more shown)
       ∙ append_assoc before (colored beginning (shown.text ++ more)) part))
 
-  pub shown_in_part : IsShownInPart before new
+  pub shown_in_part : IsColoredWithPrefix before new
   shown_in_part = record { text = shown.text ++ more; part = part; begun = begun; shown = in_part }
 
   pub results_in_part_further : before ++ uncolored InText (drop (length before) new)
@@ -99,7 +99,7 @@ module _ (here : Place) (before old new more part : List ℕ) (shown : IsShownUp
 
 -- a put keeps a sink on its course
 pub course_kept : (colors : Colors) (before old new : Option (List ℕ)) (here next : OutputState) (more : List ℕ)
-    → IsOutputState colors before old here → IsPutBy here next more old new → IsOutputState colors before new next
+    → IsOutputState colors before old here → IsWrittenInState here next more old new → IsOutputState colors before new next
 course_kept colors.Without before old new state.Plain next more is put = rw put.0 tt
 course_kept colors.Without before old new (state.Colored here) next more is put = absurd is
 course_kept colors.Without before old new state.CutOff next more is put = absurd is
@@ -117,7 +117,7 @@ course_kept colors.With (Some before) (Some old) new state.CutOff next more is p
 
 -- what was put are results
 pub results_taken : (colors : Colors) (before old new : Option (List ℕ)) (here next : OutputState) (more : List ℕ)
-    → IsOutputState colors before old here → IsPutBy here next more old new
+    → IsOutputState colors before old here → IsWrittenInState here next more old new
     → Appends (results_of colors before old) (results_of colors before new) more
 results_taken colors.Without before old new state.Plain next more is put = put.1
 results_taken colors.Without before old new (state.Colored here) next more is put = absurd is
@@ -144,7 +144,7 @@ nothing_taken (Some old) (Some new) put = put ∙ append-nil old
 -- ---- the end
 
 pub out_whole : (colors : Colors) (before out : Option (List ℕ)) (here : OutputState) → IsOutputState colors before out here
-    → is_cut_off here ≡ false → IsOut colors before (results_of colors before out) out
+    → is_cut_off here ≡ false → IsColoredAs colors before (results_of colors before out) out
 out_whole colors.Without before out here is whole = refl
 out_whole colors.With None out here is whole = tt
 out_whole colors.With (Some before) None here is whole = absurd is
@@ -157,7 +157,7 @@ out_whole colors.With (Some before) (Some out) (state.Colored here) is whole = r
 out_whole colors.With (Some before) (Some out) state.CutOff is whole = absurd (true≢false whole)
 
 pub out_in_part : (colors : Colors) (before out : Option (List ℕ)) (here : OutputState) → IsOutputState colors before out here
-    → IsOutInPart colors before (results_of colors before out) out
+    → IsPartlyColoredAs colors before (results_of colors before out) out
 out_in_part colors.Without before out here is = refl
 out_in_part colors.With None out here is = tt
 out_in_part colors.With (Some before) None here is = absurd is

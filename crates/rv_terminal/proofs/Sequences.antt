@@ -5,7 +5,7 @@ use Rattle.rv_terminal.specs.declared.place.Mark.{Mark}
 use Rattle.rv_terminal.specs.declared.place.Mark.TheVariants as mark
 use Rattle.rv_terminal.specs.declared.place.Place.{Place}
 use Rattle.rv_terminal.specs.Colors.{InText, Seat, colored, is_escape, line_mark, mark_before, mark_text, place_after}
-use Rattle.rv_terminal.specs.Colors.{seat_after, text_of_byte, uncolored}
+use Rattle.rv_terminal.specs.Colors.{location_after, text_of_byte, uncolored}
 
 -- ---- marks out
 
@@ -42,13 +42,13 @@ text_out here (byte ∷ rest) more =
 -- ---- a mark in part
 
 parts_out : (here : Seat) (xs ys : List ℕ)
-    → uncolored here (xs ++ ys) ≡ uncolored here xs ++ uncolored (fold seat_after here xs) ys
+    → uncolored here (xs ++ ys) ≡ uncolored here xs ++ uncolored (fold location_after here xs) ys
 unfolding uncolored
 parts_out here [] ys = refl
 parts_out here (x ∷ xs) ys =
-    let next = seat_after here x in
+    let next = location_after here x in
     ap (λ rest. text_of_byte here x ++ rest) (parts_out next xs ys)
-    ∙ sym (append_assoc (text_of_byte here x) (uncolored next xs) (uncolored (fold seat_after next xs) ys))
+    ∙ sym (append_assoc (text_of_byte here x) (uncolored next xs) (uncolored (fold location_after next xs) ys))
 
 mark_out : (here : Mark) → uncolored InText (mark_text here) ≡ []
 unfolding uncolored
@@ -65,7 +65,7 @@ first_is_nil (x ∷ xs) ys none =
 
 pub part_out : (here : Mark) (part rest : List ℕ) → mark_text here ≡ part ++ rest → uncolored InText part ≡ []
 part_out here part rest whole =
-    first_is_nil (uncolored InText part) (uncolored (fold seat_after InText part) rest)
+    first_is_nil (uncolored InText part) (uncolored (fold location_after InText part) rest)
     (sym (parts_out InText part rest) ∙ (ap (uncolored InText) (sym whole) ∙ mark_out here))
 
 -- ---- texts that follow one another

@@ -21,43 +21,43 @@ pub record IsColored (before plain out : List ℕ) : Type 0 where
   pub shown : out ≡ before ++ colored beginning text
 
 -- `part` is a prefix of an escape sequence, perhaps the whole sequence
-pub record IsMarkBegun (part : List ℕ) : Type 0 where
+pub record IsMarkPrefix (part : List ℕ) : Type 0 where
   pub mark : Mark
   pub rest : List ℕ
   pub whole : mark_text mark ≡ part ++ rest
 
 -- `plain` is `before` followed by a text, and `out` is `before` followed by that text in its colours and perhaps a prefix of an escape
 -- sequence
-pub record IsColoredInPart (before plain out : List ℕ) : Type 0 where
+pub record IsColoredPrefix (before plain out : List ℕ) : Type 0 where
   pub text : List ℕ
   pub part : List ℕ
-  pub begun : IsMarkBegun part
+  pub begun : IsMarkPrefix part
   pub put : plain ≡ before ++ text
   pub shown : out ≡ before ++ (colored beginning text ++ part)
 
 -- both texts are present, and the relation holds between them
-abbrev pub AreBothKnown : (List ℕ → List ℕ → Type 0) → Option (List ℕ) → Option (List ℕ) → Type 0
-AreBothKnown are None out = ⊥
-AreBothKnown are (Some plain) None = ⊥
-AreBothKnown are (Some plain) (Some out) = are plain out
+abbrev pub HoldsForBoth : (List ℕ → List ℕ → Type 0) → Option (List ℕ) → Option (List ℕ) → Type 0
+HoldsForBoth are None out = ⊥
+HoldsForBoth are (Some plain) None = ⊥
+HoldsForBoth are (Some plain) (Some out) = are plain out
 
 -- without colours, `out` is `plain`; with colours, `plain` is `before` followed by some results, and `out` is `before` followed by these
 -- results in their colours; `out` may be anything if `before` is `None`
-abbrev pub IsOut : Colors → Option (List ℕ) → Option (List ℕ) → Option (List ℕ) → Type 0
-IsOut colors.Without before plain out = out ≡ plain
-IsOut colors.With None plain out = ⊤
-IsOut colors.With (Some before) plain out = AreBothKnown (IsColored before) plain out
+abbrev pub IsColoredAs : Colors → Option (List ℕ) → Option (List ℕ) → Option (List ℕ) → Type 0
+IsColoredAs colors.Without before plain out = out ≡ plain
+IsColoredAs colors.With None plain out = ⊤
+IsColoredAs colors.With (Some before) plain out = HoldsForBoth (IsColored before) plain out
 
--- `IsOut` holds, except that coloured output may also end with a prefix of an escape sequence, within which a write failed
-abbrev pub IsOutInPart : Colors → Option (List ℕ) → Option (List ℕ) → Option (List ℕ) → Type 0
-IsOutInPart colors.Without before plain out = out ≡ plain
-IsOutInPart colors.With None plain out = ⊤
-IsOutInPart colors.With (Some before) plain out = AreBothKnown (IsColoredInPart before) plain out
+-- `IsColoredAs` holds, except that coloured output may also end with a prefix of an escape sequence, within which a write failed
+abbrev pub IsPartlyColoredAs : Colors → Option (List ℕ) → Option (List ℕ) → Option (List ℕ) → Type 0
+IsPartlyColoredAs colors.Without before plain out = out ≡ plain
+IsPartlyColoredAs colors.With None plain out = ⊤
+IsPartlyColoredAs colors.With (Some before) plain out = HoldsForBoth (IsColoredPrefix before) plain out
 
 -- ---- the state of a sink
 
 -- the view of a colouring sink in contracts: the sink that it writes to, its number of failed writes, and the state of its output
-pub record InColors (S : Type 0) : Type 0 where
+pub record ColorSinkView (S : Type 0) : Type 0 where
   pub sink : S
   pub failures : ℕ
   pub state : OutputState
@@ -82,22 +82,22 @@ is_cut_off state.CutOff = true
 
 -- the text was written in its colours, beginning at the position `here` in a line; the new state has the next position, or says that a
 -- write failed
-abbrev pub IsPutFrom : Place → OutputState → List ℕ → Option (List ℕ) → Option (List ℕ) → Type 0
-IsPutFrom here state.Plain text old new = ⊥
-IsPutFrom here (state.Colored there) text old new = (there ≡ fold place_after here text) × Appends old new (colored here text)
-IsPutFrom here state.CutOff text old new =
-    (part : List ℕ) × (IsMarkBegun part × Appends old new (colored here text ++ part))
+abbrev pub IsWrittenFrom : Place → OutputState → List ℕ → Option (List ℕ) → Option (List ℕ) → Type 0
+IsWrittenFrom here state.Plain text old new = ⊥
+IsWrittenFrom here (state.Colored there) text old new = (there ≡ fold place_after here text) × Appends old new (colored here text)
+IsWrittenFrom here state.CutOff text old new =
+    (part : List ℕ) × (IsMarkPrefix part × Appends old new (colored here text ++ part))
 
 -- the text was written in the first state, and the second is the state afterwards; an empty text was written only if a write failed
-abbrev pub IsPutBy : OutputState → OutputState → List ℕ → Option (List ℕ) → Option (List ℕ) → Type 0
-IsPutBy state.Plain next text old new = (next ≡ state.Plain) × Appends old new text
-IsPutBy (state.Colored here) next text old new = IsPutFrom here next text old new
-IsPutBy state.CutOff next text old new = (next ≡ state.CutOff) × ((text ≡ []) × (new ≡ old))
+abbrev pub IsWrittenInState : OutputState → OutputState → List ℕ → Option (List ℕ) → Option (List ℕ) → Type 0
+IsWrittenInState state.Plain next text old new = (next ≡ state.Plain) × Appends old new text
+IsWrittenInState (state.Colored here) next text old new = IsWrittenFrom here next text old new
+IsWrittenInState state.CutOff next text old new = (next ≡ state.CutOff) × ((text ≡ []) × (new ≡ old))
 
 -- the number of failures of the underlying sink after a write of `count` bytes between these states: `before`, unless the write failed;
 -- then one more
-abbrev pub failures_below : OutputState → OutputState → ℕ → ℕ → ℕ
-failures_below here next count before = if is_cut_off here then before
+abbrev pub sink_failures : OutputState → OutputState → ℕ → ℕ → ℕ
+sink_failures here next count before = if is_cut_off here then before
     else if is_cut_off next || count == 0 then one_more before else before
 
 -- the colouring sink has as many failures as the sink that it writes to; once the output is cut off, the latter has at least one
@@ -106,23 +106,23 @@ IsCounted state.CutOff failures below = 1 ≤ below
 IsCounted _ failures below = failures ≡ below
 
 -- `out` is `before` followed by a text in its colours, which ends at the position `here` in a line
-pub record IsShownUpTo (here : Place) (before out : List ℕ) : Type 0 where
+pub record IsColoredUpTo (here : Place) (before out : List ℕ) : Type 0 where
   pub text : List ℕ
   pub shown : out ≡ before ++ colored beginning text
   pub place : here ≡ fold place_after beginning text
 
 -- `out` is `before` followed by a text in its colours and a prefix of an escape sequence
-pub record IsShownInPart (before out : List ℕ) : Type 0 where
+pub record IsColoredWithPrefix (before out : List ℕ) : Type 0 where
   pub text : List ℕ
   pub part : List ℕ
-  pub begun : IsMarkBegun part
+  pub begun : IsMarkPrefix part
   pub shown : out ≡ before ++ (colored beginning text ++ part)
 
 -- the state of coloured output after `out` was written, which begins with `before`, the bytes of earlier output
 abbrev pub IsStateAfter : List ℕ → List ℕ → OutputState → Type 0
 IsStateAfter before out state.Plain = ⊥
-IsStateAfter before out (state.Colored here) = IsShownUpTo here before out
-IsStateAfter before out state.CutOff = IsShownInPart before out
+IsStateAfter before out (state.Colored here) = IsColoredUpTo here before out
+IsStateAfter before out state.CutOff = IsColoredWithPrefix before out
 
 -- the state of output with or without colours after `out` was written, which begins with `before`; any state if the bytes are not known
 abbrev pub IsOutputState : Colors → Option (List ℕ) → Option (List ℕ) → OutputState → Type 0

@@ -12,8 +12,8 @@ abbrev pub escape : ℕ
 escape = 27
 
 -- the byte `m`, which ends a terminal's escape sequences for colours
-abbrev pub end_of_mark : ℕ
-end_of_mark = 109
+abbrev pub mark_terminator : ℕ
+mark_terminator = 109
 
 -- the escape sequence of the terminal for a mark: for red, for green, or to reset the colour; empty for `Nothing`
 abbrev pub mark_text : Mark → List ℕ
@@ -34,20 +34,20 @@ abbrev pub is_escape : ℕ → Bool
 is_escape byte = byte == escape
 
 -- whether a byte is a line feed
-abbrev pub is_feed : ℕ → Bool
-is_feed byte = byte == 10
+abbrev pub is_line_feed : ℕ → Bool
+is_line_feed byte = byte == 10
 
 -- whether a byte is a space
 abbrev pub is_space : ℕ → Bool
 is_space byte = byte == 32
 
 -- whether a byte is `F`, with which FAIL begins
-abbrev pub is_fail : ℕ → Bool
-is_fail byte = byte == 70
+abbrev pub begins_fail : ℕ → Bool
+begins_fail byte = byte == 70
 
 -- whether a byte is `P`, with which PASS begins
-abbrev pub is_pass : ℕ → Bool
-is_pass byte = byte == 80
+abbrev pub begins_pass : ℕ → Bool
+begins_pass byte = byte == 80
 
 -- whether a byte is a minus, the sign before expected or removed text
 abbrev pub is_minus : ℕ → Bool
@@ -68,19 +68,19 @@ sign_mark byte = if is_minus byte then mark.Red else if is_plus byte then mark.G
 -- the mark before the first byte of a line that begins without spaces: red before `F`, green before `P`, and before any other byte the mark
 -- that `sign_mark` returns
 abbrev pub word_mark : ℕ → Mark
-word_mark byte = if is_fail byte then mark.Red else if is_pass byte then mark.Green else sign_mark byte
+word_mark byte = if begins_fail byte then mark.Red else if begins_pass byte then mark.Green else sign_mark byte
 
 -- the mark before the first byte after the spaces at the beginning of a line: of a word or a sign if there are no spaces, of a sign if
 -- there are as many as `margin`, and otherwise none
-abbrev pub begin_mark : ℕ → ℕ → Mark
-begin_mark spaces byte =
+abbrev pub packet_start : ℕ → ℕ → Mark
+packet_start spaces byte =
     if spaces == 0 then word_mark byte else if spaces == margin then sign_mark byte else mark.Nothing
 
 -- the mark before a byte that does not begin an escape sequence: a word's colour ends before a space, and every colour before a line feed
 abbrev pub line_mark : Place → ℕ → Mark
-line_mark (place.Margin spaces) byte = begin_mark spaces byte
-line_mark place.Word byte = if is_space byte || is_feed byte then mark.End else mark.Nothing
-line_mark place.Line byte = if is_feed byte then mark.End else mark.Nothing
+line_mark (place.Margin spaces) byte = packet_start spaces byte
+line_mark place.Word byte = if is_space byte || is_line_feed byte then mark.End else mark.Nothing
+line_mark place.Line byte = if is_line_feed byte then mark.End else mark.Nothing
 line_mark place.Rest byte = mark.Nothing
 
 -- the mark before a byte; also a byte of the text that begins an escape sequence has a mark before it, which distinguishes this sequence
@@ -89,21 +89,21 @@ abbrev pub mark_before : Place → ℕ → Mark
 mark_before here byte = if is_escape byte then mark.End else line_mark here byte
 
 -- the position after the first byte of a line that is not a space, given how many spaces are before it
-abbrev pub begun_place : ℕ → ℕ → Place
-begun_place spaces byte = if is_nothing (begin_mark spaces byte) then place.Rest
+abbrev pub position_after_first : ℕ → ℕ → Place
+position_after_first spaces byte = if is_nothing (packet_start spaces byte) then place.Rest
     else if is_minus byte || is_plus byte then place.Line else place.Word
 
 -- the position after a byte of a line that is neither a line feed nor an escape
-abbrev pub place_in_line : Place → ℕ → Place
-place_in_line (place.Margin spaces) byte = if is_space byte
-    then (if nat_lt spaces margin then place.Margin (spaces + 1) else place.Rest) else begun_place spaces byte
-place_in_line place.Word byte = if is_space byte then place.Rest else place.Word
-place_in_line here byte = here
+abbrev pub position_in_line : Place → ℕ → Place
+position_in_line (place.Margin spaces) byte = if is_space byte
+    then (if nat_lt spaces margin then place.Margin (spaces + 1) else place.Rest) else position_after_first spaces byte
+position_in_line place.Word byte = if is_space byte then place.Rest else place.Word
+position_in_line here byte = here
 
 -- the position after a byte: a line feed begins a new line, and after an escape sequence of the text the rest of the line is not coloured
 abbrev pub place_after : Place → ℕ → Place
-place_after here byte = if is_feed byte then place.Margin 0
-    else if is_escape byte then place.Rest else place_in_line here byte
+place_after here byte = if is_line_feed byte then place.Margin 0
+    else if is_escape byte then place.Rest else position_in_line here byte
 
 -- ---- coloured texts
 
@@ -122,21 +122,21 @@ beginning = place.Margin 0
 pub data Seat : Type 0 where
   InText : Seat
   InMark : Seat
-  BehindMark : Seat
+  AfterMark : Seat
 
 -- where the next byte is, given where this byte is; the byte immediately after a mark always belongs to the text
-abbrev pub seat_after : Seat → ℕ → Seat
-seat_after InText byte = if is_escape byte then InMark else InText
-seat_after InMark byte = if byte == end_of_mark then BehindMark else InMark
-seat_after BehindMark byte = InText
+abbrev pub location_after : Seat → ℕ → Seat
+location_after InText byte = if is_escape byte then InMark else InText
+location_after InMark byte = if byte == mark_terminator then AfterMark else InMark
+location_after AfterMark byte = InText
 
 -- the part of the plain text that a byte of a coloured text stands for: the byte itself, or nothing if it belongs to a mark
 abbrev pub text_of_byte : Seat → ℕ → List ℕ
 text_of_byte InText byte = if is_escape byte then [] else byte ∷ []
 text_of_byte InMark byte = []
-text_of_byte BehindMark byte = byte ∷ []
+text_of_byte AfterMark byte = byte ∷ []
 
 -- a coloured text without its marks, given where its first byte is
 unfoldable pub uncolored : Seat → List ℕ → List ℕ
 uncolored here [] = []
-uncolored here (byte ∷ rest) = text_of_byte here byte ++ uncolored (seat_after here byte) rest
+uncolored here (byte ∷ rest) = text_of_byte here byte ++ uncolored (location_after here byte) rest

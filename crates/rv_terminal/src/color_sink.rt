@@ -1,10 +1,10 @@
 //! A sink that colours results.
 
 ghost use Rattle.std.specs.Prelude.{◌≡◌, ◌≤◌, IfErr, OnOk, is_err};
-ghost use Rattle.rv_terminal.specs.ColorSinks.{IsOut, IsOutInPart, first_state, is_cut_off, results_of};
+ghost use Rattle.rv_terminal.specs.ColorSinks.{IsColoredAs, IsPartlyColoredAs, first_state, is_cut_off, results_of};
 
 use crate::colors::Colors;
-use crate::output_state::{OutputState, put_in_state};
+use crate::output_state::{OutputState, write_in_state};
 use rv_rows::{Sink, SinkFailed};
 use std::marker::{Brand, Model, PhantomData};
 
@@ -38,9 +38,9 @@ pub struct ColorSink<J: Results, S: Sink + Drop> {
 }
 
 impl<J: Results, S: Sink + Drop> Model for ColorSink<J, S> {
-    ghost use Rattle.rv_terminal.specs.ColorSinks.{InColors, IsCounted, IsOutputState};
+    ghost use Rattle.rv_terminal.specs.ColorSinks.{ColorSinkView, IsCounted, IsOutputState};
 
-    ghost Value = { InColors S };
+    ghost Value = { ColorSinkView S };
 
     ghost view = { λ s. record { sink = s.sink; failures = s.failures; state = s.state } };
 
@@ -72,9 +72,9 @@ impl<J: Results, S: Sink + Drop> ColorSink<J, S> {
         ensures sink { result.0 ≡ self.sink }
         ensures told { is_err result.1 ≡ is_cut_off self.state }
         ensures failed { IfErr result.1 (λ _. 1 ≤ S.failed self.sink) }
-        ensures whole { OnOk result.1 (IsOut J.colors J.before (results_of J.colors J.before (S.taken self.sink))
+        ensures whole { OnOk result.1 (IsColoredAs J.colors J.before (results_of J.colors J.before (S.taken self.sink))
             (S.taken self.sink)) }
-        ensures part { IsOutInPart J.colors J.before (results_of J.colors J.before (S.taken self.sink)) (S.taken self.sink) }
+        ensures part { IsPartlyColoredAs J.colors J.before (results_of J.colors J.before (S.taken self.sink)) (S.taken self.sink) }
     {
         let ColorSink {
             sink,
@@ -100,7 +100,7 @@ impl<J: Results, S: Sink + Drop> Sink for ColorSink<J, S> {
 
     // Writes leading bytes of `bytes`, in their colours if colours are on, and returns how many; an error if the write failed.
     fn put(&mut self, bytes: &[u8]) -> Result<usize, SinkFailed> {
-        let (count, state) = put_in_state(&mut self.sink, self.state, bytes);
+        let (count, state) = write_in_state(&mut self.sink, self.state, bytes);
         self.state = state;
         if count == 0 {
             self.failures = self.failures.saturating_add(1);

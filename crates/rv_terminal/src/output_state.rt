@@ -3,9 +3,9 @@
 ghost use Rattle.std.specs.Prelude.{◌≡◌, ◌≤◌, ◌<◌, ◌++◌, ℕ, IfErr, IfOk, length, slice_index, take};
 ghost use Rattle.std.specs.Io.KnownBytes.{Appends};
 ghost use Rattle.rv_rows.specs.Counts.{one_more};
-ghost use Rattle.rv_rows.specs.Sinks.{AppendsBeginning};
+ghost use Rattle.rv_rows.specs.Sinks.{AppendsPrefix};
 ghost use Rattle.rv_terminal.specs.Colors.{colored, mark_before, mark_text};
-ghost use Rattle.rv_terminal.specs.ColorSinks.{IsPutBy, IsPutFrom, failures_below, first_state, is_cut_off};
+ghost use Rattle.rv_terminal.specs.ColorSinks.{IsWrittenInState, IsWrittenFrom, sink_failures, first_state, is_cut_off};
 ghost use Rattle.rv_terminal.specs.declared.output_state.OutputState.TheVariants as state;
 
 use crate::colors::Colors;
@@ -44,41 +44,41 @@ impl OutputState {
 
 /// Writes leading bytes of `bytes`, with their marks if the output is coloured. Returns how many were written, which is 0 only if a write
 /// failed, and the new state of the output.
-pub(crate) fn put_in_state<S: Sink>(
+pub(crate) fn write_in_state<S: Sink>(
     sink: &mut S,
     state: OutputState,
     bytes: &[u8],
 ) -> (usize, OutputState)
     requires { 0 < length bytes.now }
     ensures within { result.0 ≤ length bytes.now }
-    ensures put { IsPutBy state result.1 (take result.0 bytes.now) (S.taken sink.old) (S.taken sink.new) }
-    ensures counted { S.failed sink.new ≡ failures_below state result.1 result.0 (S.failed sink.old) }
+    ensures put { IsWrittenInState state result.1 (take result.0 bytes.now) (S.taken sink.old) (S.taken sink.new) }
+    ensures counted { S.failed sink.new ≡ sink_failures state result.1 result.0 (S.failed sink.old) }
 {
     match state {
         OutputState::Plain => match sink.put(bytes) {
             Ok(count) => (count, OutputState::Plain),
             Err(_) => (0, OutputState::Plain),
         },
-        OutputState::Colored(place) => put_colored(sink, place, bytes),
+        OutputState::Colored(place) => write_colored(sink, place, bytes),
         OutputState::CutOff => (0, OutputState::CutOff),
     }
 }
 
 // Writes the bytes with their marks, piece by piece, until all are written or a write fails. Returns how many were written, and the new
 // state of the output.
-fn put_colored<S: Sink>(sink: &mut S, place: Place, bytes: &[u8]) -> (usize, OutputState)
+fn write_colored<S: Sink>(sink: &mut S, place: Place, bytes: &[u8]) -> (usize, OutputState)
     requires { 0 < length bytes.now }
     ensures within { result.0 ≤ length bytes.now }
-    ensures put { IsPutFrom place result.1 (take result.0 bytes.now) (S.taken sink.old) (S.taken sink.new) }
-    ensures counted { S.failed sink.new ≡ failures_below (state.Colored place) result.1 result.0 (S.failed sink.old) }
+    ensures put { IsWrittenFrom place result.1 (take result.0 bytes.now) (S.taken sink.old) (S.taken sink.new) }
+    ensures counted { S.failed sink.new ≡ sink_failures (state.Colored place) result.1 result.0 (S.failed sink.old) }
 {
     let mut at = 0;
     let mut here = place;
     while at < bytes.len() {
         let rest = &bytes[at..];
-        match put_piece(sink, here, rest) {
+        match write_span(sink, here, rest) {
             Ok(count) => {
-                here = here.after_all(&rest[..count]);
+                here = here.after_bytes(&rest[..count]);
                 at += count;
             }
             Err(_) => return (at, OutputState::CutOff),
@@ -88,22 +88,22 @@ fn put_colored<S: Sink>(sink: &mut S, place: Place, bytes: &[u8]) -> (usize, Out
 }
 
 // Writes the mark before the first byte, and then leading bytes up to the next mark. Returns how many bytes were written.
-fn put_piece<S: Sink>(sink: &mut S, place: Place, bytes: &[u8]) -> Result<usize, SinkFailed>
+fn write_span<S: Sink>(sink: &mut S, place: Place, bytes: &[u8]) -> Result<usize, SinkFailed>
     requires { 0 < length bytes.now }
     ensures within { IfOk result (λ count. (1 ≤ count) × (count ≤ length bytes.now)) }
     ensures colored { IfOk result (λ count. Appends (S.taken sink.old) (S.taken sink.new) (colored place (take count bytes.now))) }
-    ensures part { IfErr result (λ _. AppendsBeginning (S.taken sink.old) (S.taken sink.new)
+    ensures part { IfErr result (λ _. AppendsPrefix (S.taken sink.old) (S.taken sink.new)
         (mark_text (mark_before place (slice_index bytes.now 0)))) }
     ensures counted { IfOk result (λ _. S.failed sink.new ≡ S.failed sink.old) }
     ensures failure { IfErr result (λ _. S.failed sink.new ≡ one_more (S.failed sink.old)) }
 {
     let mark = place.mark_before(bytes[0]);
     put_all(sink, mark.text().as_bytes())?;
-    sink.put(&bytes[..marked_len(place, bytes)])
+    sink.put(&bytes[..span_len(place, bytes)])
 }
 
 // Returns the number of leading bytes that have no mark between them. There may be a mark before the first byte.
-fn marked_len(place: Place, bytes: &[u8]) -> usize
+fn span_len(place: Place, bytes: &[u8]) -> usize
     requires { 0 < length bytes.now }
     ensures within { (1 ≤ result) × (result ≤ length bytes.now) }
     ensures marked { (count : ℕ) → 1 ≤ count → count ≤ result

@@ -1,8 +1,8 @@
 //! Where colours begin and end in the lines of results.
 
 ghost use Rattle.std.specs.Prelude.{◌≡◌, fold};
-ghost use Rattle.rv_terminal.specs.Colors.{begin_mark, begun_place, is_nothing, line_mark, mark_before, mark_text, place_after};
-ghost use Rattle.rv_terminal.specs.Colors.{place_in_line, sign_mark, word_mark};
+ghost use Rattle.rv_terminal.specs.Colors.{packet_start, position_after_first, is_nothing, line_mark, mark_before, mark_text, place_after};
+ghost use Rattle.rv_terminal.specs.Colors.{position_in_line, sign_mark, word_mark};
 
 /// The escape sequence that is sent to a terminal before a byte, if any.
 #[derive(Clone, Copy)]
@@ -71,7 +71,7 @@ impl Place {
         ensures { result ≡ line_mark self byte }
     {
         match self {
-            Place::Margin(spaces) => begin_mark(spaces, byte),
+            Place::Margin(spaces) => packet_start(spaces, byte),
             Place::Word if byte == b' ' => Mark::End,
             Place::Word | Place::Line if byte == b'\n' => Mark::End,
             _ => Mark::Nothing,
@@ -85,13 +85,13 @@ impl Place {
         match byte {
             b'\n' => Place::Margin(0),
             ESCAPE => Place::Rest,
-            _ => self.place_in_line(byte),
+            _ => self.position_in_line(byte),
         }
     }
 
     // Returns the position after a byte that is neither a line feed nor the start of an escape sequence.
-    fn place_in_line(self, byte: u8) -> Place
-        ensures { result ≡ place_in_line self byte }
+    fn position_in_line(self, byte: u8) -> Place
+        ensures { result ≡ position_in_line self byte }
     {
         match self {
             Place::Margin(spaces) if byte == b' ' => {
@@ -101,14 +101,14 @@ impl Place {
                     Place::Rest
                 }
             }
-            Place::Margin(spaces) => begun_place(spaces, byte),
+            Place::Margin(spaces) => position_after_first(spaces, byte),
             Place::Word if byte == b' ' => Place::Rest,
             place => place,
         }
     }
 
     /// Returns the position after these bytes, the first of which is at this position.
-    pub(crate) fn after_all(self, bytes: &[u8]) -> Place
+    pub(crate) fn after_bytes(self, bytes: &[u8]) -> Place
         ensures { result ≡ fold place_after self bytes.now }
     {
         let mut place = self;
@@ -120,8 +120,8 @@ impl Place {
 }
 
 // Returns the mark before the first byte after the spaces at the beginning of a line, given how many spaces there are.
-fn begin_mark(spaces: u8, byte: u8) -> Mark
-    ensures { result ≡ begin_mark spaces byte }
+fn packet_start(spaces: u8, byte: u8) -> Mark
+    ensures { result ≡ packet_start spaces byte }
 {
     if spaces == 0 {
         word_mark(byte)
@@ -155,10 +155,10 @@ fn sign_mark(byte: u8) -> Mark
 }
 
 // Returns the position after the first byte of a line that is not a space, given how many spaces are before it.
-fn begun_place(spaces: u8, byte: u8) -> Place
-    ensures { result ≡ begun_place spaces byte }
+fn position_after_first(spaces: u8, byte: u8) -> Place
+    ensures { result ≡ position_after_first spaces byte }
 {
-    if begin_mark(spaces, byte).is_nothing() {
+    if packet_start(spaces, byte).is_nothing() {
         Place::Rest
     } else if byte == b'-' || byte == b'+' {
         Place::Line

@@ -2,7 +2,7 @@
 
 ghost use Rattle.std.specs.Prelude.{◌≡◌, ◌++◌, ◌+◌, ◌-◌, ◌∷◌, ◌^◌, ◌<◌, ◌≤◌, [], List, length};
 ghost use Rattle.rv_terminal.specs.Tallies.{IsTallyOf};
-ghost use Rattle.rv_expect.specs.Judgement.{judging_of};
+ghost use Rattle.rv_expect.specs.Judgement.{judge_view};
 ghost use Rattle.rv_rows.specs.declared_row.Row.{Row as ARow};
 
 use crate::tally_value::Tally;
@@ -41,7 +41,7 @@ impl<'k, W: Write + Drop> Progress<'k, W> {
         is_terminal: bool,
     ) -> Progress<'k, W>
         ensures jobs { result.jobs ≡ jobs }
-        ensures judge { judging_of result.judge ≡ judging_of judge.entry }
+        ensures judge { judge_view result.judge ≡ judge_view judge.entry }
         ensures terminal { result.is_terminal ≡ is_terminal }
     {
         let start = clock_tenths(clock).unwrap_or(0);
@@ -58,7 +58,7 @@ impl<'k, W: Write + Drop> Progress<'k, W> {
     ) -> Progress<'k, W>
         ensures start { result.start ≡ start }
         ensures jobs { result.jobs ≡ jobs }
-        ensures judge { judging_of result.judge ≡ judging_of judge.entry }
+        ensures judge { judge_view result.judge ≡ judge_view judge.entry }
         ensures terminal { result.is_terminal ≡ is_terminal }
     {
         Progress {
@@ -107,8 +107,8 @@ impl<'k, W: Write + Drop> Progress<'k, W> {
 
     // Adds a row to a tally, which counts it as failed if it fails by the judge of the run.
     fn count_in_tally(&self, tally: &mut Tally, row: &Row)
-        ensures { (rows : List ARow) → length rows + 1 < 2 ^ 64 → IsTallyOf (judging_of self.now.judge) rows tally.old
-            → IsTallyOf (judging_of self.now.judge) (rows ++ row.now ∷ []) tally.new }
+        ensures { (rows : List ARow) → length rows + 1 < 2 ^ 64 → IsTallyOf (judge_view self.now.judge) rows tally.old
+            → IsTallyOf (judge_view self.now.judge) (rows ++ row.now ∷ []) tally.new }
     {
         tally.count_row(&self.judge, row);
     }

@@ -2,7 +2,7 @@
 
 ghost use Rattle.std.specs.Prelude.{◌++◌, ◌+◌, ◌∷◌, ◌^◌, ◌<◌, [], List, length};
 ghost use Rattle.rv_terminal.specs.Tallies.{IsTallyOf};
-ghost use Rattle.rv_expect.specs.Judgement.{Judging, judging_of};
+ghost use Rattle.rv_expect.specs.Judgement.{Judging, judge_view};
 ghost use Rattle.rv_rows.specs.declared_row.Row.{Row as ARow};
 
 use crate::tally_value::Tally;
@@ -19,8 +19,8 @@ impl Tally {
 
     /// Counts one more row, and also counts it as failed if the judge says so.
     pub(crate) fn count_row(&mut self, judge: &Judge<'_>, row: &Row)
-        ensures { (rows : List ARow) → length rows + 1 < 2 ^ 64 → IsTallyOf (judging_of judge.now) rows self.old
-            → IsTallyOf (judging_of judge.now) (rows ++ row.now ∷ []) self.new }
+        ensures { (rows : List ARow) → length rows + 1 < 2 ^ 64 → IsTallyOf (judge_view judge.now) rows self.old
+            → IsTallyOf (judge_view judge.now) (rows ++ row.now ∷ []) self.new }
     {
         self.done = self.done.saturating_add(1);
         if judge.fails(row) {

@@ -2,7 +2,7 @@
 
 ghost use Rattle.std.specs.Prelude.{◌≡◌, ◌++◌, ◌||◌, IsTrue, OnOk, false, not};
 ghost use Rattle.std.specs.Io.KnownBytes.{Appends};
-ghost use Rattle.rv_terminal.specs.ProgressLine.{counts_text, erasing_text, is_mid_line, last_byte, text_unless_held};
+ghost use Rattle.rv_terminal.specs.ProgressLine.{counts_text, erasing_text, is_mid_line, last_byte, text_unless_blocked};
 
 use crate::tally_value::Tally;
 use rv_rows::{Span, WriteError, push_spans};
@@ -60,7 +60,7 @@ impl<W: Write + Drop> Line<W> {
         ensures held { self.new.is_held ≡ self.old.is_held }
         ensures shown { OnOk result (self.new.is_shown ≡ (self.old.is_shown || not self.old.is_held)) }
         ensures written { OnOk result (Appends (W.contents self.old.out) (W.contents self.new.out)
-            (text_unless_held self.old.is_held (counts_text counts.tally.done counts.jobs counts.tally.failed))) }
+            (text_unless_blocked self.old.is_held (counts_text counts.tally.done counts.jobs counts.tally.failed))) }
     {
         if self.is_held {
             return Ok(());
@@ -94,7 +94,7 @@ impl<W: Write + Drop> Line<W> {
 
     /// Records that `text`, which is other output, was written to the terminal. Until such output ends with a line feed, no progress line
     /// is shown.
-    pub(crate) fn note_other_text(&mut self, text: &[u8])
+    pub(crate) fn record_other_text(&mut self, text: &[u8])
         ensures held { self.new.is_held ≡ is_mid_line self.old.is_held (last_byte text.now) }
         ensures shown { self.new.is_shown ≡ self.old.is_shown }
         ensures out { self.new.out ≡ self.old.out }

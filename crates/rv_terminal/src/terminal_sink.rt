@@ -2,7 +2,7 @@
 
 ghost use Rattle.std.specs.Prelude.{◌≡◌, ◌↔◌, ◌≤◌, ◌<◌, ◌&&◌, IfErr, IfOk, IfSome, IsSome, IsTrue, MatchResult, OnOk, false, length, not, take};
 ghost use Rattle.std.specs.Io.KnownBytes.{Appends, Keeps};
-ghost use Rattle.rv_terminal.specs.ProgressLine.{counts_text, is_mid_line, last_byte, text_around_put};
+ghost use Rattle.rv_terminal.specs.ProgressLine.{counts_text, is_mid_line, last_byte, text_around_write};
 ghost use Rattle.rv_rows.specs.Counts.{one_more};
 
 use crate::progress::Progress;
@@ -69,7 +69,7 @@ impl<'a, 'k, R: Wait, S: Sink + Drop, W: Write + Drop> Sink for TerminalSink<'a,
         let mut line = progress.lock_line(self.rt);
         let tally = progress.tally_so_far(self.rt);
         // A failure of the terminal to accept the line is ignored.
-        self.put_around_line(progress, &mut line, bytes, tally).put
+        self.write_around_line(progress, &mut line, bytes, tally).put
     }
 
     // Returns the number of failed writes of the sink.
@@ -80,13 +80,13 @@ impl<'a, 'k, R: Wait, S: Sink + Drop, W: Write + Drop> Sink for TerminalSink<'a,
 
 impl<'a, 'k, R: Wait, S: Sink + Drop, W: Write + Drop> TerminalSink<'a, 'k, R, S, W> {
     // Writes bytes to the sink: the line is removed before the write, and shown again with this tally afterwards.
-    fn put_around_line(
+    fn write_around_line(
         &mut self,
         progress: &Progress<'k, W>,
         line: &mut Line<W>,
         bytes: &[u8],
         tally: Tally,
-    ) -> PutBesideLine
+    ) -> BesideLineResult
         requires { 0 < length bytes.now }
         ensures within { IfOk result.put (λ count. (1 ≤ count) × (count ≤ length bytes.now)) }
         ensures taken { IfOk result.put
@@ -99,30 +99,30 @@ impl<'a, 'k, R: Wait, S: Sink + Drop, W: Write + Drop> TerminalSink<'a, 'k, R, S
             (λ _. line.new.is_held ≡ line.old.is_held) }
         ensures shown { OnOk result.line (line.new.is_shown ≡ (line.old.is_shown && not line.new.is_held)) }
         ensures written { OnOk result.line (Appends (W.contents line.old.out) (W.contents line.new.out)
-            (text_around_put line.old.is_shown line.new.is_held
+            (text_around_write line.old.is_shown line.new.is_held
             (counts_text tally.done progress.now.jobs tally.failed))) }
     {
         let counts = progress.counts_of(tally);
-        put_beside_line(line, &mut self.sink, bytes, self.alloc, counts)
+        write_beside_line(line, &mut self.sink, bytes, self.alloc, counts)
     }
 }
 
 // The result of a write to a sink on the line's terminal, and whether that terminal accepted the line.
 #[derive(Drop)]
-struct PutBesideLine {
+struct BesideLineResult {
     put: Result<usize, SinkFailed>,
     line: Result<(), WriteError>,
 }
 
 // Writes bytes to a sink on the line's terminal: the line is removed before the write, and shown again afterwards if the output ends with a
 // line feed.
-fn put_beside_line<S: Sink, W: Write + Drop>(
+fn write_beside_line<S: Sink, W: Write + Drop>(
     line: &mut Line<W>,
     sink: &mut S,
     bytes: &[u8],
     alloc: Global,
     counts: Counts,
-) -> PutBesideLine
+) -> BesideLineResult
     requires { 0 < length bytes.now }
     ensures within { IfOk result.put (λ count. (1 ≤ count) × (count ≤ length bytes.now)) }
     ensures taken { IfOk result.put (λ count. Appends (S.taken sink.old) (S.taken sink.new) (take count bytes.now)) }
@@ -134,19 +134,19 @@ fn put_beside_line<S: Sink, W: Write + Drop>(
         (λ _. line.new.is_held ≡ line.old.is_held) }
     ensures shown { OnOk result.line (line.new.is_shown ≡ (line.old.is_shown && not line.new.is_held)) }
     ensures written { OnOk result.line (Appends (W.contents line.old.out) (W.contents line.new.out)
-        (text_around_put line.old.is_shown line.new.is_held
+        (text_around_write line.old.is_shown line.new.is_held
         (counts_text counts.tally.done counts.jobs counts.tally.failed))) }
 {
     if !line.is_shown() {
-        let put = put_and_note(line, sink, bytes);
-        return PutBesideLine { put, line: Ok(()) };
+        let put = write_and_record(line, sink, bytes);
+        return BesideLineResult { put, line: Ok(()) };
     }
     let erased = line.take_away();
-    let put = put_and_note(line, sink, bytes);
+    let put = write_and_record(line, sink, bytes);
     let shown = line.show_counts(alloc, counts);
     match erased {
-        Ok(()) => PutBesideLine { put, line: shown },
-        Err(error) => PutBesideLine {
+        Ok(()) => BesideLineResult { put, line: shown },
+        Err(error) => BesideLineResult {
             put,
             line: Err(error),
         },
@@ -155,7 +155,7 @@ fn put_beside_line<S: Sink, W: Write + Drop>(
 
 // Writes bytes to a sink on the terminal, from which the line has been removed, and records whether the output ends in the middle of a
 // line.
-fn put_and_note<S: Sink, W: Write + Drop>(
+fn write_and_record<S: Sink, W: Write + Drop>(
     line: &mut Line<W>,
     sink: &mut S,
     bytes: &[u8],
@@ -175,7 +175,7 @@ fn put_and_note<S: Sink, W: Write + Drop>(
 {
     let put = sink.put(bytes);
     if let Ok(count) = put {
-        line.note_other_text(&bytes[..count]);
+        line.record_other_text(&bytes[..count]);
     }
     put
 }

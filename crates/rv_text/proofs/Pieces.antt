@@ -4,7 +4,7 @@ use Rattle.std.proofs.Common.{arith, ◌==◌, ne_eqb, false, cond}
 use Rattle.std.proofs.lemmas.Bool.{false_from_ne_true, le-ltb, lt-ltb}
 use Rattle.std.proofs.lemmas.Str.{IsUtf8-from_is_utf8}
 use Rattle.std.specs.Str.{IsUtf8, is_utf8}
-use Rattle.rv_text.specs.Printable.{after_printable_front, escape, front_width, printable_front, plain_front_len}
+use Rattle.rv_text.specs.Printable.{after_first_printable, escape, first_width, first_printable, plain_first_len}
 use Rattle.rv_text.specs.Printable.{printable_from, printable_within}
 
 -- what is left of a character goes out as it is
@@ -40,27 +40,27 @@ piece f splits byte rest (suc count) =
 
 -- a text is its first piece and what is behind it
 pub shown-front : (text : List ℕ) → 0 < length text →
-    printable_from 0 text ≡ printable_front text ++ printable_from 0 (after_printable_front text)
+    printable_from 0 text ≡ first_printable text ++ printable_from 0 (after_first_printable text)
 unfolding printable_from
 shown-front [] some = absurd (omega arith)
-shown-front (byte ∷ rest) some = piece printable_from printable_from-left byte rest (plain_front_len (byte ∷ rest))
+shown-front (byte ∷ rest) some = piece printable_from printable_from-left byte rest (plain_first_len (byte ∷ rest))
 
 -- the same where there is room for the piece
-pub printable_within-front : (room : ℕ) (text : List ℕ) → 0 < length text → front_width text ≤ room →
+pub printable_within-front : (room : ℕ) (text : List ℕ) → 0 < length text → first_width text ≤ room →
     printable_within room 0 text
-    ≡ printable_front text ++ printable_within (room - front_width text) 0 (after_printable_front text)
+    ≡ first_printable text ++ printable_within (room - first_width text) 0 (after_first_printable text)
 unfolding printable_within
 printable_within-front room [] some fits = absurd (omega arith)
 printable_within-front room (byte ∷ rest) some fits =
-    let width = front_width (byte ∷ rest) in
+    let width = first_width (byte ∷ rest) in
     rw (le-ltb room width fits) (piece (printable_within (room - width)) (printable_within-left (room - width)) byte rest
-    (plain_front_len (byte ∷ rest)))
+    (plain_first_len (byte ∷ rest)))
 
 -- and where there is none
-pub printable_within-full : (room : ℕ) (text : List ℕ) → room < front_width text → printable_within room 0 text ≡ []
+pub printable_within-full : (room : ℕ) (text : List ℕ) → room < first_width text → printable_within room 0 text ≡ []
 unfolding printable_within
 printable_within-full room [] full = refl
-printable_within-full room (byte ∷ rest) full = rw (lt-ltb room (front_width (byte ∷ rest)) full) refl
+printable_within-full room (byte ∷ rest) full = rw (lt-ltb room (first_width (byte ∷ rest)) full) refl
 
 -- nothing is shown of an empty text
 pub shown-empty : (text : List ℕ) → length text ≡ 0 → printable_from 0 text ≡ []

@@ -15,9 +15,9 @@ use Rattle.std.proofs.lemmas.Str.{IsUtf8-append, IsUtf8-encode, IsUtf8-from_is_u
 use Rattle.std.proofs.lemmas.Str.{chars-nil, encode_ascii, len_utf8_bounds, length-encode}
 use lib.Utf8.{low_scalar, scalars}
 use Rattle.hex.specs.Hex.{IsBytes, encode_with, lower_digits}
-use Rattle.rv_text.specs.Printable.{IsUtf8WithoutControls, begins_with_control, begins_with_format, after_printable_front, escape}
-use Rattle.rv_text.specs.Printable.{front_width, is_format}
-use Rattle.rv_text.specs.Printable.{front_character_bytes, plain_front_len, printable_from, printable_front, printable_within}
+use Rattle.rv_text.specs.Printable.{IsUtf8WithoutControls, begins_with_control, begins_with_format_char, after_first_printable, escape}
+use Rattle.rv_text.specs.Printable.{first_width, is_format}
+use Rattle.rv_text.specs.Printable.{first_character_bytes, plain_first_len, printable_from, first_printable, printable_within}
 use Rattle.rv_text.proofs.Pieces.{printable_within-empty, printable_within-front, printable_within-full, shown-empty, shown-front}
 
 -- no control character, and no format character
@@ -137,10 +137,10 @@ one_of front (c ∷ next ∷ more) all spelt some short =
       (len_utf8_bounds next).0,
     ))
 
-front_is_character : (text : List ℕ) → 0 < length text → is_utf8 (front_character_bytes text) ≡ true →
-    IsCharacter (front_character_bytes text)
+front_is_character : (text : List ℕ) → 0 < length text → is_utf8 (first_character_bytes text) ≡ true →
+    IsCharacter (first_character_bytes text)
 front_is_character text some is =
-    let front = front_character_bytes text in
+    let front = first_character_bytes text in
     let len = continuation_len (get_or text 0 0) + 1 in
     let same : get_or front 0 0 ≡ get_or text 0 0 =
     sym (get_or_append_left front (drop len text) 0 0 (omega (arith, length-take len text)))
@@ -167,45 +167,45 @@ first_character c front scalar spelt =
     ap chars (sym (append-nil (encode_utf8 c))) ∙ chars-encodes (c ∷ []) (rw scalar refl) in
     ap (λ text. slice_get (chars text) 0) (sym spelt) ∙ ap (λ all. slice_get all 0) one
 
-format_begins : (c : ℕ) (text : List ℕ) → is_utf8 (front_character_bytes text) ≡ true →
-    slice_get (chars (front_character_bytes text)) 0 ≡ Some c → begins_with_format text ≡ is_format c
-unfolding begins_with_format
+format_begins : (c : ℕ) (text : List ℕ) → is_utf8 (first_character_bytes text) ≡ true →
+    slice_get (chars (first_character_bytes text)) 0 ≡ Some c → begins_with_format_char text ≡ is_format c
+unfolding begins_with_format_char
 format_begins c text is first = rw (is, first) refl
 
-shown_front_character : (text : List ℕ) → 0 < length text → is_utf8 (front_character_bytes text) ≡ true →
-    (begins_with_control text || begins_with_format text) ≡ false → IsUtf8WithoutControls (front_character_bytes text)
+shown_front_character : (text : List ℕ) → 0 < length text → is_utf8 (first_character_bytes text) ≡ true →
+    (begins_with_control text || begins_with_format_char text) ≡ false → IsUtf8WithoutControls (first_character_bytes text)
 shown_front_character text some is hidden =
-    let (plain, no_format) = or_parts (begins_with_control text) (begins_with_format text) hidden in
+    let (plain, no_format) = or_parts (begins_with_control text) (begins_with_format_char text) hidden in
     let len = continuation_len (get_or text 0 0) + 1 in
     let (c, scalar, spelt) = front_is_character text some is in
     let whole : encode_utf8 c ++ drop len text ≡ text =
     ap (λ front. front ++ drop len text) spelt ∙ take-append-drop len text in
     let no_control : is_control c ≡ false = false_from_ne_true (is_control c) (λ control.
     false≢true (sym plain ∙ ap begins_with_control (sym whole) ∙ control_begins c (drop len text) control)) in
-    let first = first_character c (front_character_bytes text) scalar spelt in
+    let first = first_character c (first_character_bytes text) scalar spelt in
     let is_seen : is_format c ≡ false = sym (format_begins c text is first) ∙ no_format in
     subst IsUtf8WithoutControls spelt (shown_character c scalar (rw (no_control, is_seen) refl))
 
 -- ---- the piece in front
 
-shown_piece : (text : List ℕ) (utf8 control : Bool) → is_utf8 (front_character_bytes text) ≡ utf8 →
-    (begins_with_control text || begins_with_format text) ≡ control → IsBytes text → 0 < length text →
-    let plain = cond (utf8 && not control) (length (front_character_bytes text)) 0 in
+shown_piece : (text : List ℕ) (utf8 control : Bool) → is_utf8 (first_character_bytes text) ≡ utf8 →
+    (begins_with_control text || begins_with_format_char text) ≡ control → IsBytes text → 0 < length text →
+    let plain = cond (utf8 && not control) (length (first_character_bytes text)) 0 in
     IsUtf8WithoutControls (cond (plain == 0) (escape (get_or text 0 0)) (take plain text))
 shown_piece text false control is begins are some = shown_escape (get_or text 0 0) (are 0)
 shown_piece text true true is begins are some = shown_escape (get_or text 0 0) (are 0)
 shown_piece text true false is begins are some =
     let len = continuation_len (get_or text 0 0) + 1 in
-    let front = front_character_bytes text in
+    let front = first_character_bytes text in
     let count : length front ≡ min len (length text) = length-take len text in
     let not_empty : (length front == 0) ≡ false = ne_eqb (length front) 0 (omega arith) in
     let whole : take (length front) text ≡ front = ap (λ n. take n text) count ∙ take_min len text in
     rw (not_empty, whole) (shown_front_character text some is begins)
 
-shown_printable_front : (text : List ℕ) → IsBytes text → 0 < length text → IsUtf8WithoutControls (printable_front text)
-unfolding plain_front_len
+shown_printable_front : (text : List ℕ) → IsBytes text → 0 < length text → IsUtf8WithoutControls (first_printable text)
+unfolding plain_first_len
 shown_printable_front text are some =
-    shown_piece text (is_utf8 (front_character_bytes text)) (begins_with_control text || begins_with_format text) refl refl are some
+    shown_piece text (is_utf8 (first_character_bytes text)) (begins_with_control text || begins_with_format_char text) refl refl are some
 
 -- ---- what is behind it
 
@@ -223,8 +223,8 @@ behind_piece (suc count) text are some =
     let not_empty : (suc count == 0) ≡ false = ne_eqb (suc count) 0 (omega arith) in
     rw not_empty (bytes_behind (suc count) text are, omega (arith, length-drop (suc count) text))
 
-shorter_behind : (text : List ℕ) → IsBytes text → 0 < length text → IsShorter text (after_printable_front text)
-shorter_behind text = behind_piece (plain_front_len text) text
+shorter_behind : (text : List ℕ) → IsBytes text → 0 < length text → IsShorter text (after_first_printable text)
+shorter_behind text = behind_piece (plain_first_len text) text
 
 -- ---- whole texts, of at most so many bytes
 
@@ -237,9 +237,9 @@ shown_of_length (suc n) (byte ∷ rest) within are =
     let some : 0 < length text = omega arith in
     let behind = shorter_behind text are some in
     rw (shown-front text some)
-    (shown_append (printable_front text) (printable_from 0 (after_printable_front text))
+    (shown_append (first_printable text) (printable_from 0 (after_first_printable text))
     (shown_printable_front text are some)
-    (shown_of_length n (after_printable_front text) (omega (arith, behind.1)) behind.0))
+    (shown_of_length n (after_first_printable text) (omega (arith, behind.1)) behind.0))
 
 shown_within_of_length : (n room : ℕ) (text : List ℕ) → length text ≤ n → IsBytes text →
     IsUtf8WithoutControls (printable_within room 0 text)
@@ -249,13 +249,13 @@ shown_within_of_length (suc n) room (byte ∷ rest) within are =
     let text = byte ∷ rest in
     let some : 0 < length text = omega arith in
     let behind = shorter_behind text are some in
-    elim (cases_lt room (front_width text)) [
+    elim (cases_lt room (first_width text)) [
       | inl full ↦ rw (printable_within-full room text full) shown_nil
       | inr fits ↦
           rw (printable_within-front room text some fits)
-          (shown_append (printable_front text) (printable_within (room - front_width text) 0 (after_printable_front text))
+          (shown_append (first_printable text) (printable_within (room - first_width text) 0 (after_first_printable text))
           (shown_printable_front text are some)
-          (shown_within_of_length n (room - front_width text) (after_printable_front text) (omega (arith, behind.1)) behind.0))
+          (shown_within_of_length n (room - first_width text) (after_first_printable text) (omega (arith, behind.1)) behind.0))
     ]
 
 pub shown_text : (text : List ℕ) → IsBytes text → IsUtf8WithoutControls (printable_from 0 text)

@@ -16,8 +16,8 @@ use Rattle.hex.specs.Hex.{IsBytes, encode_with, lower_digits}
 use Rattle.std.proofs.lemmas.Str.{IsUtf8-from_is_utf8, len_utf8_bounds}
 use Rattle.rv_text.specs.declared.xml.Within.{Within}
 use Rattle.rv_text.specs.declared.xml.Within.TheVariants.{Attribute, Element}
-use Rattle.rv_text.specs.Xml.{IsXmlText, after_xml_front, character_or_escape, character_text, escape, xml_text_from}
-use Rattle.rv_text.specs.Xml.{front_xml_character, xml_front_bytes, xml_front_text, is_xml_character, more_front_bytes, filter_xml_character}
+use Rattle.rv_text.specs.Xml.{IsXmlText, after_first_xml_text, character_or_escape, character_text, escape, xml_text_from}
+use Rattle.rv_text.specs.Xml.{first_xml_character, first_xml_bytes, first_xml_text, is_xml_character, bytes_after_first, allowed_xml_character}
 
 -- what is not UTF-8 is not by the test
 pub is_utf8-false : (bytes : List ℕ) → ¬ (IsUtf8 bytes) → is_utf8 bytes ≡ false
@@ -34,13 +34,13 @@ xml_text_from-left within (suc left) (byte ∷ rest) = xml_text_from-left within
 
 -- the piece in front, and what is behind it
 pub escaped-front : (within : Within) (bytes : List ℕ) → 0 < length bytes →
-    xml_text_from within 0 bytes ≡ xml_front_text within bytes ++ xml_text_from within 0 (after_xml_front bytes)
+    xml_text_from within 0 bytes ≡ first_xml_text within bytes ++ xml_text_from within 0 (after_first_xml_text bytes)
 unfolding xml_text_from
 escaped-front within [] some = absurd (omega arith)
 escaped-front within (byte ∷ rest) some =
-    let front = front_xml_character (byte ∷ rest) in
+    let front = first_xml_character (byte ∷ rest) in
     rw add-one (ap (λ xs. character_or_escape within byte front ++ xs)
-    (xml_text_from-left within (more_front_bytes front) rest))
+    (xml_text_from-left within (bytes_after_first front) rest))
 
 pub escaped-empty : (within : Within) (bytes : List ℕ) → length bytes ≡ 0 → xml_text_from within 0 bytes ≡ []
 unfolding xml_text_from
@@ -48,8 +48,8 @@ escaped-empty within [] none = refl
 escaped-empty within (byte ∷ rest) none = absurd (omega arith)
 
 -- a character has a byte or more
-pub more_front_bytes-of : (c : ℕ) → more_front_bytes (Some c) + 1 ≡ len_utf8 c
-more_front_bytes-of c = let bounds = len_utf8_bounds c in omega (arith, bounds.0)
+pub bytes_after_first-of : (c : ℕ) → bytes_after_first (Some c) + 1 ≡ len_utf8 c
+bytes_after_first-of c = let bounds = len_utf8_bounds c in omega (arith, bounds.0)
 
 -- ---- what stands in a document
 
@@ -70,11 +70,11 @@ text_append within xs ys front back = record {
 stands : Within → ℕ → Bool
 stands within c = is_xml_character c && bytes_eq (character_text within c) (c ∷ [])
 
-IsStanding : Within → ℕ → Type 0
-IsStanding within c = (is_xml_character c ≡ true) × (character_text within c ≡ c ∷ [])
+IsCurrentVerdict : Within → ℕ → Type 0
+IsCurrentVerdict within c = (is_xml_character c ≡ true) × (character_text within c ≡ c ∷ [])
 
-standing : (within : Within) (c : ℕ) → stands within c ≡ true → IsStanding within c
-unfolding stands IsStanding
+standing : (within : Within) (c : ℕ) → stands within c ≡ true → IsCurrentVerdict within c
+unfolding stands IsCurrentVerdict
 standing within c is =
     let parts = and_parts _ _ is in (parts.0, same_text _ _ (sym parts.1))
 
@@ -83,27 +83,27 @@ unfolding stands encode_utf8
 digits_stand Attribute = refl
 digits_stand Element = refl
 
-digit_stands : (within : Within) (k : ℕ) → k < 16 → IsStanding within (get_or lower_digits k 0)
+digit_stands : (within : Within) (k : ℕ) → k < 16 → IsCurrentVerdict within (get_or lower_digits k 0)
 digit_stands within k below =
     standing within (get_or lower_digits k 0)
     (All-get_or (λ c. stands within c ≡ true) lower_digits k 0 below
     (AllPass-from_list_all (stands within) lower_digits (digits_stand within)))
 
-text_one : (within : Within) (c : ℕ) → IsStanding within c → IsXmlText within (c ∷ [])
-unfolding IsStanding
+text_one : (within : Within) (c : ℕ) → IsCurrentVerdict within c → IsXmlText within (c ∷ [])
+unfolding IsCurrentVerdict
 text_one within c is = record {
   characters = c ∷ [];
   taken = rw is.0 refl;
   written = sym (append-nil (character_text within c) ∙ is.1);
 }
 
-backslash_stands : (within : Within) → IsStanding within 92
-unfolding IsStanding encode_utf8
+backslash_stands : (within : Within) → IsCurrentVerdict within 92
+unfolding IsCurrentVerdict encode_utf8
 backslash_stands Attribute = (refl, refl)
 backslash_stands Element = (refl, refl)
 
-x_stands : (within : Within) → IsStanding within 120
-unfolding IsStanding encode_utf8
+x_stands : (within : Within) → IsCurrentVerdict within 120
+unfolding IsCurrentVerdict encode_utf8
 x_stands Attribute = (refl, refl)
 x_stands Element = (refl, refl)
 
@@ -130,25 +130,25 @@ text_taken within byte c true is below = record {
 text_taken within byte c false is below = text_escape within byte below
 
 text_of_front : (within : Within) (byte : ℕ) (utf8 : Bool) (c : Option ℕ) → byte < 256 →
-    IsXmlText within (character_or_escape within byte (cond utf8 (filter_xml_character c) None))
+    IsXmlText within (character_or_escape within byte (cond utf8 (allowed_xml_character c) None))
 text_of_front within byte false c below = text_escape within byte below
 text_of_front within byte true None below = text_escape within byte below
 text_of_front within byte true (Some c) below =
     text_taken within byte c (is_xml_character c) refl below
 
 text_front : (within : Within) (byte : ℕ) (bytes : List ℕ) → byte < 256 →
-    IsXmlText within (character_or_escape within byte (front_xml_character bytes))
-unfolding front_xml_character
+    IsXmlText within (character_or_escape within byte (first_xml_character bytes))
+unfolding first_xml_character
 text_front within byte bytes below =
-    text_of_front within byte (is_utf8 (xml_front_bytes bytes)) (slice_get (chars (xml_front_bytes bytes)) 0) below
+    text_of_front within byte (is_utf8 (first_xml_bytes bytes)) (slice_get (chars (first_xml_bytes bytes)) 0) below
 
 pub text_escaped : (within : Within) (left : ℕ) (bytes : List ℕ) → IsBytes bytes →
     IsXmlText within (xml_text_from within left bytes)
 unfolding xml_text_from
 text_escaped within left [] are = text_nil within
 text_escaped within zero (byte ∷ rest) are =
-    let front = front_xml_character (byte ∷ rest) in
-    text_append within (character_or_escape within byte front) (xml_text_from within (more_front_bytes front) rest)
+    let front = first_xml_character (byte ∷ rest) in
+    text_append within (character_or_escape within byte front) (xml_text_from within (bytes_after_first front) rest)
     (text_front within byte (byte ∷ rest) (are 0))
-    (text_escaped within (more_front_bytes front) rest (λ i. are (suc i)))
+    (text_escaped within (bytes_after_first front) rest (λ i. are (suc i)))
 text_escaped within (suc left) (byte ∷ rest) are = text_escaped within left rest (λ i. are (suc i))

@@ -15,8 +15,8 @@ begins_with_control text = let first = slice_index text 0 in
     nat_lt first 0x20 || first == 0x7F || (first == 0xC2 && nat_lt (slice_index text 1) 0xA0)
 
 -- the first bytes of a text, as many as the UTF-8 character has that the first byte begins, or all bytes if there are fewer
-abbrev pub front_character_bytes : List ℕ → List ℕ
-front_character_bytes text = take (continuation_len (slice_index text 0) + 1) text
+abbrev pub first_character_bytes : List ℕ → List ℕ
+first_character_bytes text = take (continuation_len (slice_index text 0) + 1) text
 
 -- whether a character is invisible or changes the direction of the text around it: Unicode's general categories Cf (format), Zl and Zp
 -- (line and paragraph separators), and the unassigned code points of their blocks
@@ -28,21 +28,21 @@ is_format c = c == 0xAD || (is_in_range 0x600 0x605 c || (c == 0x61C || (c == 0x
     (is_in_range 0x1_D173 0x1_D17A c || (is_in_range 0xE_0000 0xE_007F c))))))))))))))))))
 
 -- whether a character is given, and it is a format character
-abbrev pub is_format_if_any : Option ℕ → Bool
-is_format_if_any None = false
-is_format_if_any (Some c) = is_format c
+abbrev pub is_some_format_char : Option ℕ → Bool
+is_some_format_char None = false
+is_some_format_char (Some c) = is_format c
 
 -- whether a text begins with a format character
-unfoldable pub begins_with_format : List ℕ → Bool
-begins_with_format text = let front = front_character_bytes text in
-    if is_utf8 front then is_format_if_any (slice_get (chars front) 0) else false
+unfoldable pub begins_with_format_char : List ℕ → Bool
+begins_with_format_char text = let front = first_character_bytes text in
+    if is_utf8 front then is_some_format_char (slice_get (chars front) 0) else false
 
 -- the number of bytes of the first character if it is shown unchanged, that is, if it is valid UTF-8 and neither a control nor a format
 -- character; otherwise 0
-unfoldable pub plain_front_len : List ℕ → ℕ
-plain_front_len text =
-    if is_utf8 (front_character_bytes text) && not (begins_with_control text || begins_with_format text)
-    then length (front_character_bytes text) else 0
+unfoldable pub plain_first_len : List ℕ → ℕ
+plain_first_len text =
+    if is_utf8 (first_character_bytes text) && not (begins_with_control text || begins_with_format_char text)
+    then length (first_character_bytes text) else 0
 
 -- the escape of a byte: `\x` and two lower-case hexadecimal digits
 abbrev pub escape : ℕ → List ℕ
@@ -50,14 +50,14 @@ escape byte = codes "\\x" ++ encode_lower (byte ∷ [])
 
 -- the printed form of the byte `byte` at the beginning of a text: the byte itself if it begins a character that is shown unchanged, and
 -- otherwise its escape
-abbrev pub printable_first : List ℕ → ℕ → List ℕ
-printable_first text byte = if plain_front_len text == 0 then escape byte else byte ∷ []
+abbrev pub printable_byte : List ℕ → ℕ → List ℕ
+printable_byte text byte = if plain_first_len text == 0 then escape byte else byte ∷ []
 
 -- the printable form of a text whose first `left` bytes continue a character that began before the text and is shown unchanged
 unfoldable pub printable_from : ℕ → List ℕ → List ℕ
 printable_from left [] = []
-printable_from zero (byte ∷ rest) = printable_first (byte ∷ rest) byte
-    ++ printable_from (plain_front_len (byte ∷ rest) - 1) rest
+printable_from zero (byte ∷ rest) = printable_byte (byte ∷ rest) byte
+    ++ printable_from (plain_first_len (byte ∷ rest) - 1) rest
 printable_from (suc left) (byte ∷ rest) = byte ∷ printable_from left rest
 
 -- the printable form of a text from a file: characters are unchanged, but each byte of a control character, of a format character or of
@@ -66,45 +66,45 @@ abbrev pub printable_text : List ℕ → List ℕ
 printable_text text = printable_from 0 text
 
 -- the number of printed characters for the first character or byte of a text: 1, or 4 if it is an escape
-abbrev pub front_width : List ℕ → ℕ
-front_width text = if plain_front_len text == 0 then 4 else 1
+abbrev pub first_width : List ℕ → ℕ
+first_width text = if plain_first_len text == 0 then 4 else 1
 
 -- the printable form of a text, cut off after the last whole character or escape that fits in `room` characters; the first `left` bytes of
 -- the text continue a character that began before it
 unfoldable pub printable_within : ℕ → ℕ → List ℕ → List ℕ
 printable_within room left [] = []
 printable_within room zero (byte ∷ rest) =
-    if nat_lt room (front_width (byte ∷ rest)) then []
-    else printable_first (byte ∷ rest) byte
-    ++ printable_within (room - front_width (byte ∷ rest)) (plain_front_len (byte ∷ rest) - 1) rest
+    if nat_lt room (first_width (byte ∷ rest)) then []
+    else printable_byte (byte ∷ rest) byte
+    ++ printable_within (room - first_width (byte ∷ rest)) (plain_first_len (byte ∷ rest) - 1) rest
 printable_within room (suc left) (byte ∷ rest) = byte ∷ printable_within room left rest
 
 -- the maximum number of printed characters of an actual or expected value
-abbrev pub most_shown_characters : ℕ
-most_shown_characters = 80
+abbrev pub max_value_chars : ℕ
+max_value_chars = 80
 
--- the printable form of an actual or expected value, cut off at `most_shown_characters` characters
+-- the printable form of an actual or expected value, cut off at `max_value_chars` characters
 abbrev pub printable_value : List ℕ → List ℕ
-printable_value text = printable_within most_shown_characters 0 text
+printable_value text = printable_within max_value_chars 0 text
 
 -- the maximum number of printed characters of the name of a symbol
-abbrev pub most_characters_of_name : ℕ
-most_characters_of_name = 256
+abbrev pub max_name_chars : ℕ
+max_name_chars = 256
 
--- the printable form of the name of a symbol, cut off at `most_characters_of_name` characters
+-- the printable form of the name of a symbol, cut off at `max_name_chars` characters
 abbrev pub printable_name : List ℕ → List ℕ
-printable_name text = printable_within most_characters_of_name 0 text
+printable_name text = printable_within max_name_chars 0 text
 
 -- ---- the beginning of a text: a character that is shown as it is, or one byte
 
 -- the printable form of the beginning of a text: its first character if that is shown unchanged, and otherwise the escape of its first byte
-abbrev pub printable_front : List ℕ → List ℕ
-printable_front text =
-    if plain_front_len text == 0 then escape (slice_index text 0) else take (plain_front_len text) text
+abbrev pub first_printable : List ℕ → List ℕ
+first_printable text =
+    if plain_first_len text == 0 then escape (slice_index text 0) else take (plain_first_len text) text
 
 -- the text without its first character if that is shown unchanged, and otherwise without its first byte
-abbrev pub after_printable_front : List ℕ → List ℕ
-after_printable_front text = if plain_front_len text == 0 then drop 1 text else drop (plain_front_len text) text
+abbrev pub after_first_printable : List ℕ → List ℕ
+after_first_printable text = if plain_first_len text == 0 then drop 1 text else drop (plain_first_len text) text
 
 -- ---- text that is safe to show on a terminal
 

@@ -43,19 +43,19 @@ character_text within c = reference_or_character (character_reference within c) 
 -- ---- the first character
 
 -- the first of these bytes, as many as the UTF-8 character has that the first byte begins, or all bytes if there are fewer
-abbrev pub xml_front_bytes : List ℕ → List ℕ
-xml_front_bytes [] = []
-xml_front_bytes (byte ∷ rest) = take (continuation_len byte + 1) (byte ∷ rest)
+abbrev pub first_xml_bytes : List ℕ → List ℕ
+first_xml_bytes [] = []
+first_xml_bytes (byte ∷ rest) = take (continuation_len byte + 1) (byte ∷ rest)
 
 -- the character if XML 1.0 allows it; `None` if it does not, or no character is given
-abbrev pub filter_xml_character : Option ℕ → Option ℕ
-filter_xml_character None = None
-filter_xml_character (Some c) = if is_xml_character c then Some c else None
+abbrev pub allowed_xml_character : Option ℕ → Option ℕ
+allowed_xml_character None = None
+allowed_xml_character (Some c) = if is_xml_character c then Some c else None
 
 -- the XML character that the bytes begin with, or `None` if they begin with no XML character
-unfoldable pub front_xml_character : List ℕ → Option ℕ
-front_xml_character bytes = let front = xml_front_bytes bytes in
-    if is_utf8 front then filter_xml_character (slice_get (chars front) 0) else None
+unfoldable pub first_xml_character : List ℕ → Option ℕ
+first_xml_character bytes = let front = first_xml_bytes bytes in
+    if is_utf8 front then allowed_xml_character (slice_get (chars front) 0) else None
 
 -- the escape of a byte that is not part of an XML character: `\x` and two lower-case hexadecimal digits
 abbrev pub escape : ℕ → List ℕ
@@ -67,17 +67,17 @@ character_or_escape within byte (Some c) = character_text within c
 character_or_escape within byte None = escape byte
 
 -- the number of bytes of a character after its first; 0 if there is no character
-abbrev pub more_front_bytes : Option ℕ → ℕ
-more_front_bytes (Some c) = len_utf8 c - 1
-more_front_bytes None = 0
+abbrev pub bytes_after_first : Option ℕ → ℕ
+bytes_after_first (Some c) = len_utf8 c - 1
+bytes_after_first None = 0
 
 -- ---- the text
 
 -- the text in XML for the bytes after the first `left`, which continue a character that began before them
 unfoldable pub xml_text_from : Within → ℕ → List ℕ → List ℕ
 xml_text_from within left [] = []
-xml_text_from within zero (byte ∷ rest) = let front = front_xml_character (byte ∷ rest) in
-    character_or_escape within byte front ++ xml_text_from within (more_front_bytes front) rest
+xml_text_from within zero (byte ∷ rest) = let front = first_xml_character (byte ∷ rest) in
+    character_or_escape within byte front ++ xml_text_from within (bytes_after_first front) rest
 xml_text_from within (suc left) (byte ∷ rest) = xml_text_from within left rest
 
 -- the text in XML, in an attribute or an element, for these bytes: XML characters are unchanged or replaced by their references, and every
@@ -88,12 +88,12 @@ xml_text within bytes = xml_text_from within 0 bytes
 -- ---- the beginning of the bytes: a character or one byte
 
 -- the text in XML for the first XML character of these bytes, or for their first byte if they do not begin with an XML character
-abbrev pub xml_front_text : Within → List ℕ → List ℕ
-xml_front_text within bytes = character_or_escape within (slice_index bytes 0) (front_xml_character bytes)
+abbrev pub first_xml_text : Within → List ℕ → List ℕ
+first_xml_text within bytes = character_or_escape within (slice_index bytes 0) (first_xml_character bytes)
 
 -- the bytes without their first XML character, or without their first byte if they do not begin with an XML character
-abbrev pub after_xml_front : List ℕ → List ℕ
-after_xml_front bytes = drop (more_front_bytes (front_xml_character bytes) + 1) bytes
+abbrev pub after_first_xml_text : List ℕ → List ℕ
+after_first_xml_text bytes = drop (bytes_after_first (first_xml_character bytes) + 1) bytes
 
 -- ---- text of XML documents
 

@@ -2,8 +2,8 @@
 
 ghost use Rattle.std.specs.Prelude.{◌≡◌, ◌<◌, ◌≤◌, ◌++◌, IfOk, OnOk, length};
 ghost use Rattle.std.specs.Str.{is_utf8};
-ghost use Rattle.rv_text.specs.Printable.{after_printable_front, escape, front_width, front_character_bytes, printable_front, begins_with_control};
-ghost use Rattle.rv_text.specs.Printable.{begins_with_format, is_format, is_format_if_any, plain_front_len, printable_name, printable_text, printable_value};
+ghost use Rattle.rv_text.specs.Printable.{after_first_printable, escape, first_width, first_character_bytes, first_printable, begins_with_control};
+ghost use Rattle.rv_text.specs.Printable.{begins_with_format_char, is_format, is_some_format_char, plain_first_len, printable_name, printable_text, printable_value};
 ghost use Rattle.rv_text.specs.Printable.{printable_within};
 
 use crate::slices::{byte_at, char_len, tail_from};
@@ -16,31 +16,31 @@ pub fn push_printable_text(bytes: &mut Vec<u8>, text: &[u8]) -> Result<(), Alloc
 {
     let mut rest = text;
     while !rest.is_empty() {
-        rest = push_printable_front(bytes, rest)?;
+        rest = push_first_printable(bytes, rest)?;
     }
     Ok(())
 }
 
 /// The maximum number of characters shown of a value.
-pub const VALUE_ROOM: usize = 80;
+pub const MAX_VALUE_CHARS: usize = 80;
 
 /// The maximum number of characters shown of a symbol's name.
-pub const NAME_ROOM: usize = 256;
+pub const MAX_NAME_CHARS: usize = 256;
 
 /// Appends an actual or expected value as [`push_printable_text`] does, cut off after the last whole character or `\xNN` that fits into
-/// [`VALUE_ROOM`] characters.
+/// [`MAX_VALUE_CHARS`] characters.
 pub fn push_printable_value(bytes: &mut Vec<u8>, value: &[u8]) -> Result<(), AllocError>
     ensures { OnOk result (bytes.new.items ≡ bytes.old.items ++ printable_value value.now) }
 {
-    push_printable_within(bytes, VALUE_ROOM, value)
+    push_printable_within(bytes, MAX_VALUE_CHARS, value)
 }
 
 /// Appends the name of a symbol as [`push_printable_text`] does, cut off after the last whole character or `\xNN` that fits into
-/// [`NAME_ROOM`] characters.
+/// [`MAX_NAME_CHARS`] characters.
 pub fn push_printable_name(bytes: &mut Vec<u8>, name: &[u8]) -> Result<(), AllocError>
     ensures { OnOk result (bytes.new.items ≡ bytes.old.items ++ printable_name name.now) }
 {
-    push_printable_within(bytes, NAME_ROOM, name)
+    push_printable_within(bytes, MAX_NAME_CHARS, name)
 }
 
 // Appends a text, cut off after the last whole character or `\xNN` that fits into `characters` characters.
@@ -54,31 +54,31 @@ fn push_printable_within(
     let mut rest = text;
     let mut room = characters;
     while !rest.is_empty() {
-        let width = front_width(rest);
+        let width = first_width(rest);
         if room < width {
             return Ok(());
         }
         room -= width;
-        rest = push_printable_front(bytes, rest)?;
+        rest = push_first_printable(bytes, rest)?;
     }
     Ok(())
 }
 
 // Returns the number of printed characters for the first character or byte: 1, or 4 if it is printed as `\xNN`.
-fn front_width(text: &[u8]) -> usize
-    ensures { result ≡ front_width text.now }
+fn first_width(text: &[u8]) -> usize
+    ensures { result ≡ first_width text.now }
 {
-    if plain_front_len(text) == 0 { 4 } else { 1 }
+    if plain_first_len(text) == 0 { 4 } else { 1 }
 }
 
 // Appends the printable form of the first character or byte, and returns the rest of the text.
-fn push_printable_front<'a>(bytes: &mut Vec<u8>, text: &'a [u8]) -> Result<&'a [u8], AllocError>
+fn push_first_printable<'a>(bytes: &mut Vec<u8>, text: &'a [u8]) -> Result<&'a [u8], AllocError>
     requires { 0 < length text.now }
-    ensures shown { OnOk result (bytes.new.items ≡ bytes.old.items ++ printable_front text.now) }
-    ensures behind { IfOk result (λ rest. rest.now ≡ after_printable_front text.now) }
+    ensures shown { OnOk result (bytes.new.items ≡ bytes.old.items ++ first_printable text.now) }
+    ensures behind { IfOk result (λ rest. rest.now ≡ after_first_printable text.now) }
     ensures shorter { IfOk result (λ rest. length rest.now < length text.now) }
 {
-    let plain = plain_front_len(text);
+    let plain = plain_first_len(text);
     if plain == 0 {
         push_escape(bytes, text[0])?;
         return Ok(tail_from(text, 1));
@@ -89,13 +89,13 @@ fn push_printable_front<'a>(bytes: &mut Vec<u8>, text: &'a [u8]) -> Result<&'a [
 
 // Returns the number of bytes of the first character if it is shown unchanged, that is, if it is valid UTF-8 and neither a control nor a
 // format character; otherwise 0.
-#[tactic(auto, unfolding(crate::specs::Printable::plain_front_len))]
-fn plain_front_len(text: &[u8]) -> usize
-    ensures value { result ≡ plain_front_len text.now }
+#[tactic(auto, unfolding(crate::specs::Printable::plain_first_len))]
+fn plain_first_len(text: &[u8]) -> usize
+    ensures value { result ≡ plain_first_len text.now }
     ensures within { result ≤ length text.now }
 {
-    let front = front_character_bytes(text);
-    if is_utf8(front) && !(begins_with_control(text) || begins_with_format(text)) {
+    let front = first_character_bytes(text);
+    if is_utf8(front) && !(begins_with_control(text) || begins_with_format_char(text)) {
         front.len()
     } else {
         0
@@ -103,8 +103,8 @@ fn plain_front_len(text: &[u8]) -> usize
 }
 
 // Returns the first bytes of a text, as many as the UTF-8 character has that the first byte begins, or all bytes if there are fewer.
-fn front_character_bytes(text: &[u8]) -> &[u8]
-    ensures front { result.now ≡ front_character_bytes text.now }
+fn first_character_bytes(text: &[u8]) -> &[u8]
+    ensures front { result.now ≡ first_character_bytes text.now }
     ensures within { length result.now ≤ length text.now }
 {
     let len = char_len(byte_at(text, 0));
@@ -134,18 +134,18 @@ fn begins_with_control(text: &[u8]) -> bool
 }
 
 // Whether the text begins with a format character.
-fn begins_with_format(text: &[u8]) -> bool
-    ensures { result ≡ begins_with_format text.now }
+fn begins_with_format_char(text: &[u8]) -> bool
+    ensures { result ≡ begins_with_format_char text.now }
 {
-    match str::from_utf8(front_character_bytes(text)) {
-        Ok(front) => is_format_if_any(front.chars().next()),
+    match str::from_utf8(first_character_bytes(text)) {
+        Ok(front) => is_some_format_char(front.chars().next()),
         Err(_) => false,
     }
 }
 
 // Whether a character is given, and it is a format character.
-fn is_format_if_any(character: Option<char>) -> bool
-    ensures { result ≡ is_format_if_any character }
+fn is_some_format_char(character: Option<char>) -> bool
+    ensures { result ≡ is_some_format_char character }
 {
     match character {
         Some(character) => is_format(character),

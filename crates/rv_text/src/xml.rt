@@ -1,8 +1,8 @@
 //! Text in XML 1.0.
 
 ghost use Rattle.std.specs.Prelude.{◌≡◌, ◌<◌, ◌≤◌, ◌++◌, IfOk, OnOk, length, option_map, string_bytes};
-ghost use Rattle.rv_text.specs.Xml.{after_xml_front, character_text, escape, xml_text, front_xml_character, xml_front_bytes};
-ghost use Rattle.rv_text.specs.Xml.{xml_front_text, is_xml_character, character_reference, filter_xml_character};
+ghost use Rattle.rv_text.specs.Xml.{after_first_xml_text, character_text, escape, xml_text, first_xml_character, first_xml_bytes};
+ghost use Rattle.rv_text.specs.Xml.{first_xml_text, is_xml_character, character_reference, allowed_xml_character};
 
 use crate::slices::{char_len, tail_from};
 use std::alloc::{AllocError, Global};
@@ -29,14 +29,14 @@ pub fn push_xml_text(
 {
     let mut rest = bytes;
     while !rest.is_empty() {
-        rest = push_xml_front(alloc, text, within, rest)?;
+        rest = push_first_xml_text(alloc, text, within, rest)?;
     }
     Ok(())
 }
 
 // Appends the text in XML for the first XML character of the bytes, or for their first byte if they do not begin with an XML character, and
 // returns the remaining bytes.
-fn push_xml_front<'a>(
+fn push_first_xml_text<'a>(
     alloc: Global,
     text: &mut String,
     within: Within,
@@ -44,11 +44,11 @@ fn push_xml_front<'a>(
 ) -> Result<&'a [u8], AllocError>
     requires { 0 < length bytes.now }
     ensures text { OnOk result (string_bytes text.new
-        ≡ string_bytes text.old ++ xml_front_text within bytes.now) }
-    ensures behind { IfOk result (λ rest. rest.now ≡ after_xml_front bytes.now) }
+        ≡ string_bytes text.old ++ first_xml_text within bytes.now) }
+    ensures behind { IfOk result (λ rest. rest.now ≡ after_first_xml_text bytes.now) }
     ensures shorter { IfOk result (λ rest. length rest.now < length bytes.now) }
 {
-    match front_xml_character(bytes) {
+    match first_xml_character(bytes) {
         Some(character) => {
             push_character(text, within, character)?;
             Ok(tail_from(bytes, character.len_utf8()))
@@ -61,18 +61,18 @@ fn push_xml_front<'a>(
 }
 
 // Returns the XML character at the beginning of the bytes, or `None` if they do not begin with an XML character.
-fn front_xml_character(bytes: &[u8]) -> Option<char>
-    ensures { result ≡ front_xml_character bytes.now }
+fn first_xml_character(bytes: &[u8]) -> Option<char>
+    ensures { result ≡ first_xml_character bytes.now }
 {
-    match str::from_utf8(xml_front_bytes(bytes)) {
-        Ok(front) => filter_xml_character(front.chars().next()),
+    match str::from_utf8(first_xml_bytes(bytes)) {
+        Ok(front) => allowed_xml_character(front.chars().next()),
         Err(_) => None,
     }
 }
 
 // Returns the character if XML 1.0 allows it; `None` if it does not, or no character is given.
-fn filter_xml_character(character: Option<char>) -> Option<char>
-    ensures { result ≡ filter_xml_character character }
+fn allowed_xml_character(character: Option<char>) -> Option<char>
+    ensures { result ≡ allowed_xml_character character }
 {
     match character {
         Some(character) if is_xml_character(character) => Some(character),
@@ -81,8 +81,8 @@ fn filter_xml_character(character: Option<char>) -> Option<char>
 }
 
 // Returns the first of these bytes, as many as the UTF-8 character has that the first byte begins, or all bytes if there are fewer.
-fn xml_front_bytes(bytes: &[u8]) -> &[u8]
-    ensures { result.now ≡ xml_front_bytes bytes.now }
+fn first_xml_bytes(bytes: &[u8]) -> &[u8]
+    ensures { result.now ≡ first_xml_bytes bytes.now }
 {
     let Some(first) = bytes.first() else {
         return bytes;

@@ -4,7 +4,7 @@ use Rattle.std.specs.Result.{result_ok}
 use Rattle.rv_rows.specs.declared_elf_error.ImageError.{ImageError}
 use Rattle.rv_rows.specs.declared_job.Job.{Job}
 use Rattle.rv_rows.specs.Jobs.{console_path}
-use Rattle.rv_rows.specs.Plans.{Planned, result_for_path}
+use Rattle.rv_rows.specs.Plans.{Planned, result_or_unreadable}
 use Rattle.rv_machine.specs.Run.{Ran, run_of}
 use Rattle.rv_machine.specs.State.{State}
 use Rattle.rv_rows.specs.declared.outcome.Loadable.{Loadable}
@@ -41,9 +41,9 @@ module _ (job : Job) (s : State) where
   module _ (plan : Planned) (e : start_in plan.answers job ≡ Ok s) where
     tells : Tells (outcome_in plan.answers job) (run_of job.budget s)
     unfolding outcome_of start_of
-    tells = there_tells (image_file_or_refusal (result_for_path plan.answers job.image)
-        (option_map (result_for_path plan.answers) job.expect_signature)
-        (option_map (result_for_path plan.answers) (console_path job.expect_console))) e
+    tells = there_tells (image_file_or_refusal (result_or_unreadable plan.answers job.image)
+        (option_map (result_or_unreadable plan.answers) job.expect_signature)
+        (option_map (result_or_unreadable plan.answers) (console_path job.expect_console))) e
 
     ending_told : (row_of plan job).ending ≡ row_end (run_of job.budget s).ending
     unfolding row_of

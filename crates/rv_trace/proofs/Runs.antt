@@ -7,21 +7,21 @@ use Rattle.std.specs.Prelude.{◌⊎◌, ◌==◌, MatchBool, is_ok, not}
 use Rattle.rv_machine.specs.declared.ending.Ending.{Ending}
 use Rattle.rv_machine.specs.declared.ending.Ending.TheVariants.{Budget}
 use Rattle.rv_machine.specs.State.{State}
-use Rattle.rv_machine.specs.Run.{run_rest, step_of, run_of}
+use Rattle.rv_machine.specs.Run.{run_after_step, step_of, run_of}
 use Rattle.rv_trace.specs.declared.step.TracedStep.{TracedStep}
-use Rattle.rv_trace.specs.Steps.{steps_from, traced_step, step_and_more}
+use Rattle.rv_trace.specs.Steps.{steps_from, traced_step, step_then}
 use Rattle.rv_trace.specs.Trace.{state_after}
 
 -- ---- one step more in front
 
-run_goes_on : (n : ℕ) (s t : State) → step_of s ≡ Ok t → run_of (suc n) s ≡ run_rest (Ok t) s (λ u. run_of n u)
+run_goes_on : (n : ℕ) (s t : State) → step_of s ≡ Ok t → run_of (suc n) s ≡ run_after_step (Ok t) s (λ u. run_of n u)
 unfolding run_of
-run_goes_on n s t e = ap (λ r. run_rest r s (λ u. run_of n u)) e
+run_goes_on n s t e = ap (λ r. run_after_step r s (λ u. run_of n u)) e
 
 run_ends : (n : ℕ) (s : State) (e : Ending) → step_of s ≡ Err e
     → run_of (suc n) s ≡ record { ending = e; steps = 0; state = s }
 unfolding run_of
-run_ends n s e is = ap (λ r. run_rest r s (λ u. run_of n u)) is
+run_ends n s e is = ap (λ r. run_after_step r s (λ u. run_of n u)) is
 
 pub after_first : (n : ℕ) (s t : State) → step_of s ≡ Ok t → state_after (suc n) s ≡ state_after n t
 after_first n s t e = ap (λ r. r.state) (run_goes_on n s t e)
@@ -123,11 +123,11 @@ ends (suc n) s = by_step s (((run_of (suc n) s).ending ≡ Budget)
 
 pub lines_first : (n : ℕ) (s t : State) → step_of s ≡ Ok t → steps_from (suc n) s ≡ traced_step s t ∷ steps_from n t
 unfolding steps_from
-lines_first n s t e = ap (λ r. step_and_more r s (λ u. steps_from n u)) e
+lines_first n s t e = ap (λ r. step_then r s (λ u. steps_from n u)) e
 
 pub lines_end : (n : ℕ) (s : State) (e : Ending) → step_of s ≡ Err e → steps_from (suc n) s ≡ []
 unfolding steps_from
-lines_end n s e is = ap (λ r. step_and_more r s (λ u. steps_from n u)) is
+lines_end n s e is = ap (λ r. step_then r s (λ u. steps_from n u)) is
 
 lines_none : (s : State) → steps_from 0 s ≡ []
 unfolding steps_from

@@ -5,15 +5,15 @@ use Rattle.rv_machine.specs.Run.{run_of}
 use Rattle.rv_machine.specs.State.{State, register}
 use Rattle.rv_trace.specs.declared.step.TracedStep.{TracedStep}
 use Rattle.rv_trace.specs.Code.{code_at}
-use Rattle.rv_trace.specs.Showing.{EndsThere, ShowsTheEnd}
+use Rattle.rv_trace.specs.Showing.{IsEndOfRun, ShowsEndOfRun}
 use Rattle.rv_trace.specs.Steps.{steps_from, traced_step}
 use Rattle.rv_trace.specs.Trace.{state_after, registers_of, trace_of}
 use Rattle.rv_trace.proofs.Runs.{after_more, completes, each_completes, ends, line_at, lines_count, same_end}
 use Rattle.rv_trace.proofs.Runs.{steps_more}
 
-pub register_at : (s : State) (n : ℕ) → n < 32 → get_or (registers_of s) n 0 ≡ register s n
+pub parse_register : (s : State) (n : ℕ) → n < 32 → get_or (registers_of s) n 0 ≡ register s n
 unfolding registers_of
-register_at s n h = get_or-map-range_with_len (register s) 0 32 n n 0 h (zero-add n)
+parse_register s n h = get_or-map-range_with_len (register s) 0 32 n n 0 h (zero-add n)
 
 pub registers_count : (s : State) → length (registers_of s) ≡ 32
 unfolding registers_of
@@ -40,7 +40,7 @@ module _ (budget last : ℕ) (s : State) where
         ∙ (λ i. traced_step (sym (after_more front k s in_front) i)
         ((sym (after_more front (k + 1) s in_front) ∙ ap (λ m. state_after m s) (sym next)) i))
 
-  pub shows : ShowsTheEnd (trace_of (run_of budget s).steps last s) last (run_of budget s) s
+  pub shows : ShowsEndOfRun (trace_of (run_of budget s).steps last s) last (run_of budget s) s
   unfolding trace_of
   shows =
       let shown = min (run_of budget s).steps last in
@@ -50,12 +50,12 @@ module _ (budget last : ℕ) (s : State) where
       record {
         pc = ap (λ t. t.pc) end;
         code = ap (λ t. code_at t.bus t.pc) end;
-        registers = λ n h. register_at (state_after shown (state_after front s)) n h ∙ ap (λ t. register t n) end;
+        registers = λ n h. parse_register (state_after shown (state_after front s)) n h ∙ ap (λ t. register t n) end;
         count = lines_count shown (state_after front s) ∙ all_shown front shown is;
         lines = one_line front shown is;
       }
 
-pub ends_there : (budget : ℕ) (s : State) → EndsThere (run_of budget s) s
+pub ends_there : (budget : ℕ) (s : State) → IsEndOfRun (run_of budget s) s
 ends_there budget s = record {
   completed = λ k h. each_completes budget k s h;
   ended = ends budget s;

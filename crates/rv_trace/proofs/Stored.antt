@@ -18,7 +18,7 @@ use Rattle.rv_machine.specs.declared_faults.BusFault.TheVariants as bus
 use Rattle.rv_machine.specs.Effect.{address, after_store, effect, effect_of, next_pc, rs2_value, store}
 use Rattle.rv_machine.specs.Fetch.{Fetched, fetch}
 use Rattle.rv_machine.specs.Run.{after_fetch, step_of}
-use Rattle.rv_machine.specs.State.{State, at_pc, with_bus}
+use Rattle.rv_machine.specs.State.{State, with_pc, with_bus}
 use Rattle.rv_trace.specs.declared.write_targets.Access.{Access}
 use Rattle.rv_trace.specs.declared.write_targets.Access.TheVariants as access
 use Rattle.rv_trace.specs.declared.write_targets.WriteTarget.TheVariants as aim
@@ -104,7 +104,7 @@ module _ (s t : State) (i : Instr) (next a v : ℕ) (w : Width) where
       → after_store r s i next ≡ Ok t → touches_console (address s i) (size_of w) ≡ false
       → value_at t.bus.memory (address s i) w ≡ rs2_value s i % 2 ^ (8 * size_of w)
   left_there (Ok d) is e outside =
-      let same : at_pc (with_bus s d) next ≡ t = cc in
+      let same : with_pc (with_bus s d) next ≡ t = cc in
       let bus : t.bus ≡ put s.bus (address s i) w (rs2_value s i) =
       sym (ap (λ u. u.bus) same) ∙ store_leaves s.bus d (address s i) w (rs2_value s i) outside is in
       ap (λ c. value_at c.memory (address s i) w) bus ∙ value_put s.bus (address s i) w (rs2_value s i)

@@ -78,11 +78,11 @@ traced_step s t = record {
 
 -- the traced instruction at the state `s` and the instructions after it, which `rest` returns for the new state; empty if the instruction
 -- does not complete
-abbrev pub step_and_more : Result State Ending → State → (State → List TracedStep) → List TracedStep
-step_and_more (Ok t) s rest = traced_step s t ∷ rest t
-step_and_more (Err e) s rest = []
+abbrev pub step_then : Result State Ending → State → (State → List TracedStep) → List TracedStep
+step_then (Ok t) s rest = traced_step s t ∷ rest t
+step_then (Err e) s rest = []
 
 -- the completed instructions among the first `n` steps from the state `s`, as a trace shows them
 unfoldable pub steps_from : ℕ → State → List TracedStep
 steps_from zero s = []
-steps_from (suc n) s = step_and_more (step_of s) s (λ t. steps_from n t)
+steps_from (suc n) s = step_then (step_of s) s (λ t. steps_from n t)

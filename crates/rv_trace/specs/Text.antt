@@ -39,9 +39,9 @@ abbrev pub margin : List ℕ
 margin = codes "     "
 
 -- the name of a symbol and the offset from it; an empty text if there is no symbol
-abbrev pub symbol_or_none : Option (List ℕ × ℕ) → List ℕ
-symbol_or_none None = []
-symbol_or_none (Some place) = symbol_text place
+abbrev pub symbol_or_empty : Option (List ℕ × ℕ) → List ℕ
+symbol_or_empty None = []
+symbol_or_empty (Some place) = symbol_text place
 
 -- ---- an instruction
 
@@ -80,12 +80,12 @@ address_text image file address =
     symbol_and_space (symbol_of_value image file address) ++ word_digits address
 
 -- the text that says what an instruction wrote; empty if it wrote nothing
-unfoldable pub wrote_text : Image → List ℕ → WriteEffect → List ℕ
-wrote_text image file wrote.Nothing = []
-wrote_text image file (wrote.Register number value) = register_text number value
-wrote_text image file (wrote.Loaded number value address) =
+unfoldable pub write_effect_text : Image → List ℕ → WriteEffect → List ℕ
+write_effect_text image file wrote.Nothing = []
+write_effect_text image file (wrote.Register number value) = register_text number value
+write_effect_text image file (wrote.Loaded number value address) =
     loaded_text number value ++ codes "from " ++ address_text image file address
-wrote_text image file (wrote.Stored address width value) =
+write_effect_text image file (wrote.Stored address width value) =
     address_text image file address ++ codes " <- " ++ stored_value_text width value
 
 -- the assembly text, and in the next column `effect_text`, the text about its effect, unless that is empty
@@ -101,19 +101,19 @@ code_columns (Some code) text effect_text = padded_text 8 (code_text code) ++ ga
 unfoldable pub instruction_line :
     Option (List ℕ × ℕ) → ℕ → Option Code → List ℕ → List ℕ → List ℕ
 instruction_line symbol pc code text effect_text =
-    line (margin ++ word_digits pc ++ gap ++ padded_text 20 (symbol_or_none symbol) ++ gap
+    line (margin ++ word_digits pc ++ gap ++ padded_text 20 (symbol_or_empty symbol) ++ gap
     ++ code_columns code text effect_text)
 
 -- the assembly text of an encoding at `pc`, or an empty text if there is none
-abbrev pub assembly_or_none : ℕ → Option Code → List ℕ
-assembly_or_none pc None = []
-assembly_or_none pc (Some code) = assembly pc code
+abbrev pub assembly_or_empty : ℕ → Option Code → List ℕ
+assembly_or_empty pc None = []
+assembly_or_empty pc (Some code) = assembly pc code
 
 -- the line of a completed instruction
 unfoldable pub step_line : Image → List ℕ → TracedStep → List ℕ
 step_line image file step =
     instruction_line (symbol_at image file step.pc) step.pc step.code
-    (assembly_or_none step.pc step.code) (wrote_text image file step.wrote)
+    (assembly_or_empty step.pc step.code) (write_effect_text image file step.wrote)
 
 -- ---- the end
 
@@ -133,9 +133,9 @@ end_reason ending.Budget = codes "not run: the budget is used up"
 end_reason (ending.Refused why) = refusal_name why
 
 -- whether a run ended with an illegal instruction: the job's instruction set has no instruction for the encoding
-abbrev pub ends_by_illegal : RowEnd → Bool
-ends_by_illegal (ending.Fault fault.Illegal pc value) = true
-ends_by_illegal _ = false
+abbrev pub is_illegal_end : RowEnd → Bool
+is_illegal_end (ending.Fault fault.Illegal pc value) = true
+is_illegal_end _ = false
 
 -- the description of an encoding that is not an instruction of the job's set
 unfoldable pub illegal_text : Code → List ℕ
@@ -146,7 +146,7 @@ illegal_text (Word word) = illegal_text32 word
 -- no encoding
 abbrev pub end_assembly : RowEnd → ℕ → Option Code → List ℕ
 end_assembly end pc None = []
-end_assembly end pc (Some code) = if ends_by_illegal end then illegal_text code else assembly pc code
+end_assembly end pc (Some code) = if is_illegal_end end then illegal_text code else assembly pc code
 
 -- the line of the instruction at the end of a run
 unfoldable pub end_instruction_line : Image → List ℕ → ℕ → Option Code → RowEnd → List ℕ

@@ -3,7 +3,7 @@ use Rattle.std.specs.Prelude.{ℕ, ◌-◌, List, Option, Some, option_map, map,
 use Rattle.std.specs.List.{range_with_len}
 use Rattle.std.specs.Result.{result_ok}
 use Rattle.rv_rows.specs.declared_answers.Answer.{Answer}
-use Rattle.rv_rows.specs.Plans.{Planned, result_for_path}
+use Rattle.rv_rows.specs.Plans.{Planned, result_or_unreadable}
 use Rattle.rv_rows.specs.declared_job.Job.{Job}
 use Rattle.rv_machine.specs.Run.{run_of}
 use Rattle.rv_machine.specs.State.{State, register}
@@ -19,7 +19,7 @@ job_at plan place other = slice_index_or plan.jobs place other
 
 -- the bytes of a job's image, or `None` if they were not read
 abbrev pub image_bytes : List Answer → Job → Option (List ℕ)
-image_bytes answers job = content_if_read (Some (result_for_path answers job.image))
+image_bytes answers job = content_if_read (Some (result_or_unreadable answers job.image))
 
 -- the state after at most `n` steps of a run from the state `s`
 abbrev pub state_after : ℕ → State → State

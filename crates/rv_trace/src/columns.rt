@@ -2,7 +2,7 @@
 
 ghost use Rattle.std.specs.Prelude.{◌≡◌, ◌++◌, OnOk, drop, option_map, replicate};
 ghost use Rattle.rv_text.specs.Words.{word_digits};
-ghost use Rattle.rv_trace.specs.Text.{code_text, code_columns, instruction_line, padded_text, symbol_or_none, text_columns};
+ghost use Rattle.rv_trace.specs.Text.{code_text, code_columns, instruction_line, padded_text, symbol_or_empty, text_columns};
 
 use crate::code::Code;
 use rv_rows::SymbolAt;
@@ -55,7 +55,7 @@ fn push_symbol_column(
     symbol: Option<SymbolAt<'_>>,
 ) -> Result<(), AllocError>
     ensures { OnOk result (bytes.new.items ≡ bytes.old.items
-        ++ padded_text 20 (symbol_or_none (option_map (λ s. (s.name.now, s.offset)) symbol.entry))) }
+        ++ padded_text 20 (symbol_or_empty (option_map (λ s. (s.name.now, s.offset)) symbol.entry))) }
 {
     let mut text = Vec::new(alloc);
     if let Some(symbol) = symbol {

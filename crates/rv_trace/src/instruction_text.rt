@@ -2,9 +2,9 @@
 
 ghost use Rattle.std.specs.Prelude.{◌≡◌, ◌++◌, OnOk, option_map};
 ghost use Rattle.rv_disasm.specs.Operands.{register_name};
-ghost use Rattle.rv_trace.specs.Text.{assembly, assembly_or_none, end_assembly, end_reason, ends_by_illegal, illegal_text};
+ghost use Rattle.rv_trace.specs.Text.{assembly, assembly_or_empty, end_assembly, end_reason, is_illegal_end, illegal_text};
 ghost use Rattle.rv_trace.specs.Text.{address_text, fault_value_text, loaded_text, register_text, stored_value_text, symbol_and_space};
-ghost use Rattle.rv_trace.specs.Text.{wrote_text};
+ghost use Rattle.rv_trace.specs.Text.{write_effect_text};
 
 use crate::code::Code;
 use crate::columns::push_digits_after_first;
@@ -23,7 +23,7 @@ pub(crate) fn push_assembly(
     pc: u32,
     code: Option<Code>,
 ) -> Result<(), AllocError>
-    ensures { OnOk result (bytes.new.items ≡ bytes.old.items ++ assembly_or_none pc code) }
+    ensures { OnOk result (bytes.new.items ≡ bytes.old.items ++ assembly_or_empty pc code) }
 {
     match code {
         Some(code) => push_assembly_of_code(alloc, bytes, pc, code),
@@ -48,15 +48,15 @@ fn push_assembly_of_code(
 }
 
 /// Appends the text that says what an instruction wrote; nothing if it wrote nothing.
-#[tactic(auto, unfolding(crate::specs::Text::wrote_text))]
-pub(crate) fn push_wrote_text(
+#[tactic(auto, unfolding(crate::specs::Text::write_effect_text))]
+pub(crate) fn push_write_effect(
     alloc: Global,
     bytes: &mut Vec<u8>,
     elf: &ElfFile<'_>,
     wrote: WriteEffect,
 ) -> Result<(), AllocError>
     ensures { OnOk result (bytes.new.items ≡ bytes.old.items
-        ++ wrote_text elf.now.image.now elf.now.bytes.now wrote) }
+        ++ write_effect_text elf.now.image.now elf.now.bytes.now wrote) }
 {
     match wrote {
         WriteEffect::Nothing => Ok(()),
@@ -169,7 +169,7 @@ pub(crate) fn push_end_assembly(
     ensures { OnOk result (bytes.new.items ≡ bytes.old.items ++ end_assembly end pc code) }
 {
     match code {
-        Some(code) if ends_by_illegal(end) => push_illegal(bytes, code),
+        Some(code) if is_illegal_end(end) => push_illegal(bytes, code),
         Some(code) => push_assembly_of_code(alloc, bytes, pc, code),
         None => Ok(()),
     }
@@ -187,8 +187,8 @@ fn push_illegal(bytes: &mut Vec<u8>, code: Code) -> Result<(), AllocError>
 }
 
 // Whether a run ended with an illegal instruction: the job's instruction set has no instruction for the encoding.
-fn ends_by_illegal(end: RowEnd) -> bool
-    ensures { result ≡ ends_by_illegal end }
+fn is_illegal_end(end: RowEnd) -> bool
+    ensures { result ≡ is_illegal_end end }
 {
     match end {
         RowEnd::Fault(FaultKind::Illegal, _, _) => true,

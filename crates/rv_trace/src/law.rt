@@ -14,15 +14,15 @@ ghost use Rattle.rv_machine.specs.declared_access.Width.{Width};
 ghost use Rattle.rv_trace.specs.declared.code.Code.{Code};
 ghost use Rattle.rv_trace.specs.declared.step.WriteEffect.TheVariants.{Stored};
 ghost use Rattle.rv_trace.specs.Steps.{traced_step};
-ghost use Rattle.rv_trace.specs.Showing.{EndsThere, IsCodeOf, ShowsTheEnd};
+ghost use Rattle.rv_trace.specs.Showing.{IsEndOfRun, IsCodeOf, ShowsEndOfRun};
 ghost use Rattle.rv_trace.specs.Trace.{trace_of};
 
 /// Proves that a trace of as many steps as a run completes shows the end of that run: the pc and the registers of its last state, and the
 /// last instructions in order, each as it was at its state. These completed, and the one at the end did not.
 pub fn traces_show_the_end()
     ensures shown { (budget last : ℕ) (s : State)
-        → ShowsTheEnd (trace_of (run_of budget s).steps last s) last (run_of budget s) s }
-    ensures ended { (budget : ℕ) (s : State) → EndsThere (run_of budget s) s }
+        → ShowsEndOfRun (trace_of (run_of budget s).steps last s) last (run_of budget s) s }
+    ensures ended { (budget : ℕ) (s : State) → IsEndOfRun (run_of budget s) s }
 {}
 
 /// Proves that a fetch in a state returns the instruction of the encoding that a trace shows for the state.
@@ -40,7 +40,7 @@ pub fn stored_values_stand()
 {}
 
 /// Proves that the row of a plan's job that is not refused says how the run in the job's trace ended, and how many steps it completed.
-pub fn rows_are_of_the_run()
+pub fn rows_describe_the_run()
     ensures ending { (plan : Planned) (job : Job) (s : State) → start_in plan.answers job ≡ Ok s
         → (row_of plan job).ending ≡ row_end (run_of job.budget s).ending }
     ensures steps { (plan : Planned) (job : Job) (s : State) → start_in plan.answers job ≡ Ok s

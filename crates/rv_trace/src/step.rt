@@ -45,7 +45,7 @@ pub(crate) fn trace_next_step(machine: &mut Machine) -> Option<TracedStep>
     let pc = machine.pc();
     let code = code_at(machine.bus(), pc);
     let aim = write_target(machine, code);
-    if !step_once(machine) {
+    if !execute_step(machine) {
         return None;
     }
     Some(TracedStep {
@@ -57,7 +57,7 @@ pub(crate) fn trace_next_step(machine: &mut Machine) -> Option<TracedStep>
 
 // Executes a machine's next instruction, and returns whether it completed. This is a run of one step, so that the execution of an
 // instruction has a single caller in this program, too, the loop of a run, and the compiler can inline it there.
-fn step_once(machine: &mut Machine) -> bool
+fn execute_step(machine: &mut Machine) -> bool
     ensures { MatchBool result (step_of (state_of machine.old) ≡ Ok (state_of machine.new))
         ((is_ok (step_of (state_of machine.old)) ≡ false)
         × (state_of machine.new ≡ state_of machine.old)) }

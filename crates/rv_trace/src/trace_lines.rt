@@ -10,7 +10,7 @@ ghost use Rattle.rv_trace.specs.Text.{trace_text};
 use crate::columns::{GAP, Instruction, MARGIN, push_instruction_line, push_padded_text};
 use crate::elf_file::ElfFile;
 use crate::instruction_text::{
-    push_assembly, push_end_assembly, push_end_reason, push_wrote_text, register_name_or_empty,
+    push_assembly, push_end_assembly, push_end_reason, push_write_effect, register_name_or_empty,
 };
 use crate::step::TracedStep;
 use crate::trace::Trace;
@@ -165,7 +165,7 @@ fn push_step_line(
     let mut text = Vec::new(alloc);
     push_assembly(alloc, &mut text, step.pc, step.code)?;
     let mut effect_text = Vec::new(alloc);
-    push_wrote_text(alloc, &mut effect_text, elf, step.wrote)?;
+    push_write_effect(alloc, &mut effect_text, elf, step.wrote)?;
     let shown = Instruction {
         symbol: elf.symbol_at(step.pc),
         pc: step.pc,

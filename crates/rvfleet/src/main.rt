@@ -1,7 +1,7 @@
 //! The program `rvfleet`: passes the process's own arguments, files and streams to the library, and exits with its status.
 #![tactic(auto)]
 
-use rvfleet_app::{FileStore, FreeGate, StreamSink, refuse_unreadable_words, run_words};
+use rvfleet_app::{FileStore, FreeGate, StreamSink, reject_unreadable_args, run_words};
 use std::env::Env;
 use std::process::ExitCode;
 use std::{env, io};
@@ -9,9 +9,9 @@ use std::{env, io};
 // Responds to the process's own arguments, with its own streams and files.
 fn main(rt: HostRuntime) -> ExitCode {
     let mut errors = StreamSink::new(rt.stderr());
-    let texts = match words_of_process(&rt) {
+    let texts = match process_args(&rt) {
         Ok(texts) => texts,
-        Err(error) => return ExitCode::from(refuse_unreadable_words(&error, &mut errors)),
+        Err(error) => return ExitCode::from(reject_unreadable_args(&error, &mut errors)),
     };
     let status = run_words(
         &rt,
@@ -29,7 +29,7 @@ fn main(rt: HostRuntime) -> ExitCode {
 // Returns the process's own arguments. It is a separate function because the code before the loop of steps decides where that loop is
 // placed: docs/PERFORMANCE.md, "What must hold of the machine code".
 #[inline(never)]
-fn words_of_process(rt: &(impl Env + AllocGlobal)) -> io::Result<Vec<String>> {
+fn process_args(rt: &(impl Env + AllocGlobal)) -> io::Result<Vec<String>> {
     let mut texts = Vec::new(rt.alloc());
     for text in env::args(rt)? {
         texts.push(text)?;

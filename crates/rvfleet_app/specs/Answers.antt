@@ -7,14 +7,14 @@ use Rattle.rv_fleet.specs.declared_row.Row.{Row}
 use Rattle.rv_fleet.specs.declared_row.Verdict.{Verdict}
 use Rattle.rv_fleet.specs.declared_row.Verdict.TheVariants as verdict
 use Rattle.rv_fleet.specs.Report.{report_text}
-use Rattle.rv_files.specs.Sinks.{AppendsBeginning}
+use Rattle.rv_files.specs.Sinks.{AppendsPrefix}
 use Rattle.rv_fleet.specs.declared_lists_error.JobError.{JobError}
 use Rattle.rv_fleet.specs.declared_job.Job.{Job}
 use Rattle.rv_files.specs.Files.{FileContents}
 use Rattle.rv_cli.specs.RvfleetCommand.{Request, one, raw, run}
 use Rattle.rvfleet_app.specs.declared.error.Failure.{Failure}
-use Rattle.rvfleet_app.specs.Failures.{is_failure_of_list, is_failure_of_raw, is_failure_of_sending}
-use Rattle.rvfleet_app.specs.Lines.{IsLinePut, bad_words_line, failure_line, fault_line}
+use Rattle.rvfleet_app.specs.Failures.{is_list_failure, is_raw_failure, is_write_failure}
+use Rattle.rvfleet_app.specs.Lines.{IsLineWritten, bad_arguments_line, failure_line, fault_line}
 use Rattle.rvfleet_app.specs.ElfImage.{script_bytes, is_bad_image_request, is_bad_path, single_image_jobs}
 use Rattle.rvfleet_app.specs.Plans.{AreJobRows, IsPossibleListError, IsPossibleList, Stored}
 use Rattle.rvfleet_app.specs.FlatImage.{AreRawRows}
@@ -22,23 +22,23 @@ use Rattle.rvfleet_app.specs.FlatImage.{AreRawRows}
 -- ---- rejected arguments
 
 -- whether the arguments are rejected: they do not make a request, or the path or the digits of their request are invalid
-abbrev pub is_request_refused : Option Request → Bool
-is_request_refused (Some (raw budget)) = false
-is_request_refused (Some (one path budget digits)) = is_bad_image_request path digits
-is_request_refused (Some (run path workers group)) = is_bad_path path
-is_request_refused None = true
+abbrev pub is_request_rejected : Option Request → Bool
+is_request_rejected (Some (raw budget)) = false
+is_request_rejected (Some (one path budget digits)) = is_bad_image_request path digits
+is_request_rejected (Some (run path workers group)) = is_bad_path path
+is_request_rejected None = true
 
 -- the request runs the list at a path, and some contents that the store may have there are a list with this error; `known` are the store's
 -- contents, if they are known
-abbrev pub IsFaultOfRequest : Option Request → Option FileContents → JobError → Type 0
-IsFaultOfRequest (Some (raw budget)) known error = ⊥
-IsFaultOfRequest (Some (one path budget digits)) known error = ⊥
-IsFaultOfRequest (Some (run path workers group)) known error = IsPossibleListError known path error
-IsFaultOfRequest None known error = ⊥
+abbrev pub IsListErrorOf : Option Request → Option FileContents → JobError → Type 0
+IsListErrorOf (Some (raw budget)) known error = ⊥
+IsListErrorOf (Some (one path budget digits)) known error = ⊥
+IsListErrorOf (Some (run path workers group)) known error = IsPossibleListError known path error
+IsListErrorOf None known error = ⊥
 
 -- the request runs the list at a path, and some contents that the store may have there are a list with an error
-abbrev pub HasFault : Option Request → Stored → Type 0
-HasFault request store = (error : JobError) × IsFaultOfRequest request store.known error
+abbrev pub HasListError : Option Request → Stored → Type 0
+HasListError request store = (error : JobError) × IsListErrorOf request store.known error
 
 -- ---- the rows of a request
 
@@ -97,7 +97,7 @@ pub record IsReportSent (before after : Option (List ℕ)) (status : ℕ) (rows 
 
 -- a prefix of the report of these rows was written; `before` and `after` are the bytes written before and after that
 abbrev pub IsReportPrefixWritten : Option (List ℕ) → Option (List ℕ) → List Row → Type 0
-IsReportPrefixWritten before after rows = AppendsBeginning before after (report_text rows)
+IsReportPrefixWritten before after rows = AppendsPrefix before after (report_text rows)
 
 -- ---- the response
 
@@ -107,35 +107,35 @@ pub record Answers (request : Option Request) (input : Option (List ℕ)) (store
     (before after : Option (List ℕ)) (status : ℕ) : Type 0 where
   pub reported : status ≡ 0 ⊎ status ≡ 1
       → (rows : List Row) × (AreRows request input store rows × IsReportSent before after status rows)
-  pub accepted : status ≡ 0 ⊎ status ≡ 1 → is_request_refused request ≡ false
+  pub accepted : status ≡ 0 ⊎ status ≡ 1 → is_request_rejected request ≡ false
   pub refused : status ≡ 2
-      → Keeps before after × (is_request_refused request ≡ true ⊎ HasFault request store)
+      → Keeps before after × (is_request_rejected request ≡ true ⊎ HasListError request store)
   pub failed : status ≡ 3 → Keeps before after
       ⊎ ((rows : List Row) × (AreRows request input store rows × IsReportPrefixWritten before after rows))
 
 -- ---- the line on standard error
 
 -- a line was written that says why a request is rejected: invalid arguments, or the error of its list
-abbrev pub ReportsRefusal : Option Request → Option FileContents
+abbrev pub ReportsRejection : Option Request → Option FileContents
     → Option (List ℕ) → Option (List ℕ) → ℕ → ℕ → Type 0
-ReportsRefusal request known before after failures_before failures_after =
-    ((is_request_refused request ≡ true)
-    × IsLinePut before after failures_before failures_after bad_words_line)
-    ⊎ ((error : JobError) × (IsFaultOfRequest request known error
-    × IsLinePut before after failures_before failures_after (fault_line error)))
+ReportsRejection request known before after failures_before failures_after =
+    ((is_request_rejected request ≡ true)
+    × IsLineWritten before after failures_before failures_after bad_arguments_line)
+    ⊎ ((error : JobError) × (IsListErrorOf request known error
+    × IsLineWritten before after failures_before failures_after (fault_line error)))
 
 -- whether the program can have this failure while it handles the request; without a request, only while it writes the help
 abbrev pub may_fail : Option Request → Failure → Bool
-may_fail (Some (raw budget)) failure = is_failure_of_raw failure
-may_fail (Some (one path budget digits)) failure = is_failure_of_sending failure
-may_fail (Some (run path workers group)) failure = is_failure_of_list failure
-may_fail None failure = is_failure_of_sending failure
+may_fail (Some (raw budget)) failure = is_raw_failure failure
+may_fail (Some (one path budget digits)) failure = is_write_failure failure
+may_fail (Some (run path workers group)) failure = is_list_failure failure
+may_fail None failure = is_write_failure failure
 
 -- a line was written that reports a failure which the program can have while it handles the request
 abbrev pub ReportsFailure : Option Request → Option (List ℕ) → Option (List ℕ) → ℕ → ℕ → Type 0
 ReportsFailure request before after failures_before failures_after =
     (failure : Failure) × ((may_fail request failure ≡ true)
-    × IsLinePut before after failures_before failures_after (failure_line failure))
+    × IsLineWritten before after failures_before failures_after (failure_line failure))
 
 -- nothing was written, and no write failed
 abbrev pub IsQuiet : Option (List ℕ) → Option (List ℕ) → ℕ → ℕ → Type 0
@@ -147,5 +147,5 @@ pub record ReportsReason (request : Option Request) (known : Option FileContents
     (before after : Option (List ℕ)) (failures_before failures_after : ℕ) (status : ℕ)
     : Type 0 where
   pub quiet : status ≡ 0 ⊎ status ≡ 1 → IsQuiet before after failures_before failures_after
-  pub refused : status ≡ 2 → ReportsRefusal request known before after failures_before failures_after
+  pub refused : status ≡ 2 → ReportsRejection request known before after failures_before failures_after
   pub failed : status ≡ 3 → ReportsFailure request before after failures_before failures_after

@@ -4,12 +4,12 @@ use Rattle.std.specs.Prelude.{Some, None, Result, Ok, Err}
 use Rattle.hex.specs.Hex.{decode_of}
 use Rattle.hex.specs.declared.error.FromHexError.{FromHexError}
 use Rattle.rv_fleet.specs.declared_job.Job.{Job}
-use Rattle.rv_files.specs.Limits.{most_path, most_script}
+use Rattle.rv_files.specs.Limits.{max_path_len, max_script_len}
 use Rattle.rv_fleet.specs.Jobs.{single_job}
 
--- whether the path is invalid: it is empty, or longer than `most_path` bytes
+-- whether the path is invalid: it is empty, or longer than `max_path_len` bytes
 abbrev pub is_bad_path : List ℕ → Bool
-is_bad_path path = (length path == 0) || nat_lt most_path (length path)
+is_bad_path path = (length path == 0) || nat_lt max_path_len (length path)
 
 -- the bytes that the hexadecimal digits encode, or the error if they are invalid; no bytes if no digits are given
 abbrev pub script_bytes : Option (List ℕ) → Result (List ℕ) FromHexError
@@ -18,7 +18,7 @@ script_bytes (Some digits) = decode_of digits
 
 -- whether the result of decoding the digits is rejected: they are not hexadecimal, or encode more bytes than a console input may have
 abbrev pub is_bad_script : Result (List ℕ) FromHexError → Bool
-is_bad_script (Ok script) = nat_lt most_script (length script)
+is_bad_script (Ok script) = nat_lt max_script_len (length script)
 is_bad_script (Err _) = true
 
 -- whether the request to run an image is rejected because its path or its digits are invalid

@@ -42,27 +42,27 @@ send_failure write.OutOfMemory = failure.OutOfMemory
 send_failure write.Failed = failure.WriteFailed
 
 -- whether writing a report or the help can lead to this failure
-abbrev pub is_failure_of_sending : Failure → Bool
-is_failure_of_sending failure.OutOfMemory = true
-is_failure_of_sending failure.WriteFailed = true
-is_failure_of_sending _ = false
+abbrev pub is_write_failure : Failure → Bool
+is_write_failure failure.OutOfMemory = true
+is_write_failure failure.WriteFailed = true
+is_write_failure _ = false
 
 -- whether running a flat image, which reads the input, can lead to this failure
-abbrev pub is_failure_of_raw : Failure → Bool
-is_failure_of_raw failure.OutOfMemory = true
-is_failure_of_raw failure.ReadFailed = true
-is_failure_of_raw failure.WriteFailed = true
-is_failure_of_raw _ = false
+abbrev pub is_raw_failure : Failure → Bool
+is_raw_failure failure.OutOfMemory = true
+is_raw_failure failure.ReadFailed = true
+is_raw_failure failure.WriteFailed = true
+is_raw_failure _ = false
 
 -- whether running a job list, which uses a file and workers but not the input, can lead to this failure
-abbrev pub is_failure_of_list : Failure → Bool
-is_failure_of_list failure.ReadFailed = false
-is_failure_of_list _ = true
+abbrev pub is_list_failure : Failure → Bool
+is_list_failure failure.ReadFailed = false
+is_list_failure _ = true
 
 -- if reading a list ended with a failure, it is one that running a job list can lead to; always holds if the list has an error
 abbrev pub IsListFailure : ListError → Type 0
 IsListFailure (Refused error) = Unit {0}
-IsListFailure (Failed failure) = is_failure_of_list failure ≡ true
+IsListFailure (Failed failure) = is_list_failure failure ≡ true
 
 -- the result of reading a list whose parser returned this error: the list is rejected because of the error, or, if memory ran out, the
 -- program has a failure

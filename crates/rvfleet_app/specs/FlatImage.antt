@@ -4,12 +4,12 @@ use Rattle.rv_fleet.specs.declared_row.Row.{Row}
 use Rattle.rv_fleet.specs.Flat.{flat_row_of}
 
 -- the maximum number of bytes that are read: one more than a flat image may have
-abbrev pub most_read : ℕ
-most_read = 1048577
+abbrev pub max_read : ℕ
+max_read = 1048577
 
--- `bytes` are the first bytes of the input, at most `most_read` of them; any bytes if the input is not known
+-- `bytes` are the first bytes of the input, at most `max_read` of them; any bytes if the input is not known
 abbrev pub IsInputBeginning : Option (List ℕ) → List ℕ → Type 0
-IsInputBeginning input bytes = IfSome input (λ known. bytes ≡ take most_read known)
+IsInputBeginning input bytes = IfSome input (λ known. bytes ≡ take max_read known)
 
 -- `rows` has only the row of the flat image at the beginning of the input, run within this budget
 abbrev pub AreRawRows : Option (List ℕ) → ℕ → List Row → Type 0

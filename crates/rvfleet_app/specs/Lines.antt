@@ -3,9 +3,9 @@ use Rattle.std.specs.Prelude.{◌≡◌, ◌⊎◌, ℕ, List, ◌++◌, Option,
 use Rattle.std.specs.Fmt.{decimal}
 use Rattle.std.specs.Io.KnownBytes.{Appends}
 use Rattle.rv_fleet.specs.Report.{line}
-use Rattle.rv_files.specs.Sinks.{AppendsBeginning}
+use Rattle.rv_files.specs.Sinks.{AppendsPrefix}
 use Rattle.rv_files.specs.Counts.{one_more}
-use Rattle.rv_fleet.specs.ListsFaults.{what_name}
+use Rattle.rv_fleet.specs.ListsFaults.{job_error_name}
 use Rattle.rv_fleet.specs.declared_lists_error.JobError.{JobError}
 use Rattle.rvfleet_app.specs.declared.error.Failure.{Failure}
 use Rattle.rvfleet_app.specs.declared.error.Failure.TheVariants as failure
@@ -15,13 +15,13 @@ abbrev pub program_line : List ℕ → List ℕ
 program_line text = line (codes "rvfleet: " ++ text)
 
 -- the line on standard error for invalid arguments
-abbrev pub bad_words_line : List ℕ
-bad_words_line = program_line (codes "bad words")
+abbrev pub bad_arguments_line : List ℕ
+bad_arguments_line = program_line (codes "bad words")
 
 -- the line on standard error for an error in a list: the number of the job, or 0 for the whole list, and the name of the error
 abbrev pub fault_line : JobError → List ℕ
 fault_line error =
-    program_line (codes "job " ++ decimal error.job ++ codes ": " ++ what_name error.what)
+    program_line (codes "job " ++ decimal error.job ++ codes ": " ++ job_error_name error.what)
 
 -- the description of a failure in its line on standard error
 abbrev pub failure_name : Failure → List ℕ
@@ -37,7 +37,7 @@ abbrev pub failure_line : Failure → List ℕ
 failure_line failure = program_line (failure_name failure)
 
 -- the whole line was written and no write failed; or one write failed, and a prefix of the line was written
-unfoldable pub IsLinePut : Option (List ℕ) → Option (List ℕ) → ℕ → ℕ → List ℕ → Type 0
-IsLinePut before after failures_before failures_after line =
+unfoldable pub IsLineWritten : Option (List ℕ) → Option (List ℕ) → ℕ → ℕ → List ℕ → Type 0
+IsLineWritten before after failures_before failures_after line =
     (Appends before after line × (failures_after ≡ failures_before))
-    ⊎ (AppendsBeginning before after line × (failures_after ≡ one_more failures_before))
+    ⊎ (AppendsPrefix before after line × (failures_after ≡ one_more failures_before))

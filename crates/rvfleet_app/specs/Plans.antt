@@ -6,9 +6,9 @@ use Rattle.rv_fleet.specs.declared_lists_error.JobError.{JobError}
 use Rattle.rv_fleet.specs.declared_job.Job.{Job}
 use Rattle.rv_fleet.specs.declared_kept.Kept.TheVariants.{Content}
 use Rattle.rv_fleet.specs.JobList.{job_list_of}
-use Rattle.rv_fleet.specs.Plans.{AgreeWithContents, Planned, one_more_times, paths_of, paths_used, unreadable_count}
+use Rattle.rv_fleet.specs.Plans.{AgreeWithContents, Planned, after_increments, paths_of, paths_used, unreadable_count}
 use Rattle.rv_files.specs.Files.{FileContents}
-use Rattle.rv_fleet.specs.Kept.{IsKeptOf}
+use Rattle.rv_fleet.specs.Kept.{AgreesWithContents}
 use Rattle.rvfleet_app.specs.declared.error.ListError.{ListError}
 use Rattle.rvfleet_app.specs.declared.error.ListError.TheVariants.{Failed, Refused}
 
@@ -27,7 +27,7 @@ pub record IsPossiblePlan (store : Stored) (list : List Job) (plan : Planned) : 
   pub jobs : plan.jobs ≡ list
   pub paths : paths_of plan.answers ≡ paths_used list
   pub kept : AgreeWithContents store.known plan.answers
-  pub faults : store.after ≡ one_more_times store.before (unreadable_count plan.answers)
+  pub faults : store.after ≡ after_increments store.before (unreadable_count plan.answers)
 
 -- `rows` are the rows of a plan of these jobs, with results that the store may return for their paths
 abbrev pub AreJobRows : Stored → List Job → List Row → Type 0
@@ -36,12 +36,12 @@ AreJobRows store jobs rows = (plan : Planned) × (IsPossiblePlan store jobs plan
 -- `jobs` are the jobs of a list that the store may have at the path
 abbrev pub IsPossibleList : Option FileContents → List ℕ → List Job → Type 0
 IsPossibleList known path jobs =
-    (list : List ℕ) × (IsKeptOf known path (Content list) × (job_list_of list ≡ Ok jobs))
+    (list : List ℕ) × (AgreesWithContents known path (Content list) × (job_list_of list ≡ Ok jobs))
 
 -- the store may have a list with this error at the path
 abbrev pub IsPossibleListError : Option FileContents → List ℕ → JobError → Type 0
 IsPossibleListError known path error =
-    (list : List ℕ) × (IsKeptOf known path (Content list) × (job_list_of list ≡ Err error))
+    (list : List ℕ) × (AgreesWithContents known path (Content list) × (job_list_of list ≡ Err error))
 
 -- if reading a list ended because of an error in the list, the store may have a list with this error at the path
 abbrev pub IsListFault : Option FileContents → List ℕ → ListError → Type 0

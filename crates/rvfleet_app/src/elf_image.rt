@@ -1,21 +1,21 @@
 //! Running one ELF image of a store.
 
-ghost use Rattle.rv_files.specs.Limits.{most_budget};
+ghost use Rattle.rv_files.specs.Limits.{max_budget};
 ghost use Rattle.std.specs.Prelude.{List, ◌≡◌, ◌≢◌, ◌<◌, ◌≤◌, ◌⊎◌, Ok, IfErr, IfOk, OnErr, OnOk};
 ghost use Rattle.std.specs.Prelude.{length, option_map, true, vec_len};
 ghost use Rattle.std.specs.Io.KnownBytes.{Keeps};
 ghost use Rattle.rv_fleet.specs.declared_row.Row.{Row as ARow};
 ghost use Rattle.rv_files.specs.Counts.{HasIncreased};
-ghost use Rattle.rv_files.specs.Limits.{most_path, most_script};
+ghost use Rattle.rv_files.specs.Limits.{max_path_len, max_script_len};
 ghost use Rattle.rvfleet_app.specs.Answers.{IsReportPrefixWritten, IsReportSent};
-ghost use Rattle.rvfleet_app.specs.Failures.{is_failure_of_sending};
+ghost use Rattle.rvfleet_app.specs.Failures.{is_write_failure};
 ghost use Rattle.rvfleet_app.specs.ElfImage.{script_bytes, is_bad_path, is_bad_script, single_image_jobs};
 ghost use Rattle.rvfleet_app.specs.Plans.{AreJobRows, stored_contents};
 
 use crate::error::Failure;
 use crate::report_output::send_report;
 use hex::FromHexError;
-use rv_files::limits::{MOST_PATH, MOST_SCRIPT};
+use rv_files::limits::{MAX_PATH_LEN, MAX_SCRIPT_LEN};
 use rv_files::{Sink, Store};
 use rv_fleet::{JobList, gather, run_one};
 use std::alloc::Global;
@@ -36,23 +36,23 @@ pub struct ImageRun<'a> {
     pub budget: u32,
     pub script: Vec<u8>,
     pub ghost named: { 0 < length path.now },
-    pub ghost short: { length path.now ≤ most_path },
-    pub ghost budget_fits: { (1 ≤ budget) × (budget ≤ most_budget) },
-    pub ghost script_fits: { vec_len script ≤ most_script },
+    pub ghost short: { length path.now ≤ max_path_len },
+    pub ghost budget_fits: { (1 ≤ budget) × (budget ≤ max_budget) },
+    pub ghost script_fits: { vec_len script ≤ max_script_len },
 }
 
 /// Whether a path is empty or has more than 4,096 bytes.
 pub fn is_bad_path(path: &str) -> bool
     ensures { result ≡ is_bad_path path.now }
 {
-    path.is_empty() || MOST_PATH < path.len()
+    path.is_empty() || MAX_PATH_LEN < path.len()
 }
 
 /// Returns the console input that hexadecimal digits of either case encode; empty if no digits are given. Invalid digits are an error.
 pub fn read_script(alloc: Global, digits: Option<&str>) -> Result<Vec<u8>, ScriptError>
     ensures value { IfOk result
         (λ script. script_bytes (option_map (λ text. text.now) digits.entry) ≡ Ok script.items) }
-    ensures room { IfOk result (λ script. vec_len script ≤ most_script) }
+    ensures room { IfOk result (λ script. vec_len script ≤ max_script_len) }
     ensures refused { IfErr result
         (λ error. error ≡ ScriptError.Refused
         → is_bad_script (script_bytes (option_map (λ text. text.now) digits.entry)) ≡ true) }
@@ -61,7 +61,7 @@ pub fn read_script(alloc: Global, digits: Option<&str>) -> Result<Vec<u8>, Scrip
         return Ok(Vec::new(alloc));
     };
     match hex::decode(alloc, digits) {
-        Ok(script) if script.len() <= MOST_SCRIPT => Ok(script),
+        Ok(script) if script.len() <= MAX_SCRIPT_LEN => Ok(script),
         Err(FromHexError::OutOfMemory) => Err(ScriptError::OutOfMemory),
         Ok(_) | Err(_) => Err(ScriptError::Refused),
     }
@@ -81,7 +81,7 @@ pub fn run_image<S: Store, O: Sink>(
         × IsReportSent (O.taken out.old) (O.taken out.new) status rows)) }
     ensures range { IfOk result (λ status. status ≤ 1) }
     ensures counted { OnOk result (O.failed out.new ≡ O.failed out.old) }
-    ensures why { IfErr result (λ failure. is_failure_of_sending failure ≡ true) }
+    ensures why { IfErr result (λ failure. is_write_failure failure ≡ true) }
     ensures part { OnErr result (Keeps (O.taken out.old) (O.taken out.new)
         ⊎ ((rows : List ARow)
         × (AreJobRows (stored_contents (S.contents store.old) (S.faulted store.old) (S.faulted store.new))

@@ -6,9 +6,9 @@ ghost use Rattle.rv_fleet.specs.declared_row.Row.{Row as ARow};
 ghost use Rattle.rv_fleet.specs.Flat.{flat_row_of};
 ghost use Rattle.rv_fleet.specs.Report.{report_text};
 ghost use Rattle.rv_files.specs.Counts.{HasIncreased};
-ghost use Rattle.rv_files.specs.Input.{TookFirstBytes};
+ghost use Rattle.rv_files.specs.Input.{ConsumesFirstBytes};
 ghost use Rattle.rvfleet_app.specs.Answers.{IsReportPrefixWritten};
-ghost use Rattle.rvfleet_app.specs.FlatImage.{AreRawRows, IsInputBeginning, most_read};
+ghost use Rattle.rvfleet_app.specs.FlatImage.{AreRawRows, IsInputBeginning, max_read};
 
 use crate::error::RunError;
 use rv_files::{InputError, Sink, read_at_most};
@@ -17,7 +17,7 @@ use std::alloc::{AllocError, Global};
 use std::io::Read;
 
 // The maximum number of bytes that are read: one more than an image may have.
-const MOST_READ: usize = 1_048_577;
+const MAX_READ: usize = 1_048_577;
 
 /// Runs the reader's bytes as a flat image, and writes its report to the sink. Reads at most 1,048,577 bytes from the reader.
 pub fn run_raw<R: Read, O: Sink>(
@@ -30,7 +30,7 @@ pub fn run_raw<R: Read, O: Sink>(
         × (AreRawRows (R.remaining input.old) budget rows
         × Appends (O.taken out.old) (O.taken out.new) (report_text rows))) }
     ensures left { OnOk result
-        (TookFirstBytes most_read (R.remaining input.old) (R.remaining input.new)) }
+        (ConsumesFirstBytes max_read (R.remaining input.old) (R.remaining input.new)) }
     ensures counted { OnOk result (O.failed out.new ≡ O.failed out.old) }
     ensures unread { IfErr result
         (λ error. error ≡ RunError.ReadFailed → Keeps (O.taken out.old) (O.taken out.new)) }
@@ -50,9 +50,9 @@ pub fn run_raw<R: Read, O: Sink>(
 fn read_flat_image<R: Read>(alloc: Global, input: &mut R) -> Result<Vec<u8>, InputError>
     ensures first { IfOk result (λ bytes. IsInputBeginning (R.remaining input.old) bytes.items) }
     ensures left { OnOk result
-        (TookFirstBytes most_read (R.remaining input.old) (R.remaining input.new)) }
+        (ConsumesFirstBytes max_read (R.remaining input.old) (R.remaining input.new)) }
 {
-    read_at_most(alloc, input, MOST_READ)
+    read_at_most(alloc, input, MAX_READ)
 }
 
 // Returns the report with the single row of a flat image, run within this budget.

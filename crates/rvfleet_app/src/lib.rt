@@ -20,7 +20,7 @@ pub use list::{read_list, run_jobs};
 pub use program::run_words;
 pub use report_output::send_report;
 pub use status::{
-    BAD_WORDS, DONE, FAILED, SOME_FAIL, put_failure, refuse_unreadable_words, refuse_words,
+    BAD_ARGUMENTS, DONE, FAILED, SOME_FAIL, write_failure_line, reject_unreadable_args, reject_arguments,
 };
 
 // From the crates below: what this interface names, and what its callers need with it.

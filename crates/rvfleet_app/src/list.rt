@@ -5,7 +5,7 @@ ghost use Rattle.std.specs.Io.KnownBytes.{Keeps};
 ghost use Rattle.rv_fleet.specs.declared_row.Row.{Row as ARow};
 ghost use Rattle.rv_files.specs.Counts.{HasIncreased};
 ghost use Rattle.rvfleet_app.specs.Answers.{IsReportPrefixWritten, IsReportSent};
-ghost use Rattle.rvfleet_app.specs.Failures.{IsListError, IsListFailure, is_failure_of_list};
+ghost use Rattle.rvfleet_app.specs.Failures.{IsListError, IsListFailure, is_list_failure};
 ghost use Rattle.rvfleet_app.specs.Plans.{AreJobRows, IsPossibleList, IsListFault, stored_contents};
 
 use crate::error::{Failure, ListError};
@@ -36,7 +36,7 @@ pub fn read_list<S: Store>(alloc: Global, store: &mut S, path: &str) -> Result<J
 
 // Returns the failure of the program if reading the list's file failed with this error.
 fn list_read_failure(error: ReadError) -> Failure
-    ensures { is_failure_of_list result ≡ true }
+    ensures { is_list_failure result ≡ true }
 {
     match error {
         ReadError::Unreadable => Failure::ListUnreadable,
@@ -72,7 +72,7 @@ pub fn run_jobs<R: Threads + Wait, S: Store, O: Sink, G: Gate>(
         × IsReportSent (O.taken out.old) (O.taken out.new) status rows)) }
     ensures range { IfOk result (λ status. status ≤ 1) }
     ensures counted { OnOk result (O.failed out.new ≡ O.failed out.old) }
-    ensures why { IfErr result (λ failure. is_failure_of_list failure ≡ true) }
+    ensures why { IfErr result (λ failure. is_list_failure failure ≡ true) }
     ensures part { OnErr result (Keeps (O.taken out.old) (O.taken out.new)
         ⊎ ((rows : List ARow)
         × (AreJobRows (stored_contents (S.contents store.old) (S.faulted store.old) (S.faulted store.new))

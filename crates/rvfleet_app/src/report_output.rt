@@ -3,7 +3,7 @@
 ghost use Rattle.std.specs.Prelude.{true, ◌≡◌, ◌≤◌, IfErr, IfOk, OnErr, OnOk};
 ghost use Rattle.rv_files.specs.Counts.{HasIncreased};
 ghost use Rattle.rvfleet_app.specs.Answers.{IsReportPrefixWritten, IsReportSent, has_failed_row, is_fail_verdict, verdicts_status};
-ghost use Rattle.rvfleet_app.specs.Failures.{is_failure_of_sending};
+ghost use Rattle.rvfleet_app.specs.Failures.{is_write_failure};
 
 use crate::error::Failure;
 use crate::status::{DONE, SOME_FAIL};
@@ -18,7 +18,7 @@ pub fn send_report<O: Sink>(alloc: Global, report: &Report, out: &mut O) -> Resu
         (λ status. IsReportSent (O.taken out.old) (O.taken out.new) status report.now.rows) }
     ensures range { IfOk result (λ status. status ≤ 1) }
     ensures counted { OnOk result (O.failed out.new ≡ O.failed out.old) }
-    ensures why { IfErr result (λ failure. is_failure_of_sending failure ≡ true) }
+    ensures why { IfErr result (λ failure. is_write_failure failure ≡ true) }
     ensures part { OnErr result (IsReportPrefixWritten (O.taken out.old) (O.taken out.new) report.now.rows) }
     ensures failed { IfErr result
         (λ error. error ≡ Failure.WriteFailed → HasIncreased (O.failed out.old) (O.failed out.new)) }

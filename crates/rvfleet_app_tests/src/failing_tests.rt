@@ -145,7 +145,7 @@ run jobs | 3 | 1;jobs;
 // After a failed read nothing is written, and after a failed write nothing more is written. The status does not depend on whether the error
 // line can be written.
 #[test]
-fn stops_where_a_read_or_a_put_fails(rt: HostRuntime) -> Result<(), Fail> {
+fn stops_where_a_read_or_a_write_fails(rt: HostRuntime) -> Result<(), Fail> {
     let tables = [
         CUT_REPORTS,
         RAW_PUTS,

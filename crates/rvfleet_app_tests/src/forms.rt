@@ -27,12 +27,12 @@ fn filled(alloc: Global, form: &str, row: &str) -> Result<String, AllocError> {
 /// Returns a text with a number in place of each `%`.
 pub(crate) fn numbered(alloc: Global, form: &str, number: usize) -> Result<String, AllocError> {
     let mut text = String::new(alloc);
-    put_numbered(&mut text, form, number)?;
+    push_numbered(&mut text, form, number)?;
     Ok(text)
 }
 
 // Appends a text with a number in place of each `%`.
-fn put_numbered(text: &mut String, form: &str, number: usize) -> Result<(), AllocError> {
+fn push_numbered(text: &mut String, form: &str, number: usize) -> Result<(), AllocError> {
     for (nth, part) in form.split('%').enumerate() {
         if nth > 0 {
             write!(text, "{number}")?;
@@ -45,13 +45,13 @@ fn put_numbered(text: &mut String, form: &str, number: usize) -> Result<(), Allo
 // Appends a text as often as `count` says, each time with its number, from 1, in place of each `%`.
 fn put_each(text: &mut String, form: &str, count: usize) -> Result<(), AllocError> {
     for number in 0..count {
-        put_numbered(text, form, number.saturating_add(1))?;
+        push_numbered(text, form, number.saturating_add(1))?;
     }
     Ok(())
 }
 
 // Appends a text `count` times. It is fast, because the count is often in the millions.
-fn put_same(text: &mut String, form: &str, count: usize) -> Result<(), AllocError> {
+fn push_same(text: &mut String, form: &str, count: usize) -> Result<(), AllocError> {
     for _ in 0..count {
         text.push_str(form)?;
     }
@@ -59,13 +59,13 @@ fn put_same(text: &mut String, form: &str, count: usize) -> Result<(), AllocErro
 }
 
 // Appends a part: for `3 times TEXT` the text three times, and any other part once.
-fn put_times(text: &mut String, part: &str) -> Result<(), AllocError> {
+fn push_times(text: &mut String, part: &str) -> Result<(), AllocError> {
     let (count, form) = part.split_once(" times ").unwrap_or(("1", part));
     let count = count.parse::<usize>().unwrap_or(0);
     if form.contains('%') {
         put_each(text, form, count)
     } else {
-        put_same(text, form, count)
+        push_same(text, form, count)
     }
 }
 
@@ -75,11 +75,11 @@ fn first_bytes<'a>(count: &str, text: &'a str) -> &'a str {
     text.get(..count).unwrap_or("more than there are")
 }
 
-// Appends a part: for `3 bytes of TEXT` the first three bytes of the text, and any other part as `put_times` does.
-fn put_part(text: &mut String, part: &str) -> Result<(), AllocError> {
+// Appends a part: for `3 bytes of TEXT` the first three bytes of the text, and any other part as `push_times` does.
+fn push_part(text: &mut String, part: &str) -> Result<(), AllocError> {
     match part.split_once(" bytes of ") {
         Some((count, whole)) => text.push_str(first_bytes(count, whole)),
-        None => put_times(text, part),
+        None => push_times(text, part),
     }
 }
 
@@ -87,7 +87,7 @@ fn put_part(text: &mut String, part: &str) -> Result<(), AllocError> {
 fn expanded(alloc: Global, form: &str) -> Result<String, AllocError> {
     let mut text = String::new(alloc);
     for part in form.split(" + ") {
-        put_part(&mut text, part)?;
+        push_part(&mut text, part)?;
     }
     Ok(text)
 }

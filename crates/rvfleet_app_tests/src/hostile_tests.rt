@@ -163,7 +163,7 @@ const WHOLE_LISTS: &str = "\
 
 // Truncated files and lists, and fields at their limits, have the expected results.
 #[test]
-fn reads_what_is_cut_or_at_its_ends(rt: HostRuntime) -> Result<(), Fail> {
+fn reads_truncated_files_and_limits(rt: HostRuntime) -> Result<(), Fail> {
     check(
         &rt,
         rt.alloc(),

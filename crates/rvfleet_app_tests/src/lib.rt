@@ -35,4 +35,4 @@ mod testing;
 #[cfg(test)]
 mod verdict_tests;
 #[cfg(test)]
-mod word_tests;
+mod argument_tests;

@@ -61,7 +61,7 @@ $0 times  pass +  fail done 4096
 
 // The longest inputs are accepted, and longer ones are rejected, without running out of memory.
 #[test]
-fn takes_the_longest(rt: HostRuntime) -> Result<(), Fail> {
+fn accepts_the_longest_inputs(rt: HostRuntime) -> Result<(), Fail> {
     check(
         &rt,
         rt.alloc(),

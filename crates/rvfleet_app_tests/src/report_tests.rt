@@ -223,6 +223,6 @@ run jobs --workers 4 --group 2 | expect_exit = 5 | 0;jobs;a.elf;f.elf;cut.elf;s.
 
 // The report of a list does not depend on the number of workers, and each unreadable file has its row.
 #[test]
-fn reports_alike(rt: HostRuntime) -> Result<(), Fail> {
+fn reports_do_not_depend_on_workers(rt: HostRuntime) -> Result<(), Fail> {
     check(&rt, rt.alloc(), &[REPORTED, FAILED_READS, ENDS])
 }

@@ -12,7 +12,7 @@ fn is_kept(alloc: Global) -> Result<bool, AllocError> {
 
 // A text that is moved out of its value is unchanged.
 #[test]
-fn texts_are_kept(rt: HostRuntime) -> Result<(), Fail> {
+fn moved_texts_are_unchanged(rt: HostRuntime) -> Result<(), Fail> {
     assert!(rt; is_kept(rt.alloc())?);
     Ok(())
 }

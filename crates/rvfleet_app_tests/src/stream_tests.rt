@@ -34,7 +34,7 @@ impl Write for CountingWriter {
 
 // Writes ten bytes to a stream over a writer whose write number `fails_at` fails (none if it is 0), and whose flushes fail if `flush_fails`
 // is true. Returns whether all bytes were accepted, the number of failures, and the numbers of writes and of flushes.
-fn put_ten(fails_at: u64, flush_fails: bool) -> (bool, u64, u64, u64) {
+fn write_ten(fails_at: u64, flush_fails: bool) -> (bool, u64, u64, u64) {
     let mut stream = StreamSink::new(CountingWriter {
         writes: 0,
         flushes: 0,
@@ -49,10 +49,10 @@ fn put_ten(fails_at: u64, flush_fails: bool) -> (bool, u64, u64, u64) {
 
 // Each write to the sink makes one write and one flush of the stream; a failed write is not repeated, and counts as one failure.
 #[test]
-fn puts_into_streams(rt: HostRuntime) {
-    let whole = put_ten(0, false) == (true, 0, 3, 3);
-    let first_fails = put_ten(1, false) == (false, 1, 1, 0);
-    let second_fails = put_ten(2, false) == (false, 1, 2, 1);
-    let flush_fails = put_ten(0, true) == (false, 1, 1, 1);
+fn writes_to_streams(rt: HostRuntime) {
+    let whole = write_ten(0, false) == (true, 0, 3, 3);
+    let first_fails = write_ten(1, false) == (false, 1, 1, 0);
+    let second_fails = write_ten(2, false) == (false, 1, 2, 1);
+    let flush_fails = write_ten(0, true) == (false, 1, 1, 1);
     assert!(rt; whole && first_fails && second_fails && flush_fails);
 }

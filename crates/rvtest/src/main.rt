@@ -3,7 +3,7 @@
 
 use rvtest_app::{
     Destinations, Host, PipeSink, StreamSink, SystemInputs, SystemOutputs, Terminals,
-    refuse_unreadable_words, run_rvtest,
+    reject_unreadable_args, run_rvtest,
 };
 use std::env::{Env, VarError};
 use std::io::IsTerminal;
@@ -13,9 +13,9 @@ use std::{env, io};
 // Responds to the process's own arguments, with its own streams and files.
 fn main(rt: HostRuntime) -> ExitCode {
     let (out, mut errors) = (PipeSink::new(rt.stdout()), StreamSink::new(rt.stderr()));
-    let texts = match words_of_process(&rt) {
+    let texts = match process_args(&rt) {
         Ok(texts) => texts,
-        Err(error) => return ExitCode::from(refuse_unreadable_words(&error, &mut errors)),
+        Err(error) => return ExitCode::from(reject_unreadable_args(&error, &mut errors)),
     };
     let inputs = SystemInputs::new(&rt);
     let host = Host {
@@ -54,7 +54,7 @@ fn is_terminal_dumb(rt: &(impl Env + AllocGlobal)) -> bool {
 }
 
 // Returns the process's own arguments.
-fn words_of_process(rt: &(impl Env + AllocGlobal)) -> io::Result<Vec<String>> {
+fn process_args(rt: &(impl Env + AllocGlobal)) -> io::Result<Vec<String>> {
     let mut texts = Vec::new(rt.alloc());
     for text in env::args(rt)? {
         texts.push(text)?;

@@ -16,7 +16,7 @@ use Rattle.rv_command.specs.Texts.{optional_text}
 use Rattle.rv_command.specs.declared.stop.Stop.{Stop}
 use Rattle.rv_files.specs.UnreadPaths.{resolved_path}
 use Rattle.rv_rows.specs.declared_job.Job.{Job}
-use Rattle.rvtest_app.specs.AcceptStops.{AreTargetsUnread, IsAcceptingStop, IsFileOfList, IsGoldenPath, IsGoldenUnreadStop, IsAcceptanceWriteStop, IsStopOfFiles, IsFileNotWrittenStop}
+use Rattle.rvtest_app.specs.AcceptStops.{IsTargetsUnreadStop, IsAcceptingStop, IsListOrGoldenPath, IsGoldenPath, IsGoldenUnreadStop, IsAcceptanceWriteStop, IsStopForSomeFile, IsFileNotWrittenStop}
 use Rattle.rvtest_app.specs.Accepts.{AreGoldenFiles}
 
 -- what holds of an element that was met
@@ -49,7 +49,7 @@ places_of_targets known root jobs (target ∷ targets) [] are each = elim are [ 
 -- the file of a target that was not read is one of the list
 pub golden_of_targets : (known : Option FileContents) (words : AcceptArgs) (jobs : List Job) (targets : List Target)
     (why : Stop) → All (λ (target : Target). IsGoldenPath jobs target.path) targets
-    → AreTargetsUnread known (optional_text words.run.root) targets why → IsGoldenUnreadStop known words jobs why
+    → IsTargetsUnreadStop known (optional_text words.run.root) targets why → IsGoldenUnreadStop known words jobs why
 golden_of_targets known words jobs targets why each = ⊎_elim inl
     (λ some. inr (
       resolved_path (optional_text words.run.root) some.1.path,
@@ -66,8 +66,8 @@ stop_of_unread known words jobs why =
 stop_of_files : (known : Option FileContents) (words : AcceptArgs) (jobs : List Job) (list : List ℕ)
     (files : List GoldenFile) (why : Stop) → list ≡ words.run.list.now
     → All (λ (file : GoldenFile). IsGoldenPlace (optional_text words.run.root) jobs file.resolved_path) files
-    → IsStopOfFiles (IsFileNotWrittenStop known) list files why
-    → (path : List ℕ) × (IsFileOfList words jobs path × IsFileNotWrittenStop known path why)
+    → IsStopForSomeFile (IsFileNotWrittenStop known) list files why
+    → (path : List ℕ) × (IsListOrGoldenPath words jobs path × IsFileNotWrittenStop known path why)
 stop_of_files known words jobs list files why same each = ⊎_elim (λ own. (list, (inl same, own)))
     (λ some. (some.1.resolved_path, (inr (rw some.3 at (each some.0 some.1 some.2)), some.4)))
 
@@ -90,7 +90,7 @@ golden_paths jobs runs claims targets found are = rw (found, are) (targets_are_o
 pub targets_unread : (known : Option FileContents) (words : AcceptArgs) (jobs : List Job) (runs : List (Option JobRun))
     (claims : List GoldenText) (targets : List Target) (why : Stop)
     → targets ≡ fold (with_target runs claims) [] claims → claims ≡ golden_texts_of_runs 0 jobs runs
-    → AreTargetsUnread known (optional_text words.run.root) targets why → IsGoldenUnreadStop known words jobs why
+    → IsTargetsUnreadStop known (optional_text words.run.root) targets why → IsGoldenUnreadStop known words jobs why
 targets_unread known words jobs runs claims targets why found are =
     golden_of_targets known words jobs targets why (golden_paths jobs runs claims targets found are)
 
@@ -106,6 +106,6 @@ files_unput known words jobs list runs claims files why same are golden =
 
 -- what happened to a file of these happened in another sense
 pub files_stop : (P Q : List ℕ → Stop → Type 0) (list : List ℕ) (files : List GoldenFile) (why : Stop)
-    → ((path : List ℕ) → P path why → Q path why) → IsStopOfFiles P list files why → IsStopOfFiles Q list files why
+    → ((path : List ℕ) → P path why → Q path why) → IsStopForSomeFile P list files why → IsStopForSomeFile Q list files why
 files_stop P Q list files why f = ⊎_elim (λ own. inl (f list own))
     (λ some. inr (some.0, some.1, some.2, some.3, f some.1.resolved_path some.4))

@@ -11,19 +11,19 @@ use Rattle.std.proofs.lemmas.Slice.Eq.{bytes_eq-Decides}
 use Rattle.rv_accept.proofs.Public.{IsAccepted, accepted_at, agreed, console_claim_among, console_is_target, image_that_ran, meant_at, passes_over_files, ran_over, outcome_of_its_row, console_path_stays, row_at_place, signature_claim_among, signature_is_target, targets_have_fates, unclaimed}
 use Rattle.rv_accept.specs.Accepted.{accepted_job}
 use Rattle.rv_accept.specs.GoldenTexts.{golden_texts_of_runs}
-use Rattle.rv_accept.specs.GoldenOutcomes.{outcome_of_golden_file, names_file}
+use Rattle.rv_accept.specs.GoldenOutcomes.{outcome_of_golden_file, is_for_file}
 use Rattle.rv_accept.specs.IntendedJobs.{intended_job, intended_jobs}
-use Rattle.rv_accept.specs.Passing.{FindsItsFiles, is_pass_or_none, outcome_of_row}
+use Rattle.rv_accept.specs.Passing.{AreFilesUpdated, is_pass_or_none, outcome_of_row}
 use Rattle.rv_accept.specs.Runs.{accepted_row, is_accepted_run}
-use Rattle.rv_accept.specs.Sharing.{is_path, jobs_to_run, names_golden_file}
-use Rattle.rv_accept.specs.Targets.{is_of_accepted, is_target, with_target}
+use Rattle.rv_accept.specs.Sharing.{is_same_path, jobs_to_run, names_golden_file}
+use Rattle.rv_accept.specs.Targets.{is_accepted_entry, is_target, with_target}
 use Rattle.rv_accept.specs.declared.golden_texts.GoldenText.{GoldenText}
 use Rattle.rv_accept.specs.declared.golden_outcomes.GoldenFileOutcome.{GoldenFileOutcome}
 use Rattle.rv_accept.specs.declared.golden_outcomes.GoldenFileOutcome.TheVariants as fate
 use Rattle.rv_accept.specs.declared.runs.JobRun.{JobRun}
 use Rattle.rv_accept.specs.declared.targets.Target.{Target}
 use Rattle.rv_accept_text.proofs.Public.{accepted_from_the_first, list_is_no_image}
-use Rattle.rv_accept_text.specs.GoldenFiles.{elf_magic, is_kept, is_left, is_left_of}
+use Rattle.rv_accept_text.specs.GoldenFiles.{elf_magic, is_kept, is_left, is_skipped_with}
 use Rattle.rv_accept_text.specs.declared.accepting.AcceptSummary.{AcceptSummary}
 use Rattle.rv_accept_text.specs.declared.golden_file.GoldenFile.{GoldenFile}
 use Rattle.rv_files.specs.Files.{FileContents}
@@ -31,8 +31,8 @@ use Rattle.rvtest_cli.specs.declared.accept.AcceptArgs.{AcceptArgs}
 use Rattle.rv_command.specs.Texts.{IsTextAt, optional_text}
 use Rattle.rv_files.specs.UnreadPaths.{contents_below, resolved_path}
 use Rattle.rv_rows.specs.Jobs.{console_path, single_job, without_expectations}
-use Rattle.rv_rows.specs.Kept.{IsKeptOf}
-use Rattle.rv_rows.specs.Plans.{AgreeWithContents, Planned, result_for_path}
+use Rattle.rv_rows.specs.Kept.{AgreesWithContents}
+use Rattle.rv_rows.specs.Plans.{AgreeWithContents, Planned, result_or_unreadable}
 use Rattle.rv_rows.specs.declared_answers.Answer.{Answer}
 use Rattle.rv_rows.specs.declared_kept.Kept.{Kept}
 use Rattle.rv_rows.specs.declared_kept.Kept.TheVariants as kept
@@ -44,8 +44,8 @@ use Rattle.rv_rows.specs.Verdict.{did_run, lines_of_signature}
 use Rattle.rv_rows.specs.declared.outcome.Outcome.{Outcome}
 use Rattle.rvtest_app.proofs.CurrentVerdicts.{ended_well, stands_at}
 use Rattle.rvtest_app.proofs.StoreAfter.{any_elim, golden_files_there, image_stays, list_is_there, list_stays, stood}
-use Rattle.rvtest_app.specs.AcceptLaw.{AreFilesRead, HaveOneTextEach, IsRowIn, IsStoreAfter, IsFullyAccepted, is_read}
-use Rattle.rvtest_app.specs.Accepts.{AreGoldenFiles, IsAcceptOfSelected, IsOutcome, acceptance_of, written_files}
+use Rattle.rvtest_app.specs.AcceptLaw.{AreFilesRead, HaveOneTextPerFile, IsRowOfRun, IsStoreAfter, IsFullyAccepted, is_read}
+use Rattle.rvtest_app.specs.Accepts.{AreGoldenFiles, IsAcceptOfSelected, IsAcceptOutcome, acceptance_of, written_files}
 use Rattle.rvtest_app.specs.CommandOutputs.{CommandOutputs}
 
 -- ---- what was read
@@ -53,32 +53,32 @@ use Rattle.rvtest_app.specs.CommandOutputs.{CommandOutputs}
 -- a path that was read holds what is kept of it
 record IsRead (store : FileContents) (root : Option (List ℕ)) (answers : List Answer) (path : List ℕ) : Type 0 where
   bytes : List ℕ
-  content : result_for_path answers path ≡ kept.Content bytes
+  content : result_or_unreadable answers path ≡ kept.Content bytes
   holds : store (resolved_path root path) ≡ Some bytes
 
 read_here : (store : FileContents) (root : Option (List ℕ)) (answers : List Answer) (path : List ℕ)
-    → AgreeWithContents (contents_below root (Some store)) answers → is_read (result_for_path answers path) ≡ true
+    → AgreeWithContents (contents_below root (Some store)) answers → is_read (result_or_unreadable answers path) ≡ true
     → IsRead store root answers path
 read_here store root [] path are read = cc
 read_here store root (answer ∷ answers) path are read = go (bytes_eq path answer.path) refl
-    (read_here store root answers path (All-tail (λ (a : Answer). IsKeptOf (contents_below root (Some store)) a.path a.kept)
+    (read_here store root answers path (All-tail (λ (a : Answer). AgreesWithContents (contents_below root (Some store)) a.path a.kept)
     answer answers are))
   where
-    at_first : (k : Kept) → answer.kept ≡ k → IsKeptOf (contents_below root (Some store)) answer.path k → bytes_eq path answer.path ≡ true
+    at_start : (k : Kept) → answer.kept ≡ k → AgreesWithContents (contents_below root (Some store)) answer.path k → bytes_eq path answer.path ≡ true
         → is_read k ≡ true → IsRead store root (answer ∷ answers) path
-    at_first (kept.Content bytes) was of same read = record {
+    at_start (kept.Content bytes) was of same read = record {
       bytes = bytes;
       content = rw (same, was) refl;
       holds = rw ((bytes_eq-Decides path answer.path).0 same) of.1;
     }
-    at_first kept.Unreadable was of same read = cc
-    at_first kept.TooLong was of same read = cc
+    at_start kept.Unreadable was of same read = cc
+    at_start kept.TooLong was of same read = cc
 
     go : (same : Bool) → bytes_eq path answer.path ≡ same
-        → (is_read (result_for_path answers path) ≡ true → IsRead store root answers path)
+        → (is_read (result_or_unreadable answers path) ≡ true → IsRead store root answers path)
         → IsRead store root (answer ∷ answers) path
-    go true same behind = at_first answer.kept refl
-        (All-head (λ (a : Answer). IsKeptOf (contents_below root (Some store)) a.path a.kept) answer answers are) same
+    go true same behind = at_start answer.kept refl
+        (All-head (λ (a : Answer). AgreesWithContents (contents_below root (Some store)) a.path a.kept) answer answers are) same
         (rw same at read)
     go false same behind =
         let there = behind (rw same at read) in
@@ -95,8 +95,8 @@ content_same bytes others is = cc
 
 -- a path that was read, and holds these bytes, is kept with them
 content_of : (store : FileContents) (root : Option (List ℕ)) (answers : List Answer) (path bytes : List ℕ)
-    → AgreeWithContents (contents_below root (Some store)) answers → is_read (result_for_path answers path) ≡ true
-    → store (resolved_path root path) ≡ Some bytes → result_for_path answers path ≡ kept.Content bytes
+    → AgreeWithContents (contents_below root (Some store)) answers → is_read (result_or_unreadable answers path) ≡ true
+    → store (resolved_path root path) ≡ Some bytes → result_or_unreadable answers path ≡ kept.Content bytes
 content_of store root answers path bytes are read holds =
     let there = read_here store root answers path are read in
     there.content ∙ ap kept.Content (some_same there.bytes bytes (sym there.holds ∙ holds))
@@ -108,20 +108,20 @@ abbrev IsOf : Option (List ℕ) → List GoldenText → GoldenFile → Type 0
 IsOf root claims file = (file.resolved_path ≡ resolved_path root file.target.path)
     × (file.target.fate ≡ outcome_of_golden_file file.target.path claims)
 
-are_of : (before : FileContents) (root : Option (List ℕ)) (claims : List GoldenText) (targets : List Target)
+match_machine : (before : FileContents) (root : Option (List ℕ)) (claims : List GoldenText) (targets : List Target)
     (files : List GoldenFile) → AreGoldenFiles (Some before) root targets files
     → All (λ (target : Target). target.fate ≡ outcome_of_golden_file target.path claims) targets → All (IsOf root claims) files
-are_of before root claims [] [] are fates = All-nil (IsOf root claims)
-are_of before root claims [] (file ∷ files) are fates = absurd are
-are_of before root claims (target ∷ targets) [] are fates = absurd are
-are_of before root claims (target ∷ targets) (file ∷ files) are fates =
+match_machine before root claims [] [] are fates = All-nil (IsOf root claims)
+match_machine before root claims [] (file ∷ files) are fates = absurd are
+match_machine before root claims (target ∷ targets) [] are fates = absurd are
+match_machine before root claims (target ∷ targets) (file ∷ files) are fates =
     let of = are.0.of in
     All-cons (IsOf root claims) file files (
       rw of are.0.leads,
       rw of (All-head (λ (target : Target). target.fate ≡ outcome_of_golden_file target.path claims) target targets
           fates),
     )
-    (are_of before root claims targets files are.1
+    (match_machine before root claims targets files are.1
     (All-tail (λ (target : Target). target.fate ≡ outcome_of_golden_file target.path claims) target targets fates))
 
 -- where a file is a target, it is told
@@ -140,12 +140,12 @@ is_told before root path (target ∷ targets) (file ∷ files) are is =
     go false is behind = behind is
 
 -- the fate of a file that is not left, and that a job names
-agreed_fate : (text : List ℕ) (what : GoldenFileOutcome) (kept : Bool) → is_left_of kept what ≡ false
+agreed_fate : (text : List ℕ) (what : GoldenFileOutcome) (kept : Bool) → is_skipped_with kept what ≡ false
     → (what ≡ fate.Unclaimed → what ≡ fate.Agreed text)
     → ((other : List ℕ) → what ≡ fate.Agreed other → other ≡ text) → what ≡ fate.Agreed text
 agreed_fate text fate.Unclaimed kept left none same = none refl
 agreed_fate text (fate.Agreed other) kept left none same = ap fate.Agreed (same other refl)
-agreed_fate text (fate.LeftBy job) kept left none same = cc
+agreed_fate text (fate.SkippedBy job) kept left none same = cc
 agreed_fate text (fate.Differ job other) kept left none same = cc
 
 same_bytes : (bytes : List ℕ) → bytes_eq bytes bytes ≡ true
@@ -174,7 +174,7 @@ record AcceptedRun (run : Option (Option JobRun)) : Type 0 where
   is : run ≡ Some (Some of)
   accepted : is_accepted_run of ≡ true
 
-accepted_run : (run : Option (Option JobRun)) → is_of_accepted run ≡ true → AcceptedRun run
+accepted_run : (run : Option (Option JobRun)) → is_accepted_entry run ≡ true → AcceptedRun run
 accepted_run None is = cc
 accepted_run (Some None) is = cc
 accepted_run (Some (Some run)) is = record { of = run; is = refl; accepted = is }
@@ -185,9 +185,9 @@ accepted_row_of run accepted = rw accepted refl
 -- ---- over what `accept` came to
 
 module _ (words : AcceptArgs) (before after : FileContents) (bytes : List ℕ) (jobs : List Job)
-    (judged : List (Option JobRun)) (told : AcceptSummary) (outcome : IsOutcome (Some before) words bytes jobs judged told)
+    (judged : List (Option JobRun)) (told : AcceptSummary) (outcome : IsAcceptOutcome (Some before) words bytes jobs judged told)
     (read : IsTextAt (Some before) words.run.list.now bytes) (listed : job_list_of bytes ≡ Ok jobs)
-    (store : IsStoreAfter (written_files told) before after) (alike : HaveOneTextEach store.leads told.files.now) where
+    (store : IsStoreAfter (written_files told) before after) (alike : HaveOneTextPerFile store.leads told.files.now) where
   abbrev root : Option (List ℕ)
   root = optional_text words.run.root
 
@@ -246,7 +246,7 @@ module _ (words : AcceptArgs) (before after : FileContents) (bytes : List ℕ) (
       each = λ k d below is.
           let file : GoldenFile = get_or told.files.now k d in
           let same : path ≡ file.target.path = (bytes_eq-Decides path file.target.path).0 is in
-          let of = are_of before root claims targets told.files.now files_are
+          let of = match_machine before root claims targets told.files.now files_are
           (targets_have_fates told.runs.now claims claims []
           (All-nil (λ (target : Target). target.fate ≡ outcome_of_golden_file target.path claims))) k d below in
           let kept = left k d below (rw same at names) in
@@ -264,36 +264,36 @@ module _ (words : AcceptArgs) (before after : FileContents) (bytes : List ℕ) (
     console_there : (path : List ℕ) → console_path job.expect_console ≡ Some path
         → after (resolved_path root path) ≡ Some run.row.console
     console_there path named = golden_text job path run.row.console
-        (or_left (is_path path (console_path job.expect_console)) _ (rw named (same_bytes path)))
+        (or_left (is_same_path path (console_path job.expect_console)) _ (rw named (same_bytes path)))
         (console_is_target place jobs told.runs.now job run path at ran accepted named)
         (λ none. true_or_false (bytes_eq path path) (same_bytes path)
-        (console_claim_among (λ (claim : GoldenText). names_file path claim ≡ false) place jobs told.runs.now job run path
+        (console_claim_among (λ (claim : GoldenText). is_for_file path claim ≡ false) place jobs told.runs.now job run path
         (unclaimed path claims none) at ran accepted named))
         (λ other is. some_same other run.row.console (sym
-        (console_claim_among (λ (claim : GoldenText). names_file path claim ≡ true → claim.text ≡ Some other) place jobs told.runs.now
+        (console_claim_among (λ (claim : GoldenText). is_for_file path claim ≡ true → claim.text ≡ Some other) place jobs told.runs.now
         job run path (agreed path other claims is) at ran accepted named (same_bytes path))))
         left
 
     signature_there : (path : List ℕ) → job.expect_signature ≡ Some path
         → after (resolved_path root path) ≡ Some (lines_of_signature run.row.signature)
     signature_there path named = golden_text job path (lines_of_signature run.row.signature)
-        (or_right (is_path path (console_path job.expect_console)) _ (rw named (same_bytes path)))
+        (or_right (is_same_path path (console_path job.expect_console)) _ (rw named (same_bytes path)))
         (signature_is_target place jobs told.runs.now job run path at ran accepted named)
         (λ none. true_or_false (bytes_eq path path) (same_bytes path)
-        (signature_claim_among (λ (claim : GoldenText). names_file path claim ≡ false) place jobs told.runs.now job run path
+        (signature_claim_among (λ (claim : GoldenText). is_for_file path claim ≡ false) place jobs told.runs.now job run path
         (unclaimed path claims none) at ran accepted named))
         (λ other is. some_same other (lines_of_signature run.row.signature) (sym
-        (signature_claim_among (λ (claim : GoldenText). names_file path claim ≡ true → claim.text ≡ Some other) place jobs
+        (signature_claim_among (λ (claim : GoldenText). is_for_file path claim ≡ true → claim.text ≡ Some other) place jobs
         told.runs.now job run path (agreed path other claims is) at ran accepted named (same_bytes path))))
         left
 
     -- an image that ran is as it was
     image_again : (earlier later : List Answer) → AgreeWithContents (contents_below root (Some before)) earlier
-        → AgreeWithContents (contents_below root (Some after)) later → is_read (result_for_path later job.image) ≡ true
+        → AgreeWithContents (contents_below root (Some after)) later → is_read (result_or_unreadable later job.image) ≡ true
         → did_run (outcome_in earlier (without_expectations job)).ending ≡ true
-        → result_for_path later job.image ≡ result_for_path earlier job.image
+        → result_or_unreadable later job.image ≡ result_or_unreadable earlier job.image
     image_again earlier later earlier_kept later_kept is_there ended =
-        let over = ran_over (without_expectations job) (result_for_path earlier job.image) ended in
+        let over = ran_over (without_expectations job) (result_or_unreadable earlier job.image) ended in
         let here = read_here before root earlier job.image earlier_kept (rw over.was refl) in
         let same : here.bytes ≡ over.file = content_same here.bytes over.file (sym here.content ∙ over.was) in
         let holds = here.holds ∙ ap Some same in
@@ -305,7 +305,7 @@ module _ (words : AcceptArgs) (before after : FileContents) (bytes : List ℕ) (
 
     finds : (earlier : Planned) (later : List Answer) → AgreeWithContents (contents_below root (Some before)) earlier.answers
         → AgreeWithContents (contents_below root (Some after)) later → AreFilesRead later job
-        → run.row ≡ row_of earlier (without_expectations job) → FindsItsFiles earlier.answers later job run.row
+        → run.row ≡ row_of earlier (without_expectations job) → AreFilesUpdated earlier.answers later job run.row
     finds earlier later earlier_kept later_kept read_now row_is = record {
       image = λ ended. image_again earlier.answers later earlier_kept later_kept read_now.image
           (subst (λ (o : Outcome). did_run o.ending ≡ true)
@@ -335,7 +335,7 @@ read_of_job : (answers : List Answer) (job : Job) (row : Row)
 read_of_job answers job row files = record {
   image = files.image;
   signature = files.signature;
-  console = subst (λ named. IfSome named (λ path. is_read (result_for_path answers path) ≡ true))
+  console = subst (λ named. IfSome named (λ path. is_read (result_or_unreadable answers path) ≡ true))
       (console_path_stays job.expect_console row.console) files.console;
 }
 
@@ -344,8 +344,8 @@ pub passes_after : (words : AcceptArgs) (before after : FileContents) (bytes : L
     → IsTextAt (Some before) words.run.list.now bytes → job_list_of bytes ≡ Ok jobs
     → (accepted : IsAcceptOfSelected (Some before) words bytes jobs chosen status from to)
     → (store : IsStoreAfter (written_files accepted.told) before after)
-    → HaveOneTextEach store.leads accepted.told.files.now → IsFullyAccepted accepted.told place job
-    → IsRowIn after words.run place row → is_pass_or_none row.verdict ≡ true
+    → HaveOneTextPerFile store.leads accepted.told.files.now → IsFullyAccepted accepted.told place job
+    → IsRowOfRun after words.run place row → is_pass_or_none row.verdict ≡ true
 passes_after words before after bytes jobs chosen status from to place job row read listed accepted store alike whole later =
     let told = accepted.told in
     let outcome = accepted.outcome in

@@ -14,8 +14,8 @@ use Rattle.rvtest_app.specs.Accepts.{AreGoldenFiles, IsGoldenFile}
 use Rattle.rvtest_app.specs.Outlets.{AreFilesCommitted}
 
 -- files of the last targets, behind these, are the files of all
-abbrev pub GoesOn : Option FileContents → Option (List ℕ) → List Target → List Target → List GoldenFile → Type 0
-GoesOn known root all rest files =
+abbrev pub ContinuesIn : Option FileContents → Option (List ℕ) → List Target → List Target → List GoldenFile → Type 0
+ContinuesIn known root all rest files =
     (more : List GoldenFile) → AreGoldenFiles known root rest more → AreGoldenFiles known root all (files ++ more)
 
 -- what stops at one of the last targets stops at one of all
@@ -25,15 +25,15 @@ AreLast known root all rest = (why : Stop)
     → Any (λ target. IsListUnreadStop known (resolved_path root target.path) why) all
 
 pub one_more_file : (known : Option FileContents) (root : Option (List ℕ)) (all before after : List Target)
-    (target : Target) (files new : List GoldenFile) (file : GoldenFile) → GoesOn known root all before files
+    (target : Target) (files new : List GoldenFile) (file : GoldenFile) → ContinuesIn known root all before files
     → before ≡ target ∷ after → IsGoldenFile known root target file → new ≡ files ++ file ∷ []
-    → GoesOn known root all after new
+    → ContinuesIn known root all after new
 one_more_file known root all before after target files new file goes is of added more are =
     let whole = goes (file ∷ more) (subst (λ targets. AreGoldenFiles known root targets (file ∷ more)) (sym is) (of, are)) in
     subst (AreGoldenFiles known root all) (sym (rw added (append_assoc files (file ∷ []) more))) whole
 
 pub all_files : (known : Option FileContents) (root : Option (List ℕ)) (all rest : List Target) (files : List GoldenFile)
-    → GoesOn known root all rest files → rest ≡ [] → AreGoldenFiles known root all files
+    → ContinuesIn known root all rest files → rest ≡ [] → AreGoldenFiles known root all files
 all_files known root all rest files goes is =
     subst (AreGoldenFiles known root all) (append-nil files)
     (goes [] (subst (λ targets. AreGoldenFiles known root targets []) (sym is) tt))
@@ -60,11 +60,11 @@ pub nothing_placed : (before : Option (List CommittedFile)) → AreFilesCommitte
 nothing_placed None = tt
 nothing_placed (Some earlier) = sym (ap Some (append-nil earlier))
 
-pub placed_if_reported : (before middle after : Option (List CommittedFile)) (first second : List CommittedFile)
+pub committed_if_reported : (before middle after : Option (List CommittedFile)) (first second : List CommittedFile)
     → AreFilesCommitted before middle (Some first) → AreFilesCommitted middle after (Some second)
     → AreFilesCommitted before after (Some (first ++ second))
-placed_if_reported None middle after first second placed more = tt
-placed_if_reported (Some earlier) middle after first second placed more =
+committed_if_reported None middle after first second placed more = tt
+committed_if_reported (Some earlier) middle after first second placed more =
     (rw placed at more) ∙ ap Some (append_assoc earlier first second)
 
 -- of files in their order, those that the first so many make, and the next one
@@ -81,4 +81,4 @@ pub placed_one_more : {X : Type 0} (made : X → List CommittedFile) (files : Li
     → AreFilesCommitted before after (Some (flat_map made (take (place + 1) files)))
 placed_one_more made files place file before middle after within is placed more =
     subst (λ all. AreFilesCommitted before after (Some all)) (sym (one_more_made made files place file within is))
-    (placed_if_reported before middle after (flat_map made (take place files)) (made file) placed more)
+    (committed_if_reported before middle after (flat_map made (take place files)) (made file) placed more)

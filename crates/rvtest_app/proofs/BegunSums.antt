@@ -4,7 +4,7 @@ use Rattle.std.proofs.Math.Seq.{take-suc}
 use Rattle.std.specs.Prelude.{min}
 use Rattle.rv_count_tables.specs.declared.table.AddressCounts.{AddressCounts}
 use Rattle.rv_count_tables.specs.declared.table.ImageCounts.{ImageCounts}
-use Rattle.rvtest_app.specs.CountSums.{executed_at_addresses, executed_in_images, most_number, shown_number}
+use Rattle.rvtest_app.specs.CountSums.{executed_at_addresses, executed_in_images, max_u64, capped_number}
 
 addresses-snoc : (some : List AddressCounts) (one : AddressCounts)
     → executed_at_addresses (some ++ one ∷ []) ≡ executed_at_addresses some + one.begun
@@ -28,15 +28,15 @@ images-more images i d within =
 
 -- the shown number of the first addresses, behind a number, and that of one more
 pub one_more_address : (before : ℕ) (addresses : List AddressCounts) (i : ℕ) (d : AddressCounts) (total next : ℕ)
-    → i < length addresses → total ≡ shown_number (before + executed_at_addresses (take i addresses))
-    → next ≡ min (total + (get_or addresses i d).begun) most_number
-    → next ≡ shown_number (before + executed_at_addresses (take (i + 1) addresses))
+    → i < length addresses → total ≡ capped_number (before + executed_at_addresses (take i addresses))
+    → next ≡ min (total + (get_or addresses i d).begun) max_u64
+    → next ≡ capped_number (before + executed_at_addresses (take (i + 1) addresses))
 one_more_address before addresses i d total next within so_far added = omega (arith, addresses-more addresses i d within)
 
 -- the shown number of the first images, and that of one more
 pub one_more_image : (images : List ImageCounts) (i : ℕ) (image : ImageCounts) (total next : ℕ) → i < length images
-    → image ≡ get_or images i image → total ≡ shown_number (executed_in_images (take i images))
-    → next ≡ shown_number (total + executed_at_addresses image.addresses)
-    → next ≡ shown_number (executed_in_images (take (i + 1) images))
+    → image ≡ get_or images i image → total ≡ capped_number (executed_in_images (take i images))
+    → next ≡ capped_number (total + executed_at_addresses image.addresses)
+    → next ≡ capped_number (executed_in_images (take (i + 1) images))
 one_more_image images i image total next within is so_far added =
     omega (arith, images-more images i image within, ap (λ (one : ImageCounts). executed_at_addresses one.addresses) is)

@@ -11,12 +11,12 @@ use Rattle.rv_rows.specs.Plans.{Planned}
 use Rattle.rv_rows.specs.declared_row.Row.{Row}
 use Rattle.rv_rows.specs.declared_saved.Shard.{Shard}
 use Rattle.rvtest_app.proofs.WriteStops.{unopened}
-use Rattle.rvtest_app.specs.Outlets.{AreFilesCommitted, AreFilesPartlyCommitted, HasTaken, file_path_at}
-use Rattle.rvtest_app.specs.WriteStops.{IsUnopenedStop}
-use Rattle.rvtest_app.specs.OutputWrites.{IsShown}
+use Rattle.rvtest_app.specs.Outlets.{AreFilesCommitted, AreFilesPartlyCommitted, HasReceived, file_path_at}
+use Rattle.rvtest_app.specs.WriteStops.{IsUnopenedJobStop}
+use Rattle.rvtest_app.specs.OutputWrites.{IsWrittenToErrorsIf}
 use Rattle.rvtest_app.specs.RunStops.{IsRunWriteStop}
-use Rattle.rvtest_app.specs.Runs.{AreCountsWritten, AreRunFilesPlacedInPart, IsCountsText, IsRunWritten, junit_file, report_file}
-use Rattle.rvtest_app.specs.CommandOutputs.{CommandOutputs, placed_if_reported, with_placed_if_reported}
+use Rattle.rvtest_app.specs.Runs.{AreCountsWritten, AreRunFilesPartlyCommitted, IsCountsText, IsRunWritten, junit_file, report_file}
+use Rattle.rvtest_app.specs.CommandOutputs.{CommandOutputs, committed_if_reported, with_committed_if_reported}
 use Rattle.rvtest_app.specs.StackStops.{IsCountsWriteStop}
 use Rattle.rvtest_app.specs.WrittenTexts.{IsWrittenAt}
 use Rattle.rvtest_app.specs.declared.outlets.Outlet.{Outlet}
@@ -27,14 +27,14 @@ use Rattle.rvtest_app.specs.declared.outlets.Outlet.TheVariants as outlet
 module _ {P W : Type 0} (pending_path : P → List ℕ) (taken : W → Option (List ℕ)) (failed : W → ℕ) where
   -- one that is somewhere is for a path
   pub path_given : (placed : Option (List CommittedFile)) (path : Option (List ℕ)) (o : Outlet P W) (text : List ℕ)
-      → HasTaken pending_path taken failed placed path text o → (o ≡ outlet.Nowhere → ⊥) → is_some path ≡ true
+      → HasReceived pending_path taken failed placed path text o → (o ≡ outlet.Nowhere → ⊥) → is_some path ≡ true
   path_given placed path outlet.Nowhere text has somewhere = absurd (somewhere refl)
   path_given placed path outlet.Out text has somewhere = rw has refl
   path_given placed path (outlet.File file) text has somewhere = rw has.0 refl
 
   -- what is said of it where nothing is told of files
   pub untold : (placed : Option (List CommittedFile)) (path : Option (List ℕ)) (o : Outlet P W) (text : List ℕ)
-      → HasTaken pending_path taken failed placed path text o → HasTaken pending_path taken failed None path text o
+      → HasReceived pending_path taken failed placed path text o → HasReceived pending_path taken failed None path text o
   untold placed path outlet.Nowhere text has = has
   untold placed path outlet.Out text has = has
   untold placed path (outlet.File file) text has = (has.0, (has.1.0, (tt, has.1.1.1, has.1.1.2)))
@@ -55,19 +55,19 @@ no_counts_put stacks path plan places before after none written = rw none writte
 
 -- ---- the rows that were put before the counts
 
-pub placed_of_shown : (is_beside : Bool) (text : List ℕ) (before after : CommandOutputs) → IsShown is_beside text before after
+pub placed_of_shown : (is_beside : Bool) (text : List ℕ) (before after : CommandOutputs) → IsWrittenToErrorsIf is_beside text before after
     → after.placed ≡ before.placed
 placed_of_shown true text before after is = is.2
 placed_of_shown false text before after is = is.3
 
 placed_behind_same : (earlier before after files : Option (List CommittedFile)) → before ≡ earlier
-    → AreFilesCommitted before after files → AreFilesCommitted before (placed_if_reported earlier after) files
+    → AreFilesCommitted before after files → AreFilesCommitted before (committed_if_reported earlier after) files
 placed_behind_same None before after files same are = rw same tt
 placed_behind_same (Some placed) before after files same are = are
 
 pub run_put_where_told : (words : RunArgs) (reporter : RowReporter) (places : List ℕ) (shard : Option Shard)
     (old : Option (List Row)) (rows : List Row) (before after : CommandOutputs) → IsRunWritten words reporter places shard old rows before after
-    → IsRunWritten words reporter places shard old rows before (with_placed_if_reported before.placed after)
+    → IsRunWritten words reporter places shard old rows before (with_committed_if_reported before.placed after)
 run_put_where_told words reporter places shard old rows before after put = record {
   middle = put.middle;
   seen = put.seen;
@@ -84,7 +84,7 @@ run_put_where_told words reporter places shard old rows before after put = recor
 pub part_of_rows : (words : RunArgs) (reporter : RowReporter) (places : List ℕ) (shard : Option Shard)
     (old : Option (List Row)) (rows : List Row) (before after : Option (List CommittedFile))
     → AreFilesPartlyCommitted before after (Some (junit_file words reporter places rows))
-    → (after ≡ before) ⊎ AreRunFilesPlacedInPart words reporter places shard old rows before after
+    → (after ≡ before) ⊎ AreRunFilesPartlyCommitted words reporter places shard old rows before after
 part_of_rows words reporter places shard old rows before after = ⊎_elim inl (λ placed. inr (inl placed))
 
 given_text : (words : RunArgs) → is_some (optional_text words.counts) ≡ true → is_some words.counts ≡ true
@@ -99,14 +99,14 @@ pub part_of_counts : (words : RunArgs) (reporter : RowReporter) (places : List �
     (old : Option (List Row)) (rows : List Row) (before after placed : Option (List CommittedFile))
     → is_some (optional_text words.counts) ≡ true
     → AreFilesCommitted before after (Some (junit_file words reporter places rows ++ report_file words reporter places shard old rows))
-    → placed ≡ after → (placed ≡ before) ⊎ AreRunFilesPlacedInPart words reporter places shard old rows before placed
+    → placed ≡ after → (placed ≡ before) ⊎ AreRunFilesPartlyCommitted words reporter places shard old rows before placed
 part_of_counts words reporter places shard old rows before after placed given files same =
     inr (inr (given_text words given, rw same files))
 
 -- ---- why
 
 pub unopened_counts : (words : RunArgs) (why : Stop)
-    → IsSomeAnd (file_path_at (optional_text words.counts)) (λ path. IsUnopenedStop path why) → IsRunWriteStop words why
+    → IsSomeAnd (file_path_at (optional_text words.counts)) (λ path. IsUnopenedJobStop path why) → IsRunWriteStop words why
 unopened_counts words why is = inr (inl (unopened _ why is))
 
 pub unput_counts : (words : RunArgs) (why : Stop) → IsCountsWriteStop words (file_path_at (optional_text words.counts)) why

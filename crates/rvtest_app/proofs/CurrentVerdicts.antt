@@ -3,22 +3,22 @@ use Rattle.std.proofs.Common.{◌≡◌, ◌∙◌, ◌⊎◌, ◌<◌, ◌≤�
 use Rattle.std.specs.Prelude.{if◌then◌else◌, option_to_list, slice_get}
 use Rattle.std.proofs.lemmas.Option.{slice_get-get_or}
 use Rattle.std.specs.List.{list_any}
-use Rattle.rv_accept.specs.Passing.{EndedWell}
+use Rattle.rv_accept.specs.Passing.{HasExpectedEnd}
 use Rattle.rv_accept.specs.declared.current_verdict.Candidate.{Candidate}
 use Rattle.rv_accept.specs.declared.current_verdict.CurrentVerdict.TheVariants as standing
 use Rattle.rv_files.specs.Files.{FileContents}
 use Rattle.rv_expect.specs.Comparisons.{Sides}
 use Rattle.rv_expect.specs.Reference.{signature_difference}
 use Rattle.rv_expect.specs.UnmetExpectations.{is_same}
-use Rattle.rv_expect.specs.Unmet.{unmet_console, unmet_default_exit, unmet_end, unmet_exit, unmet_of, unmet_of_expecting_job, unmet_same_as, unmet_signature}
+use Rattle.rv_expect.specs.Unmet.{unmet_console, unmet_default_exit, unmet_end, unmet_exit, unmet_expectations_of, unmet_of_expecting_job, unmet_same_as, unmet_signature}
 use Rattle.rv_expect.specs.declared.unmet.Unmet.{Unmet}
 use Rattle.rv_expect.specs.declared.unmet.Unmet.TheVariants as unmet
 use Rattle.rv_rows.specs.declared_job.ExpectedEnd.{ExpectedEnd}
 use Rattle.rv_rows.specs.declared_job.Job.{Job}
 use Rattle.rv_rows.specs.declared_row.Row.{Row}
 use Rattle.rv_rows.specs.declared_row.RowEnd.{RowEnd}
-use Rattle.rv_rows.specs.Verdict.{did_run, expects_anything, has_expected_end, has_expected_exit}
-use Rattle.rvtest_app.specs.CurrentVerdicts.{AreCandidates, IsCandidateAt, IsStanding, verdict_by, verdict_of_sides}
+use Rattle.rv_rows.specs.Verdict.{did_run, has_expectations, has_expected_end, has_expected_exit}
+use Rattle.rvtest_app.specs.CurrentVerdicts.{AreCandidates, IsCandidateAt, IsCurrentVerdict, verdict_by, verdict_of_comparison}
 
 -- ---- nothing is unmet
 
@@ -51,15 +51,15 @@ any_end : (how : Option ExpectedEnd) (end : RowEnd) → is_some how ≡ false �
 any_end None end is = refl
 any_end (Some how) end is = cc
 
-pub ended_well : (sides : Sides) → verdict_of_sides sides ≡ standing.Passes → EndedWell sides.job sides.row
-unfolding unmet_of
+pub ended_well : (sides : Sides) → verdict_of_comparison sides ≡ standing.Passes → HasExpectedEnd sides.job sides.row
+unfolding unmet_expectations_of
 ended_well sides passes =
-    let none = passes_by (did_run sides.row.ending) (unmet_of sides) passes in
-    go (expects_anything sides.job) refl none.0 (rw none.0 at none.1)
+    let none = passes_by (did_run sides.row.ending) (unmet_expectations_of sides) passes in
+    go (has_expectations sides.job) refl none.0 (rw none.0 at none.1)
   where
-    go : (asks : Bool) → expects_anything sides.job ≡ asks → did_run sides.row.ending ≡ true
+    go : (asks : Bool) → has_expectations sides.job ≡ asks → did_run sides.row.ending ≡ true
         → (if asks then unmet_of_expecting_job sides else option_to_list (unmet_default_exit sides.row.ending)) ≡ []
-        → EndedWell sides.job sides.row
+        → HasExpectedEnd sides.job sides.row
     go true asks ran none =
         let exit = option_to_list (unmet_exit sides.job sides.row.ending) in
         let end = option_to_list (unmet_end sides.job sides.row.ending) in
@@ -164,6 +164,6 @@ pub stands_at : (known : Option FileContents) (root : Option (List ℕ)) (rows :
     (chosen : List Bool) (candidates : List Candidate) (place : ℕ) (job : Job) (row : Row) (candidate : Candidate)
     → AreCandidates known root rows jobs chosen candidates → slice_get jobs place ≡ Some job
     → slice_get rows place ≡ Some (Some row) → slice_get candidates place ≡ Some candidate
-    → IsStanding known root rows job row candidate.standing
+    → IsCurrentVerdict known root rows job row candidate.standing
 stands_at known root rows jobs chosen candidates place job row candidate are at ran stands =
     rw ran at (are.each place job candidate at stands).1

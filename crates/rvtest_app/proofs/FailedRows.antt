@@ -8,7 +8,7 @@ use Rattle.rv_job_text.specs.declared.verbosity.Verbosity.{Verbosity}
 use Rattle.rv_job_text.specs.declared.verbosity.Verbosity.TheVariants.{Quiet, Failures, All}
 use Rattle.rv_rows.specs.declared_row.Row.{Row}
 use Rattle.rvtest_cli.specs.declared.run.RunArgs.{RunArgs}
-use Rattle.rvtest_app.specs.FailureLines.{failure_lines, keeps_failures}
+use Rattle.rvtest_app.specs.FailureLines.{failure_lines, stores_failure_texts}
 
 -- where failures are shown, one is shown the same as where all that is shown are failures
 lines_of_failure : (shown : Verbosity) (failing : Bool) (lines : List ℕ) → shows_row shown true ≡ true → failing ≡ true
@@ -18,7 +18,7 @@ lines_of_failure Failures failing lines is failed = refl
 lines_of_failure All failing lines is failed = rw failed refl
 
 -- texts of failures are kept only where failures are shown
-shows_kept : (args : RunArgs) (shown : Verbosity) → keeps_failures args shown ≡ true → shows_row shown true ≡ true
+shows_kept : (args : RunArgs) (shown : Verbosity) → stores_failure_texts args shown ≡ true → shows_row shown true ≡ true
 shows_kept args Quiet keeps = absurd cc
 shows_kept args Failures keeps = refl
 shows_kept args All keeps = refl
@@ -42,6 +42,6 @@ lines_of_failed_row reporter shown place row failed =
     lines_of_failed_job reporter row shown failed (slice_get reporter.plan.jobs place)
 
 -- and so they are where texts of failures are kept
-pub lines_of_kept : (args : RunArgs) (reporter : RowReporter) → keeps_failures args reporter.verbosity ≡ true → (place : ℕ) (row : Row)
+pub lines_of_kept : (args : RunArgs) (reporter : RowReporter) → stores_failure_texts args reporter.verbosity ≡ true → (place : ℕ) (row : Row)
     → fails reporter.judging row ≡ true → row_lines_at reporter place row ≡ failure_lines reporter place row
 lines_of_kept args reporter keeps = lines_of_failed_row reporter (shows_kept args reporter.verbosity keeps)

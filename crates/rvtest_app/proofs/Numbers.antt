@@ -5,8 +5,8 @@ use Rattle.std.proofs.lemmas.Bool.{and_from}
 use Rattle.std.proofs.lemmas.Bool.Decides.{nat_tests}
 use Rattle.std.specs.List.{All}
 use Rattle.std.specs.List.Sorted.{IsStrictlyIncreasing}
-use Rattle.rv_files.specs.Limits.{most_jobs}
-use Rattle.rv_rows.specs.Saved.{are_rising}
+use Rattle.rv_files.specs.Limits.{max_jobs}
+use Rattle.rv_rows.specs.Saved.{are_increasing}
 use Rattle.rvtest_app.specs.RunOutput.{job_numbers}
 
 pub behind : (p : ℕ) (ps : List ℕ) → IsStrictlyIncreasing (p ∷ ps) → IsStrictlyIncreasing ps
@@ -21,8 +21,8 @@ next p ps up some =
 
 rising_behind : (before last : ℕ) (places : List ℕ) → IsStrictlyIncreasing places
     → All (λ place. place < last) places → (0 < length places → before ≤ get_or places 0 0)
-    → are_rising before last (job_numbers places) ≡ true
-unfolding are_rising
+    → are_increasing before last (job_numbers places) ≡ true
+unfolding are_increasing
 rising_behind before last [] up within low = refl
 rising_behind before last (p ∷ ps) up within low =
     let first : before ≤ p = low (omega arith) in
@@ -45,7 +45,7 @@ fit_behind place last (p ∷ ps) up within room low =
     omega (arith, first, rest)
 
 -- places of so many jobs that rise have numbers that rise, up to the greatest of a list
-pub rising_numbers : (places : List ℕ) (jobs : ℕ) → jobs ≤ most_jobs → IsStrictlyIncreasing places
-    → All (λ place. place < jobs) places → are_rising 0 most_jobs (job_numbers places) ≡ true
-rising_numbers places jobs few up within = rising_behind 0 most_jobs places up
+pub rising_numbers : (places : List ℕ) (jobs : ℕ) → jobs ≤ max_jobs → IsStrictlyIncreasing places
+    → All (λ place. place < jobs) places → are_increasing 0 max_jobs (job_numbers places) ≡ true
+rising_numbers places jobs few up within = rising_behind 0 max_jobs places up
     (λ k d inside. let w = within k d inside in omega arith) (λ some. omega arith)

@@ -9,7 +9,7 @@ use Rattle.rv_files.specs.Files.{FileContents}
 use Rattle.rv_command.specs.Stops.{IsResultUnreadStop}
 use Rattle.rv_command.specs.Texts.{IsTextAt}
 use Rattle.rv_command.specs.declared.stop.Stop.{Stop}
-use Rattle.rvtest_app.specs.MergeStops.{ArePartsUnread}
+use Rattle.rvtest_app.specs.MergeStops.{IsPartsUnreadStop}
 use Rattle.rvtest_app.specs.Merges.{AreTextsAt}
 
 snoc : (known : Option FileContents) (paths : List (Bor (List ℕ))) (texts : List (List ℕ)) (path : Bor (List ℕ))
@@ -33,7 +33,7 @@ one_more_text known paths i d old new text within are is more =
 -- the path at a place was not read, and those before it were
 pub unread_part : (known : Option FileContents) (paths : List (Bor (List ℕ))) (i : ℕ) (d : Bor (List ℕ))
     (texts : List (List ℕ)) (why : Stop) → i < length paths → AreTextsAt known (take i paths) texts
-    → IsResultUnreadStop known (get_or paths i d).now why → ArePartsUnread known paths why
+    → IsResultUnreadStop known (get_or paths i d).now why → IsPartsUnreadStop known paths why
 unread_part known paths i d texts why within are unread = inr (record {
   before = take i paths;
   path = get_or paths i d;

@@ -3,10 +3,10 @@ use Rattle.std.proofs.Common.{◌≡◌, ◌∙◌, ◌++◌, ◌∷◌, ℕ, Li
 use Rattle.std.proofs.Common.{append-nil, arith, inr, length, map}
 use Rattle.std.proofs.lemmas.Grind.{common_steps}
 use Rattle.std.specs.Io.KnownBytes.{Appends}
-use Rattle.rv_files.specs.Sinks.{AppendsBeginning}
+use Rattle.rv_files.specs.Sinks.{AppendsPrefix}
 use Rattle.rv_files.specs.CommittedFiles.{CommittedFile}
-use Rattle.rvtest_app.specs.Outlets.{AreFilesCommitted, AreFilesPartlyCommitted, HasTaken, IsPutInto, both_files, file_at, files_of, has_no_failure, is_out, is_stdout_at}
-use Rattle.rvtest_app.specs.Outlets.{file_path_at, outlet_path, stdout_at, stdout_part}
+use Rattle.rvtest_app.specs.Outlets.{AreFilesCommitted, AreFilesPartlyCommitted, HasReceived, IsWrittenToOutlet, joined_files, file_at, files_of, has_no_failure, is_stdout_outlet, is_stdout_at}
+use Rattle.rvtest_app.specs.Outlets.{file_path_at, outlet_path, stdout_at, text_if_stdout}
 use Rattle.rv_rows.specs.declared_row.Row.{Row}
 use Rattle.rv_expect.specs.Judgement.{Judging}
 use Rattle.rv_junit.specs.Junit.{junit_text}
@@ -24,7 +24,7 @@ same_inside a b same = cc
 
 module _ {P W : Type 0} (pending_path : P → List ℕ) (taken : W → Option (List ℕ)) (failed : W → ℕ) where
   -- no put failed after a text was put, where none had failed before
-  pub unfailed_after : (before after : Outlet P W) (text : List ℕ) → IsPutInto taken failed before after text
+  pub unfailed_after : (before after : Outlet P W) (text : List ℕ) → IsWrittenToOutlet taken failed before after text
       → has_no_failure failed before → has_no_failure failed after
   unfailed_after outlet.Nowhere outlet.Nowhere text put none = none
   unfailed_after outlet.Out outlet.Out text put none = none
@@ -37,28 +37,28 @@ module _ {P W : Type 0} (pending_path : P → List ℕ) (taken : W → Option (L
   unfailed_after (outlet.File before) outlet.Out text put none = elim put [ ]
 
   pub unfailed : (placed : Option (List CommittedFile)) (path : Option (List ℕ)) (text : List ℕ) (o : Outlet P W)
-      → HasTaken pending_path taken failed placed path text o → has_no_failure failed o
+      → HasReceived pending_path taken failed placed path text o → has_no_failure failed o
   unfailed placed path text outlet.Nowhere has = tt
   unfailed placed path text outlet.Out has = tt
   unfailed placed path text (outlet.File file) has = has.1.1.1
 
   -- what goes to standard output is told by the path
   pub stdout_told : (placed : Option (List CommittedFile)) (path : Option (List ℕ)) (had : List ℕ) (o : Outlet P W) (text : List ℕ)
-      → HasTaken pending_path taken failed placed path had o → stdout_part o text ≡ stdout_at path text
+      → HasReceived pending_path taken failed placed path had o → text_if_stdout o text ≡ stdout_at path text
   stdout_told placed path had outlet.Nowhere text has = rw has refl
   stdout_told placed path had outlet.Out text has = rw has refl
   stdout_told placed path had (outlet.File file) text has = rw (has.0, has.1.0) refl
 
   -- an outlet is standard output where its path stands for that
   pub out_told : (placed : Option (List CommittedFile)) (path : Option (List ℕ)) (o : Outlet P W) (text : List ℕ)
-      → HasTaken pending_path taken failed placed path text o → is_out o ≡ is_stdout_at path
+      → HasReceived pending_path taken failed placed path text o → is_stdout_outlet o ≡ is_stdout_at path
   out_told placed path outlet.Nowhere text has = rw has refl
   out_told placed path outlet.Out text has = rw has refl
   out_told placed path (outlet.File file) text has = rw (has.0, has.1.0) refl
 
   -- the file of an outlet is named by the path
   pub path_told : (placed : Option (List CommittedFile)) (path : Option (List ℕ)) (o : Outlet P W) (text : List ℕ)
-      → HasTaken pending_path taken failed placed path text o → outlet_path o ≡ file_path_at path
+      → HasReceived pending_path taken failed placed path text o → outlet_path o ≡ file_path_at path
   path_told placed path outlet.Nowhere text has = rw has refl
   path_told placed path outlet.Out text has = rw has refl
   path_told placed path (outlet.File file) text has = rw (has.0, has.1.0, has.1.1.2) refl
@@ -71,8 +71,8 @@ module _ {P W : Type 0} (pending_path : P → List ℕ) (taken : W → Option (L
 
   -- an outlet that took a text took another behind it
   pub taken_more : (placed : Option (List CommittedFile)) (path : Option (List ℕ)) (had text : List ℕ) (before after : Outlet P W)
-      → HasTaken pending_path taken failed placed path had before → IsPutInto taken failed before after text
-      → outlet_path after ≡ outlet_path before → HasTaken pending_path taken failed placed path (had ++ text) after
+      → HasReceived pending_path taken failed placed path had before → IsWrittenToOutlet taken failed before after text
+      → outlet_path after ≡ outlet_path before → HasReceived pending_path taken failed placed path (had ++ text) after
   taken_more placed path had text outlet.Nowhere outlet.Nowhere has put named = has
   taken_more placed path had text outlet.Out outlet.Out has put named = has
   taken_more None path had text (outlet.File before) (outlet.File after) has put named =
@@ -98,7 +98,7 @@ module _ {P W : Type 0} (pending_path : P → List ℕ) (taken : W → Option (L
 
   -- the file that an outlet makes is told by the path
   pub file_told : (placed : List CommittedFile) (path : Option (List ℕ)) (had : List ℕ) (before after : Outlet P W) (text : List ℕ)
-      → HasTaken pending_path taken failed (Some placed) path had before → IsPutInto taken failed before after text
+      → HasReceived pending_path taken failed (Some placed) path had before → IsWrittenToOutlet taken failed before after text
       → files_of pending_path taken after ≡ Some (file_at path (had ++ text))
   file_told placed path had outlet.Nowhere outlet.Nowhere text has put = rw has refl
   file_told placed path had outlet.Out outlet.Out text has put = rw has refl
@@ -114,10 +114,10 @@ module _ {P W : Type 0} (pending_path : P → List ℕ) (taken : W → Option (L
   -- both files stand in their places, where it is told which do
   pub both_placed : (before after : Option (List CommittedFile)) (had : List ℕ) (junit_path report_path : Option (List ℕ))
       (junit junit_after report report_after : Outlet P W) (junit_text report_text : List ℕ)
-      → HasTaken pending_path taken failed before junit_path [] junit
-      → HasTaken pending_path taken failed before report_path had report
-      → IsPutInto taken failed junit junit_after junit_text → IsPutInto taken failed report report_after report_text
-      → AreFilesCommitted before after (both_files (files_of pending_path taken junit_after) (files_of pending_path taken report_after))
+      → HasReceived pending_path taken failed before junit_path [] junit
+      → HasReceived pending_path taken failed before report_path had report
+      → IsWrittenToOutlet taken failed junit junit_after junit_text → IsWrittenToOutlet taken failed report report_after report_text
+      → AreFilesCommitted before after (joined_files (files_of pending_path taken junit_after) (files_of pending_path taken report_after))
       → AreFilesCommitted before after (Some (file_at junit_path junit_text ++ file_at report_path (had ++ report_text)))
   both_placed None after had junit_path report_path junit junit_after report report_after jt rt hj hr pj pr are = tt
   both_placed (Some placed) after had junit_path report_path junit junit_after report report_after jt rt hj hr pj pr are =
@@ -128,7 +128,7 @@ module _ {P W : Type 0} (pending_path : P → List ℕ) (taken : W → Option (L
 
   -- the first file stands in its place alone, where it is told which do
   pub first_placed : (before after : Option (List CommittedFile)) (path : Option (List ℕ)) (o o_after : Outlet P W)
-      (text : List ℕ) → HasTaken pending_path taken failed before path [] o → IsPutInto taken failed o o_after text
+      (text : List ℕ) → HasReceived pending_path taken failed before path [] o → IsWrittenToOutlet taken failed o o_after text
       → AreFilesPartlyCommitted before after (files_of pending_path taken o_after)
       → AreFilesPartlyCommitted before after (Some (file_at path text))
   first_placed None after path o o_after text has put are = inr tt
@@ -162,7 +162,7 @@ pub same_junit : (name other : List ℕ) (judging : Judging) (line told : ℕ �
     → junit_text name judging (row_text_list line places rows) rows ≡ junit_text other judging (row_text_list told places rows) rows
 same_junit name other judging line told places rows e f = rw (e, f) refl
 
-pub begins_nothing : (known : Option (List ℕ)) → AppendsBeginning known known []
+pub begins_nothing : (known : Option (List ℕ)) → AppendsPrefix known known []
 begins_nothing known = record { part = []; rest = []; whole = refl; appended = appends_nothing known }
 
 -- what is told of rows, whatever their places are

@@ -19,10 +19,10 @@ use Rattle.rvtest_app.proofs.ChosenTexts.{ahead_of_shown}
 use Rattle.rvtest_app.proofs.PutTexts.{taken_more}
 use Rattle.rvtest_app.specs.CommandOutputs.{CommandOutputs}
 use Rattle.rvtest_app.specs.IntoReports.{report_row_text, run_report_path, streamed_rows}
-use Rattle.rvtest_app.specs.Outlets.{IsPutInto, has_no_failure, outlet_path}
-use Rattle.rvtest_app.specs.OutputWrites.{IsShown}
-use Rattle.rvtest_app.specs.RowSinks.{AreOutletParts, AreRowsWritten, sink_failures, sink_taken}
-use Rattle.rvtest_app.specs.RunOutlets.{HaveRunOutletsTaken}
+use Rattle.rvtest_app.specs.Outlets.{IsWrittenToOutlet, has_no_failure, outlet_path}
+use Rattle.rvtest_app.specs.OutputWrites.{IsWrittenToErrorsIf}
+use Rattle.rvtest_app.specs.RowSinks.{AreOutletParts, AreRowsWritten, sink_failures, sink_received}
+use Rattle.rvtest_app.specs.RunOutlets.{HaveRunOutletsReceived}
 use Rattle.rvtest_app.specs.Runs.{shown_indices}
 use Rattle.rvtest_app.specs.declared.outlets.Outlet.{Outlet}
 use Rattle.rvtest_app.specs.declared.outlets.Outlet.TheVariants as outlet
@@ -31,7 +31,7 @@ module _ {P V : Type 0} (taken : V → Option (List ℕ)) (failed : V → ℕ) w
   -- what was written to the sink was written to the outlet
   written_into : (shell : Outlet P (Unit {0})) (before after : Option V) (whole_before whole_after : Outlet P V) (text : List ℕ)
       → AreOutletParts shell before whole_before → AreOutletParts shell after whole_after
-      → AreRowsWritten taken failed before after text → IsPutInto taken failed whole_before whole_after text
+      → AreRowsWritten taken failed before after text → IsWrittenToOutlet taken failed whole_before whole_after text
   written_into outlet.Nowhere None None b a text is_before is_after written = rw (is_before, is_after) tt
   written_into outlet.Out None None b a text is_before is_after written = rw (is_before, is_after) tt
   written_into (outlet.File file) (Some before) (Some after) b a text is_before is_after written =
@@ -87,12 +87,12 @@ streamed None is_streaming places rows is = rw is (sym (ahead_of_shown None plac
 
 -- what the sink of a stream has received before the run, if there is one
 module _ {V : Type 0} (taken : V → Option (List ℕ)) (failed : V → ℕ) where
-  pub sink_known : (sink : Option V) → IfSome sink (λ s. (sink_taken taken sink ≡ taken s) × (sink_failures failed sink ≡ failed s))
+  pub sink_known : (sink : Option V) → IfSome sink (λ s. (sink_received taken sink ≡ taken s) × (sink_failures failed sink ≡ failed s))
   sink_known None = tt
   sink_known (Some s) = (refl, refl)
 
 module _ {P V : Type 0} (pending_path : P → List ℕ) (taken : V → Option (List ℕ)) (failed : V → ℕ) where
-  still_whole : (before after : Outlet P V) (text : List ℕ) → IsPutInto taken failed before after text → has_no_failure failed before
+  still_whole : (before after : Outlet P V) (text : List ℕ) → IsWrittenToOutlet taken failed before after text → has_no_failure failed before
       → has_no_failure failed after
   still_whole outlet.Nowhere outlet.Nowhere text put none = tt
   still_whole outlet.Out outlet.Out text put none = tt
@@ -108,11 +108,11 @@ module _ {P V : Type 0} (pending_path : P → List ℕ) (taken : V → Option (L
   pub taken_of_run : {G : Type 0} (placed : Option (List CommittedFile)) (args : RunArgs) (old : Option (List Row)) (is_streaming : Bool)
       (places : List ℕ) (all : List Row) (ran : Result (List Row) G) (shell : Outlet P (Unit {0})) (before after : Option V)
       (whole_before whole_after junit counts : Outlet P V)
-      → HaveRunOutletsTaken pending_path taken failed placed args [] (record { report = whole_before; junit = junit; counts = counts })
+      → HaveRunOutletsReceived pending_path taken failed placed args [] (record { report = whole_before; junit = junit; counts = counts })
       → AreOutletParts shell before whole_before → AreOutletParts shell after whole_after → is_some old ≡ not is_streaming
       → IfOk ran (λ rows. rows ≡ all)
       → OnOk ran (AreRowsWritten taken failed before after (joined_row_texts (report_row_text is_streaming) places all))
-      → IfOk ran (λ rows. HaveRunOutletsTaken pending_path taken failed placed args (streamed_rows old (shown_indices places rows) rows)
+      → IfOk ran (λ rows. HaveRunOutletsReceived pending_path taken failed placed args (streamed_rows old (shown_indices places rows) rows)
       (record { report = whole_after; junit = junit; counts = counts }))
   taken_of_run placed args old is_streaming places all (Err why) shell before after wb wa junit counts has was is streams same written = tt
   taken_of_run placed args old is_streaming places all (Ok rows) shell before after wb wa junit counts has was is streams same written =
@@ -212,12 +212,12 @@ module _ {V : Type 0} (taken : V → Option (List ℕ)) (failed : V → ℕ) whe
 
 pub shown_on_errors : {X G : Type 0} (ran : Result X G) (is_beside : Bool) (text : List ℕ) (before after : CommandOutputs) → is_beside ≡ true
     → after.out ≡ before.out → OnOk ran (Appends before.errors after.errors text) → OnOk ran (after.failures ≡ before.failures)
-    → after.placed ≡ before.placed → OnOk ran (IsShown is_beside text before after)
+    → after.placed ≡ before.placed → OnOk ran (IsWrittenToErrorsIf is_beside text before after)
 shown_on_errors (Err why) is_beside text before after is out appended counted placed = tt
 shown_on_errors (Ok rows) is_beside text before after is out appended counted placed = rw is (out, inl (appended, counted), placed)
 
 pub shown_on_out : {X G : Type 0} (ran : Result X G) (is_beside : Bool) (text : List ℕ) (before after : CommandOutputs) → is_beside ≡ false
     → OnOk ran (Appends before.out after.out text) → after.errors ≡ before.errors → after.failures ≡ before.failures
-    → after.placed ≡ before.placed → OnOk ran (IsShown is_beside text before after)
+    → after.placed ≡ before.placed → OnOk ran (IsWrittenToErrorsIf is_beside text before after)
 shown_on_out (Err why) is_beside text before after is appended errors failures placed = tt
 shown_on_out (Ok rows) is_beside text before after is appended errors failures placed = rw is (appended, errors, failures, placed)

@@ -14,7 +14,7 @@ use Rattle.rv_expect.specs.declared.known_jobs.KnownJobs.{KnownJobs}
 use Rattle.rv_rows.specs.declared_row.Row.{Row}
 use Rattle.rv_rows.specs.declared_saved.Shard.{Shard}
 use Rattle.rvtest_app.specs.Commands.{failure_rule, requested_verbosity}
-use Rattle.rvtest_app.specs.Runs.{AreRunFilesPlacedInPart, run_rows, run_reporter}
+use Rattle.rvtest_app.specs.Runs.{AreRunFilesPartlyCommitted, run_rows, run_reporter}
 
 -- how rows are told, by a rule, of a plan
 abbrev pub told_by : RunArgs → Option KnownJobs → Planned → List UnreadablePath → Rule → Verbosity → RowReporter
@@ -50,8 +50,8 @@ same_rows stop_after judging other plan places others e f =
 
 pub same_part : (words : RunArgs) (reporter other : RowReporter) (places others : List ℕ) (shard : Option Shard)
     (old : Option (List Row)) (rows : List Row) (before after : Option (List CommittedFile)) → reporter ≡ other → places ≡ others
-    → AreRunFilesPlacedInPart words reporter places shard old rows before after
-    → AreRunFilesPlacedInPart words other others shard old rows before after
+    → AreRunFilesPartlyCommitted words reporter places shard old rows before after
+    → AreRunFilesPartlyCommitted words other others shard old rows before after
 same_part words reporter other places others shard old rows before after e f part =
-    subst (λ (p : List ℕ). AreRunFilesPlacedInPart words other p shard old rows before after) f
-    (subst (λ (t : RowReporter). AreRunFilesPlacedInPart words t places shard old rows before after) e part)
+    subst (λ (p : List ℕ). AreRunFilesPartlyCommitted words other p shard old rows before after) f
+    (subst (λ (t : RowReporter). AreRunFilesPartlyCommitted words t places shard old rows before after) e part)

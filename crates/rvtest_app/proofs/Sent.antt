@@ -2,11 +2,11 @@
 use Rattle.std.proofs.Common.{◌≡◌, ◌∙◌, List, ℕ, ◌++◌, Option, ap, sym, subst, append_assoc}
 use Rattle.std.specs.Io.KnownBytes.{Appends}
 use Rattle.std.proofs.KnownBytes.{Appends-trans}
-use Rattle.rv_files.specs.Sinks.{AppendsBeginning}
+use Rattle.rv_files.specs.Sinks.{AppendsPrefix}
 
 -- a text went out, and a beginning of the next
 add_executed : (a b c : Option (List ℕ)) (front text : List ℕ) → Appends a b front
-    → AppendsBeginning b c text → AppendsBeginning a c (front ++ text)
+    → AppendsPrefix b c text → AppendsPrefix a c (front ++ text)
 add_executed a b c front text before begun = record {
   part = front ++ begun.part;
   rest = begun.rest;
@@ -16,13 +16,13 @@ add_executed a b c front text before begun = record {
 
 -- the same, of what is told of equal values
 pub told_behind : {A : Type 0} (a b c : Option (List ℕ)) (front : List ℕ) (text : A → List ℕ) (x y : A) → x ≡ y
-    → Appends a b front → AppendsBeginning b c (text x) → AppendsBeginning a c (front ++ text y)
+    → Appends a b front → AppendsPrefix b c (text x) → AppendsPrefix a c (front ++ text y)
 told_behind a b c front text x y same before begun =
-    subst (λ z. AppendsBeginning a c (front ++ text z)) same (add_executed a b c front (text x) before begun)
+    subst (λ z. AppendsPrefix a c (front ++ text z)) same (add_executed a b c front (text x) before begun)
 
 -- a beginning of a text is one of what goes on behind it
-pub begun_before : (a b : Option (List ℕ)) (front text : List ℕ) → AppendsBeginning a b front
-    → AppendsBeginning a b (front ++ text)
+pub begun_before : (a b : Option (List ℕ)) (front text : List ℕ) → AppendsPrefix a b front
+    → AppendsPrefix a b (front ++ text)
 begun_before a b front text begun = record {
   part = begun.part;
   rest = begun.rest ++ text;

@@ -21,9 +21,9 @@ use Rattle.rvtest_app.specs.Merges.{IsMergedAt}
 use Rattle.rvtest_app.specs.Outlets.{is_stdout}
 use Rattle.rvtest_app.specs.Runs.{AreJobsToRun}
 use Rattle.rvtest_app.specs.CommandOutputs.{CommandOutputs}
-use Rattle.rvtest_app.specs.Shows.{IsShownAt}
+use Rattle.rvtest_app.specs.Shows.{IsShowWritten}
 use Rattle.rvtest_app.specs.ReportedStops.{IsDiffStop}
-use Rattle.rvtest_app.specs.WrittenTexts.{IsUnwrittenBy, written_path}
+use Rattle.rvtest_app.specs.WrittenTexts.{IsUnwrittenByStop, written_path}
 
 pub IfErr-map : {X Y : Type 0} (r : Result X Y) (P Q : Y → Type 0) → ((y : Y) → P y → Q y) → IfErr r P → IfErr r Q
 IfErr-map (Ok x) P Q f p = tt
@@ -79,7 +79,7 @@ unshown_merge known is_terminal words status before after done =
     inr (inr (done.texts, (done.read, inr (done.rows, (done.parts, inr (inl refl))))))
 
 pub unshown_report : (known : Option FileContents) (is_terminal : Bool) (words : ShowArgs) (status : ℕ) (before after : CommandOutputs)
-    → IsShownAt known words status before after → IsCommandStop known is_terminal (request.Show words) stop.WriteFailed
+    → IsShowWritten known words status before after → IsCommandStop known is_terminal (request.Show words) stop.WriteFailed
 unshown_report known is_terminal words status before after done = inr (inr (done.found, (done.read, inr (inl refl))))
 
 -- a sum of tables that goes to standard output may be stopped there, and one that goes to a file put nothing there
@@ -92,6 +92,6 @@ unshown_sum known is_terminal words status before after Untouched put =
       put.sum,
       (
         put.added,
-        subst (λ (b : Bool). IsUnwrittenBy b (written_path (optional_text words.out)) stop.WriteFailed) (sym out) refl,
+        subst (λ (b : Bool). IsUnwrittenByStop b (written_path (optional_text words.out)) stop.WriteFailed) (sym out) refl,
       ),
     ))))) inr

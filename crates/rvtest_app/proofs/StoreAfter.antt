@@ -10,14 +10,14 @@ use Rattle.rv_accept.proofs.Public.{all_left, all_right}
 use Rattle.rv_accept.specs.declared.golden_outcomes.GoldenFileOutcome.{GoldenFileOutcome}
 use Rattle.rv_accept.specs.declared.golden_outcomes.GoldenFileOutcome.TheVariants as fate
 use Rattle.rv_accept.specs.declared.targets.Target.{Target}
-use Rattle.rv_accept_text.specs.GoldenFiles.{another_text, elf_magic, is_image_path, is_kept, is_left, is_left_of, new_text, new_text_of}
+use Rattle.rv_accept_text.specs.GoldenFiles.{text_if_changed, elf_magic, is_image_path, is_kept, is_left, is_skipped_with, new_text, new_text_of}
 use Rattle.rv_accept_text.specs.declared.accepting.AcceptSummary.{AcceptSummary}
 use Rattle.rv_accept_text.specs.declared.golden_file.GoldenFile.{GoldenFile}
 use Rattle.rv_accept_text.specs.declared.golden_file.ListFile.{ListFile}
 use Rattle.rv_files.specs.Files.{FileContents}
 use Rattle.rv_files.specs.CommittedFiles.{CommittedFile, committed_file}
-use Rattle.rvtest_app.specs.AcceptLaw.{HaveOneTextEach, IsStoreAfter}
-use Rattle.rvtest_app.specs.Accepts.{AreGoldenFiles, file_if, new_list_text, written_files}
+use Rattle.rvtest_app.specs.AcceptLaw.{HaveOneTextPerFile, IsStoreAfter}
+use Rattle.rvtest_app.specs.Accepts.{AreGoldenFiles, file_if_text, new_list_text, written_files}
 
 -- ---- some of a list
 
@@ -28,7 +28,7 @@ any_elim {X} {A} Q xs each some =
 
 -- ---- the files that are written
 
-of_file : (P : CommittedFile → Type 0) (path : List ℕ) (text : Option (List ℕ)) → All P (file_if path text)
+of_file : (P : CommittedFile → Type 0) (path : List ℕ) (text : Option (List ℕ)) → All P (file_if_text path text)
     → (written : List ℕ) → text ≡ Some written → P (committed_file path written)
 of_file P path None each written is = cc
 of_file P path (Some text) each written is =
@@ -36,7 +36,7 @@ of_file P path (Some text) each written is =
     subst (λ written. P (committed_file path written)) same (All-head P (committed_file path text) [] each)
 
 to_file : (P : CommittedFile → Type 0) (path : List ℕ) (text : Option (List ℕ))
-    → ((written : List ℕ) → text ≡ Some written → P (committed_file path written)) → All P (file_if path text)
+    → ((written : List ℕ) → text ≡ Some written → P (committed_file path written)) → All P (file_if_text path text)
 to_file P path None each = All-nil P
 to_file P path (Some text) each = All-cons P (committed_file path text) [] (each text refl) (All-nil P)
 
@@ -45,30 +45,30 @@ abbrev OfNew : (CommittedFile → Type 0) → ListFile → GoldenFile → Type 0
 OfNew P list file = (text : List ℕ) → new_text list file ≡ Some text → P (committed_file file.resolved_path text)
 
 of_golden : (P : CommittedFile → Type 0) (list : ListFile) (files : List GoldenFile)
-    → All P (flat_map (λ (file : GoldenFile). file_if file.resolved_path (new_text list file)) files)
+    → All P (flat_map (λ (file : GoldenFile). file_if_text file.resolved_path (new_text list file)) files)
     → All (OfNew P list) files
 of_golden P list [] each = All-nil (OfNew P list)
 of_golden P list (file ∷ files) each = All-cons (OfNew P list) file files
-    (of_file P file.resolved_path (new_text list file) (all_left P (file_if file.resolved_path (new_text list file)) _ each))
-    (of_golden P list files (all_right P (file_if file.resolved_path (new_text list file)) _ each))
+    (of_file P file.resolved_path (new_text list file) (all_left P (file_if_text file.resolved_path (new_text list file)) _ each))
+    (of_golden P list files (all_right P (file_if_text file.resolved_path (new_text list file)) _ each))
 
 to_golden : (P : CommittedFile → Type 0) (list : ListFile) (files : List GoldenFile) → All (OfNew P list) files
-    → All P (flat_map (λ (file : GoldenFile). file_if file.resolved_path (new_text list file)) files)
+    → All P (flat_map (λ (file : GoldenFile). file_if_text file.resolved_path (new_text list file)) files)
 to_golden P list [] each = All-nil P
-to_golden P list (file ∷ files) each = All-append P (file_if file.resolved_path (new_text list file)) _
+to_golden P list (file ∷ files) each = All-append P (file_if_text file.resolved_path (new_text list file)) _
     (to_file P file.resolved_path (new_text list file) (All-head (OfNew P list) file files each))
     (to_golden P list files (All-tail (OfNew P list) file files each))
 
 -- the golden files that are written
 abbrev golden_written : AcceptSummary → List CommittedFile
-golden_written told = flat_map (λ (file : GoldenFile). file_if file.resolved_path (new_text told.list file)) told.files.now
+golden_written told = flat_map (λ (file : GoldenFile). file_if_text file.resolved_path (new_text told.list file)) told.files.now
 
 -- what holds of each golden file's new text, and of the list's, holds of each file that is written
 to_written : (P : CommittedFile → Type 0) (told : AcceptSummary) → All (OfNew P told.list) told.files.now
     → ((text : List ℕ) → new_list_text told ≡ Some text → P (committed_file told.list.path.now text))
     → All P (written_files told)
 to_written P told golden list = All-append P (golden_written told)
-    (file_if told.list.path.now (new_list_text told))
+    (file_if_text told.list.path.now (new_list_text told))
     (to_golden P told.list told.files.now golden) (to_file P told.list.path.now (new_list_text told) list)
 
 -- ---- what stood there
@@ -96,7 +96,7 @@ kept_is_not_written {A} list file old text is keeps written =
   where
     no_text : (what : GoldenFileOutcome) (old : Option (List ℕ)) → new_text_of true what old ≡ Some text → A
     no_text (fate.Agreed other) old none = cc
-    no_text (fate.LeftBy job) old none = cc
+    no_text (fate.SkippedBy job) old none = cc
     no_text (fate.Differ job other) old none = cc
     no_text fate.Unclaimed old none = cc
 
@@ -179,7 +179,7 @@ pub list_is_there : (told : AcceptSummary) (after : FileContents) (text : List �
 list_is_there told after text there is =
     of_file (λ (file : CommittedFile). after file.path ≡ Some file.bytes) told.list.path.now (new_list_text told)
     (all_right (λ (file : CommittedFile). after file.path ≡ Some file.bytes)
-    (golden_written told) (file_if told.list.path.now (new_list_text told)) there) text is
+    (golden_written told) (file_if_text told.list.path.now (new_list_text told)) there) text is
 
 -- ---- golden files
 
@@ -195,7 +195,7 @@ agreed_text false text written (Some old) is = go (bytes_eq text old) is
     go false is = cc
 
 -- where none is written, it stands there
-old_text : (text : List ℕ) (old : Option (List ℕ)) → another_text text old ≡ None → old ≡ Some text
+old_text : (text : List ℕ) (old : Option (List ℕ)) → text_if_changed text old ≡ None → old ≡ Some text
 old_text text None is = cc
 old_text text (Some old) is = go (bytes_eq text old) refl is
   where
@@ -215,7 +215,7 @@ is_not_kept {A} list file old is same kept =
     go false false none = cc
 
 -- the fate of a file that is not left, and on which jobs agree
-kept_of : (kept : Bool) (what : GoldenFileOutcome) (text : List ℕ) → what ≡ fate.Agreed text → is_left_of kept what ≡ false
+kept_of : (kept : Bool) (what : GoldenFileOutcome) (text : List ℕ) → what ≡ fate.Agreed text → is_skipped_with kept what ≡ false
     → kept ≡ false
 kept_of kept what text is left = rw is at left
 
@@ -223,14 +223,14 @@ kept_of kept what text is left = rw is at left
 module _ (told : AcceptSummary) (before after : FileContents) (store : IsStoreAfter (written_files told) before after)
     (list : before told.list.path.now ≡ Some told.list.text.now)
     (stood : All (λ (file : GoldenFile). before file.resolved_path ≡ file.old) told.files.now)
-    (alike : HaveOneTextEach store.leads told.files.now) where
+    (alike : HaveOneTextPerFile store.leads told.files.now) where
   golden_there : (k : ℕ) (d : GoldenFile) → k < length told.files.now → (text : List ℕ)
       → (get_or told.files.now k d).target.fate ≡ fate.Agreed text → is_kept told.list (get_or told.files.now k d) ≡ false
       → (new : Option (List ℕ)) → new_text_of (is_kept told.list (get_or told.files.now k d)) (get_or told.files.now k d).target.fate
       (get_or told.files.now k d).old ≡ new → after (get_or told.files.now k d).resolved_path ≡ Some text
   golden_there k d below text agreed kept (Some written) new =
       let there = of_golden (λ (file : CommittedFile). after file.path ≡ Some file.bytes) told.list told.files.now
-      (all_left (λ (file : CommittedFile). after file.path ≡ Some file.bytes) (golden_written told) (file_if told.list.path.now (new_list_text told))
+      (all_left (λ (file : CommittedFile). after file.path ≡ Some file.bytes) (golden_written told) (file_if_text told.list.path.now (new_list_text told))
       store.written_contents) k d below written new in
       let same = agreed_text (is_kept told.list (get_or told.files.now k d)) text written (get_or told.files.now k d).old
       (rw agreed at new) in
@@ -249,7 +249,7 @@ module _ (told : AcceptSummary) (before after : FileContents) (store : IsStoreAf
           let other : GoldenFile = get_or told.files.now j e in
           let there = of_golden (λ (file : CommittedFile). after file.path ≡ Some file.bytes) told.list told.files.now
           (all_left (λ (file : CommittedFile). after file.path ≡ Some file.bytes) (golden_written told)
-          (file_if told.list.path.now (new_list_text told)) store.written_contents) j e within written is in
+          (file_if_text told.list.path.now (new_list_text told)) store.written_contents) j e within written is in
           let fate_is : other.target.fate ≡ fate.Agreed text = sym (alike k d below j e within (sym leads)) ∙ agreed in
           let same = agreed_text (is_kept told.list other) text written other.old (rw fate_is at is) in
           store.same_after file.resolved_path other.resolved_path (sym leads) ∙ there ∙ ap Some (sym same)

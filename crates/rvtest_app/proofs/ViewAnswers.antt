@@ -15,14 +15,14 @@ use Rattle.rv_stacks.specs.JobTables.{jobs_at}
 use Rattle.rv_expect.specs.Judgement.{Judging}
 use Rattle.rv_files.specs.declared.recording_store.UnreadablePath.{UnreadablePath}
 use Rattle.rv_rows.specs.Jobs.{single_job}
-use Rattle.rv_rows.specs.Kept.{IsKeptOf}
-use Rattle.rv_rows.specs.Plans.{AgreeWithContents, Planned, result_for_path}
+use Rattle.rv_rows.specs.Kept.{AgreesWithContents}
+use Rattle.rv_rows.specs.Plans.{AgreeWithContents, Planned, result_or_unreadable}
 use Rattle.rv_rows.specs.declared_answers.Answer.{Answer}
 use Rattle.rv_rows.specs.declared_kept.Kept.{Kept}
 use Rattle.rv_rows.specs.declared_kept.Kept.TheVariants as kept
 use Rattle.rv_rows.specs.Rows.{content_if_read}
-use Rattle.rvtest_app.specs.RefusedNotes.{refused_line, refused_lines}
-use Rattle.rvtest_app.specs.Views.{IsCountedFor, IsTableFor}
+use Rattle.rvtest_app.specs.RefusedNotes.{invalid_line, refused_lines}
+use Rattle.rvtest_app.specs.Views.{IsRunTableForView, IsTableForView}
 use Rattle.rvtest_app.specs.declared.view.View.{View}
 use Rattle.rvtest_app.specs.declared.view.View.TheVariants as view
 
@@ -38,34 +38,34 @@ jobs_more plan places i place lt is =
 pub refused_more : (judging : Judging) (plan : Planned) (unread : List UnreadablePath) (places : List ℕ) (i place : ℕ) → i < length places
     → place ≡ get_or places i place
     → refused_lines judging plan unread (take (i + 1) places)
-    ≡ refused_lines judging plan unread (take i places) ++ refused_line judging plan unread (slice_index_or plan.jobs place (single_job [] 0 []))
+    ≡ refused_lines judging plan unread (take i places) ++ invalid_line judging plan unread (slice_index_or plan.jobs place (single_job [] 0 []))
 refused_more judging plan unread places i place lt is =
-    ap (λ js. flat_map (refused_line judging plan unread) js) (jobs_more plan places i place lt is)
-    ∙ flat_map-append (refused_line judging plan unread) (jobs_at plan (take i places)) (slice_index_or plan.jobs place (single_job [] 0 []) ∷ [])
+    ap (λ js. flat_map (invalid_line judging plan unread) js) (jobs_more plan places i place lt is)
+    ∙ flat_map-append (invalid_line judging plan unread) (jobs_at plan (take i places)) (slice_index_or plan.jobs place (single_job [] 0 []) ∷ [])
     ∙ ap (λ text. refused_lines judging plan unread (take i places) ++ text) (append-nil _)
 
 -- ---- files
 
-content_small : (known : Option FileContents) (path : List ℕ) (k : Kept) → IsKeptOf known path k
+content_small : (known : Option FileContents) (path : List ℕ) (k : Kept) → AgreesWithContents known path k
     → IfSome (content_if_read (Some k)) (λ bytes. length bytes ≤ most_bytes)
 content_small known path (kept.Content bytes) of = of.0
 content_small known path kept.Unreadable of = tt
 content_small known path kept.TooLong of = tt
 
 kept_small_by : (known : Option FileContents) (path : List ℕ) (answer : Answer) (answers : List Answer) (same : Bool)
-    → bytes_eq path answer.path ≡ same → IsKeptOf known answer.path answer.kept
-    → IfSome (content_if_read (Some (result_for_path answers path))) (λ bytes. length bytes ≤ most_bytes)
-    → IfSome (content_if_read (Some (result_for_path (answer ∷ answers) path))) (λ bytes. length bytes ≤ most_bytes)
+    → bytes_eq path answer.path ≡ same → AgreesWithContents known answer.path answer.kept
+    → IfSome (content_if_read (Some (result_or_unreadable answers path))) (λ bytes. length bytes ≤ most_bytes)
+    → IfSome (content_if_read (Some (result_or_unreadable (answer ∷ answers) path))) (λ bytes. length bytes ≤ most_bytes)
 kept_small_by known path answer answers true same of rest = rw same (content_small known answer.path answer.kept of)
 kept_small_by known path answer answers false same of rest = rw same rest
 
 kept_small : (known : Option FileContents) (path : List ℕ) (answers : List Answer) → AgreeWithContents known answers
-    → IfSome (content_if_read (Some (result_for_path answers path))) (λ bytes. length bytes ≤ most_bytes)
+    → IfSome (content_if_read (Some (result_or_unreadable answers path))) (λ bytes. length bytes ≤ most_bytes)
 kept_small known path [] are = tt
 kept_small known path (answer ∷ answers) are =
     kept_small_by known path answer answers (bytes_eq path answer.path) refl
-    (All-head (λ (a : Answer). IsKeptOf known a.path a.kept) answer answers are)
-    (kept_small known path answers (All-tail (λ (a : Answer). IsKeptOf known a.path a.kept) answer answers are))
+    (All-head (λ (a : Answer). AgreesWithContents known a.path a.kept) answer answers are)
+    (kept_small known path answers (All-tail (λ (a : Answer). AgreesWithContents known a.path a.kept) answer answers are))
 
 -- what is kept of paths is not larger than a store reads
 pub all_small : (known : Option FileContents) (answers : List Answer) → AgreeWithContents known answers → AreSmall answers
@@ -73,11 +73,11 @@ all_small known answers are job = kept_small known job.image answers are
 
 -- ---- tables
 
-counted_table : (shown : View) (plan : Planned) (places : List ℕ) (table : CountTable) → IsCountedFor shown plan places table → IsTable table
+counted_table : (shown : View) (plan : Planned) (places : List ℕ) (table : CountTable) → IsRunTableForView shown plan places table → IsTable table
 counted_table (view.Cover csv) plan places table are = are.table
 counted_table (view.Profile format) plan places table are = are.sum.table
 
 pub table_of_view : (known : Option FileContents) (shown : View) (path : Option (List ℕ)) (plan : Planned) (places : List ℕ)
-    (table : CountTable) → IsTableFor known shown path plan places table → IsTable table
+    (table : CountTable) → IsTableForView known shown path plan places table → IsTable table
 table_of_view known shown None plan places table are = counted_table shown plan places table are
 table_of_view known shown (Some path) plan places table are = are.at.0

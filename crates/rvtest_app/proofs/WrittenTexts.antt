@@ -6,7 +6,7 @@ use Rattle.rv_files.specs.CommittedFiles.{CommittedFile, committed_file}
 use Rattle.rvtest_app.proofs.PutTexts.{appends_nothing}
 use Rattle.rvtest_app.proofs.Results.{OnOk-from, OnOk-map}
 use Rattle.rvtest_app.specs.Outlets.{AreFilesCommitted, file_at, is_stdout}
-use Rattle.rvtest_app.specs.CommandOutputs.{CommandOutputs, placed_if_reported, with_placed_if_reported}
+use Rattle.rvtest_app.specs.CommandOutputs.{CommandOutputs, committed_if_reported, with_committed_if_reported}
 use Rattle.rvtest_app.specs.WrittenTexts.{IsWrittenAt}
 
 -- no file was placed
@@ -48,13 +48,13 @@ written_file path name text before after is file out errors failures placed = rw
 -- ---- where it was told which files stood in their places before
 
 placed_where_told : (earlier before after files : Option (List CommittedFile)) → AreFilesCommitted before after files
-    → AreFilesCommitted (placed_if_reported earlier before) after files
+    → AreFilesCommitted (committed_if_reported earlier before) after files
 placed_where_told None before after files are = tt
 placed_where_told (Some placed) before after files are = are
 
 -- a text that was written there
 pub written_where_told : (earlier : Option (List CommittedFile)) (path : Option (List ℕ)) (text : List ℕ) (before after : CommandOutputs)
-    → IsWrittenAt path text before after → IsWrittenAt path text (with_placed_if_reported earlier before) after
+    → IsWrittenAt path text before after → IsWrittenAt path text (with_committed_if_reported earlier before) after
 written_where_told earlier path text before after written = record {
   out = written.out;
   errors = written.errors;
@@ -74,9 +74,9 @@ pub written_file_where_told : {X Y : Type 0} (r : Result X Y) (earlier : Option 
     → IfSome earlier (λ _. Empty)
     → (IfSome before.placed (λ _. Empty)
     → OnOk r (AreFilesCommitted before.placed after.placed (Some (committed_file name text ∷ []))))
-    → OnOk r (IsWrittenAt path text (with_placed_if_reported earlier before) after)
+    → OnOk r (IsWrittenAt path text (with_committed_if_reported earlier before) after)
 written_file_where_told r None path name text before after Empty is file out errors failures empty placed =
-    OnOk-from r _ (written_file path name text (with_placed_if_reported None before) after is file out errors failures tt)
+    OnOk-from r _ (written_file path name text (with_committed_if_reported None before) after is file out errors failures tt)
 written_file_where_told r (Some files) path name text before after Empty is file out errors failures empty placed =
     OnOk-map r _ _ (λ p. written_file path name text before after is file out errors failures p)
     (placed (untold_or_empty before.placed Empty empty))

@@ -2,7 +2,7 @@
 use Rattle.std.specs.Prelude.{◌≡◌, ◌⊎◌, ℕ, Bool, true, false, IfSome, IsFalse, IsTrue, List, Ok, Some, None, slice_get}
 use Rattle.std.specs.List.{All, Any}
 use Rattle.rv_accept.specs.Sharing.{names_golden_file}
-use Rattle.rv_accept.specs.Targets.{is_of_accepted}
+use Rattle.rv_accept.specs.Targets.{is_accepted_entry}
 use Rattle.rv_accept_text.specs.GoldenFiles.{is_left}
 use Rattle.rv_accept_text.specs.declared.accepting.AcceptSummary.{AcceptSummary}
 use Rattle.rv_accept_text.specs.declared.golden_file.GoldenFile.{GoldenFile}
@@ -13,7 +13,7 @@ use Rattle.rv_files.specs.CommittedFiles.{CommittedFile}
 use Rattle.rv_files.specs.UnreadPaths.{contents_below}
 use Rattle.rv_files.specs.declared.recording_store.UnreadablePath.{UnreadablePath}
 use Rattle.rv_rows.specs.Jobs.{console_path}
-use Rattle.rv_rows.specs.Plans.{Planned, result_for_path}
+use Rattle.rv_rows.specs.Plans.{Planned, result_or_unreadable}
 use Rattle.rv_rows.specs.declared_answers.Answer.{Answer}
 use Rattle.rv_rows.specs.declared_kept.Kept.{Kept}
 use Rattle.rv_rows.specs.declared_kept.Kept.TheVariants as kept
@@ -39,8 +39,8 @@ pub record IsStoreAfter (written : List CommittedFile) (before after : FileConte
   pub others : (path : List ℕ) → (after path ≡ before path) ⊎ Any (λ file. leads file.path ≡ leads path) written
 
 -- any two of the golden files whose resolved paths `leads` maps to the same file have equal outcomes, so both get the same new text
-abbrev pub HaveOneTextEach : (List ℕ → List ℕ) → List GoldenFile → Type 0
-HaveOneTextEach leads files = All (λ (file : GoldenFile). All (λ (other : GoldenFile).
+abbrev pub HaveOneTextPerFile : (List ℕ → List ℕ) → List GoldenFile → Type 0
+HaveOneTextPerFile leads files = All (λ (file : GoldenFile). All (λ (other : GoldenFile).
     leads file.resolved_path ≡ leads other.resolved_path → file.target.fate ≡ other.target.fate) files) files
 
 -- ---- the job
@@ -50,7 +50,7 @@ HaveOneTextEach leads files = All (λ (file : GoldenFile). All (λ (other : Gold
 pub record IsFullyAccepted (told : AcceptSummary) (place : ℕ) (job : Job) : Type 0 where
   -- the job is at index `place` of the list
   pub at_index : slice_get told.list.jobs.now place ≡ Some job
-  pub accepted : IsTrue (is_of_accepted (slice_get told.runs.now place))
+  pub accepted : IsTrue (is_accepted_entry (slice_get told.runs.now place))
   pub files : All (λ (file : GoldenFile). IsTrue (names_golden_file file.target.path job)
       → IsFalse (is_left told.list file)) told.files.now
   pub alone : job.same_as ≡ None
@@ -64,13 +64,13 @@ is_read _ = false
 
 -- `answers` has the contents of the job's image and of each of its expectation files
 pub record AreFilesRead (answers : List Answer) (job : Job) : Type 0 where
-  pub image : IsTrue (is_read (result_for_path answers job.image))
-  pub signature : IfSome job.expect_signature (λ path. IsTrue (is_read (result_for_path answers path)))
-  pub console : IfSome (console_path job.expect_console) (λ path. IsTrue (is_read (result_for_path answers path)))
+  pub image : IsTrue (is_read (result_or_unreadable answers job.image))
+  pub signature : IfSome job.expect_signature (λ path. IsTrue (is_read (result_or_unreadable answers path)))
+  pub console : IfSome (console_path job.expect_console) (λ path. IsTrue (is_read (result_or_unreadable answers path)))
 
 -- `row` is the row of the job at index `place` when the list at the path in `words` runs with the files of `store`, and all files of the
 -- job were read
-pub record IsRowIn (store : FileContents) (words : RunArgs) (place : ℕ) (row : Row) : Type 0 where
+pub record IsRowOfRun (store : FileContents) (words : RunArgs) (place : ℕ) (row : Row) : Type 0 where
   pub bytes : List ℕ
   pub read : IsTextAt (Some store) words.list.now bytes
   pub jobs : List Job

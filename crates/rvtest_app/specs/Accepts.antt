@@ -3,7 +3,7 @@ use Rattle.std.specs.Prelude.{◌==◌, ◌≡◌, ◌&&◌, ◌++◌, ℕ, Bool
 use Rattle.std.specs.Io.KnownBytes.{Appends}
 use Rattle.std.specs.List.{flat_map}
 use Rattle.rv_accept.specs.GoldenTexts.{golden_texts_of_runs}
-use Rattle.rv_accept.specs.Edits.{edited_from}
+use Rattle.rv_accept.specs.Edits.{edited_rest}
 use Rattle.rv_accept.specs.IntendedJobs.{intended_jobs}
 use Rattle.rv_accept.specs.Runs.{judged_runs, indexed_rows}
 use Rattle.rv_accept.specs.Sharing.{jobs_to_run}
@@ -16,7 +16,7 @@ use Rattle.rv_accept.specs.declared.runs.JobRun.{JobRun}
 use Rattle.rv_accept.specs.declared.current_verdict.Candidate.{Candidate}
 use Rattle.rv_accept.specs.declared.targets.Target.{Target}
 use Rattle.rv_accept_text.specs.GoldenFiles.{new_text}
-use Rattle.rv_accept_text.specs.NewLists.{AreLeftFrom}
+use Rattle.rv_accept_text.specs.NewLists.{AreSkippedFrom}
 use Rattle.rv_accept_text.specs.AcceptLines.{changed_count, count_line, skipped_count, accept_lines}
 use Rattle.rv_accept_text.specs.declared.accepting.AcceptSummary.{AcceptSummary}
 use Rattle.rv_accept_text.specs.declared.accepting.Writing.TheVariants as writing
@@ -47,7 +47,7 @@ use Rattle.rvtest_app.specs.CurrentVerdicts.{AreCandidates}
 
 -- which ends are accepted: with `--ends`, also a different exit code or kind of fault; otherwise only the expected end
 abbrev pub acceptance_of : Bool → Acceptance
-acceptance_of true = acceptance.InExpectedWay
+acceptance_of true = acceptance.ExpectedKind
 acceptance_of false = acceptance.Expected
 
 -- `rows` are the rows of the selected jobs of the list `bare`, each at the index of its job, with the files read from the store; `note` is
@@ -61,7 +61,7 @@ pub record AreRowsOfSelected (known : Option FileContents) (root : Option (List 
   pub noted : note ≡ missing_images_note plan.jobs unread (length (selected_job_indices marks)) root
 
 -- `rows` are the rows of the selected jobs; nothing but the note about missing images was output, and it went to standard error
-pub record AreRowsMade (known : Option FileContents) (root : Option (List ℕ)) (bare : List Job) (marks : List Bool)
+pub record HaveSelectedRun (known : Option FileContents) (root : Option (List ℕ)) (bare : List Job) (marks : List Bool)
     (rows : List (Option Row)) (before after : CommandOutputs) : Type 0 where
   pub note : List ℕ
   pub are : AreRowsOfSelected known root bare marks rows note
@@ -71,8 +71,8 @@ pub record AreRowsMade (known : Option FileContents) (root : Option (List ℕ)) 
 
 -- `old` is the contents of the file at the path, or `None` if there is no file; if the contents of files are not known, `old` may be
 -- anything
-abbrev pub IsOldAt : Option FileContents → List ℕ → Option (List ℕ) → Type 0
-IsOldAt known path old = IfSome known (λ files. files path ≡ old)
+abbrev pub IsOldContentsAt : Option FileContents → List ℕ → Option (List ℕ) → Type 0
+IsOldContentsAt known path old = IfSome known (λ files. files path ≡ old)
 
 -- `file` is the golden file of `target`: it has the target's path, resolved against `root`, and the contents of the file there
 pub record IsGoldenFile (known : Option FileContents) (root : Option (List ℕ)) (target : Target) (file : GoldenFile)
@@ -80,7 +80,7 @@ pub record IsGoldenFile (known : Option FileContents) (root : Option (List ℕ))
   pub of : file.target ≡ target
   pub leads : file.resolved_path ≡ resolved_path root target.path
   -- the old contents are those of the file there
-  pub old_contents : IsOldAt known file.resolved_path file.old
+  pub old_contents : IsOldContentsAt known file.resolved_path file.old
 
 -- the files are the golden files of the targets, in order: with the targets' paths, resolved against `root`, and the contents of the files
 -- there
@@ -91,9 +91,9 @@ AreGoldenFiles known root (target ∷ targets) (file ∷ files) =
 AreGoldenFiles known root _ _ = ⊥
 
 -- a list with one file, which has this path and text; empty if there is no text
-abbrev pub file_if : List ℕ → Option (List ℕ) → List CommittedFile
-file_if path None = []
-file_if path (Some text) = committed_file path text ∷ []
+abbrev pub file_if_text : List ℕ → Option (List ℕ) → List CommittedFile
+file_if_text path None = []
+file_if_text path (Some text) = committed_file path text ∷ []
 
 -- the text of the new list; `None` if `accept` leaves the list unchanged
 abbrev pub new_list_text : AcceptSummary → Option (List ℕ)
@@ -101,8 +101,8 @@ new_list_text told = option_map (λ text. text.items) told.new.now.text
 
 -- the files that `accept` writes: the golden files that get a new text, in order, and then the list if it changes
 abbrev pub written_files : AcceptSummary → List CommittedFile
-written_files told = flat_map (λ file. file_if file.resolved_path (new_text told.list file)) told.files.now
-    ++ file_if told.list.path.now (new_list_text told)
+written_files told = flat_map (λ file. file_if_text file.resolved_path (new_text told.list file)) told.files.now
+    ++ file_if_text told.list.path.now (new_list_text told)
 
 -- ---- the command
 
@@ -113,20 +113,20 @@ accept_status left changed = if left == 0 && changed == 0 then 0 else 1
 
 -- `told` summarizes `accept` for the list with the text `bytes` and the jobs `jobs`; it has the runs in `judged`, of which some more may be
 -- skipped
-pub record IsOutcome (known : Option FileContents) (words : AcceptArgs) (bytes : List ℕ) (jobs : List Job)
+pub record IsAcceptOutcome (known : Option FileContents) (words : AcceptArgs) (bytes : List ℕ) (jobs : List Job)
     (judged : List (Option JobRun)) (told : AcceptSummary) : Type 0 where
   pub path : told.list.path.now ≡ words.run.list.now
   pub text : told.list.text.now ≡ bytes
   pub listed : told.list.jobs.now ≡ jobs
   -- runs that are accepted in `judged` may be skipped in the summary, but not the other way round
-  pub runs : AreLeftFrom judged told.runs.now
+  pub runs : AreSkippedFrom judged told.runs.now
   -- the text that each accepted or skipped run gives to each golden file of its job
   pub claims : told.claims.now ≡ golden_texts_of_runs 0 jobs told.runs.now
   -- the golden files of the accepted jobs, with their old contents
   pub files : AreGoldenFiles known (optional_text words.run.root)
       (fold (with_target told.runs.now told.claims.now) [] told.claims.now) told.files.now
   -- a new list is the old one with some edits
-  pub edited : IfSome told.new.now.text (λ text. (edits : List Edit) × (text.items ≡ edited_from 0 bytes edits))
+  pub edited : IfSome told.new.now.text (λ text. (edits : List Edit) × (text.items ≡ edited_rest 0 bytes edits))
   -- a new list parses as the intended jobs
   pub intended : IfSome told.new.now.text (λ text. job_list_of text.items ≡ Ok (intended_jobs jobs told.runs.now))
   -- without a new list, the intended jobs are those of the old list
@@ -165,7 +165,7 @@ pub record AreOutsideFilesReported (before after : CommandOutputs) : Type 0 wher
   pub told : IsOnlyErrorOutput outside before after
 
 -- `judged` has the run of each job with a row, accepted or skipped according to whether the job is chosen and to the current verdict on it
-pub record AreJudged (known : Option FileContents) (words : AcceptArgs) (jobs : List Job) (chosen : List Bool)
+pub record AreJudgedRuns (known : Option FileContents) (words : AcceptArgs) (jobs : List Job) (chosen : List Bool)
     (rows : List (Option Row)) (judged : List (Option JobRun)) : Type 0 where
   pub candidates : List Candidate
   pub stand : AreCandidates known (optional_text words.run.root) rows jobs chosen candidates
@@ -179,12 +179,12 @@ pub record IsAcceptOfSelected (known : Option FileContents) (words : AcceptArgs)
   pub outside : AreOutsideFilesReported before first
   pub rows : List (Option Row)
   pub middle : CommandOutputs
-  pub ran : AreRowsMade known (optional_text words.run.root) (map without_expectations jobs)
+  pub ran : HaveSelectedRun known (optional_text words.run.root) (map without_expectations jobs)
       (jobs_to_run jobs chosen) rows first middle
   pub judged : List (Option JobRun)
-  pub judging : AreJudged known words jobs chosen rows judged
+  pub judging : AreJudgedRuns known words jobs chosen rows judged
   pub told : AcceptSummary
-  pub outcome : IsOutcome known words bytes jobs judged told
+  pub outcome : IsAcceptOutcome known words bytes jobs judged told
   pub put : IsAcceptanceWritten words.check told status middle after
 
 -- `accept` accepted the results of the chosen jobs; if no job is chosen (`None`), the status is 0 and nothing was output

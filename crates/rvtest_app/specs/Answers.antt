@@ -3,7 +3,7 @@ use Rattle.std.specs.Prelude.{◌≡◌, ◌⊎◌, ℕ, Bool, List, Option, Som
 use Rattle.clap.specs.Kinds.{IsAmong}
 use Rattle.clap.specs.declared.error.kind.ErrorKind.TheVariants.{DisplayHelp, DisplayVersion}
 use Rattle.rv_files.specs.Files.{FileContents}
-use Rattle.rvtest_cli.specs.RvtestWords.{value_of_request, words_fault_kinds, request_of_args}
+use Rattle.rvtest_cli.specs.RvtestArgs.{value_of_request, args_error_kinds, request_of_args}
 use Rattle.rvtest_cli.specs.declared.requests.Request.{Request}
 use Rattle.rvtest_cli.specs.declared.requests.Request.TheVariants as request
 use Rattle.rvtest_app.specs.Accepts.{IsAcceptedAt}
@@ -11,15 +11,15 @@ use Rattle.rvtest_app.specs.Colors.{IsColoredOutput, requested_colors}
 use Rattle.rvtest_app.specs.Consoles.{IsConsoleWritten}
 use Rattle.rvtest_app.specs.CountSums.{IsSumWritten}
 use Rattle.rvtest_app.specs.Covers.{IsCoverageWritten}
-use Rattle.rvtest_app.specs.Debugging.{IsGdbAnswered}
+use Rattle.rvtest_app.specs.Debugging.{IsGdbServed}
 use Rattle.rvtest_app.specs.HelpTopics.{IsTopicPrinted}
 use Rattle.rvtest_app.specs.Lists.{IsListWritten}
 use Rattle.rvtest_app.specs.Merges.{IsMergedAt}
 use Rattle.rvtest_app.specs.Profiles.{IsProfileWritten}
-use Rattle.rvtest_app.specs.Reports.{IsCheckAt, IsDiffWritten, IsExplanationAt}
+use Rattle.rvtest_app.specs.Reports.{IsCheckOutputAt, IsDiffWritten, IsExplanationAt}
 use Rattle.rvtest_app.specs.Runs.{IsRunAt}
 use Rattle.rvtest_app.specs.CommandOutputs.{IsOnlyStandardOutput, CommandOutputs}
-use Rattle.rvtest_app.specs.Shows.{IsShownAt}
+use Rattle.rvtest_app.specs.Shows.{IsShowWritten}
 
 -- a command did what the request asks for: `status` is its exit status, and `before` and `after` are the outputs before and after it.
 -- `known` and `input` are the contents of files and of standard input, if they are known; `is_terminal` says whether standard output is a
@@ -35,9 +35,9 @@ IsCommandDone known input is_terminal (request.List words) status before after =
 IsCommandDone known input is_terminal (request.Console words) status before after =
     IsConsoleWritten known words status before after
 IsCommandDone known input is_terminal (request.Gdb words) status before after =
-    (rest : Option (List ℕ)) × IsGdbAnswered known is_terminal words input rest status before after
+    (rest : Option (List ℕ)) × IsGdbServed known is_terminal words input rest status before after
 IsCommandDone known input is_terminal (request.Check words) status before after =
-    (text : List ℕ) × (IsCheckAt known words text status
+    (text : List ℕ) × (IsCheckOutputAt known words text status
     × IsOnlyStandardOutput text before after)
 IsCommandDone known input is_terminal (request.Accept words) status before after =
     IsAcceptedAt known words status before after
@@ -46,7 +46,7 @@ IsCommandDone known input is_terminal (request.Merge words) status before after 
 IsCommandDone known input is_terminal (request.Diff words) status before after =
     IsDiffWritten known words status before after
 IsCommandDone known input is_terminal (request.Show words) status before after =
-    IsShownAt known words status before after
+    IsShowWritten known words status before after
 IsCommandDone known input is_terminal (request.Counts words) status before after =
     IsSumWritten known words status before after
 IsCommandDone known input is_terminal (request.Cover words) status before after =
@@ -66,18 +66,18 @@ pub record IsDoneInColors (known : Option FileContents) (input : Option (List �
   pub shown : IsColoredOutput (requested_colors args is_colored) before plain after
 
 -- the arguments request the help or the version
-abbrev pub AskForHelp : List (List ℕ) → Type 0
-AskForHelp words = IsAmong DisplayHelp (words_fault_kinds words) ⊎ IsAmong DisplayVersion (words_fault_kinds words)
+abbrev pub RequestHelp : List (List ℕ) → Type 0
+RequestHelp words = IsAmong DisplayHelp (args_error_kinds words) ⊎ IsAmong DisplayVersion (args_error_kinds words)
 
 -- the program only prints a text: a usage error with status 2 if the arguments are not a request, or the help or the version with status 0
-abbrev pub IsAnsweredAlone : List (List ℕ) → ℕ → Type 0
-IsAnsweredAlone words status =
-    ((request_of_args words ≡ None) × (status ≡ 2)) ⊎ (AskForHelp words × (status ≡ 0))
+abbrev pub IsOnlyUsageOrHelp : List (List ℕ) → ℕ → Type 0
+IsOnlyUsageOrHelp words status =
+    ((request_of_args words ≡ None) × (status ≡ 2)) ⊎ (RequestHelp words × (status ≡ 0))
 
 -- the program responded to its arguments: it did what they request, or it only printed the usage, the help or the version
 abbrev pub IsAnswered : Option FileContents → Option (List ℕ) → Bool → Bool → List (List ℕ) → ℕ → CommandOutputs → CommandOutputs → Type 0
 IsAnswered known input is_terminal is_colored words status before after =
     ((args : Request) × ((request_of_args words ≡ Some (value_of_request args))
     × IsDoneInColors known input is_terminal is_colored args status before after))
-    ⊎ (IsAnsweredAlone words status × (after.errors ≡ before.errors) × (after.failures ≡ before.failures)
+    ⊎ (IsOnlyUsageOrHelp words status × (after.errors ≡ before.errors) × (after.failures ≡ before.failures)
     × (after.placed ≡ before.placed))

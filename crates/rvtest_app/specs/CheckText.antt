@@ -12,7 +12,7 @@ use Rattle.rv_job_text.specs.ResultLine.{optional_reason_text}
 use Rattle.rv_job_text.specs.TotalsLine.{job_word}
 use Rattle.rv_job_text.specs.UnreadFiles.{too_long_file_text, unread_file_text}
 use Rattle.rv_rows.specs.Jobs.{console_path}
-use Rattle.rv_rows.specs.Plans.{Planned, result_for_path}
+use Rattle.rv_rows.specs.Plans.{Planned, result_or_unreadable}
 use Rattle.rv_rows.specs.declared_kept.Kept.{Kept}
 use Rattle.rv_rows.specs.declared_kept.Kept.TheVariants as kept
 use Rattle.rv_accept_text.specs.JobLocations.{job_lines}
@@ -77,7 +77,7 @@ unread_reference_text path lines unread place job _ _ = []
 -- the error line for a job's expectation file; empty if it was read or none is named
 abbrev pub reference_text : List ℕ → List ℕ → Planned → List UnreadablePath → ℕ → Job → Option (List ℕ) → List ℕ
 reference_text path lines plan unread place job file =
-    unread_reference_text path lines unread place job (option_map (result_for_path plan.answers) file) file
+    unread_reference_text path lines unread place job (option_map (result_or_unreadable plan.answers) file) file
 
 -- the error lines for a job's image and for the files with its expected signature and console
 unfoldable pub refused_files_text : List ℕ → List ℕ → Planned → List UnreadablePath → ℕ → Job → List ℕ

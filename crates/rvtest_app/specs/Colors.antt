@@ -3,7 +3,7 @@ use Rattle.std.specs.Prelude.{◌≡◌, ℕ, Bool, List, Option, Some, None, co
 use Rattle.std.specs.Str.{bytes_eq}
 use Rattle.rvtest_cli.specs.declared.requests.Request.{Request}
 use Rattle.rvtest_cli.specs.declared.requests.Request.TheVariants as request
-use Rattle.rv_terminal.specs.ColorSinks.{IsOut}
+use Rattle.rv_terminal.specs.ColorSinks.{IsColoredAs}
 use Rattle.rv_terminal.specs.declared.colors.Colors.{Colors}
 use Rattle.rv_terminal.specs.declared.colors.Colors.TheVariants as colors
 use Rattle.rv_command.specs.Texts.{optional_text}
@@ -16,10 +16,10 @@ abbrev pub terminal_colors : Bool → Colors
 terminal_colors is_terminal = if is_terminal then colors.With else colors.Without
 
 -- the colours that the value of `--color` requests: `always`, `never`, or otherwise coloured results only on a terminal
-abbrev pub colors_of_word : Option (List ℕ) → Bool → Colors
-colors_of_word (Some word) is_terminal = if bytes_eq word (codes "always") then colors.With
+abbrev pub colors_of_value : Option (List ℕ) → Bool → Colors
+colors_of_value (Some word) is_terminal = if bytes_eq word (codes "always") then colors.With
     else if bytes_eq word (codes "never") then colors.Without else terminal_colors is_terminal
-colors_of_word None is_terminal = terminal_colors is_terminal
+colors_of_value None is_terminal = terminal_colors is_terminal
 
 -- plain results if the Bool is true, because an output file goes to standard output; otherwise the given colours
 abbrev pub colors_unless_stdout_used : Bool → Colors → Colors
@@ -29,16 +29,16 @@ colors_unless_stdout_used uses_stdout args = if uses_stdout then colors.Without 
 -- `diff` and `show` are ever coloured
 abbrev pub requested_colors : Request → Bool → Colors
 requested_colors (request.Run words) is_terminal =
-    colors_unless_stdout_used (uses_run_stdout words) (colors_of_word (optional_text words.color) is_terminal)
-requested_colors (request.Explain words) is_terminal = colors_of_word (optional_text words.color) is_terminal
-requested_colors (request.Diff words) is_terminal = colors_of_word (optional_text words.color) is_terminal
+    colors_unless_stdout_used (uses_run_stdout words) (colors_of_value (optional_text words.color) is_terminal)
+requested_colors (request.Explain words) is_terminal = colors_of_value (optional_text words.color) is_terminal
+requested_colors (request.Diff words) is_terminal = colors_of_value (optional_text words.color) is_terminal
 requested_colors (request.Show words) is_terminal =
-    colors_unless_stdout_used (is_stdout_at (optional_text words.junit)) (colors_of_word (optional_text words.color) is_terminal)
+    colors_unless_stdout_used (is_stdout_at (optional_text words.junit)) (colors_of_value (optional_text words.color) is_terminal)
 requested_colors _ is_terminal = colors.Without
 
 -- the outputs `after` are the outputs `plain` with the results on standard output coloured, and nothing else changed
 pub record IsColoredOutput (colors : Colors) (before plain after : CommandOutputs) : Type 0 where
-  pub out : IsOut colors before.out plain.out after.out
+  pub out : IsColoredAs colors before.out plain.out after.out
   pub errors : after.errors ≡ plain.errors
   pub failures : after.failures ≡ plain.failures
   pub placed : after.placed ≡ plain.placed

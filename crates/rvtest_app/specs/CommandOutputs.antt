@@ -29,13 +29,13 @@ outputs_of placed taken told failed to = record {
 }
 
 -- `placed`, the committed files, if the first argument, the files committed earlier, was reported; otherwise `None`
-abbrev pub placed_if_reported : Option (List CommittedFile) → Option (List CommittedFile) → Option (List CommittedFile)
-placed_if_reported None placed = None
-placed_if_reported (Some earlier) placed = placed
+abbrev pub committed_if_reported : Option (List CommittedFile) → Option (List CommittedFile) → Option (List CommittedFile)
+committed_if_reported None placed = None
+committed_if_reported (Some earlier) placed = placed
 
 -- the outputs `now`, whose committed files are set to `None` if `earlier`, the files committed earlier, was not reported
-abbrev pub with_placed_if_reported : Option (List CommittedFile) → CommandOutputs → CommandOutputs
-with_placed_if_reported earlier now = record now { placed = placed_if_reported earlier now.placed }
+abbrev pub with_committed_if_reported : Option (List CommittedFile) → CommandOutputs → CommandOutputs
+with_committed_if_reported earlier now = record now { placed = committed_if_reported earlier now.placed }
 
 -- the text was written to standard output, and nothing else was output
 abbrev pub IsOnlyStandardOutput : List ℕ → CommandOutputs → CommandOutputs → Type 0

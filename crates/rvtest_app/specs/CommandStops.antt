@@ -5,7 +5,7 @@ use Rattle.clap.specs.declared.error.kind.ErrorKind.{ErrorKind as WordsFault}
 use Rattle.rv_files.specs.Files.{FileContents}
 use Rattle.rv_choice.specs.ChoiceStops.{IsChoiceStop}
 use Rattle.rv_choice.specs.UnknownName.{IsUnknownNameStop}
-use Rattle.rvtest_cli.specs.RvtestWords.{value_of_request, misuse_text, words_fault_kinds, words_faults, words_misuse, request_of_args}
+use Rattle.rvtest_cli.specs.RvtestArgs.{value_of_request, misuse_text, args_error_kinds, args_errors, args_misuse, request_of_args}
 use Rattle.rvtest_cli.specs.declared.accept.AcceptArgs.{AcceptArgs}
 use Rattle.rvtest_cli.specs.declared.check.CheckArgs.{CheckArgs}
 use Rattle.rvtest_cli.specs.declared.console.ConsoleArgs.{ConsoleArgs}
@@ -16,7 +16,7 @@ use Rattle.rvtest_cli.specs.declared.run.RunArgs.{RunArgs}
 use Rattle.rvtest_cli.specs.declared.show.ShowArgs.{ShowArgs}
 use Rattle.rvtest_cli.specs.declared.requests.Request.{Request}
 use Rattle.rvtest_cli.specs.declared.requests.Request.TheVariants as request
-use Rattle.rv_command.specs.Stops.{IsListFaultStop, IsListUnreadStop, IsRefusal, IsRequestedUnreadStop, IsUsageStop}
+use Rattle.rv_command.specs.Stops.{IsListFaultStop, IsListUnreadStop, IsRejection, IsRequestedUnreadStop, IsUsageStop}
 use Rattle.rv_command.specs.Texts.{IsReportReadAt, IsTextAt, optional_text}
 use Rattle.rv_command.specs.declared.stop.Stop.{Stop}
 use Rattle.rv_command.specs.declared.stop.Stop.TheVariants as stop
@@ -25,11 +25,11 @@ use Rattle.rv_rows.specs.JobList.{job_list_of}
 use Rattle.rv_rows.specs.declared_job.Job.{Job}
 use Rattle.rv_rows.specs.declared_partial.PartialReport.{PartialReport}
 use Rattle.rvtest_app.specs.AcceptStops.{IsUnacceptedStop}
-use Rattle.rvtest_app.specs.Answers.{AskForHelp}
+use Rattle.rvtest_app.specs.Answers.{RequestHelp}
 use Rattle.rvtest_app.specs.Commands.{failure_rule}
 use Rattle.rvtest_app.specs.CountStops.{IsCountsStop}
 use Rattle.rvtest_app.specs.CoverStops.{IsCoverStop}
-use Rattle.rvtest_app.specs.Debugging.{IsBrokenStop, IsFailureCounted, IsNoGdbStop, IsUnopenedOfStop}
+use Rattle.rvtest_app.specs.Debugging.{IsSessionErrorStop, IsFailureCounted, IsNoGdbStop, IsUnopenedJobOfTextStop}
 use Rattle.rvtest_app.specs.HelpTopics.{IsNoTopicStop}
 use Rattle.rvtest_app.specs.MergeStops.{IsMergeStop}
 use Rattle.rvtest_app.specs.Overwrites.{IsShowOverwriteStop}
@@ -60,27 +60,27 @@ IsConsoleStop known words why = IsListUnreadStop known words.list.now why
     ⊎ ((text : List ℕ) × (IsTextAt known words.list.now text × IsNoJobStop words.list.now text words.name.now why))
 
 -- why `gdb` could not open the job: the list could not be read or has an error, no job has the requested name, or the job is refused
-abbrev pub IsUnopenedAtStop : Option FileContents → GdbArgs → Stop → Type 0
-IsUnopenedAtStop known words why = IsListUnreadStop known words.list.now why
+abbrev pub IsUnopenedSessionStop : Option FileContents → GdbArgs → Stop → Type 0
+IsUnopenedSessionStop known words why = IsListUnreadStop known words.list.now why
     ⊎ ((text : List ℕ) × (IsTextAt known words.list.now text
-    × (IsNoJobStop words.list.now text words.name.now why ⊎ IsUnopenedOfStop known words text why)))
+    × (IsNoJobStop words.list.now text words.name.now why ⊎ IsUnopenedJobOfTextStop known words text why)))
 
 -- why `gdb` did not start a session: standard output is a terminal, or the job could not be opened
 abbrev pub IsUnshownStop : Option FileContents → Bool → GdbArgs → Stop → Type 0
 IsUnshownStop known is_terminal words why = ((is_terminal ≡ true) × IsNoGdbStop why)
-    ⊎ ((is_terminal ≡ false) × IsUnopenedAtStop known words why)
+    ⊎ ((is_terminal ≡ false) × IsUnopenedSessionStop known words why)
 
 -- why `gdb` stopped: it did not start a session, or the session ended with an error
 abbrev pub IsGdbStop : Option FileContents → Bool → GdbArgs → Stop → Type 0
 IsGdbStop known is_terminal words why = IsUnshownStop known is_terminal words why
-    ⊎ ((is_terminal ≡ false) × ((broken : SessionError) × IsBrokenStop broken why))
+    ⊎ ((is_terminal ≡ false) × ((broken : SessionError) × IsSessionErrorStop broken why))
 
 -- `gdb` stopped: either it started no session and output nothing, or its session ended with an error, and the number of failed writes rose
 -- by one if this error is a failed write, and did not change otherwise
 abbrev pub IsGdbStopped : Option FileContents → Bool → GdbArgs → Stop → CommandOutputs → CommandOutputs → ℕ → ℕ → Type 0
 IsGdbStopped known is_terminal words why before after failures_before failures_after =
     (IsUnshownStop known is_terminal words why × (after ≡ before))
-    ⊎ ((is_terminal ≡ false) × ((broken : SessionError) × (IsBrokenStop broken why × IsFailureCounted broken failures_before failures_after)))
+    ⊎ ((is_terminal ≡ false) × ((broken : SessionError) × (IsSessionErrorStop broken why × IsFailureCounted broken failures_before failures_after)))
 
 -- why a command stopped: the text is not a valid list, or its jobs could not be chosen as the arguments request
 abbrev pub IsNoChoiceStop : Option FileContents → RunArgs → List ℕ → Stop → Type 0
@@ -104,8 +104,8 @@ IsDiffAtStop known words why = IsRequestedUnreadStop known words.partial words.o
     × IsRequestedUnreadStop known words.partial words.new.now why))
 
 -- why `show` stopped: the JUnit file would overwrite the report, the report could not be read, or the output could not be written
-abbrev pub IsShowStop : Option FileContents → ShowArgs → Stop → Type 0
-IsShowStop known words why = IsShowOverwriteStop words why ⊎ (IsRequestedUnreadStop known words.partial words.report.now why
+abbrev pub IsShowErrorStop : Option FileContents → ShowArgs → Stop → Type 0
+IsShowErrorStop known words why = IsShowOverwriteStop words why ⊎ (IsRequestedUnreadStop known words.partial words.report.now why
     ⊎ ((found : PartialReport) × (IsReportReadAt known words.partial words.report.now found
     × IsOutputStop None (optional_text words.junit) why)))
 
@@ -122,34 +122,34 @@ IsCommandStop known is_terminal (request.Help words) why = (why ≡ stop.WriteFa
 IsCommandStop known is_terminal (request.Run words) why = IsRunStop known words why
 IsCommandStop known is_terminal (request.Accept words) why = IsAcceptStop known words why
 IsCommandStop known is_terminal (request.Merge words) why = IsMergeStop known words why
-IsCommandStop known is_terminal (request.Show words) why = IsShowStop known words why
+IsCommandStop known is_terminal (request.Show words) why = IsShowErrorStop known words why
 IsCommandStop known is_terminal (request.Counts words) why = IsCountsStop known words why
 IsCommandStop known is_terminal (request.Cover words) why = (why ≡ stop.WriteFailed) ⊎ IsCoverStop known words why
 IsCommandStop known is_terminal (request.Profile words) why = (why ≡ stop.WriteFailed) ⊎ IsProfileStop known words why
 
 -- the arguments have an error other than a request for the help or the version
-abbrev pub AreFaulty : List (List ℕ) → Type 0
-AreFaulty words = (kind : WordsFault) × (IsAmong kind (words_fault_kinds words) × (IsHelpRequested kind → ⊥))
+abbrev pub AreInvalidArgs : List (List ℕ) → Type 0
+AreInvalidArgs words = (kind : WordsFault) × (IsAmong kind (args_error_kinds words) × (IsHelpRequested kind → ⊥))
 
 -- the stop reports the misuse in the arguments, such as options that exclude each other, with its message; if there is no misuse, memory
 -- ran out
 abbrev pub IsMisuseStop : List (List ℕ) → Stop → Type 0
 IsMisuseStop words why =
-    MatchOption (words_misuse words) (why ≡ stop.OutOfMemory) (λ misuse. IsUsageStop (misuse_text misuse) why)
+    MatchOption (args_misuse words) (why ≡ stop.OutOfMemory) (λ misuse. IsUsageStop (misuse_text misuse) why)
 
 -- the arguments have an error, and the stop rejects them with status 2; if `clap` finds no error in them, the stop reports a misuse
-pub record IsFaultStop (words : List (List ℕ)) (why : Stop) : Type 0 where
-  pub faulty : AreFaulty words
-  pub refused : IsRefusal why
-  pub misused : words_faults words ≡ [] → IsMisuseStop words why
+pub record IsInvalidArgsStop (words : List (List ℕ)) (why : Stop) : Type 0 where
+  pub faulty : AreInvalidArgs words
+  pub refused : IsRejection why
+  pub misused : args_errors words ≡ [] → IsMisuseStop words why
 
 -- the arguments stopped the program: memory ran out, the requested help could not be written, or the arguments are invalid
-abbrev pub IsWordsStop : List (List ℕ) → Stop → Type 0
-IsWordsStop words why = (why ≡ stop.OutOfMemory)
-    ⊎ ((AskForHelp words × (why ≡ stop.WriteFailed)) ⊎ IsFaultStop words why)
+abbrev pub IsArgsStop : List (List ℕ) → Stop → Type 0
+IsArgsStop words why = (why ≡ stop.OutOfMemory)
+    ⊎ ((RequestHelp words × (why ≡ stop.WriteFailed)) ⊎ IsInvalidArgsStop words why)
 
 -- why the program stopped: the requested command stopped, or the arguments are invalid
-abbrev pub IsStopFor : Option FileContents → Bool → List (List ℕ) → Stop → Type 0
-IsStopFor known is_terminal words why =
+abbrev pub IsProgramStop : Option FileContents → Bool → List (List ℕ) → Stop → Type 0
+IsProgramStop known is_terminal words why =
     ((args : Request) × ((request_of_args words ≡ Some (value_of_request args)) × IsCommandStop known is_terminal args why))
-    ⊎ IsWordsStop words why
+    ⊎ IsArgsStop words why

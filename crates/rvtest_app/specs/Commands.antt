@@ -4,7 +4,7 @@ use Rattle.std.specs.Prelude.{if◌then◌else◌, is_some}
 use Rattle.std.specs.List.{filter}
 use Rattle.rv_expect.specs.declared.passing.Rule.{Rule}
 use Rattle.rv_expect.specs.declared.passing.Rule.TheVariants.{Strict, Lenient}
-use Rattle.rv_expect.specs.Judgement.{Judging, judging_by_rule}
+use Rattle.rv_expect.specs.Judgement.{Judging, judge_by_rule}
 use Rattle.rv_expect.specs.TwoEnds.{expects_two_ends}
 use Rattle.rv_rows.specs.Plans.{Planned}
 use Rattle.rv_rows.specs.declared_job.Job.{Job}
@@ -23,7 +23,7 @@ failure_rule false = Strict
 -- how the rows of a report are judged: by the lenient rule if the Bool is true (`--lenient`), and otherwise by the strict rule; no job is
 -- known to fail
 abbrev pub report_judging : Bool → Judging
-report_judging is_lenient = judging_by_rule (failure_rule is_lenient)
+report_judging is_lenient = judge_by_rule (failure_rule is_lenient)
 
 -- the rows that are shown: none with `--quiet` (the second Bool), all with only `--verbose` (the first), and otherwise the failures
 abbrev pub requested_verbosity : Bool → Bool → Verbosity

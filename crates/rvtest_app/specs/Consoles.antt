@@ -3,7 +3,7 @@ use Rattle.std.specs.Prelude.{◌≡◌, ℕ, List, [], ◌∷◌, Option, Ok, s
 use Rattle.rv_files.specs.Files.{FileContents}
 use Rattle.rvtest_cli.specs.declared.console.ConsoleArgs.{ConsoleArgs}
 use Rattle.rv_command.specs.Texts.{IsTextAt, optional_text}
-use Rattle.rv_expect.specs.Judgement.{judging_by_rule}
+use Rattle.rv_expect.specs.Judgement.{judge_by_rule}
 use Rattle.rv_expect.specs.Passing.{has_passed}
 use Rattle.rv_expect.specs.declared.passing.Rule.TheVariants.{Strict}
 use Rattle.rv_files.specs.UnreadPaths.{contents_below}
@@ -14,7 +14,7 @@ use Rattle.rv_rows.specs.JobList.{job_list_of}
 use Rattle.rv_rows.specs.declared_job.Job.{Job}
 use Rattle.rv_rows.specs.Rows.{row_of}
 use Rattle.rvtest_app.specs.Commands.{passing_status}
-use Rattle.rvtest_app.specs.Reports.{AreNotesOf, IsFirstNamed}
+use Rattle.rvtest_app.specs.Reports.{HasEntryPerUnreadable, IsFirstJobNamed}
 use Rattle.rvtest_app.specs.CommandOutputs.{IsOnlyStandardOutput, IsOnlyErrorOutput, CommandOutputs}
 
 -- `console` is the text that the job at index `place` printed, `line` is the line that reports its row, and `status` is the exit status
@@ -25,9 +25,9 @@ pub record IsJobConsole (known : Option FileContents) (jobs : List Job) (place :
   pub paths : paths_of plan.answers ≡ paths_used (jobs_needed_for jobs (place ∷ []))
   pub kept : AgreeWithContents known plan.answers
   pub unread : List UnreadablePath
-  pub noted : AreNotesOf plan.answers unread
+  pub noted : HasEntryPerUnreadable plan.answers unread
   pub written : (d : Job) → console ≡ (row_of plan (slice_index_or plan.jobs place d)).console
-  pub told : (d : Job) → line ≡ row_line plan unread (judging_by_rule Strict) (slice_index_or plan.jobs place d)
+  pub told : (d : Job) → line ≡ row_line plan unread (judge_by_rule Strict) (slice_index_or plan.jobs place d)
       (row_of plan (slice_index_or plan.jobs place d))
   pub judged : (d : Job) → status ≡ passing_status
       (has_passed Strict (row_of plan (slice_index_or plan.jobs place d)))
@@ -38,7 +38,7 @@ pub record IsConsoleOf (known : Option FileContents) (bytes name console line : 
   pub jobs : List Job
   pub listed : job_list_of bytes ≡ Ok jobs
   pub place : ℕ
-  pub first : IsFirstNamed jobs name place
+  pub first : IsFirstJobNamed jobs name place
   pub of_job : IsJobConsole known jobs place console line status
 
 -- `console`, `line` and `status` are the console, the result line and the exit status of the job that the arguments name, in the list at

@@ -8,7 +8,7 @@ use Rattle.rv_command.specs.Stops.{IsStop, IsResultUnreadStop}
 use Rattle.rv_command.specs.Texts.{IsTextAt, optional_text}
 use Rattle.rv_command.specs.declared.stop.Stop.{Stop}
 use Rattle.rv_command.specs.declared.stop.Stop.TheVariants as stop
-use Rattle.rv_count_tables.specs.Read.{IsLeast}
+use Rattle.rv_count_tables.specs.Read.{IsFirstError}
 use Rattle.rv_count_tables.specs.Sum.{HaveNoSum, no_counts}
 use Rattle.rv_count_tables.specs.Table.{IsTable}
 use Rattle.rv_count_tables.specs.Text.{table_text}
@@ -19,7 +19,7 @@ use Rattle.rv_count_tables.specs.declared.sum.SumError.TheVariants as sum
 use Rattle.rv_count_tables.specs.declared.table.CountTable.{CountTable}
 use Rattle.rv_job_text.specs.Printable.{printable_text}
 use Rattle.rv_job_text.specs.TextWords.{word_digits}
-use Rattle.rvtest_app.specs.CountSums.{AreAdded, IsTableAt}
+use Rattle.rvtest_app.specs.CountSums.{AreTablesAdded, IsTableAt}
 use Rattle.rvtest_app.specs.Overwrites.{IsSumOverwriteStop}
 use Rattle.rvtest_app.specs.WrittenTexts.{IsUnwrittenAtStop, written_path}
 
@@ -52,7 +52,7 @@ IsSumErrorStop path sum.Runs why = IsStop 2 (path_message path (codes "the numbe
 -- the stop reports the first error in `text`, which is not a valid table of counts, or that memory ran out; if `text` is a valid table,
 -- memory ran out
 pub record IsTableFaultStop (path text : List ℕ) (why : Stop) : Type 0 where
-  pub told : (error : ReadError) × (IsLeast error text × IsReadErrorStop path error why)
+  pub told : (error : ReadError) × (IsFirstError error text × IsReadErrorStop path error why)
   pub whole : (table : CountTable) → IsTable table → table_text table ≡ text → why ≡ stop.OutOfMemory
 
 -- why a command stopped: the file at the path is a valid table of counts, but cannot be added to `before`, the sum of the earlier tables
@@ -61,8 +61,8 @@ IsSumOverflowStop known path before why = (table : CountTable) × (IsTableAt kno
     × ((error : SumError) × (HaveNoSum error before table × IsSumErrorStop path error why)))
 
 -- why a command stopped: the table at the path could not be read, is invalid, or cannot be added to `before`, the sum of the earlier tables
-abbrev pub IsUnaddedStop : Option FileContents → List ℕ → CountTable → Stop → Type 0
-IsUnaddedStop known path before why = IsResultUnreadStop known path why
+abbrev pub IsTableNotAddedStop : Option FileContents → List ℕ → CountTable → Stop → Type 0
+IsTableNotAddedStop known path before why = IsResultUnreadStop known path why
     ⊎ (((text : List ℕ) × (IsTextAt known path text × IsTableFaultStop path text why))
     ⊎ IsSumOverflowStop known path before why)
 
@@ -74,11 +74,11 @@ pub record IsSumStop (known : Option FileContents) (paths : List (Bor (List ℕ)
   pub later_tables : List (Bor (List ℕ))
   pub sum : CountTable
   pub listed : paths ≡ before ++ path ∷ later_tables
-  pub added : AreAdded known before no_counts sum
-  pub stopped : IsUnaddedStop known path.now sum why
+  pub added : AreTablesAdded known before no_counts sum
+  pub stopped : IsTableNotAddedStop known path.now sum why
 
 -- why `counts` stopped: the sum would overwrite a table, memory ran out, a table could not be added, or the sum could not be written
 abbrev pub IsCountsStop : Option FileContents → CountsArgs → Stop → Type 0
 IsCountsStop known words why = IsSumOverwriteStop words why ⊎ ((why ≡ stop.OutOfMemory) ⊎ (IsSumStop known words.tables.items why
-    ⊎ ((sum : CountTable) × (AreAdded known words.tables.items no_counts sum
+    ⊎ ((sum : CountTable) × (AreTablesAdded known words.tables.items no_counts sum
     × IsUnwrittenAtStop (written_path (optional_text words.out)) why))))

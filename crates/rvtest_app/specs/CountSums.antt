@@ -5,7 +5,7 @@ use Rattle.std.specs.Fmt.{decimal}
 use Rattle.rv_files.specs.Files.{FileContents}
 use Rattle.rvtest_cli.specs.declared.counts.CountsArgs.{CountsArgs}
 use Rattle.rv_command.specs.Texts.{IsTextAt, optional_text}
-use Rattle.rv_count_tables.specs.Sum.{IsSum, no_counts}
+use Rattle.rv_count_tables.specs.Sum.{IsSumOfTables, no_counts}
 use Rattle.rv_count_tables.specs.Table.{IsTable}
 use Rattle.rv_count_tables.specs.Text.{table_text}
 use Rattle.rv_count_tables.specs.declared.table.AddressCounts.{AddressCounts}
@@ -19,14 +19,14 @@ abbrev pub IsTableAt : Option FileContents → List ℕ → CountTable → Type 
 IsTableAt known path table = IsTable table × IsTextAt known path (table_text table)
 
 -- the table `after` is the sum of the table `before` and the table of counts at the path
-abbrev pub IsAdded : Option FileContents → List ℕ → CountTable → CountTable → Type 0
-IsAdded known path before after = (table : CountTable) × (IsTableAt known path table × IsSum before table after)
+abbrev pub IsTableAdded : Option FileContents → List ℕ → CountTable → CountTable → Type 0
+IsTableAdded known path before after = (table : CountTable) × (IsTableAt known path table × IsSumOfTables before table after)
 
 -- the table `after` is the sum of the table `before` and the tables of counts at the paths
-abbrev pub AreAdded : Option FileContents → List (Bor (List ℕ)) → CountTable → CountTable → Type 0
-AreAdded known [] before after = after ≡ before
-AreAdded known (path ∷ paths) before after =
-    (next : CountTable) × (IsAdded known path.now before next × AreAdded known paths next after)
+abbrev pub AreTablesAdded : Option FileContents → List (Bor (List ℕ)) → CountTable → CountTable → Type 0
+AreTablesAdded known [] before after = after ≡ before
+AreTablesAdded known (path ∷ paths) before after =
+    (next : CountTable) × (IsTableAdded known path.now before next × AreTablesAdded known paths next after)
 
 -- how many instructions were executed at these addresses
 abbrev pub executed_at_addresses : List AddressCounts → ℕ
@@ -39,12 +39,12 @@ executed_in_images [] = 0
 executed_in_images (image ∷ images) = executed_at_addresses image.addresses + executed_in_images images
 
 -- the greatest 64-bit number
-abbrev pub most_number : ℕ
-most_number = 2 ^ 64 - 1
+abbrev pub max_u64 : ℕ
+max_u64 = 2 ^ 64 - 1
 
 -- the number to print: the number itself, or the greatest 64-bit number if it does not fit in 64 bits
-abbrev pub shown_number : ℕ → ℕ
-shown_number number = min number most_number
+abbrev pub capped_number : ℕ → ℕ
+capped_number number = min number max_u64
 
 -- " run of " for one run, and " runs of " for any other number
 abbrev pub run_word : ℕ → List ℕ
@@ -55,8 +55,8 @@ abbrev pub image_word : ℕ → List ℕ
 image_word count = if count == 1 then codes " image, " else codes " images, "
 
 -- "at least " for the greatest 64-bit number, which may stand for a greater one; empty for any other number
-abbrev pub number_head : ℕ → List ℕ
-number_head number = if number == most_number then codes "at least " else []
+abbrev pub at_least_prefix : ℕ → List ℕ
+at_least_prefix number = if number == max_u64 then codes "at least " else []
 
 -- " instruction" if the count is 1, and otherwise " instructions", followed by a line feed
 abbrev pub instruction_word : ℕ → List ℕ
@@ -64,17 +64,17 @@ instruction_word count = if count == 1 then codes " instruction\n" else codes " 
 
 -- the number of executed instructions in words, with "at least" if it is the greatest 64-bit number, and a line feed
 abbrev pub instructions_text : ℕ → List ℕ
-instructions_text number = number_head number ++ decimal number ++ instruction_word number
+instructions_text number = at_least_prefix number ++ decimal number ++ instruction_word number
 
 -- the line that summarizes a table of counts: its number of runs, of images and of executed instructions
 abbrev pub sum_note : CountTable → List ℕ
 sum_note table = decimal table.runs ++ run_word table.runs ++ decimal (length table.images) ++ image_word (length table.images)
-    ++ instructions_text (shown_number (executed_in_images table.images))
+    ++ instructions_text (capped_number (executed_in_images table.images))
 
 -- the sum of the tables was written to the path of `--out` or to standard output, and then the line that summarizes it to standard error
 pub record IsSumWritten (known : Option FileContents) (words : CountsArgs) (status : ℕ) (before after : CommandOutputs) : Type 0 where
   pub sum : CountTable
-  pub added : AreAdded known words.tables.items no_counts sum
+  pub added : AreTablesAdded known words.tables.items no_counts sum
   pub middle : CommandOutputs
   pub put : IsWrittenAt (Some (written_path (optional_text words.out))) (table_text sum) before middle
   pub told : IsOnlyErrorOutput (sum_note sum) middle after

@@ -10,7 +10,7 @@ use Rattle.rv_command.specs.Stops.{IsStop, IsSystemStop}
 use Rattle.rv_command.specs.Texts.{IsTextAt, optional_text}
 use Rattle.rv_command.specs.declared.stop.Stop.{Stop}
 use Rattle.rv_command.specs.declared.stop.Stop.TheVariants as stop
-use Rattle.rv_expect.specs.Judgement.{judging_by_rule}
+use Rattle.rv_expect.specs.Judgement.{judge_by_rule}
 use Rattle.rv_expect.specs.declared.passing.Rule.TheVariants.{Strict}
 use Rattle.rv_files.specs.UnreadPaths.{contents_below, resolved_path}
 use Rattle.rv_files.specs.declared.recording_store.UnreadablePath.{UnreadablePath}
@@ -27,21 +27,21 @@ use Rattle.rv_rows.specs.Flat.{flat_state}
 use Rattle.rv_rows.specs.Rows.{row_of, start_in}
 use Rattle.rv_gdb.specs.Incoming.{IsReceived}
 use Rattle.rv_gdb.specs.declared_session.Session.{Session}
-use Rattle.rvtest_app.specs.Reports.{AreNotesOf, IsFirstNamed}
+use Rattle.rvtest_app.specs.Reports.{HasEntryPerUnreadable, IsFirstJobNamed}
 use Rattle.rvtest_app.specs.CommandOutputs.{IsOnlyStandardOutput, CommandOutputs}
 
 -- the text that `run` prints about the job: its result line and its unmet expectations; empty if there is no job
 abbrev pub end_text_of_job : Planned → List UnreadablePath → Option Job → List ℕ
 end_text_of_job plan unread None = []
-end_text_of_job plan unread (Some job) = outcome_text plan unread (judging_by_rule Strict) job (row_of plan job)
+end_text_of_job plan unread (Some job) = outcome_text plan unread (judge_by_rule Strict) job (row_of plan job)
 
 -- the text that `run` prints about the job at index `place` of the plan: its result line and its unmet expectations
 unfoldable pub job_end_text : Planned → List UnreadablePath → ℕ → List ℕ
 job_end_text plan unread place = end_text_of_job plan unread (slice_get plan.jobs place)
 
 -- the state in which the run of the job at index `place` starts; for a refused job, the start state of an empty image
-unfoldable pub job_start : Planned → ℕ → State
-job_start plan place =
+unfoldable pub job_start_state : Planned → ℕ → State
+job_start_state plan place =
     unwrap_or (option_and_then (λ (job : Job). result_ok (start_in plan.answers job)) (slice_get plan.jobs place)) (flat_state [])
 
 -- `session` debugs the run of the job at index `place`, with the files that it needs read from the store and its image's path resolved
@@ -53,34 +53,34 @@ pub record IsJobOpened (known : Option FileContents) (root : Option (List ℕ)) 
   pub paths : paths_of plan.answers ≡ paths_used (jobs_needed_for jobs (place ∷ []))
   pub kept : AgreeWithContents known plan.answers
   pub unread : List UnreadablePath
-  pub noted : AreNotesOf plan.answers unread
+  pub noted : HasEntryPerUnreadable plan.answers unread
   pub over : (d : Job) → IsSessionOf plan.answers (slice_index_or plan.jobs place d)
       (resolved_path root (slice_index_or plan.jobs place d).image) session
   pub outputs_of : end_text ≡ job_end_text plan unread place
 
 -- `session` debugs the first job of the requested name in the list with the text `bytes`, and `end_text` is the text that `run` prints
 -- about this job
-pub record IsOpenedOf (known : Option FileContents) (words : GdbArgs) (bytes end_text : List ℕ) (session : Session) : Type 0 where
+pub record IsSessionOpenedOf (known : Option FileContents) (words : GdbArgs) (bytes end_text : List ℕ) (session : Session) : Type 0 where
   pub jobs : List Job
   pub listed : job_list_of bytes ≡ Ok jobs
   pub place : ℕ
-  pub first : IsFirstNamed jobs words.name.now place
+  pub first : IsFirstJobNamed jobs words.name.now place
   pub of_job : IsJobOpened (contents_below (optional_text words.root) known) (optional_text words.root) jobs place end_text session
 
 -- `session` debugs the job that the arguments name, in the list at their path, and `end_text` is the text that `run` prints about this job
-pub record IsOpenedAt (known : Option FileContents) (words : GdbArgs) (end_text : List ℕ) (session : Session) : Type 0 where
+pub record IsSessionOpenedAt (known : Option FileContents) (words : GdbArgs) (end_text : List ℕ) (session : Session) : Type 0 where
   pub bytes : List ℕ
   pub read : IsTextAt known words.list.now bytes
-  pub of_list : IsOpenedOf known words bytes end_text session
+  pub of_list : IsSessionOpenedOf known words bytes end_text session
 
 -- `gdb` read bytes of standard input until the session or the input ended, and wrote only the session's responses to standard output, which
 -- is not a terminal
-pub record IsGdbAnswered (known : Option FileContents) (is_terminal : Bool) (words : GdbArgs) (input rest : Option (List ℕ))
+pub record IsGdbServed (known : Option FileContents) (is_terminal : Bool) (words : GdbArgs) (input rest : Option (List ℕ))
     (status : ℕ) (before after : CommandOutputs) : Type 0 where
   pub spoken : is_terminal ≡ false
   pub end_text : List ℕ
   pub first : Session
-  pub opened : IsOpenedAt known words end_text first
+  pub opened : IsSessionOpenedAt known words end_text first
   -- the bytes that were read
   pub received : List ℕ
   pub read : Consumes input rest received
@@ -112,28 +112,28 @@ pub record IsRefusedJobStop (known : Option FileContents) (jobs : List Job) (pla
   pub paths : paths_of plan.answers ≡ paths_used (jobs_needed_for jobs (place ∷ []))
   pub kept : AgreeWithContents known plan.answers
   pub unread : List UnreadablePath
-  pub noted : AreNotesOf plan.answers unread
+  pub noted : HasEntryPerUnreadable plan.answers unread
   pub refused : (d : Job) → is_ok (start_in plan.answers (slice_index_or plan.jobs place d)) ≡ false
-  pub told : (d : Job) → IsStop 2 (row_line plan unread (judging_by_rule Strict) (slice_index_or plan.jobs place d)
+  pub told : (d : Job) → IsStop 2 (row_line plan unread (judge_by_rule Strict) (slice_index_or plan.jobs place d)
       (row_of plan (slice_index_or plan.jobs place d))) why
 
 -- why a command stopped: memory ran out, or the job at index `place` is refused
-abbrev pub IsUnopenedStop : Option FileContents → List Job → ℕ → Stop → Type 0
-IsUnopenedStop known jobs place why = (why ≡ stop.OutOfMemory) ⊎ IsRefusedJobStop known jobs place why
+abbrev pub IsUnopenedJobStop : Option FileContents → List Job → ℕ → Stop → Type 0
+IsUnopenedJobStop known jobs place why = (why ≡ stop.OutOfMemory) ⊎ IsRefusedJobStop known jobs place why
 
 -- why a command stopped: memory ran out, or the first job of the requested name in the list with the text `bytes` is refused
-pub record IsUnopenedOfStop (known : Option FileContents) (words : GdbArgs) (bytes : List ℕ) (why : Stop) : Type 0 where
+pub record IsUnopenedJobOfTextStop (known : Option FileContents) (words : GdbArgs) (bytes : List ℕ) (why : Stop) : Type 0 where
   pub jobs : List Job
   pub listed : job_list_of bytes ≡ Ok jobs
   pub place : ℕ
-  pub first : IsFirstNamed jobs words.name.now place
+  pub first : IsFirstJobNamed jobs words.name.now place
   pub refused : IsRefusedJobStop (contents_below (optional_text words.root) known) jobs place why
 
 -- the stop for an error of the session: memory ran out, standard input could not be read, or a write failed
-abbrev pub IsBrokenStop : SessionError → Stop → Type 0
-IsBrokenStop broken.OutOfMemory why = why ≡ stop.OutOfMemory
-IsBrokenStop (broken.UnreadPath reason) why = IsSystemStop (codes "standard input") reason why
-IsBrokenStop broken.ReplyWriteFailed why = why ≡ stop.WriteFailed
+abbrev pub IsSessionErrorStop : SessionError → Stop → Type 0
+IsSessionErrorStop broken.OutOfMemory why = why ≡ stop.OutOfMemory
+IsSessionErrorStop (broken.ReadFailed reason) why = IsSystemStop (codes "standard input") reason why
+IsSessionErrorStop broken.ReplyWriteFailed why = why ≡ stop.WriteFailed
 
 -- `before` and `after` count the failed writes: `after` is one more if a failed write ended the session, and equal to `before` if another
 -- error did

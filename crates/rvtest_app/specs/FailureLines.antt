@@ -11,7 +11,7 @@ abbrev pub failure_lines : RowReporter → ℕ → Row → List ℕ
 failure_lines reporter = row_lines_at (record reporter { verbosity = Failures })
 
 -- whether the texts of failures are stored for a JUnit document: true if a document is requested, and the lines of failed jobs are shown
-abbrev pub keeps_failures : RunArgs → Verbosity → Bool
-keeps_failures args Quiet = false
-keeps_failures args Failures = is_some args.junit
-keeps_failures args All = is_some args.junit
+abbrev pub stores_failure_texts : RunArgs → Verbosity → Bool
+stores_failure_texts args Quiet = false
+stores_failure_texts args Failures = is_some args.junit
+stores_failure_texts args All = is_some args.junit

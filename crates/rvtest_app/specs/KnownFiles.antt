@@ -28,10 +28,10 @@ IsKnownAt files (Some path) jobs known = IsSomeAnd known (IsKnownFile files path
 
 -- the text of an error in the file of known failures, about the job name `name`; `list` is the path of the job list
 abbrev pub known_fault_text : List ℕ → List ℕ → KnownFaultKind → List ℕ
-known_fault_text list name kind.NoName =
+known_fault_text list name kind.InvalidName =
     codes "\"" ++ printable_value name ++ codes "\" is not a job name: expected NAME [# REASON]"
 known_fault_text list name kind.Twice = codes "duplicate job name \"" ++ printable_value name ++ codes "\""
-known_fault_text list name kind.NoJob =
+known_fault_text list name kind.UnknownJob =
     codes "no job named \"" ++ printable_value name ++ codes "\" in " ++ printable_text list
 
 -- the message about an error in the file of known failures at `path`

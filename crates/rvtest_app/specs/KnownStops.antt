@@ -19,11 +19,11 @@ IsKnownFaultStop path list jobs bytes why = (why ≡ stop.OutOfMemory)
     × IsStop 2 (known_fault_message path list fault) why))
 
 -- why a command stopped: the file of known failures at `path` could not be read, or it has an error
-abbrev pub IsNoKnownFileStop : Option FileContents → List ℕ → List ℕ → List Job → Stop → Type 0
-IsNoKnownFileStop known path list jobs why = IsListUnreadStop known path why
+abbrev pub IsKnownFileStop : Option FileContents → List ℕ → List ℕ → List Job → Stop → Type 0
+IsKnownFileStop known path list jobs why = IsListUnreadStop known path why
     ⊎ ((bytes : List ℕ) × (IsTextAt known path bytes × IsKnownFaultStop path list jobs bytes why))
 
 -- why a run with `--known` stopped: its file could not be read, or has an error
 abbrev pub IsKnownStop : Option FileContents → RunArgs → List Job → Stop → Type 0
 IsKnownStop known words jobs why =
-    IsSomeAnd words.known (λ path. IsNoKnownFileStop known path.now words.list.now jobs why)
+    IsSomeAnd words.known (λ path. IsKnownFileStop known path.now words.list.now jobs why)

@@ -27,7 +27,7 @@ chosen_name_lines jobs None = []
 chosen_name_lines jobs (Some marks) = name_lines jobs (selected_job_indices marks)
 
 -- `names` is the text that `list` prints for the list with the text `bytes`, and `notes` are the notes about the choice of jobs
-pub record AreListedOf (known : Option FileContents) (words : RunArgs) (bytes names notes : List ℕ) : Type 0 where
+pub record IsListOutputOf (known : Option FileContents) (words : RunArgs) (bytes names notes : List ℕ) : Type 0 where
   pub jobs : List Job
   pub listed : job_list_of bytes ≡ Ok jobs
   pub marks : Option (List Bool)
@@ -35,16 +35,16 @@ pub record AreListedOf (known : Option FileContents) (words : RunArgs) (bytes na
   pub named : names ≡ chosen_name_lines jobs marks
 
 -- `names` is the text that `list` prints for the list at the path in the arguments, and `notes` are the notes about the choice of jobs
-pub record AreListedAt (known : Option FileContents) (words : RunArgs) (names notes : List ℕ) : Type 0 where
+pub record IsListOutputAt (known : Option FileContents) (words : RunArgs) (names notes : List ℕ) : Type 0 where
   pub bytes : List ℕ
   pub read : IsTextAt known words.list.now bytes
-  pub of : AreListedOf known words bytes names notes
+  pub of : IsListOutputOf known words bytes names notes
 
 -- the notes about the choice went to standard error, and then the names to standard output; the status is 0
 pub record IsListWritten (known : Option FileContents) (words : RunArgs) (status : ℕ) (before after : CommandOutputs) : Type 0 where
   pub names : List ℕ
   pub notes : List ℕ
-  pub are : AreListedAt known words names notes
+  pub are : IsListOutputAt known words names notes
   pub middle : CommandOutputs
   pub told : IsOnlyErrorOutput notes before middle
   pub put : IsOnlyStandardOutput names middle after

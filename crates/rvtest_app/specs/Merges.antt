@@ -60,5 +60,5 @@ pub record IsMergedJunitAlone (known : Option FileContents) (words : MergeArgs) 
   pub placed : AreFilesCommitted before after (Some (file_at (optional_text words.junit) (merged_junit words rows)))
 
 -- after an error, `merge` has committed no file, or only the JUnit document
-abbrev pub IsUndoneMergeAt : Option FileContents → MergeArgs → Option (List CommittedFile) → Option (List CommittedFile) → Type 0
-IsUndoneMergeAt known words before after = (after ≡ before) ⊎ IsMergedJunitAlone known words before after
+abbrev pub IsAbortedMergeAt : Option FileContents → MergeArgs → Option (List CommittedFile) → Option (List CommittedFile) → Type 0
+IsAbortedMergeAt known words before after = (after ≡ before) ⊎ IsMergedJunitAlone known words before after

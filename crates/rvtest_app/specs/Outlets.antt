@@ -39,14 +39,14 @@ is_stdout_at (Some path) = is_stdout path
 
 module _ {P W : Type 0} where
   -- whether the outlet is standard output
-  abbrev pub is_out : Outlet P W → Bool
-  is_out outlet.Nowhere = false
-  is_out outlet.Out = true
-  is_out (outlet.File file) = false
+  abbrev pub is_stdout_outlet : Outlet P W → Bool
+  is_stdout_outlet outlet.Nowhere = false
+  is_stdout_outlet outlet.Out = true
+  is_stdout_outlet (outlet.File file) = false
 
   -- whether the report or the JUnit XML goes to standard output
   abbrev pub uses_stdout : Outlets P W → Bool
-  uses_stdout outlets = is_out outlets.report || is_out outlets.junit
+  uses_stdout outlets = is_stdout_outlet outlets.report || is_stdout_outlet outlets.junit
 
   -- the path by which messages name the file of an outlet, if it is a file
   abbrev pub outlet_path : Outlet P W → Option (List ℕ)
@@ -55,10 +55,10 @@ module _ {P W : Type 0} where
   outlet_path (outlet.File file) = Some file.path.now
 
   -- the text, if the outlet is standard output; else empty
-  abbrev pub stdout_part : Outlet P W → List ℕ → List ℕ
-  stdout_part outlet.Nowhere text = []
-  stdout_part outlet.Out text = text
-  stdout_part (outlet.File file) text = []
+  abbrev pub text_if_stdout : Outlet P W → List ℕ → List ℕ
+  text_if_stdout outlet.Nowhere text = []
+  text_if_stdout outlet.Out text = text
+  text_if_stdout (outlet.File file) text = []
 
   -- no write to the outlet's file failed
   abbrev pub has_no_failure : (W → ℕ) → Outlet P W → Type 0
@@ -67,23 +67,23 @@ module _ {P W : Type 0} where
   has_no_failure failed (outlet.File file) = failed file.sink ≡ 0
 
   -- the outlet is for this path and, if committed files are reported, its file has received this text so far and no write failed
-  abbrev pub HasTaken : (P → List ℕ) → (W → Option (List ℕ)) → (W → ℕ) → Option (List CommittedFile)
+  abbrev pub HasReceived : (P → List ℕ) → (W → Option (List ℕ)) → (W → ℕ) → Option (List CommittedFile)
       → Option (List ℕ) → List ℕ → Outlet P W → Type 0
-  HasTaken pending_path taken failed placed path text outlet.Nowhere = path ≡ None
-  HasTaken pending_path taken failed placed path text outlet.Out = path ≡ Some (codes "-")
-  HasTaken pending_path taken failed placed path text (outlet.File file) =
+  HasReceived pending_path taken failed placed path text outlet.Nowhere = path ≡ None
+  HasReceived pending_path taken failed placed path text outlet.Out = path ≡ Some (codes "-")
+  HasReceived pending_path taken failed placed path text (outlet.File file) =
       (path ≡ Some (pending_path file.place)) × ((is_stdout (pending_path file.place) ≡ false)
       × (IfSome placed (λ _. taken file.sink ≡ Some text) × (failed file.sink ≡ 0)
       × (file.path.now ≡ pending_path file.place)))
 
   -- the text was written to the outlet, and no write failed
-  abbrev pub IsPutInto : (W → Option (List ℕ)) → (W → ℕ) → Outlet P W → Outlet P W → List ℕ → Type 0
-  IsPutInto taken failed outlet.Nowhere outlet.Nowhere text = ⊤
-  IsPutInto taken failed outlet.Out outlet.Out text = ⊤
-  IsPutInto taken failed (outlet.File before) (outlet.File after) text =
+  abbrev pub IsWrittenToOutlet : (W → Option (List ℕ)) → (W → ℕ) → Outlet P W → Outlet P W → List ℕ → Type 0
+  IsWrittenToOutlet taken failed outlet.Nowhere outlet.Nowhere text = ⊤
+  IsWrittenToOutlet taken failed outlet.Out outlet.Out text = ⊤
+  IsWrittenToOutlet taken failed (outlet.File before) (outlet.File after) text =
       (after.place ≡ before.place) × (Appends (taken before.sink) (taken after.sink) text
       × (failed after.sink ≡ failed before.sink))
-  IsPutInto taken failed _ _ text = ⊥
+  IsWrittenToOutlet taken failed _ _ text = ⊥
 
   -- the file that an outlet makes when it is committed; none if the sink does not report what it received
   abbrev pub files_of : (P → List ℕ) → (W → Option (List ℕ)) → Outlet P W → Option (List CommittedFile)
@@ -112,5 +112,5 @@ abbrev pub AreFilesPartlyCommitted : Option (List CommittedFile) → Option (Lis
 AreFilesPartlyCommitted before after first = (after ≡ before) ⊎ AreFilesCommitted before after first
 
 -- the files of the first list followed by the files of the second; `None` if one of the lists is `None`
-abbrev pub both_files : Option (List CommittedFile) → Option (List CommittedFile) → Option (List CommittedFile)
-both_files first second = option_and_then (λ first. option_map (λ second. first ++ second) second) first
+abbrev pub joined_files : Option (List CommittedFile) → Option (List CommittedFile) → Option (List CommittedFile)
+joined_files first second = option_and_then (λ first. option_map (λ second. first ++ second) second) first

@@ -1,7 +1,7 @@
 -- What a command writes: the text that it shows, the report and the JUnit XML.
 use Rattle.std.specs.Prelude.{◌≡◌, ◌||◌, ◌++◌, ℕ, Bool, true, false, List, Option, Some}
 use Rattle.std.specs.Io.KnownBytes.{Appends}
-use Rattle.rv_expect.specs.Judgement.{judging_of}
+use Rattle.rv_expect.specs.Judgement.{judge_view}
 use Rattle.rv_junit.specs.Junit.{junit_text}
 use Rattle.rv_rows.specs.declared_row.Row.{Row}
 use Rattle.rv_stream.specs.Streams.{row_text_list}
@@ -11,13 +11,13 @@ use Rattle.rvtest_app.specs.ReportTexts.{report_rows}
 use Rattle.rvtest_app.specs.CommandOutputs.{IsOnlyStandardOutput, IsOnlyErrorOutput, CommandOutputs}
 
 -- the text was written to standard error if the Bool is true, and otherwise to standard output
-abbrev pub IsShown : Bool → List ℕ → CommandOutputs → CommandOutputs → Type 0
-IsShown true text before after = IsOnlyErrorOutput text before after
-IsShown false text before after = IsOnlyStandardOutput text before after
+abbrev pub IsWrittenToErrorsIf : Bool → List ℕ → CommandOutputs → CommandOutputs → Type 0
+IsWrittenToErrorsIf true text before after = IsOnlyErrorOutput text before after
+IsWrittenToErrorsIf false text before after = IsOnlyStandardOutput text before after
 
 -- the JUnit document of the rows of a report; the function `line` returns the lines about a row
-abbrev pub junit_of : {T : Type 0} → (T → ℕ → Row → List ℕ) → FileTexts T → List ℕ
-junit_of line texts = junit_text texts.suite.name.now (judging_of texts.suite.judge)
+abbrev pub junit_of_report : {T : Type 0} → (T → ℕ → Row → List ℕ) → FileTexts T → List ℕ
+junit_of_report line texts = junit_text texts.suite.name.now (judge_view texts.suite.judge)
     (row_text_list (line texts.reporter.now) texts.places.now (report_rows texts.report)) (report_rows texts.report)
 
 -- the text `shown` was written, to standard error if `is_beside` is true and otherwise to standard output; then the report and the JUnit
@@ -25,7 +25,7 @@ junit_of line texts = junit_text texts.suite.name.now (judging_of texts.suite.ju
 pub record IsOutputWrittenTo (is_beside : Bool) (report_path junit_path : Option (List ℕ)) (shown report junit : List ℕ)
     (before after : CommandOutputs) : Type 0 where
   pub middle : CommandOutputs
-  pub seen : IsShown is_beside shown before middle
+  pub seen : IsWrittenToErrorsIf is_beside shown before middle
   pub out : Appends middle.out after.out (stdout_at junit_path junit ++ stdout_at report_path report)
   pub quiet : (after.errors ≡ middle.errors) × (after.failures ≡ middle.failures)
   pub placed : AreFilesCommitted middle.placed after.placed (Some (file_at junit_path junit ++ file_at report_path report))

@@ -14,13 +14,13 @@ use Rattle.rvtest_app.specs.Commands.{is_job_refused, report_judging}
 use Rattle.rvtest_app.specs.MissingImages.{missing_images_note}
 
 -- the result line of a refused job; empty if the job is not refused
-unfoldable pub refused_line : Judging → Planned → List UnreadablePath → Job → List ℕ
-refused_line judging plan unread job =
+unfoldable pub invalid_line : Judging → Planned → List UnreadablePath → Job → List ℕ
+invalid_line judging plan unread job =
     if is_job_refused plan job then row_line plan unread judging job (row_of plan job) else []
 
 -- the result lines of the refused jobs among the jobs at these indices
 abbrev pub refused_lines : Judging → Planned → List UnreadablePath → List ℕ → List ℕ
-refused_lines judging plan unread places = flat_map (refused_line judging plan unread) (jobs_at plan places)
+refused_lines judging plan unread places = flat_map (invalid_line judging plan unread) (jobs_at plan places)
 
 -- the note about missing images, which may be empty, and then the result lines of the refused jobs among the jobs at these indices
 abbrev pub refused_note : RunArgs → Planned → List UnreadablePath → List ℕ → List ℕ

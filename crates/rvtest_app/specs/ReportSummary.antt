@@ -33,12 +33,12 @@ pub record AreSortedBySteps (rows sorted : List Row) : Type 0 where
   pub stable : (steps : ℕ) → filter (λ row. row.steps == steps) sorted ≡ filter (λ row. row.steps == steps) rows
 
 -- the largest number of rows that `show` lists under "most steps"
-abbrev pub most_rows_shown : ℕ
-most_rows_shown = 10
+abbrev pub max_rows_shown : ℕ
+max_rows_shown = 10
 
--- the rows with the most steps, in descending order, at most `most_rows_shown` of them
+-- the rows with the most steps, in descending order, at most `max_rows_shown` of them
 abbrev pub rows_with_most_steps : List Row → List Row
-rows_with_most_steps rows = take most_rows_shown (rows_by_steps rows)
+rows_with_most_steps rows = take max_rows_shown (rows_by_steps rows)
 
 -- the line with the steps and the name of a row
 unfoldable pub steps_line : Row → List ℕ

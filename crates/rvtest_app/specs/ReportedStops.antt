@@ -9,9 +9,9 @@ use Rattle.clap.specs.declared.error.kind.ErrorKind.TheVariants as words
 use Rattle.rv_files.specs.Counts.{one_more}
 use Rattle.rvtest_cli.specs.declared.diff.DiffArgs.{DiffArgs}
 use Rattle.rv_command.specs.Messages.{end_message}
-use Rattle.rvtest_cli.specs.declared.words_error.WordsError.{WordsError}
-use Rattle.rvtest_cli.specs.declared.words_error.WordsError.TheVariants as error
-use Rattle.rv_command.specs.Stops.{IsRefusedAs, IsRequestedFaultStop, end_status}
+use Rattle.rvtest_cli.specs.declared.args_error.ArgsError.{ArgsError}
+use Rattle.rvtest_cli.specs.declared.args_error.ArgsError.TheVariants as error
+use Rattle.rv_command.specs.Stops.{IsRejectedWith, IsRequestedFaultStop, end_status}
 use Rattle.rv_command.specs.Texts.{IsReportRead}
 use Rattle.rv_command.specs.declared.stop.Stop.{Stop}
 use Rattle.rv_command.specs.declared.stop.Stop.TheVariants as stop
@@ -27,14 +27,14 @@ IsStopReported closed ended status after = (why : Stop) × ended why × (status 
     × ((before : CommandOutputs) × IsOnlyErrorOutput (end_message closed why) before after)
 
 -- the exit status if the program cannot get its arguments for this reason: 3 if memory ran out, and otherwise 2
-abbrev pub unreadable_words_status : ErrorKind → ℕ
-unreadable_words_status io.OutOfMemory = 3
-unreadable_words_status _ = 2
+abbrev pub unreadable_args_status : ErrorKind → ℕ
+unreadable_args_status io.OutOfMemory = 3
+unreadable_args_status _ = 2
 
 -- the message if the program cannot get its arguments for this reason: that memory ran out, or otherwise that an argument is not UTF-8
-abbrev pub unreadable_words_message : ErrorKind → List ℕ
-unreadable_words_message io.OutOfMemory = codes "rvtest: out of memory\n"
-unreadable_words_message _ = codes "rvtest: an argument is not valid UTF-8\n"
+abbrev pub unreadable_args_message : ErrorKind → List ℕ
+unreadable_args_message io.OutOfMemory = codes "rvtest: out of memory\n"
+unreadable_args_message _ = codes "rvtest: an argument is not valid UTF-8\n"
 
 -- ---- help
 
@@ -48,17 +48,17 @@ IsHelpStop failures_before failures_after why = (why ≡ stop.OutOfMemory)
     ⊎ ((why ≡ stop.WriteFailed) × (failures_after ≡ one_more failures_before))
 
 -- the help or the version was requested, and its text was written to standard output
-abbrev pub IsHelpWritten : WordsError → Option (List ℕ) → Option (List ℕ) → Type 0
+abbrev pub IsHelpWritten : ArgsError → Option (List ℕ) → Option (List ℕ) → Type 0
 IsHelpWritten error.OutOfMemory before after = ⊥
 IsHelpWritten (error.Told fault text) before after = IsHelpRequested fault × Appends before after (string_bytes text)
 
 -- why the program stopped, given an error of its arguments: memory ran out, the requested help could not be written, or the arguments are
 -- rejected with the error's message
-abbrev pub IsWordsErrorStop : WordsError → ℕ → ℕ → Stop → Type 0
-IsWordsErrorStop error.OutOfMemory failures_before failures_after why = why ≡ stop.OutOfMemory
-IsWordsErrorStop (error.Told fault text) failures_before failures_after why =
+abbrev pub IsArgsErrorStop : ArgsError → ℕ → ℕ → Stop → Type 0
+IsArgsErrorStop error.OutOfMemory failures_before failures_after why = why ≡ stop.OutOfMemory
+IsArgsErrorStop (error.Told fault text) failures_before failures_after why =
     (IsHelpRequested fault × IsHelpStop failures_before failures_after why)
-    ⊎ ((IsHelpRequested fault → ⊥) × IsRefusedAs (string_bytes text) why)
+    ⊎ ((IsHelpRequested fault → ⊥) × IsRejectedWith (string_bytes text) why)
 
 -- ---- diff
 

@@ -12,9 +12,9 @@ module _ {V : Type 0} where
   AreRowsWritten taken failed _ _ text = ⊥
 
   -- what the sink has received, if there is one
-  abbrev pub sink_taken : (V → Option (List ℕ)) → Option V → Option (List ℕ)
-  sink_taken taken None = None
-  sink_taken taken (Some sink) = taken sink
+  abbrev pub sink_received : (V → Option (List ℕ)) → Option V → Option (List ℕ)
+  sink_received taken None = None
+  sink_received taken (Some sink) = taken sink
 
   -- the number of failed writes to the sink; 0 if there is none
   abbrev pub sink_failures : (V → ℕ) → Option V → ℕ

@@ -4,16 +4,16 @@ use Rattle.rv_command.specs.Texts.{optional_text}
 use Rattle.rv_files.specs.CommittedFiles.{CommittedFile}
 use Rattle.rvtest_cli.specs.declared.run.RunArgs.{RunArgs}
 use Rattle.rvtest_app.specs.IntoReports.{run_report_path}
-use Rattle.rvtest_app.specs.Outlets.{HasTaken, has_no_failure}
+use Rattle.rvtest_app.specs.Outlets.{HasReceived, has_no_failure}
 use Rattle.rvtest_app.specs.declared.run_outlets.RunOutlets.{RunOutlets}
 
 module _ {P W : Type 0} where
   -- the outlets are for the paths in the arguments; the report's outlet has received this text so far, the others nothing, and no write
   -- failed
-  pub record HaveRunOutletsTaken (pending_path : P → List ℕ) (taken : W → Option (List ℕ)) (failed : W → ℕ)
+  pub record HaveRunOutletsReceived (pending_path : P → List ℕ) (taken : W → Option (List ℕ)) (failed : W → ℕ)
       (placed : Option (List CommittedFile)) (words : RunArgs) (text : List ℕ) (outlets : RunOutlets P W) : Type 0 where
-    pub report : HasTaken pending_path taken failed placed (run_report_path words) text outlets.report
-    pub junit : HasTaken pending_path taken failed placed (optional_text words.junit) [] outlets.junit
-    pub counts : HasTaken pending_path taken failed placed (optional_text words.counts) [] outlets.counts
+    pub report : HasReceived pending_path taken failed placed (run_report_path words) text outlets.report
+    pub junit : HasReceived pending_path taken failed placed (optional_text words.junit) [] outlets.junit
+    pub counts : HasReceived pending_path taken failed placed (optional_text words.counts) [] outlets.counts
     pub report_whole : has_no_failure failed outlets.report
     pub junit_whole : has_no_failure failed outlets.junit

@@ -12,7 +12,7 @@ use Rattle.rv_job_text.specs.RowReporter.{RowReporter, row_lines_at}
 use Rattle.rv_job_text.specs.declared.verbosity.Verbosity.TheVariants.{Failures}
 use Rattle.rv_junit.specs.Junit.{junit_text}
 use Rattle.rv_rows.specs.Choices.{selected_indices}
-use Rattle.rv_rows.specs.Plans.{AgreeWithContents, Planned, jobs_needed_for, one_more_times, paths_of, paths_used, unreadable_count}
+use Rattle.rv_rows.specs.Plans.{AgreeWithContents, Planned, jobs_needed_for, after_increments, paths_of, paths_used, unreadable_count}
 use Rattle.rv_rows.specs.JobList.{job_list_of}
 use Rattle.rv_rows.specs.Jobs.{with_budget}
 use Rattle.rv_rows.specs.declared_job.Job.{Job}
@@ -23,7 +23,7 @@ use Rattle.rv_rows.specs.Rows.{rows_at}
 use Rattle.rv_stream.specs.Streams.{row_text_list}
 use Rattle.rv_count_tables.specs.Text.{table_text}
 use Rattle.rv_count_tables.specs.declared.table.CountTable.{CountTable}
-use Rattle.rv_stacks.specs.JobTables.{IsTableOfPlaces}
+use Rattle.rv_stacks.specs.JobTables.{IsTableOfJobsAt}
 use Rattle.rv_stacks.specs.StackTables.{IsTableWithStacks}
 use Rattle.rv_expect.specs.Judgement.{Judging, fails}
 use Rattle.rv_stream.specs.Limits.{rows_up_to}
@@ -82,7 +82,7 @@ pub record IsPlanFor (known : Option FileContents) (jobs : List Job) (places : L
   pub listed : plan.jobs ≡ jobs
   pub paths : paths_of plan.answers ≡ paths_used (jobs_needed_for jobs places)
   pub kept : AgreeWithContents known plan.answers
-  pub noted : length unread ≡ one_more_times 0 (unreadable_count plan.answers)
+  pub noted : length unread ≡ after_increments 0 (unreadable_count plan.answers)
 
 -- the JUnit document of the rows of the jobs at these indices, in which each failed row has its lines
 abbrev pub run_junit : RunArgs → RowReporter → List ℕ → List Row → List ℕ
@@ -131,7 +131,7 @@ IsRunWritten words reporter places shard old rows before after =
 
 -- `table` has the counts of the runs of the jobs at these indices; it has call stacks if the Bool is true
 abbrev pub IsCountsTable : Bool → Planned → List ℕ → CountTable → Type 0
-IsCountsTable false plan places table = IsTableOfPlaces plan places table
+IsCountsTable false plan places table = IsTableOfJobsAt plan places table
 IsCountsTable true plan places table = IsTableWithStacks plan places table
 
 -- the text is the table of counts of the jobs at these indices, with call stacks if `stacks` is true
@@ -155,7 +155,7 @@ pub record IsCountedRunWritten (words : RunArgs) (reporter : RowReporter) (place
 
 -- the jobs at these indices ran, with the requested budget: the note about missing images went to standard error, and then their rows and
 -- counts were written; the status follows from the rows
-pub record IsRunOfPlaces (known : Option FileContents) (words : RunArgs) (failures : Option KnownJobs) (jobs : List Job) (places : List ℕ)
+pub record IsRunOfJobs (known : Option FileContents) (words : RunArgs) (failures : Option KnownJobs) (jobs : List Job) (places : List ℕ)
     (shard : Option Shard) (old : Option (List Row)) (status : ℕ) (before after : CommandOutputs) : Type 0 where
   pub plan : Planned
   pub unread : List UnreadablePath
@@ -173,7 +173,7 @@ abbrev pub IsRunOfSelected : Option FileContents → RunArgs → Option KnownJob
     → Option (List Row) → ℕ → CommandOutputs → CommandOutputs → Type 0
 IsRunOfSelected known words failures jobs None shard old status before after = (status ≡ 0) × (after ≡ before)
 IsRunOfSelected known words failures jobs (Some marks) shard old status before after =
-    IsRunOfPlaces known words failures jobs (selected_job_indices marks) shard old status before after
+    IsRunOfJobs known words failures jobs (selected_job_indices marks) shard old status before after
 
 -- `run` wrote the notes about the choice to standard error, and then ran the requested jobs, with the known failures
 pub record IsRunAt (known : Option FileContents) (words : RunArgs) (status : ℕ) (before after : CommandOutputs) : Type 0 where
@@ -192,15 +192,15 @@ pub record IsRunAt (known : Option FileContents) (words : RunArgs) (status : ℕ
 -- ---- runs that an error ended
 
 -- after an error, only some of a run's files were committed: the JUnit XML or, if counts are requested, the JUnit XML and the report
-abbrev pub AreRunFilesPlacedInPart : RunArgs → RowReporter → List ℕ → Option Shard → Option (List Row) → List Row
+abbrev pub AreRunFilesPartlyCommitted : RunArgs → RowReporter → List ℕ → Option Shard → Option (List Row) → List Row
     → Option (List CommittedFile) → Option (List CommittedFile) → Type 0
-AreRunFilesPlacedInPart words reporter places shard old rows before after =
+AreRunFilesPartlyCommitted words reporter places shard old rows before after =
     AreFilesCommitted before after (Some (junit_file words reporter places rows))
     ⊎ ((is_some words.counts ≡ true) × AreFilesCommitted before after
     (Some (junit_file words reporter places rows ++ report_file words reporter places shard old rows)))
 
 -- the jobs at these indices ran, but only some of the requested output files were committed
-pub record IsRunInPart (known : Option FileContents) (words : RunArgs) (failures : Option KnownJobs) (jobs : List Job) (places : List ℕ)
+pub record IsRunPartlyCommitted (known : Option FileContents) (words : RunArgs) (failures : Option KnownJobs) (jobs : List Job) (places : List ℕ)
     (shard : Option Shard) (old : Option (List Row)) (before after : Option (List CommittedFile)) : Type 0 where
   pub plan : Planned
   pub unread : List UnreadablePath
@@ -208,20 +208,20 @@ pub record IsRunInPart (known : Option FileContents) (words : RunArgs) (failures
       unread
   pub rows : List Row
   pub shown : rows ≡ run_rows words.stop_after (run_judging words failures) plan places
-  pub placed : AreRunFilesPlacedInPart words (run_reporter words failures plan unread) places shard old rows before after
+  pub placed : AreRunFilesPartlyCommitted words (run_reporter words failures plan unread) places shard old rows before after
 
 -- after an error, a run of the jobs at these indices has committed no file, or only some of the requested output files
-abbrev pub IsUndoneRunOfPlaces : Option FileContents → RunArgs → Option KnownJobs → List Job → List ℕ → Option Shard
+abbrev pub IsAbortedRunOfJobs : Option FileContents → RunArgs → Option KnownJobs → List Job → List ℕ → Option Shard
     → Option (List Row) → Option (List CommittedFile) → Option (List CommittedFile) → Type 0
-IsUndoneRunOfPlaces known words failures jobs places shard old before after =
-    (after ≡ before) ⊎ IsRunInPart known words failures jobs places shard old before after
+IsAbortedRunOfJobs known words failures jobs places shard old before after =
+    (after ≡ before) ⊎ IsRunPartlyCommitted known words failures jobs places shard old before after
 
 -- the requested jobs were found and ran, but only some of the requested output files were committed
-pub record IsRunInPartAt (known : Option FileContents) (words : RunArgs) (before after : Option (List CommittedFile))
+pub record IsRunPartlyCommittedAt (known : Option FileContents) (words : RunArgs) (before after : Option (List CommittedFile))
     : Type 0 where
   pub found : AreJobsToRun known words
-  pub alone : IsRunInPart known words found.failures found.jobs (selected_job_indices found.marks) found.shard found.old before after
+  pub alone : IsRunPartlyCommitted known words found.failures found.jobs (selected_job_indices found.marks) found.shard found.old before after
 
 -- after an error, `run` has committed no file, or only some of the requested output files
-abbrev pub IsUndoneRunAt : Option FileContents → RunArgs → Option (List CommittedFile) → Option (List CommittedFile) → Type 0
-IsUndoneRunAt known words before after = (after ≡ before) ⊎ IsRunInPartAt known words before after
+abbrev pub IsAbortedRunAt : Option FileContents → RunArgs → Option (List CommittedFile) → Option (List CommittedFile) → Type 0
+IsAbortedRunAt known words before after = (after ≡ before) ⊎ IsRunPartlyCommittedAt known words before after

@@ -2,7 +2,7 @@
 use Rattle.std.specs.Prelude.{◌≡◌, ◌⊎◌, ℕ, List, Option, None, Some}
 use Rattle.rv_files.specs.Files.{FileContents}
 use Rattle.rvtest_cli.specs.declared.show.ShowArgs.{ShowArgs}
-use Rattle.rv_command.specs.Messages.{cut_off_note}
+use Rattle.rv_command.specs.Messages.{truncation_note}
 use Rattle.rv_command.specs.Texts.{IsReportReadAt, optional_text}
 use Rattle.rv_files.specs.CommittedFiles.{CommittedFile}
 use Rattle.rv_rows.specs.Report.{report_text}
@@ -22,12 +22,12 @@ shown_junit words rows =
     failures_junit (suite_name (optional_text words.suite) words.report.now) (report_judging words.lenient) rows
 
 -- `show` wrote the note about a truncated report to standard error, and then the summary and the JUnit XML of the report
-pub record IsShownAt (known : Option FileContents) (words : ShowArgs) (status : ℕ) (before after : CommandOutputs)
+pub record IsShowWritten (known : Option FileContents) (words : ShowArgs) (status : ℕ) (before after : CommandOutputs)
     : Type 0 where
   pub found : PartialReport
   pub read : IsReportReadAt known words.partial words.report.now found
   pub middle : CommandOutputs
-  pub noted : IsOnlyErrorOutput (cut_off_note words.report.now found) before middle
+  pub noted : IsOnlyErrorOutput (truncation_note words.report.now found) before middle
   pub judged : status ≡ rows_status (report_judging words.lenient) found.report.rows
   pub put : IsOutputWritten None (optional_text words.junit) (summary_text (report_judging words.lenient) found.report.rows)
       (report_text found.report.rows) (shown_junit words found.report.rows)
@@ -40,5 +40,5 @@ pub record IsShownJunit (known : Option FileContents) (words : ShowArgs) (before
   pub placed : AreFilesCommitted before after (Some (file_at (optional_text words.junit) (shown_junit words found.report.rows)))
 
 -- after an error, `show` has committed no file, or only the JUnit document
-abbrev pub IsUndoneShowAt : Option FileContents → ShowArgs → Option (List CommittedFile) → Option (List CommittedFile) → Type 0
-IsUndoneShowAt known words before after = (after ≡ before) ⊎ IsShownJunit known words before after
+abbrev pub IsAbortedShowAt : Option FileContents → ShowArgs → Option (List CommittedFile) → Option (List CommittedFile) → Type 0
+IsAbortedShowAt known words before after = (after ≡ before) ⊎ IsShownJunit known words before after

@@ -10,16 +10,16 @@ use Rattle.rvtest_app.specs.WriteStops.{IsFileStop}
 use Rattle.rvtest_app.specs.WrittenTexts.{written_path}
 
 -- why a command stopped: call stacks are requested, but cannot be summed up; the message names the path of the table, or `-` without a path
-abbrev pub IsUnstackedStop : RunArgs → Stop → Type 0
-IsUnstackedStop words why = (words.stacks ≡ true)
+abbrev pub IsStackSumStop : RunArgs → Stop → Type 0
+IsStackSumStop words why = (words.stacks ≡ true)
     × ((error : SumError) × IsSumErrorStop (written_path (optional_text words.counts)) error why)
 
 -- why a run has no table of counts: memory ran out, or its call stacks cannot be summed up
 abbrev pub IsUncountedRunStop : RunArgs → Stop → Type 0
-IsUncountedRunStop words why = (why ≡ stop.OutOfMemory) ⊎ IsUnstackedStop words why
+IsUncountedRunStop words why = (why ≡ stop.OutOfMemory) ⊎ IsStackSumStop words why
 
 -- why a command stopped: memory ran out, a write to standard output failed, the file at the path could not be created, or the call stacks
 -- cannot be summed up
 abbrev pub IsCountsWriteStop : RunArgs → Option (List ℕ) → Stop → Type 0
 IsCountsWriteStop words path why =
-    (why ≡ stop.OutOfMemory) ⊎ ((why ≡ stop.WriteFailed) ⊎ (IsFileStop path why ⊎ IsUnstackedStop words why))
+    (why ≡ stop.OutOfMemory) ⊎ ((why ≡ stop.WriteFailed) ⊎ (IsFileStop path why ⊎ IsStackSumStop words why))

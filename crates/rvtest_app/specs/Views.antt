@@ -6,8 +6,8 @@ use Rattle.rv_command.specs.Texts.{optional_text}
 use Rattle.rv_count_tables.specs.declared.table.CountTable.{CountTable}
 use Rattle.rv_profile.specs.ImageCounts.{other_image}
 use Rattle.rv_profile.specs.ImagesText.{IsCoverText}
-use Rattle.rv_profile.specs.JobImages.{FileImage, images_of}
-use Rattle.rv_stacks.specs.JobTables.{IsTableOfPlaces, jobs_at}
+use Rattle.rv_profile.specs.JobImages.{ImageFileView, images_of}
+use Rattle.rv_stacks.specs.JobTables.{IsTableOfJobsAt, jobs_at}
 use Rattle.rv_files.specs.UnreadPaths.{contents_below}
 use Rattle.rv_files.specs.declared.recording_store.UnreadablePath.{UnreadablePath}
 use Rattle.rv_rows.specs.Plans.{Planned}
@@ -27,9 +27,9 @@ use Rattle.rvtest_app.specs.declared.view.View.TheVariants as view
 -- ---- the counts and the text of a view
 
 -- the table has the counts of a run of the jobs at these indices: without call stacks for coverage, and with them for a profile
-abbrev pub IsCountedFor : View → Planned → List ℕ → CountTable → Type 0
-IsCountedFor (view.Cover csv) plan places table = IsTableOfPlaces plan places table
-IsCountedFor (view.Profile format) plan places table = IsTableWithStacks plan places table
+abbrev pub IsRunTableForView : View → Planned → List ℕ → CountTable → Type 0
+IsRunTableForView (view.Cover csv) plan places table = IsTableOfJobsAt plan places table
+IsRunTableForView (view.Profile format) plan places table = IsTableWithStacks plan places table
 
 -- whether the table has the counts that the view needs: call stacks for a profile, and any counts for coverage
 abbrev pub has_counts_for : View → CountTable → Bool
@@ -37,34 +37,34 @@ has_counts_for (view.Cover csv) table = true
 has_counts_for (view.Profile format) table = has_stacks table
 
 -- `text` is the requested view of these images, computed from the table: their coverage or their profile
-abbrev pub IsViewText : View → CountTable → List FileImage → List ℕ → Type 0
+abbrev pub IsViewText : View → CountTable → List ImageFileView → List ℕ → Type 0
 IsViewText (view.Cover csv) table images text = IsCoverText csv table images text
 IsViewText (view.Profile format) table images text = IsProfileText format table images text
 
 -- ---- the table for a view
 
 -- `table` is the table at the path; it has the counts that the view needs, and only counts of `images`
-pub record IsFitTableAt (known : Option FileContents) (shown : View) (path : List ℕ) (images : List FileImage) (table : CountTable)
+pub record IsMatchingTableAt (known : Option FileContents) (shown : View) (path : List ℕ) (images : List ImageFileView) (table : CountTable)
     : Type 0 where
   pub at : IsTableAt known path table
   pub of_images : other_image table images ≡ None
   pub fit : has_counts_for shown table ≡ true
 
 -- `table` is the table for the view: the table at the path, or without a path the counts of a run of the jobs at these indices
-abbrev pub IsTableFor : Option FileContents → View → Option (List ℕ) → Planned → List ℕ → CountTable → Type 0
-IsTableFor known shown None plan places table = IsCountedFor shown plan places table
-IsTableFor known shown (Some path) plan places table = IsFitTableAt known shown path (images_of plan.answers (jobs_at plan places)) table
+abbrev pub IsTableForView : Option FileContents → View → Option (List ℕ) → Planned → List ℕ → CountTable → Type 0
+IsTableForView known shown None plan places table = IsRunTableForView shown plan places table
+IsTableForView known shown (Some path) plan places table = IsMatchingTableAt known shown path (images_of plan.answers (jobs_at plan places)) table
 
 -- the text is the view of the images of the jobs at these indices of the plan
 abbrev pub IsViewOfPlan : Option FileContents → RunArgs → View → Planned → List ℕ → List ℕ → Type 0
 IsViewOfPlan known words shown plan places text = (table : CountTable)
-    × (IsTableFor known shown (optional_text words.counts) plan places table
+    × (IsTableForView known shown (optional_text words.counts) plan places table
     × IsViewText shown table (images_of plan.answers (jobs_at plan places)) text)
 
 -- ---- the command
 
 -- the notes about missing images and refused jobs went to standard error, and then the view of the jobs at these indices was written
-pub record IsViewOfPlaces (known : Option FileContents) (words : RunArgs) (shown : View) (jobs : List Job) (places : List ℕ)
+pub record IsViewOfJobs (known : Option FileContents) (words : RunArgs) (shown : View) (jobs : List Job) (places : List ℕ)
     (before after : CommandOutputs) : Type 0 where
   pub plan : Planned
   pub unread : List UnreadablePath
@@ -79,7 +79,7 @@ pub record IsViewOfPlaces (known : Option FileContents) (words : RunArgs) (shown
 abbrev pub IsViewOfSelected : Option FileContents → RunArgs → View → List Job → Option (List Bool) → CommandOutputs → CommandOutputs → Type 0
 IsViewOfSelected known words shown jobs None before after = after ≡ before
 IsViewOfSelected known words shown jobs (Some marks) before after =
-    IsViewOfPlaces known words shown jobs (selected_job_indices marks) before after
+    IsViewOfJobs known words shown jobs (selected_job_indices marks) before after
 
 -- the notes about the choice went to standard error, and then the view of the requested jobs was written; the status is 0
 pub record IsViewWritten (known : Option FileContents) (words : RunArgs) (shown : View) (status : ℕ) (before after : CommandOutputs) : Type 0 where

@@ -32,23 +32,23 @@ IsWriteErrorStop path write.OutOfMemory why = why ≡ stop.OutOfMemory
 IsWriteErrorStop path write.Failed why = IsUnwrittenStop path why
 
 -- why a command stopped: the text could not be written to the file for the path, or to standard output if there is no path
-abbrev pub IsTextStop : Option (List ℕ) → Stop → Type 0
-IsTextStop None why = (why ≡ stop.OutOfMemory) ⊎ (why ≡ stop.WriteFailed)
-IsTextStop (Some path) why = IsUnwrittenStop path why
+abbrev pub IsTextNotWrittenStop : Option (List ℕ) → Stop → Type 0
+IsTextNotWrittenStop None why = (why ≡ stop.OutOfMemory) ⊎ (why ≡ stop.WriteFailed)
+IsTextNotWrittenStop (Some path) why = IsUnwrittenStop path why
 
 -- ---- files
 
 -- the stop reports that the file for the path could not be opened, for some reason
-abbrev pub IsUnopenedStop : List ℕ → Stop → Type 0
-IsUnopenedStop path why = (error : FileError) × IsFileErrorStop path error why
+abbrev pub IsUnopenedJobStop : List ℕ → Stop → Type 0
+IsUnopenedJobStop path why = (error : FileError) × IsFileErrorStop path error why
 
 -- why a command stopped: a path is given, and its file could not be synced to disk or moved to the path
-abbrev pub IsUnplacedStop : Option (List ℕ) → Stop → Type 0
-IsUnplacedStop path why = IsSomeAnd path (λ path. (reason : ErrorKind) × IsSystemStop path reason why)
+abbrev pub IsUncommittedStop : Option (List ℕ) → Stop → Type 0
+IsUncommittedStop path why = IsSomeAnd path (λ path. (reason : ErrorKind) × IsSystemStop path reason why)
 
 -- why a command stopped: a path is given, and its file could not be opened, written, or moved to the path
 abbrev pub IsFileStop : Option (List ℕ) → Stop → Type 0
-IsFileStop path why = IsSomeAnd path (λ path. IsUnopenedStop path why ⊎ IsUnwrittenStop path why)
+IsFileStop path why = IsSomeAnd path (λ path. IsUnopenedJobStop path why ⊎ IsUnwrittenStop path why)
 
 -- why a command stopped: one of the two files could not be opened, written, or moved to its path
 abbrev pub IsEitherFileStop : Option (List ℕ) → Option (List ℕ) → Stop → Type 0

@@ -21,10 +21,10 @@ pub record IsWrittenAt (path : Option (List ℕ)) (text : List ℕ) (before afte
   pub placed : AreFilesCommitted before.placed after.placed (Some (file_at path text))
 
 -- why a command stopped: if the Bool is true, a write to standard output failed, and otherwise the file for the path could not be created
-abbrev pub IsUnwrittenBy : Bool → List ℕ → Stop → Type 0
-IsUnwrittenBy true path why = why ≡ stop.WriteFailed
-IsUnwrittenBy false path why = IsFileNotCreatedStop path why
+abbrev pub IsUnwrittenByStop : Bool → List ℕ → Stop → Type 0
+IsUnwrittenByStop true path why = why ≡ stop.WriteFailed
+IsUnwrittenByStop false path why = IsFileNotCreatedStop path why
 
 -- why a command stopped: the text could not be written to the file at the path, or to standard output if the path is `-`
 abbrev pub IsUnwrittenAtStop : List ℕ → Stop → Type 0
-IsUnwrittenAtStop path why = IsUnwrittenBy (is_stdout path) path why
+IsUnwrittenAtStop path why = IsUnwrittenByStop (is_stdout path) path why

@@ -4,26 +4,26 @@ ghost use Rattle.std.specs.Prelude.{◌≡◌, ◌≤◌, ◌⊎◌, [], IfErr, 
 ghost use Rattle.std.specs.Io.KnownBytes.{Appends};
 ghost use Rattle.std.specs.Option.{ForSome};
 ghost use Rattle.rv_accept.specs.GoldenTexts.{golden_texts_of_runs};
-ghost use Rattle.rv_accept.specs.Edits.{edited_from};
+ghost use Rattle.rv_accept.specs.Edits.{edited_rest};
 ghost use Rattle.rv_accept.specs.IntendedJobs.{intended_jobs};
 ghost use Rattle.rv_accept.specs.declared.edits.Edit.{Edit as AnEdit};
 ghost use Rattle.rv_accept.specs.Sharing.{jobs_to_run};
 ghost use Rattle.rv_accept.specs.Targets.{with_target};
-ghost use Rattle.rv_accept_text.specs.NewLists.{AreLeftFrom};
+ghost use Rattle.rv_accept_text.specs.NewLists.{AreSkippedFrom};
 ghost use Rattle.rv_accept_text.specs.AcceptLines.{changed_count, count_line, skipped_count, accept_lines};
 ghost use Rattle.rv_choice.specs.Chosen.{IsChoice};
 ghost use Rattle.rv_command.specs.Texts.{IsTextAt, optional_text};
 ghost use Rattle.rv_rows.specs.JobList.{job_list_of};
 ghost use Rattle.rv_rows.specs.Jobs.{without_expectations};
 ghost use Rattle.rvtest_app.specs.AcceptStops.{IsAcceptChosenStop, IsGoldenUnreadStop, IsAcceptanceWriteStop};
-ghost use Rattle.rvtest_app.specs.Accepts.{AreGoldenFiles, AreJudged, AreRowsMade, IsAcceptedAt, IsAcceptOfSelected, IsOutcomeWritten, AreOutsideFilesReported, accept_status};
+ghost use Rattle.rvtest_app.specs.Accepts.{AreGoldenFiles, AreJudgedRuns, HaveSelectedRun, IsAcceptedAt, IsAcceptOfSelected, IsOutcomeWritten, AreOutsideFilesReported, accept_status};
 ghost use Rattle.rvtest_app.specs.Accepts.{acceptance_of};
 ghost use Rattle.rvtest_app.specs.CommandStops.{IsAcceptStop, IsListStop};
 ghost use Rattle.rvtest_app.specs.Commands.{failure_rule};
-ghost use Rattle.rvtest_app.specs.Overwrites.{AreAcceptFilesApart, AreAcceptInputsKept, IsAcceptOverwriteStop};
+ghost use Rattle.rvtest_app.specs.Overwrites.{AreAcceptFilesNoInputs, AreAcceptInputsPreserved, IsAcceptOverwriteStop};
 ghost use Rattle.rvtest_app.specs.CommandOutputs.{outputs_of};
 
-use crate::accept_inputs::refuse_accept_overwrites;
+use crate::accept_inputs::reject_accept_overwrites;
 use crate::accepted_files::{
     check_unchanged_files, check_written_files, read_golden_files, write_accepted_files,
 };
@@ -40,7 +40,7 @@ use rv_accept::{
 };
 use rv_accept_text::{AcceptSummary, GoldenFile, ListFile, NewList, Writing, accept_values};
 use rv_choice::{Choice, Chooser};
-use rv_command::{DONE, SOME_FAIL, Stop, parse_list, put_message, put_results, read_list_text};
+use rv_command::{DONE, SOME_FAIL, Stop, parse_list, write_message, write_results, read_list_text};
 use rv_files::{Inputs, Outputs, RecordingStore, Sink};
 use rv_rows::{Job, JobList, Row, selected_indices};
 use rv_stream::{Batch, RunError, run_batch};
@@ -93,10 +93,10 @@ pub(crate) fn accept_runs<
     ensures unwritten { args.now.check ≡ true → to.new.files ≡ to.old.files }
     ensures stopped { IfErr result (IsAcceptStop (D.contents host.now.inputs.now) args.now) }
     // No input is overwritten, except accepted files.
-    ensures kept { AreAcceptInputsKept (D.contents host.now.inputs.now) args.now (F.placed to.old.files) (F.placed to.new.files) }
+    ensures kept { AreAcceptInputsPreserved (D.contents host.now.inputs.now) args.now (F.placed to.old.files) (F.placed to.new.files) }
 {
     let list = chosen_list(host, args)?;
-    put_message(&mut to.errors, list.notes.as_slice());
+    write_message(&mut to.errors, list.notes.as_slice());
     match &list.chosen {
         Some(chosen) => accept_chosen(host, args, &list, chosen.as_slice(), to),
         None => Ok(DONE),
@@ -126,10 +126,10 @@ fn accept_chosen<
     ensures unwritten { args.now.check ≡ true → to.new.files ≡ to.old.files }
     ensures stopped { IfErr result
         (IsAcceptChosenStop (D.contents host.now.inputs.now) args.now list.now.jobs) }
-    ensures kept { (F.placed to.new.files ≡ F.placed to.old.files) ⊎ IfSome (F.placed to.old.files) (λ _. AreAcceptFilesApart
+    ensures kept { (F.placed to.new.files ≡ F.placed to.old.files) ⊎ IfSome (F.placed to.old.files) (λ _. AreAcceptFilesNoInputs
         args.now list.now.jobs (jobs_to_run list.now.jobs chosen.now)) }
 {
-    let marked = guarded_jobs(host, args, list, chosen, to)?;
+    let marked = checked_jobs(host, args, list, chosen, to)?;
     let rows = run_selected(host, args, marked, to)?;
     let list = ListFile {
         path: args.run.list,
@@ -137,12 +137,12 @@ fn accept_chosen<
         jobs: list.jobs.as_slice(),
     };
     let runs = judge_rows(host, args, list.jobs, chosen, rows)?;
-    let outcomes = outcomes_of_runs(host, args, &list, runs)?;
-    put_accepted(host, args, &list, &outcomes, to)
+    let outcomes = changes_of_runs(host, args, &list, runs)?;
+    write_accepted(host, args, &list, &outcomes, to)
 }
 
 // Returns the jobs to run, or an error if a file that `accept` would write is one of its inputs or is outside of the directory.
-fn guarded_jobs<R, D, F: Outputs + Drop, O: Sink + Drop, E: Sink + Drop>(
+fn checked_jobs<R, D, F: Outputs + Drop, O: Sink + Drop, E: Sink + Drop>(
     host: &Host<'_, R, D>,
     args: &AcceptArgs<'_>,
     list: &ChosenList,
@@ -157,14 +157,14 @@ fn guarded_jobs<R, D, F: Outputs + Drop, O: Sink + Drop, E: Sink + Drop>(
     ensures files { to.new.files ≡ to.old.files }
     ensures outside { OnOk result (AreOutsideFilesReported (outputs_of F.placed O.taken E.taken E.failed to.old)
         (outputs_of F.placed O.taken E.taken E.failed to.new)) }
-    ensures apart { OnOk result (IfSome (F.placed to.old.files) (λ _. AreAcceptFilesApart
+    ensures apart { OnOk result (IfSome (F.placed to.old.files) (λ _. AreAcceptFilesNoInputs
         args.now list.now.jobs (jobs_to_run list.now.jobs chosen.now))) }
     ensures stopped { IfErr result IsAcceptOverwriteStop }
 {
     let marked = selected_jobs(host.alloc, args, list, chosen)?;
     let (jobs, marks) = (list.jobs.as_slice(), marked.marks.as_slice());
-    let outside = refuse_accept_overwrites(&to.files, host.alloc, args, jobs, marks)?;
-    put_message(&mut to.errors, outside.as_slice());
+    let outside = reject_accept_overwrites(&to.files, host.alloc, args, jobs, marks)?;
+    write_message(&mut to.errors, outside.as_slice());
     Ok(marked)
 }
 
@@ -176,7 +176,7 @@ fn judge_rows<R, D: Inputs>(
     chosen: &[bool],
     rows: Vec<Option<Row>>,
 ) -> Result<Vec<Option<JobRun>>, AllocError>
-    ensures { IfOk result (λ runs. AreJudged (D.contents host.now.inputs.now) args.now jobs.now chosen.now
+    ensures { IfOk result (λ runs. AreJudgedRuns (D.contents host.now.inputs.now) args.now jobs.now chosen.now
         rows.items runs.items) }
 {
     let standpoint = CurrentFiles {
@@ -195,7 +195,7 @@ fn acceptance_of(ends: bool) -> Acceptance
     ensures { result ≡ acceptance_of ends }
 {
     if ends {
-        Acceptance::InExpectedWay
+        Acceptance::ExpectedKind
     } else {
         Acceptance::Expected
     }
@@ -266,7 +266,7 @@ fn run_selected<
     to: &mut Destinations<F, O, E>,
 ) -> Result<Vec<Option<Row>>, Stop>
     ensures files { to.new.files ≡ to.old.files }
-    ensures rows { IfOk result (λ rows. AreRowsMade (D.contents host.now.inputs.now)
+    ensures rows { IfOk result (λ rows. HaveSelectedRun (D.contents host.now.inputs.now)
         (optional_text args.now.run.root) marked.jobs marked.marks.items rows.items
         (outputs_of F.placed O.taken E.taken E.failed to.old) (outputs_of F.placed O.taken E.taken E.failed to.new)) }
     ensures stopped { IfErr result (λ why. (why ≡ Stop.OutOfMemory) ⊎ (why ≡ Stop.NoWorker)) }
@@ -278,17 +278,17 @@ fn run_selected<
     let plan = gather_jobs_at(alloc, jobs, places.as_slice(), &mut store)?;
     let count = places.as_slice().len();
     let note = missing_images_note(alloc, &plan, store.unreadable_paths(), count, root)?;
-    put_message(&mut to.errors, note.as_slice());
+    write_message(&mut to.errors, note.as_slice());
     let crew = requested_crew(host.rt, alloc, &args.run);
     let batch = Batch::new(&plan, places.as_slice());
     match run_batch(&crew, &batch) {
         Ok(rows) => Ok(indexed_rows(alloc, marks.as_slice(), rows.into_vec())?),
-        Err(error) => Err(stop_of_run(error)),
+        Err(error) => Err(stop_of_run_error(error)),
     }
 }
 
 // Returns the stop for an error of the run engine: memory ran out, or no thread could be started.
-fn stop_of_run(error: RunError) -> Stop
+fn stop_of_run_error(error: RunError) -> Stop
     ensures { (result ≡ Stop.OutOfMemory) ⊎ (result ≡ Stop.NoWorker) }
 {
     match error {
@@ -298,20 +298,20 @@ fn stop_of_run(error: RunError) -> Stop
 }
 
 // Returns the new golden files and the new list that result if the runs are accepted, with the current contents of the golden files.
-fn outcomes_of_runs<R, D: Inputs>(
+fn changes_of_runs<R, D: Inputs>(
     host: &Host<'_, R, D>,
     args: &AcceptArgs<'_>,
     list: &ListFile<'_>,
     runs: Vec<Option<JobRun>>,
 ) -> Result<Outcomes, Stop>
-    ensures runs { IfOk result (λ outcomes. AreLeftFrom runs.items outcomes.new.runs.items) }
+    ensures runs { IfOk result (λ outcomes. AreSkippedFrom runs.items outcomes.new.runs.items) }
     ensures claims { IfOk result (λ outcomes. outcomes.claims.items
         ≡ golden_texts_of_runs 0 list.now.jobs.now outcomes.new.runs.items) }
     ensures files { IfOk result (λ outcomes. AreGoldenFiles (D.contents host.now.inputs.now)
         (optional_text args.now.run.root)
         (fold (with_target outcomes.new.runs.items outcomes.claims.items) [] outcomes.claims.items) outcomes.files.items) }
     ensures edited { IfOk result (λ outcomes. IfSome outcomes.new.text
-        (λ new. (edits : List AnEdit) × (new.items ≡ edited_from 0 list.now.text.now edits))) }
+        (λ new. (edits : List AnEdit) × (new.items ≡ edited_rest 0 list.now.text.now edits))) }
     ensures meant { IfOk result (λ outcomes. IfSome outcomes.new.text
         (λ text. job_list_of text.items ≡ Ok (intended_jobs list.now.jobs.now outcomes.new.runs.items))) }
     ensures unchanged { IfOk result (λ outcomes. outcomes.new.text ≡ None
@@ -328,7 +328,7 @@ fn outcomes_of_runs<R, D: Inputs>(
 }
 
 // Writes the lines about all changes and, unless `--check` is given, the changed files. Returns the exit status.
-fn put_accepted<'x, R, D: Inputs, F: Outputs + Drop, O: Sink + Drop, E: Sink + Drop>(
+fn write_accepted<'x, R, D: Inputs, F: Outputs + Drop, O: Sink + Drop, E: Sink + Drop>(
     host: &Host<'_, R, D>,
     args: &AcceptArgs<'_>,
     list: &ListFile<'x>,
@@ -350,30 +350,30 @@ fn put_accepted<'x, R, D: Inputs, F: Outputs + Drop, O: Sink + Drop, E: Sink + D
         files: outcomes.files.as_slice(),
         new: &outcomes.new,
     };
-    put_lines(host.alloc, &accepting, &mut to.out)?;
+    write_lines(host.alloc, &accepting, &mut to.out)?;
     if args.check {
-        put_count(host.alloc, &accepting, Writing::Asked, &mut to.out)?;
+        write_count_line(host.alloc, &accepting, Writing::Asked, &mut to.out)?;
         return Ok(accept_status(accepting.skipped_count(), accepting.changed_count()));
     }
     check_unchanged_files(host.inputs, host.alloc, &accepting)?;
     write_accepted_files(&mut to.files, host.alloc, &accepting)?;
     check_written_files(host.inputs, host.alloc, &accepting)?;
-    put_count(host.alloc, &accepting, Writing::Done, &mut to.out)?;
+    write_count_line(host.alloc, &accepting, Writing::Done, &mut to.out)?;
     Ok(accept_status(accepting.skipped_count(), 0))
 }
 
 // Writes the lines about jobs and golden files to standard output.
-fn put_lines<O: Sink>(alloc: Global, accepting: &AcceptSummary<'_>, out: &mut O) -> Result<(), Stop>
+fn write_lines<O: Sink>(alloc: Global, accepting: &AcceptSummary<'_>, out: &mut O) -> Result<(), Stop>
     ensures put { OnOk result (Appends (O.taken out.old) (O.taken out.new) (accept_lines accepting.now)) }
     ensures stopped { IfErr result (λ why. (why ≡ Stop.OutOfMemory) ⊎ (why ≡ Stop.WriteFailed)) }
 {
     let mut lines = Vec::new(alloc);
     accepting.push_lines(alloc, &mut lines)?;
-    put_results(out, lines.as_slice())
+    write_results(out, lines.as_slice())
 }
 
 // Writes the summary line to standard output.
-fn put_count<O: Sink>(
+fn write_count_line<O: Sink>(
     alloc: Global,
     accepting: &AcceptSummary<'_>,
     writing: Writing,
@@ -385,7 +385,7 @@ fn put_count<O: Sink>(
 {
     let mut line = Vec::new(alloc);
     accepting.push_count_line(&mut line, writing)?;
-    put_results(out, line.as_slice())
+    write_results(out, line.as_slice())
 }
 
 // Returns the exit status: 0 if no job or file was skipped (`left`) and no file would change, otherwise 1.

@@ -4,15 +4,15 @@ ghost use Rattle.std.specs.Prelude.{◌≡◌, ◌<◌, ◌⊎◌, ◌++◌, ◌
 ghost use Rattle.std.specs.List.{flat_map, list_any};
 ghost use Rattle.std.specs.Path.{path_buf_bytes};
 ghost use Rattle.rv_command.specs.Texts.{optional_text};
-ghost use Rattle.rvtest_app.specs.Overwrites.{AreAcceptFilesApart, AreFilesOf, IsAcceptOverwriteStop, IsOverwriteStop, IsOverwriteReported};
-ghost use Rattle.rvtest_app.specs.Overwrites.{IsUnread, golden_paths_of_job, golden_paths_of_selected, inputs_of_accept, job_writer_text};
-ghost use Rattle.rvtest_app.specs.Overwrites.{is_golden_read, outside_head, outside_message, outside_path, outside_text, quoted_text, read_paths, writer_text};
+ghost use Rattle.rvtest_app.specs.Overwrites.{AreAcceptFilesNoInputs, AreFilesOf, IsAcceptOverwriteStop, IsOverwriteStop, IsOverwriteReported};
+ghost use Rattle.rvtest_app.specs.Overwrites.{IsUnread, golden_paths_of_job, golden_paths_of_selected, inputs_of_accept, job_output_text};
+ghost use Rattle.rvtest_app.specs.Overwrites.{is_golden_input, outside_prefix, outside_message, outside_path, outside_text, quoted_text, input_paths, output_role_text};
 
 use crate::overwrites::{
-    is_among, look_up_files, overwrite_stop, read_paths_of_words, refuse_file,
+    is_among, identified_files, overwrite_stop, inputs_of_args, reject_file_overwrite,
 };
-use crate::read_files::{ReadFiles, ReadPath, ReadRole};
-use crate::run_inputs::{failed_of_run, push_golden_paths, push_image_path};
+use crate::input_file::{InputFiles, InputPath, InputRole};
+use crate::run_inputs::{failed_report_path, push_golden_paths, push_image_path};
 use rv_command::{Stop, file_error_stop};
 use rv_files::{Outputs, Text};
 use rv_job_text::{Span, push_spans, push_text};
@@ -24,33 +24,33 @@ use std::path::Path;
 // The inputs of `accept`: its list, the files that it must not write, and the golden files of all jobs.
 #[derive(Drop)]
 struct AcceptReads<'a> {
-    list: ReadFiles<'a>,
+    list: InputFiles<'a>,
     // The report of `--failed`, and the images of all jobs.
-    inputs: ReadFiles<'a>,
+    inputs: InputFiles<'a>,
     // The golden files of all jobs.
-    golden: ReadFiles<'a>,
+    golden: InputFiles<'a>,
 }
 
 /// Rejects the list and each golden file of a selected job if writing it would overwrite another input, if two golden files have different
 /// paths that lead to one file, or if a golden file is outside of the directory and `--outside` is not given. Otherwise returns the
 /// warnings about golden files outside of the directory.
-pub(crate) fn refuse_accept_overwrites<F: Outputs>(
+pub(crate) fn reject_accept_overwrites<F: Outputs>(
     files: &F,
     alloc: Global,
     args: &AcceptArgs<'_>,
     jobs: &[Job],
     marks: &[bool],
 ) -> Result<Vec<u8>, Stop>
-    ensures apart { OnOk result (IfSome (F.placed files.now) (λ _. AreAcceptFilesApart args.now jobs.now marks.now)) }
+    ensures apart { OnOk result (IfSome (F.placed files.now) (λ _. AreAcceptFilesNoInputs args.now jobs.now marks.now)) }
     ensures inside { IfOk result (λ notes. IfSome (F.placed files.now) (λ _. notes.items ≡ [])) }
     ensures stopped { IfErr result IsAcceptOverwriteStop }
 {
     let root = args.run.root;
     let reads = input_files(files, alloc, args, jobs)?;
     let mut golden = Vec::new(alloc);
-    push_golden_of_marked(alloc, &mut golden, root, jobs, marks)?;
-    refuse_golden_files(files, alloc, golden.as_slice(), &reads)?;
-    refuse_list_overwrite(files, alloc, args.run.list, &reads)?;
+    push_golden_of_selected(alloc, &mut golden, root, jobs, marks)?;
+    reject_golden_overwrites(files, alloc, golden.as_slice(), &reads)?;
+    reject_list_overwrite(files, alloc, args.run.list, &reads)?;
     outside_notes(files, alloc, args, golden.as_slice())
 }
 
@@ -64,13 +64,13 @@ fn input_files<'a, F: Outputs>(
     ensures list { IfOk result (λ reads. AreFilesOf (F.placed files.now) (args.now.run.list.now ∷ []) reads.list) }
     ensures inputs { IfOk result (λ reads. AreFilesOf (F.placed files.now) (inputs_of_accept args.now jobs.now) reads.inputs) }
 {
-    let list = read_paths_of_words(alloc, &[args.run.list], "the job list")?;
+    let list = inputs_of_args(alloc, &[args.run.list], "the job list")?;
     let inputs = inputs_of_accept(alloc, args, jobs)?;
-    let golden = golden_of_jobs(alloc, args.run.root, jobs)?;
+    let golden = golden_files_of_jobs(alloc, args.run.root, jobs)?;
     Ok(AcceptReads {
-        list: look_up_files(files, alloc, list)?,
-        inputs: look_up_files(files, alloc, inputs)?,
-        golden: look_up_files(files, alloc, golden)?,
+        list: identified_files(files, alloc, list)?,
+        inputs: identified_files(files, alloc, inputs)?,
+        golden: identified_files(files, alloc, golden)?,
     })
 }
 
@@ -79,10 +79,10 @@ fn inputs_of_accept<'a>(
     alloc: Global,
     args: &AcceptArgs<'_>,
     jobs: &'a [Job],
-) -> Result<Vec<ReadPath<'a>>, AllocError>
-    ensures { IfOk result (λ read. read_paths read.items ≡ inputs_of_accept args.now jobs.now) }
+) -> Result<Vec<InputPath<'a>>, AllocError>
+    ensures { IfOk result (λ read. input_paths read.items ≡ inputs_of_accept args.now jobs.now) }
 {
-    let mut read = failed_of_run(alloc, &args.run)?;
+    let mut read = failed_report_path(alloc, &args.run)?;
     for job in jobs {
         push_image_path(alloc, &mut read, args.run.root, job)?;
     }
@@ -90,12 +90,12 @@ fn inputs_of_accept<'a>(
 }
 
 // Returns the golden files of all jobs, with their paths resolved against `root`.
-fn golden_of_jobs<'a>(
+fn golden_files_of_jobs<'a>(
     alloc: Global,
     root: Option<&str>,
     jobs: &'a [Job],
-) -> Result<Vec<ReadPath<'a>>, AllocError>
-    ensures { IfOk result (λ read. read_paths read.items ≡ flat_map (golden_paths_of_job (optional_text root.entry)) jobs.now) }
+) -> Result<Vec<InputPath<'a>>, AllocError>
+    ensures { IfOk result (λ read. input_paths read.items ≡ flat_map (golden_paths_of_job (optional_text root.entry)) jobs.now) }
 {
     let mut read = Vec::new(alloc);
     for job in jobs {
@@ -106,22 +106,22 @@ fn golden_of_jobs<'a>(
 
 // Appends the golden files of the selected jobs, with their paths resolved against `root`.
 #[tactic(auto, unfolding(crate::specs::Overwrites::golden_paths_of_selected))]
-fn push_golden_of_marked<'a>(
+fn push_golden_of_selected<'a>(
     alloc: Global,
-    golden: &mut Vec<ReadPath<'a>>,
+    golden: &mut Vec<InputPath<'a>>,
     root: Option<&str>,
     jobs: &'a [Job],
     marks: &[bool],
 ) -> Result<(), AllocError>
-    ensures { OnOk result (read_paths golden.new.items
-        ≡ read_paths golden.old.items ++ golden_paths_of_selected (optional_text root.entry) jobs.now marks.now) }
+    ensures { OnOk result (input_paths golden.new.items
+        ≡ input_paths golden.old.items ++ golden_paths_of_selected (optional_text root.entry) jobs.now marks.now) }
 {
     match (jobs, marks) {
         ([job, jobs @ ..], [marked, marks @ ..]) => {
             if *marked {
                 push_golden_paths(alloc, golden, root, job)?;
             }
-            push_golden_of_marked(alloc, golden, root, jobs, marks)
+            push_golden_of_selected(alloc, golden, root, jobs, marks)
         }
         ([], _) => Ok(()),
         ([_job, _jobs @ ..], []) => Ok(()),
@@ -129,7 +129,7 @@ fn push_golden_of_marked<'a>(
 }
 
 // Returns an error if writing the list would overwrite an input or a golden file.
-fn refuse_list_overwrite<F: Outputs>(
+fn reject_list_overwrite<F: Outputs>(
     files: &F,
     alloc: Global,
     list: &str,
@@ -139,36 +139,36 @@ fn refuse_list_overwrite<F: Outputs>(
         → OnOk result (IfSome (F.placed files.now) (λ _. IsUnread paths list.now)) }
     ensures stopped { IfErr result (IsOverwriteStop (codes "the updated list") list.now) }
 {
-    refuse_file(files, alloc, "the updated list", list, &reads.inputs)?;
-    refuse_file(files, alloc, "the updated list", list, &reads.golden)
+    reject_file_overwrite(files, alloc, "the updated list", list, &reads.inputs)?;
+    reject_file_overwrite(files, alloc, "the updated list", list, &reads.golden)
 }
 
 // Returns an error if writing a golden file would overwrite the list, an input, or a golden file with another path.
-fn refuse_golden_files<F: Outputs>(
+fn reject_golden_overwrites<F: Outputs>(
     files: &F,
     alloc: Global,
-    golden: &[ReadPath<'_>],
+    golden: &[InputPath<'_>],
     reads: &AcceptReads<'_>,
 ) -> Result<(), Stop>
-    ensures no_list { OnOk result (IfSome (F.placed files.now) (λ _. list_any (is_golden_read reads.now.list.identities.items) golden.now ≡ false)) }
-    ensures no_input { OnOk result (IfSome (F.placed files.now) (λ _. list_any (is_golden_read reads.now.inputs.identities.items) golden.now ≡ false)) }
+    ensures no_list { OnOk result (IfSome (F.placed files.now) (λ _. list_any (is_golden_input reads.now.list.identities.items) golden.now ≡ false)) }
+    ensures no_input { OnOk result (IfSome (F.placed files.now) (λ _. list_any (is_golden_input reads.now.inputs.identities.items) golden.now ≡ false)) }
     ensures stopped { IfErr result IsAcceptOverwriteStop }
 {
     for at in 0..golden.len() {
-        refuse_golden_file(files, alloc, &golden[at], reads)?;
+        reject_golden_overwrite(files, alloc, &golden[at], reads)?;
     }
     Ok(())
 }
 
 // Returns an error if writing this golden file would overwrite the list, an input, or a golden file with another path.
-fn refuse_golden_file<F: Outputs>(
+fn reject_golden_overwrite<F: Outputs>(
     files: &F,
     alloc: Global,
-    golden: &ReadPath<'_>,
+    golden: &InputPath<'_>,
     reads: &AcceptReads<'_>,
 ) -> Result<(), Stop>
-    ensures no_list { OnOk result (IfSome (F.placed files.now) (λ _. is_golden_read reads.now.list.identities.items golden.now ≡ false)) }
-    ensures no_input { OnOk result (IfSome (F.placed files.now) (λ _. is_golden_read reads.now.inputs.identities.items golden.now ≡ false)) }
+    ensures no_list { OnOk result (IfSome (F.placed files.now) (λ _. is_golden_input reads.now.list.identities.items golden.now ≡ false)) }
+    ensures no_input { OnOk result (IfSome (F.placed files.now) (λ _. is_golden_input reads.now.inputs.identities.items golden.now ≡ false)) }
     ensures stopped { IfErr result IsAcceptOverwriteStop }
 {
     let path = golden.path.as_str();
@@ -177,19 +177,19 @@ fn refuse_golden_file<F: Outputs>(
         Err(error) => return Err(file_error_stop(alloc, path, error)),
     };
     let replaced = replaced.as_slice();
-    refuse_first(alloc, golden, &reads.list, reads.list.first_of(replaced))?;
-    refuse_first(
+    reject_if_found(alloc, golden, &reads.list, reads.list.first_of(replaced))?;
+    reject_if_found(
         alloc,
         golden,
         &reads.inputs,
         reads.inputs.first_of(replaced),
     )?;
-    let other = first_of_another_path(&reads.golden, replaced, path);
-    refuse_first(alloc, golden, &reads.golden, other)
+    let other = first_with_other_path(&reads.golden, replaced, path);
+    reject_if_found(alloc, golden, &reads.golden, other)
 }
 
 // Returns the index of the first input whose identity is in `files` and whose path is not `path`; `None` if there is none.
-fn first_of_another_path(read: &ReadFiles<'_>, files: &[Text], path: &str) -> Option<usize>
+fn first_with_other_path(read: &InputFiles<'_>, files: &[Text], path: &str) -> Option<usize>
     ensures { IfSome result (λ at. at < length read.now.paths.items) }
 {
     for at in 0..read.identities.len() {
@@ -201,15 +201,15 @@ fn first_of_another_path(read: &ReadFiles<'_>, files: &[Text], path: &str) -> Op
 }
 
 // Returns an error if there is an input at index `first` that the golden file would overwrite.
-fn refuse_first(
+fn reject_if_found(
     alloc: Global,
-    golden: &ReadPath<'_>,
-    read: &ReadFiles<'_>,
+    golden: &InputPath<'_>,
+    read: &InputFiles<'_>,
     first: Option<usize>,
 ) -> Result<(), Stop>
     requires { IfSome first (λ at. at < length read.now.paths.items) }
     ensures none { OnOk result (first ≡ None) }
-    ensures stopped { IfErr result (IsOverwriteReported (writer_text golden.now.role) (path_buf_bytes golden.now.path)) }
+    ensures stopped { IfErr result (IsOverwriteReported (output_role_text golden.now.role) (path_buf_bytes golden.now.path)) }
 {
     match first {
         None => Ok(()),
@@ -218,28 +218,28 @@ fn refuse_first(
 }
 
 // Returns the error that writing a golden file would overwrite the input `read`.
-fn golden_overwrite_stop(alloc: Global, golden: &ReadPath<'_>, read: &ReadPath<'_>) -> Stop
-    ensures { IsOverwriteReported (writer_text golden.now.role) (path_buf_bytes golden.now.path) result }
+fn golden_overwrite_stop(alloc: Global, golden: &InputPath<'_>, read: &InputPath<'_>) -> Stop
+    ensures { IsOverwriteReported (output_role_text golden.now.role) (path_buf_bytes golden.now.path) result }
 {
-    match writer_text(alloc, golden.role) {
+    match output_role_text(alloc, golden.role) {
         Ok(role) => overwrite_stop(alloc, role.as_str(), golden.path.as_str(), read),
         Err(error) => Stop::from(error),
     }
 }
 
 // Returns how a message refers to an output file: by its option, or by the job whose key names it.
-fn writer_text(alloc: Global, role: ReadRole<'_>) -> Result<String, AllocError>
-    ensures { IfOk result (λ text. string_bytes text ≡ writer_text role.entry) }
+fn output_role_text(alloc: Global, role: InputRole<'_>) -> Result<String, AllocError>
+    ensures { IfOk result (λ text. string_bytes text ≡ output_role_text role.entry) }
 {
     match role {
-        ReadRole::Word(word) => String::from_str(alloc, word),
-        ReadRole::JobFile { key, job } => job_writer_text(alloc, key, job),
+        InputRole::Word(word) => String::from_str(alloc, word),
+        InputRole::JobFile { key, job } => job_output_text(alloc, key, job),
     }
 }
 
 // Returns how a message refers to an output file that a job names: by the job's name and the key.
-fn job_writer_text(alloc: Global, key: &str, job: &str) -> Result<String, AllocError>
-    ensures { IfOk result (λ text. string_bytes text ≡ job_writer_text key.now job.now) }
+fn job_output_text(alloc: Global, key: &str, job: &str) -> Result<String, AllocError>
+    ensures { IfOk result (λ text. string_bytes text ≡ job_output_text key.now job.now) }
 {
     let mut text = String::from_str(alloc, "job \"")?;
     text.push_str(job)?;
@@ -260,7 +260,7 @@ fn outside_notes<F: Outputs>(
     files: &F,
     alloc: Global,
     args: &AcceptArgs<'_>,
-    golden: &[ReadPath<'_>],
+    golden: &[InputPath<'_>],
 ) -> Result<Vec<u8>, Stop>
     ensures inside { IfOk result (λ notes. IfSome (F.placed files.now) (λ _. notes.items ≡ [])) }
     ensures stopped { IfErr result IsAcceptOverwriteStop }
@@ -290,7 +290,7 @@ fn push_outside_notes<F: Outputs>(
     files: &F,
     alloc: Global,
     bounds: Bounds<'_>,
-    golden: &[ReadPath<'_>],
+    golden: &[InputPath<'_>],
     notes: &mut Vec<u8>,
 ) -> Result<(), Stop>
     ensures inside { OnOk result (IfSome (F.placed files.now) (λ _. notes.new.items ≡ notes.old.items)) }
@@ -298,7 +298,7 @@ fn push_outside_notes<F: Outputs>(
 {
     match golden {
         [file, rest @ ..] => {
-            check_bounds(files, alloc, bounds, file, notes)?;
+            check_inside_directory(files, alloc, bounds, file, notes)?;
             push_outside_notes(files, alloc, bounds, rest, notes)
         }
         [] => Ok(()),
@@ -306,11 +306,11 @@ fn push_outside_notes<F: Outputs>(
 }
 
 // Appends a warning if the golden file is outside of the directory and writing there is allowed; returns an error if it is not allowed.
-fn check_bounds<F: Outputs>(
+fn check_inside_directory<F: Outputs>(
     files: &F,
     alloc: Global,
     bounds: Bounds<'_>,
-    golden: &ReadPath<'_>,
+    golden: &InputPath<'_>,
     notes: &mut Vec<u8>,
 ) -> Result<(), Stop>
     ensures inside { OnOk result (IfSome (F.placed files.now) (λ _. notes.new.items ≡ notes.old.items)) }
@@ -331,20 +331,20 @@ const OUTSIDE_HELP: &str =
     "; use --root DIR to resolve relative paths against DIR, or --outside to write it\n";
 
 // Returns the error that a golden file is outside of `directory`.
-fn outside_stop(alloc: Global, directory: &str, golden: &ReadPath<'_>) -> Stop
+fn outside_stop(alloc: Global, directory: &str, golden: &InputPath<'_>) -> Stop
     ensures { IsAcceptOverwriteStop result }
 {
-    Stop::of_refusal(outside_message(alloc, directory, golden))
+    Stop::rejection(outside_message(alloc, directory, golden))
 }
 
 // Returns the message that a golden file is outside of `directory`, with the hint that `--outside` allows this.
 fn outside_message(
     alloc: Global,
     directory: &str,
-    golden: &ReadPath<'_>,
+    golden: &InputPath<'_>,
 ) -> Result<Vec<u8>, AllocError>
     ensures { IfOk result (λ text. text.items
-        ≡ outside_message (writer_text golden.now.role) (path_buf_bytes golden.now.path) directory.now) }
+        ≡ outside_message (output_role_text golden.now.role) (path_buf_bytes golden.now.path) directory.now) }
 {
     let mut text = Vec::new(alloc);
     push_outside_text(alloc, &mut text, "rvtest: ", directory, golden)?;
@@ -358,20 +358,20 @@ fn push_outside_text(
     text: &mut Vec<u8>,
     head: &str,
     directory: &str,
-    golden: &ReadPath<'_>,
+    golden: &InputPath<'_>,
 ) -> Result<(), AllocError>
     ensures { OnOk result (text.new.items ≡ text.old.items
-        ++ outside_text head.now (writer_text golden.now.role) (path_buf_bytes golden.now.path) directory.now) }
+        ++ outside_text head.now (output_role_text golden.now.role) (path_buf_bytes golden.now.path) directory.now) }
 {
-    let role = writer_text(alloc, golden.role)?;
-    push_outside_head(text, head, role.as_str())?;
+    let role = output_role_text(alloc, golden.role)?;
+    push_outside_prefix(text, head, role.as_str())?;
     push_outside_path(text, golden.path.as_str())?;
     push_quoted_text(text, directory)
 }
 
 // Appends the beginning of a message about a golden file outside of the directory: `head`, and `role`, which describes the file.
-fn push_outside_head(text: &mut Vec<u8>, head: &str, role: &str) -> Result<(), AllocError>
-    ensures { OnOk result (text.new.items ≡ text.old.items ++ outside_head head.now role.now) }
+fn push_outside_prefix(text: &mut Vec<u8>, head: &str, role: &str) -> Result<(), AllocError>
+    ensures { OnOk result (text.new.items ≡ text.old.items ++ outside_prefix head.now role.now) }
 {
     push_spans(text, &[Span::Text(head), Span::Text(role)])
 }

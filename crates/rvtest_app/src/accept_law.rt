@@ -8,7 +8,7 @@ ghost use Rattle.rv_command.specs.Texts.{IsTextAt};
 ghost use Rattle.rv_rows.specs.JobList.{job_list_of};
 ghost use Rattle.rv_rows.specs.declared_job.Job.{Job};
 ghost use Rattle.rv_rows.specs.declared_row.Row.{Row};
-ghost use Rattle.rvtest_app.specs.AcceptLaw.{HaveOneTextEach, IsRowIn, IsStoreAfter, IsFullyAccepted};
+ghost use Rattle.rvtest_app.specs.AcceptLaw.{HaveOneTextPerFile, IsRowOfRun, IsStoreAfter, IsFullyAccepted};
 ghost use Rattle.rvtest_app.specs.Accepts.{IsAcceptOfSelected, written_files};
 ghost use Rattle.rvtest_app.specs.CommandOutputs.{CommandOutputs};
 
@@ -21,8 +21,8 @@ pub fn accepted_jobs_pass()
         → IsTextAt (Some before) words.run.list.now bytes → job_list_of bytes ≡ Ok jobs
         → (accepted : IsAcceptOfSelected (Some before) words bytes jobs chosen status from to)
         → (store : IsStoreAfter (written_files accepted.told) before after)
-        → HaveOneTextEach store.leads accepted.told.files.now
+        → HaveOneTextPerFile store.leads accepted.told.files.now
         → IsFullyAccepted accepted.told place job
-        → IsRowIn after words.run place row
+        → IsRowOfRun after words.run place row
         → IsTrue (is_pass_or_none row.verdict) }
 {}

@@ -4,8 +4,8 @@ ghost use Rattle.std.specs.Prelude.{◌≡◌, ◌++◌, ◌∷◌, [], IfErr, I
 ghost use Rattle.rv_command.specs.Stops.{IsListUnreadStop};
 ghost use Rattle.rv_command.specs.Texts.{optional_text};
 ghost use Rattle.rv_files.specs.UnreadPaths.{resolved_path};
-ghost use Rattle.rvtest_app.specs.AcceptStops.{AreTargetsUnread, IsChangedStop, IsOtherBytesStop, IsStopOfFiles, IsUncheckedStop, IsFileNotCreatedStop};
-ghost use Rattle.rvtest_app.specs.Accepts.{AreGoldenFiles, IsOldAt, written_files};
+ghost use Rattle.rvtest_app.specs.AcceptStops.{IsTargetsUnreadStop, IsChangedStop, IsOtherBytesStop, IsStopForSomeFile, IsUnverifiedStop, IsFileNotCreatedStop};
+ghost use Rattle.rvtest_app.specs.Accepts.{AreGoldenFiles, IsOldContentsAt, written_files};
 ghost use Rattle.rvtest_app.specs.Outlets.{AreFilesCommitted};
 
 use crate::written_text::write_file;
@@ -28,13 +28,13 @@ pub(crate) fn read_golden_files<D: Inputs>(
 ) -> Result<Vec<GoldenFile>, Stop>
     ensures read { IfOk result (λ files. AreGoldenFiles (D.contents inputs.now) (optional_text folder.entry) targets.items files.items) }
     ensures stopped { IfErr result
-        (AreTargetsUnread (D.contents inputs.now) (optional_text folder.entry) targets.items) }
+        (IsTargetsUnreadStop (D.contents inputs.now) (optional_text folder.entry) targets.items) }
 {
     let mut files = Vec::new(alloc);
     for target in targets {
         let place = golden_file_path(alloc, folder, target.path.as_str())?;
         let old = read_golden_file(inputs, alloc, place.as_str())?;
-        add_file(
+        push_file(
             &mut files,
             GoldenFile {
                 target,
@@ -47,7 +47,7 @@ pub(crate) fn read_golden_files<D: Inputs>(
 }
 
 // Appends a golden file.
-fn add_file(files: &mut Vec<GoldenFile>, file: GoldenFile) -> Result<(), AllocError>
+fn push_file(files: &mut Vec<GoldenFile>, file: GoldenFile) -> Result<(), AllocError>
     ensures { OnOk result (files.new.items ≡ files.old.items ++ file ∷ []) }
 {
     files.push(file)?;
@@ -68,19 +68,19 @@ pub(crate) fn golden_file_path(
 
 // Reads the file at a path. Returns `None` if there is no file.
 fn read_golden_file<D: Inputs>(inputs: &D, alloc: Global, path: &str) -> Result<Option<Bytes>, Stop>
-    ensures old { IfOk result (IsOldAt (D.contents inputs.now) path.now) }
+    ensures old { IfOk result (IsOldContentsAt (D.contents inputs.now) path.now) }
     ensures stopped { IfErr result (IsListUnreadStop (D.contents inputs.now) path.now) }
 {
     match read_whole_up_to(inputs, alloc, path, MOST_BYTES) {
         Ok(Some(bytes)) => Ok(Some(Bytes::new(bytes))),
-        Ok(None) => Err(Stop::of_failure(path_message(
+        Ok(None) => Err(Stop::system_failure(path_message(
             alloc,
             path,
             "the file is larger than 16777216 bytes",
         ))),
         Err(InputError::OutOfMemory) => Err(Stop::OutOfMemory),
         Err(InputError::Failed(ErrorKind::NotFound)) => Ok(None),
-        Err(InputError::Failed(reason)) => Err(Stop::of_failure(path_message(
+        Err(InputError::Failed(reason)) => Err(Stop::system_failure(path_message(
             alloc,
             path,
             io_error_text(reason),
@@ -94,7 +94,7 @@ pub(crate) fn check_unchanged_files<D: Inputs>(
     alloc: Global,
     accepting: &AcceptSummary<'_>,
 ) -> Result<(), Stop>
-    ensures { IfErr result (IsStopOfFiles (IsUncheckedStop (D.contents inputs.now))
+    ensures { IfErr result (IsStopForSomeFile (IsUnverifiedStop (D.contents inputs.now))
         accepting.now.list.path.now accepting.now.files.now) }
 {
     for file in accepting.files {
@@ -124,8 +124,8 @@ fn check_unchanged<D: Inputs>(
     path: &str,
     old: Option<&[u8]>,
 ) -> Result<(), Stop>
-    ensures same { OnOk result (IsOldAt (D.contents inputs.now) path.now (option_map (λ old. old.now) old.entry)) }
-    ensures stopped { IfErr result (IsUncheckedStop (D.contents inputs.now) path.now) }
+    ensures same { OnOk result (IsOldContentsAt (D.contents inputs.now) path.now (option_map (λ old. old.now) old.entry)) }
+    ensures stopped { IfErr result (IsUnverifiedStop (D.contents inputs.now) path.now) }
 {
     let found = read_golden_file(inputs, alloc, path)?;
     if is_text(&found, old) {
@@ -151,7 +151,7 @@ fn changed_stop(alloc: Global, path: &str) -> Stop
     ensures { IsChangedStop path.now result }
 {
     let what = "changed since it was read; nothing was written";
-    Stop::of_failure(path_message(alloc, path, what))
+    Stop::system_failure(path_message(alloc, path, what))
 }
 
 /// Writes each golden file that changes, in list order, and then the list. Each file is written completely or left unchanged.
@@ -162,7 +162,7 @@ pub(crate) fn write_accepted_files<F: Outputs>(
 ) -> Result<(), Stop>
     ensures placed { OnOk result (AreFilesCommitted (F.placed files.old) (F.placed files.new) (Some (written_files accepting.now))) }
     ensures stopped { IfErr result
-        (IsStopOfFiles IsFileNotCreatedStop accepting.now.list.path.now accepting.now.files.now) }
+        (IsStopForSomeFile IsFileNotCreatedStop accepting.now.list.path.now accepting.now.files.now) }
 {
     for file in accepting.files {
         if let Some(text) = file.new_text(&accepting.list) {
@@ -182,7 +182,7 @@ pub(crate) fn check_written_files<D: Inputs>(
     alloc: Global,
     accepting: &AcceptSummary<'_>,
 ) -> Result<(), Stop>
-    ensures { IfErr result (IsStopOfFiles (IsUncheckedStop (D.contents inputs.now))
+    ensures { IfErr result (IsStopForSomeFile (IsUnverifiedStop (D.contents inputs.now))
         accepting.now.list.path.now accepting.now.files.now) }
 {
     for file in accepting.files {
@@ -198,7 +198,7 @@ pub(crate) fn check_written_files<D: Inputs>(
 
 // Returns an error if the file at the path does not contain `text`.
 fn check_written<D: Inputs>(inputs: &D, alloc: Global, path: &str, text: &[u8]) -> Result<(), Stop>
-    ensures { IfErr result (IsUncheckedStop (D.contents inputs.now) path.now) }
+    ensures { IfErr result (IsUnverifiedStop (D.contents inputs.now) path.now) }
 {
     let bytes = read_file(inputs, alloc, path)?;
     if bytes.as_slice() == text {
@@ -213,5 +213,5 @@ fn other_bytes_stop(alloc: Global, path: &str) -> Stop
     ensures { IsOtherBytesStop path.now result }
 {
     let what = "does not contain what was written";
-    Stop::of_failure(path_message(alloc, path, what))
+    Stop::system_failure(path_message(alloc, path, what))
 }

@@ -5,13 +5,13 @@ ghost use Rattle.rv_rows.specs.ListFaults.{list_faults};
 ghost use Rattle.rvtest_app.specs.CheckText.{check_text, job_begin_lines};
 ghost use Rattle.rvtest_app.specs.Commands.{check_status, refused_job_count};
 ghost use Rattle.rv_files.specs.UnreadPaths.{contents_below};
-ghost use Rattle.rvtest_app.specs.Reports.{IsCheckAt, IsCheckOf, IsPlanCheckOf};
+ghost use Rattle.rvtest_app.specs.Reports.{IsCheckOutputAt, IsCheckOutputOf, IsPlanCheckOf};
 ghost use Rattle.rv_command.specs.Stops.{IsListFaultStop};
 ghost use Rattle.rv_command.specs.Texts.{optional_text};
 ghost use Rattle.rvtest_app.specs.CommandStops.{IsCheckStop};
 
 use crate::check_text::{CheckedList, push_job_counts_line};
-use crate::command_output::Found;
+use crate::command_result::Found;
 use crate::missing_images::push_missing_images_line;
 use rv_accept_text::job_line_numbers;
 use rv_command::{DONE, REFUSED, Stop, all_faults_text, parse_list, read_list_text};
@@ -26,7 +26,7 @@ pub(crate) fn check_list<D: Inputs>(
     alloc: Global,
     args: CheckArgs<'_>,
 ) -> Result<Found, Stop>
-    ensures checked { IfOk result (λ found. IsCheckAt (D.contents inputs.now) args.entry
+    ensures checked { IfOk result (λ found. IsCheckOutputAt (D.contents inputs.now) args.entry
         found.text.items found.status) }
     ensures low { IfOk result (λ found. found.status ≤ 2) }
     ensures stopped { IfErr result (IsCheckStop (D.contents inputs.now) args.entry) }
@@ -42,7 +42,7 @@ fn check_list_text<D: Inputs>(
     args: CheckArgs<'_>,
     text: &[u8],
 ) -> Result<Found, Stop>
-    ensures check { IfOk result (λ found. IsCheckOf
+    ensures check { IfOk result (λ found. IsCheckOutputOf
         (contents_below (optional_text args.entry.root) (D.contents inputs.now))
         (optional_text args.entry.root) (list_faults text.now)
         args.entry.list.now text.now found.text.items found.status) }

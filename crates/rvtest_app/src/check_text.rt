@@ -2,7 +2,7 @@
 
 ghost use Rattle.std.specs.Prelude.{◌≡◌, ◌≤◌, ◌<◌, ◌++◌, IfOk, OnOk, length, option_map, slice_get, slice_index_or};
 ghost use Rattle.rv_expect.specs.TwoEnds.{expects_two_ends};
-ghost use Rattle.rv_files.specs.Limits.{most_jobs};
+ghost use Rattle.rv_files.specs.Limits.{max_jobs};
 ghost use Rattle.rv_rows.specs.declared_job.Job.{Job as AJob};
 ghost use Rattle.rvtest_app.specs.CheckText.{expected_end_name, job_counts_line, job_prefix, path_and_line};
 ghost use Rattle.rvtest_app.specs.CheckText.{refusal_text, refused_count_text, refused_file_line, refused_files_text};
@@ -27,7 +27,7 @@ pub(crate) struct CheckedList<'a> {
     pub(crate) lines: &'a [usize],
     pub(crate) plan: &'a Plan,
     pub(crate) unread: &'a [UnreadablePath],
-    ghost few: { length plan.now.jobs ≤ most_jobs },
+    ghost few: { length plan.now.jobs ≤ max_jobs },
 }
 
 // An expectation file of a job: its contents as the plan has them, and its path; both are `None` if the job names no file.

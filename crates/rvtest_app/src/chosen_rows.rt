@@ -3,7 +3,7 @@
 ghost use Rattle.std.specs.Prelude.{◌≡◌, ◌<◌, ◌≤◌, length};
 ghost use Rattle.std.specs.List.{All};
 ghost use Rattle.std.specs.List.Sorted.{IsStrictlyIncreasing};
-ghost use Rattle.rv_files.specs.Limits.{most_jobs};
+ghost use Rattle.rv_files.specs.Limits.{max_jobs};
 
 use rv_rows::Rows;
 
@@ -14,7 +14,7 @@ pub(crate) struct ChosenRows<'a> {
     pub(crate) jobs: usize,
     pub(crate) places: &'a [usize],
     pub(crate) rows: Rows,
-    ghost few: { jobs ≤ most_jobs },
+    ghost few: { jobs ≤ max_jobs },
     ghost within: { All (λ place. place < jobs) places.now },
     ghost rising: { IsStrictlyIncreasing places.now },
     ghost counted: { length rows ≡ length places.now },

@@ -2,7 +2,7 @@
 
 ghost use Rattle.std.specs.Prelude.{◌≡◌};
 ghost use Rattle.rv_command.specs.Texts.{optional_text};
-ghost use Rattle.rvtest_app.specs.Colors.{requested_colors, colors_unless_stdout_used, colors_of_word, terminal_colors};
+ghost use Rattle.rvtest_app.specs.Colors.{requested_colors, colors_unless_stdout_used, colors_of_value, terminal_colors};
 
 use crate::into_report::uses_run_stdout;
 use crate::outlets::is_stdout_at;
@@ -16,14 +16,14 @@ pub(crate) fn requested_colors(request: &Request<'_>, is_terminal: bool) -> Colo
     match request {
         Request::Run(args) => colors_unless_stdout_used(
             uses_run_stdout(args),
-            colors_of_word(args.color, is_terminal),
+            colors_of_value(args.color, is_terminal),
         ),
-        Request::Explain(args) => colors_of_word(args.color, is_terminal),
-        Request::Diff(args) => colors_of_word(args.color, is_terminal),
+        Request::Explain(args) => colors_of_value(args.color, is_terminal),
+        Request::Diff(args) => colors_of_value(args.color, is_terminal),
         Request::Show(args) => {
             colors_unless_stdout_used(
                 is_stdout_at(args.junit),
-                colors_of_word(args.color, is_terminal),
+                colors_of_value(args.color, is_terminal),
             )
         }
         Request::List(_)
@@ -47,8 +47,8 @@ fn colors_unless_stdout_used(uses_stdout: bool, colors: Colors) -> Colors
 }
 
 // Returns the colours that the value of `--color` requests: `always`, `never`, or otherwise coloured results only on a terminal.
-fn colors_of_word(word: Option<&str>, is_terminal: bool) -> Colors
-    ensures { result ≡ colors_of_word (optional_text word.entry) is_terminal }
+fn colors_of_value(word: Option<&str>, is_terminal: bool) -> Colors
+    ensures { result ≡ colors_of_value (optional_text word.entry) is_terminal }
 {
     match word {
         Some("always") => Colors::With,

@@ -1,9 +1,9 @@
 //! Syncing files to disk, and then committing them.
 
 ghost use Rattle.std.specs.Prelude.{◌≡◌, ◌⊎◌, IfErr, IfOk, OnErr, OnOk};
-ghost use Rattle.rvtest_app.specs.Outlets.{AreFilesCommitted, AreFilesPartlyCommitted, both_files, files_of, has_no_failure};
+ghost use Rattle.rvtest_app.specs.Outlets.{AreFilesCommitted, AreFilesPartlyCommitted, joined_files, files_of, has_no_failure};
 ghost use Rattle.rvtest_app.specs.Outlets.{outlet_path, synced_files, synced_path};
-ghost use Rattle.rvtest_app.specs.WriteStops.{IsUnplacedStop};
+ghost use Rattle.rvtest_app.specs.WriteStops.{IsUncommittedStop};
 
 use crate::outlets::{OpenFile, Outlet, Outlets, abandon_outlet};
 use rv_command::{Stop, file_error_stop};
@@ -35,15 +35,15 @@ pub(crate) fn commit_outlets<F: Outputs>(
     requires report { has_no_failure F.File.failed outlets.report }
     requires junit { has_no_failure F.File.failed outlets.junit }
     ensures placed { OnOk result (AreFilesCommitted (F.placed files.old) (F.placed files.new)
-        (both_files (files_of F.pending_path F.File.taken outlets.entry.junit)
+        (joined_files (files_of F.pending_path F.File.taken outlets.entry.junit)
         (files_of F.pending_path F.File.taken outlets.entry.report))) }
     ensures part { OnErr result (AreFilesPartlyCommitted (F.placed files.old) (F.placed files.new)
         (files_of F.pending_path F.File.taken outlets.entry.junit)) }
-    ensures stopped { IfErr result (λ why. IsUnplacedStop (outlet_path outlets.entry.report) why
-        ⊎ IsUnplacedStop (outlet_path outlets.entry.junit) why) }
+    ensures stopped { IfErr result (λ why. IsUncommittedStop (outlet_path outlets.entry.report) why
+        ⊎ IsUncommittedStop (outlet_path outlets.entry.junit) why) }
 {
     let SyncedFiles { junit, report } = sync_outlets(files, alloc, outlets)?;
-    place_both(files, alloc, junit, report)
+    commit_both(files, alloc, junit, report)
 }
 
 // Syncs the files of both outlets to disk. If either cannot be synced, neither is created.
@@ -61,8 +61,8 @@ fn sync_outlets<'a, F: Outputs>(
         ≡ files_of F.pending_path F.File.taken outlets.entry.report) }
     ensures junit_path { IfOk result (λ synced. synced_path synced.junit ≡ outlet_path outlets.entry.junit) }
     ensures report_path { IfOk result (λ synced. synced_path synced.report ≡ outlet_path outlets.entry.report) }
-    ensures stopped { IfErr result (λ why. IsUnplacedStop (outlet_path outlets.entry.report) why
-        ⊎ IsUnplacedStop (outlet_path outlets.entry.junit) why) }
+    ensures stopped { IfErr result (λ why. IsUncommittedStop (outlet_path outlets.entry.report) why
+        ⊎ IsUncommittedStop (outlet_path outlets.entry.junit) why) }
 {
     let Outlets { report, junit } = outlets;
     let junit = match sync_outlet(files, alloc, junit) {
@@ -92,7 +92,7 @@ fn sync_outlet<'a, F: Outputs>(
     ensures synced { IfOk result (λ synced. synced_files F.pending_path F.synced_bytes synced
         ≡ files_of F.pending_path F.File.taken outlet.entry) }
     ensures path { IfOk result (λ synced. synced_path synced ≡ outlet_path outlet.entry) }
-    ensures stopped { IfErr result (IsUnplacedStop (outlet_path outlet.entry)) }
+    ensures stopped { IfErr result (IsUncommittedStop (outlet_path outlet.entry)) }
 {
     let Outlet::File(file) = outlet else {
         return Ok(None);
@@ -117,22 +117,22 @@ fn abandon_synced<F: Outputs>(files: &mut F, synced: Option<SyncedFile<'_, F::Pl
 }
 
 // Moves both files to their paths, one after the other. If the first move fails, the second file is abandoned.
-fn place_both<F: Outputs>(
+fn commit_both<F: Outputs>(
     files: &mut F,
     alloc: Global,
     first: Option<SyncedFile<'_, F::Place, F::Synced>>,
     second: Option<SyncedFile<'_, F::Place, F::Synced>>,
 ) -> Result<(), Stop>
     ensures placed { OnOk result (AreFilesCommitted (F.placed files.old) (F.placed files.new)
-        (both_files (synced_files F.pending_path F.synced_bytes first.entry)
+        (joined_files (synced_files F.pending_path F.synced_bytes first.entry)
         (synced_files F.pending_path F.synced_bytes second.entry))) }
     ensures part { OnErr result (AreFilesPartlyCommitted (F.placed files.old) (F.placed files.new)
         (synced_files F.pending_path F.synced_bytes first.entry)) }
     ensures stopped { IfErr result
-        (λ why. IsUnplacedStop (synced_path second.entry) why ⊎ IsUnplacedStop (synced_path first.entry) why) }
+        (λ why. IsUncommittedStop (synced_path second.entry) why ⊎ IsUncommittedStop (synced_path first.entry) why) }
 {
-    match place_synced(files, alloc, first) {
-        Ok(()) => place_synced(files, alloc, second),
+    match commit_synced(files, alloc, first) {
+        Ok(()) => commit_synced(files, alloc, second),
         Err(stop) => {
             abandon_synced(files, second);
             Err(stop)
@@ -141,7 +141,7 @@ fn place_both<F: Outputs>(
 }
 
 // Moves a synced file to its path, if there is one.
-fn place_synced<F: Outputs>(
+fn commit_synced<F: Outputs>(
     files: &mut F,
     alloc: Global,
     synced: Option<SyncedFile<'_, F::Place, F::Synced>>,
@@ -149,7 +149,7 @@ fn place_synced<F: Outputs>(
     ensures placed { OnOk result (AreFilesCommitted (F.placed files.old) (F.placed files.new)
         (synced_files F.pending_path F.synced_bytes synced.entry)) }
     ensures same { OnErr result (F.placed files.new ≡ F.placed files.old) }
-    ensures stopped { IfErr result (IsUnplacedStop (synced_path synced.entry)) }
+    ensures stopped { IfErr result (IsUncommittedStop (synced_path synced.entry)) }
 {
     let Some(synced) = synced else {
         return Ok(());

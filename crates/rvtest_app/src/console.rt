@@ -1,7 +1,7 @@
 //! The command `console`.
 
 ghost use Rattle.std.specs.Prelude.{◌≡◌, ◌⊎◌, ◌≤◌, ◌<◌, IfErr, IfOk, length, slice_index_or};
-ghost use Rattle.rv_expect.specs.Judgement.{judging_by_rule};
+ghost use Rattle.rv_expect.specs.Judgement.{judge_by_rule};
 ghost use Rattle.rv_rows.specs.declared_job.Job.{Job as AJob};
 ghost use Rattle.rv_command.specs.Texts.{optional_text};
 ghost use Rattle.rv_expect.specs.Passing.{has_passed};
@@ -17,7 +17,7 @@ ghost use Rattle.rvtest_app.specs.CommandOutputs.{outputs_of};
 use crate::destinations::Destinations;
 use crate::named_job::{NamedJob, find_named_job};
 use crate::rules::passing_status;
-use rv_command::{Stop, put_message, put_results, read_list_text};
+use rv_command::{Stop, write_message, write_results, read_list_text};
 use rv_expect::{Judge, Rule, has_passed};
 use rv_files::{Inputs, Outputs, RecordingStore, Sink, UnreadablePath};
 use rv_job_text::{TextReporter, Verbosity};
@@ -48,8 +48,8 @@ pub(crate) fn put_job_console<D: Inputs, F: Outputs + Drop, O: Sink + Drop, E: S
         ⊎ IsConsoleStop (D.contents inputs.now) args.entry why) }
 {
     let ReportedRow { row, line, status } = run_named_job(inputs, alloc, args)?;
-    put_results(&mut to.out, row.console.as_slice())?;
-    put_message(&mut to.errors, line.as_slice());
+    write_results(&mut to.out, row.console.as_slice())?;
+    write_message(&mut to.errors, line.as_slice());
     Ok(status)
 }
 
@@ -116,7 +116,7 @@ fn run_planned_job(
     requires { place < length plan.now.jobs }
     ensures row { IfOk result (λ told. (d : AJob) → told.row ≡ row_of plan.now (slice_index_or plan.now.jobs place d)) }
     ensures line { IfOk result (λ told. (d : AJob) → told.line.items
-        ≡ row_line plan.now unread.now (judging_by_rule Strict) (slice_index_or plan.now.jobs place d)
+        ≡ row_line plan.now unread.now (judge_by_rule Strict) (slice_index_or plan.now.jobs place d)
         (row_of plan.now (slice_index_or plan.now.jobs place d))) }
     ensures status { IfOk result (λ told. (d : AJob) → told.status
         ≡ passing_status (has_passed Strict (row_of plan.now (slice_index_or plan.now.jobs place d)))) }
@@ -132,7 +132,7 @@ fn run_planned_job(
         last: None,
     };
     let mut line = Vec::new(alloc);
-    reporter.push_lone_row_line(alloc, place, &row, &mut line)?;
+    reporter.push_only_row_line(alloc, place, &row, &mut line)?;
     let status = passing_status(has_passed(Rule::Strict, &row));
     Ok(ReportedRow { row, line, status })
 }

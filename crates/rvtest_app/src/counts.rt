@@ -5,18 +5,18 @@ ghost use Rattle.rv_command.specs.Texts.{optional_text};
 ghost use Rattle.rv_count_tables.specs.Sum.{no_counts};
 ghost use Rattle.rv_count_tables.specs.Table.{IsTable};
 ghost use Rattle.rv_count_tables.specs.Text.{table_text};
-ghost use Rattle.rvtest_app.specs.CountStops.{IsCountsStop, IsReadErrorStop, IsSumErrorStop, IsSumStop, IsTableFaultStop, IsUnaddedStop, count_overflow_message, two_names_message};
-ghost use Rattle.rvtest_app.specs.CountSums.{AreAdded, IsAdded, IsSumWritten};
+ghost use Rattle.rvtest_app.specs.CountStops.{IsCountsStop, IsReadErrorStop, IsSumErrorStop, IsSumStop, IsTableFaultStop, IsTableNotAddedStop, count_overflow_message, two_names_message};
+ghost use Rattle.rvtest_app.specs.CountSums.{AreTablesAdded, IsTableAdded, IsSumWritten};
 ghost use Rattle.rvtest_app.specs.Outlets.{is_stdout};
-ghost use Rattle.rvtest_app.specs.Overwrites.{IsPlacedApart, IsSumFileApart, IsSumOverwriteStop};
+ghost use Rattle.rvtest_app.specs.Overwrites.{HoldsIfCommitted, IsSumFileNoInput, IsSumOverwriteStop};
 ghost use Rattle.rvtest_app.specs.CommandOutputs.{outputs_of};
 ghost use Rattle.rvtest_app.specs.WrittenTexts.{written_path};
 
 use crate::counts_note::sum_note;
 use crate::destinations::Destinations;
-use crate::overwrites::{look_up_files, read_paths_of_words, refuse_overwrite};
+use crate::overwrites::{identified_files, inputs_of_args, reject_option_overwrite};
 use crate::written_text::write_text;
-use rv_command::{DONE, Stop, path_message, path_number_message, put_message, read_result_file};
+use rv_command::{DONE, Stop, path_message, path_number_message, write_message, read_result_file};
 use rv_count_tables::{
     CountTable, Images, ReadError, SumError, read_table, sum_of_tables, table_text,
 };
@@ -40,37 +40,37 @@ pub(crate) fn put_sum_of_tables<D: Inputs, F: Outputs + Drop, O: Sink + Drop, E:
     ensures untouched { (is_stdout (written_path (optional_text args.now.out)) ≡ true) ⊎ (to.new.out ≡ to.old.out) }
     ensures stopped { IfErr result (IsCountsStop (D.contents inputs.now) args.now) }
     // The tables are not overwritten.
-    ensures kept { IsPlacedApart (IsSumFileApart args.now) (F.placed to.old.files) (F.placed to.new.files) }
+    ensures kept { HoldsIfCommitted (IsSumFileNoInput args.now) (F.placed to.old.files) (F.placed to.new.files) }
 {
-    refuse_sum_overwrite(&to.files, alloc, args)?;
+    reject_sum_overwrite(&to.files, alloc, args)?;
     let sum = sum_of_paths(inputs, alloc, args.tables.as_slice())?;
     let text = table_text(alloc, &sum)?;
     let note = sum_note(alloc, &sum)?;
     write_text(alloc, to, args.out, text.as_bytes())?;
-    put_message(&mut to.errors, note.as_slice());
+    write_message(&mut to.errors, note.as_slice());
     Ok(DONE)
 }
 
 // Returns an error if the output file would overwrite a table.
-fn refuse_sum_overwrite<F: Outputs>(
+fn reject_sum_overwrite<F: Outputs>(
     files: &F,
     alloc: Global,
     args: &CountsArgs<'_>,
 ) -> Result<(), Stop>
-    ensures apart { OnOk result (IfSome (F.placed files.now) (λ _. IsSumFileApart args.now)) }
+    ensures apart { OnOk result (IfSome (F.placed files.now) (λ _. IsSumFileNoInput args.now)) }
     ensures stopped { IfErr result (IsSumOverwriteStop args.now) }
 {
-    let read = look_up_files(
+    let read = identified_files(
         files,
         alloc,
-        read_paths_of_words(alloc, args.tables.as_slice(), "the table")?,
+        inputs_of_args(alloc, args.tables.as_slice(), "the table")?,
     )?;
-    refuse_overwrite(files, alloc, "--out", args.out, &read)
+    reject_option_overwrite(files, alloc, "--out", args.out, &read)
 }
 
 // Returns the sum of the tables of counts at these paths.
 fn sum_of_paths<D: Inputs>(inputs: &D, alloc: Global, paths: &[&str]) -> Result<CountTable, Stop>
-    ensures added { IfOk result (AreAdded (D.contents inputs.now) paths.now no_counts) }
+    ensures added { IfOk result (AreTablesAdded (D.contents inputs.now) paths.now no_counts) }
     ensures table { IfOk result IsTable }
     ensures stopped { IfErr result (IsSumStop (D.contents inputs.now) paths.now) }
 {
@@ -92,9 +92,9 @@ fn sum_with_path<D: Inputs>(
     before: &CountTable,
 ) -> Result<CountTable, Stop>
     requires { IsTable before.now }
-    ensures added { IfOk result (IsAdded (D.contents inputs.now) path.now before.now) }
+    ensures added { IfOk result (IsTableAdded (D.contents inputs.now) path.now before.now) }
     ensures table { IfOk result IsTable }
-    ensures stopped { IfErr result (IsUnaddedStop (D.contents inputs.now) path.now before.now) }
+    ensures stopped { IfErr result (IsTableNotAddedStop (D.contents inputs.now) path.now before.now) }
 {
     let text = read_result_file(inputs, alloc, path)?;
     let table = table_of_text(alloc, path, text.as_slice())?;
@@ -123,10 +123,10 @@ fn read_error_stop(alloc: Global, path: &str, error: ReadError) -> Stop
         ReadError::OutOfMemory => Stop::OutOfMemory,
         ReadError::Line(line) => {
             let what = ": invalid line in a table of counts\n";
-            Stop::of_refusal(path_number_message(alloc, path, ":", line, what))
+            Stop::rejection(path_number_message(alloc, path, ":", line, what))
         }
         ReadError::CutOff => {
-            Stop::of_refusal(path_message(alloc, path, "the table is truncated"))
+            Stop::rejection(path_message(alloc, path, "the table is truncated"))
         }
     }
 }
@@ -139,16 +139,16 @@ pub(crate) fn sum_error_stop(alloc: Global, path: &str, error: SumError) -> Stop
         SumError::OutOfMemory => Stop::OutOfMemory,
         SumError::Count(address) => {
             let what = ": the count at ";
-            Stop::of_refusal(count_overflow_message(alloc, path, what, address))
+            Stop::rejection(count_overflow_message(alloc, path, what, address))
         }
         SumError::Spot(function) => {
             let what = ": a stack count of the function at ";
-            Stop::of_refusal(count_overflow_message(alloc, path, what, function))
+            Stop::rejection(count_overflow_message(alloc, path, what, function))
         }
-        SumError::Names(function) => Stop::of_refusal(two_names_message(alloc, path, function)),
+        SumError::Names(function) => Stop::rejection(two_names_message(alloc, path, function)),
         SumError::Runs => {
             let what = "the number of runs does not fit in 64 bits";
-            Stop::of_refusal(path_message(alloc, path, what))
+            Stop::rejection(path_message(alloc, path, what))
         }
     }
 }

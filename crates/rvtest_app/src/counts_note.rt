@@ -1,7 +1,7 @@
 //! The summary of a sum of count tables.
 
 ghost use Rattle.std.specs.Prelude.{◌≡◌, ◌+◌, IfOk};
-ghost use Rattle.rvtest_app.specs.CountSums.{executed_at_addresses, executed_in_images, image_word, instruction_word, number_head, run_word, shown_number, sum_note};
+ghost use Rattle.rvtest_app.specs.CountSums.{executed_at_addresses, executed_in_images, image_word, instruction_word, at_least_prefix, run_word, capped_number, sum_note};
 
 use rv_count_tables::{AddressCounts, CountTable, ImageCounts};
 use rv_job_text::{Span, text_of_spans};
@@ -21,7 +21,7 @@ pub(crate) fn sum_note(alloc: Global, table: &CountTable) -> Result<Vec<u8>, All
             Span::Text(run_word(table.runs)),
             Span::Number(count),
             Span::Text(image_word(count)),
-            Span::Text(number_head(begun)),
+            Span::Text(at_least_prefix(begun)),
             Span::Number(begun),
             Span::Text(instruction_word(begun)),
         ],
@@ -54,15 +54,15 @@ fn instruction_word(count: u64) -> &'static str
 }
 
 // Returns "at least " for the greatest 64-bit number, which may stand for a greater one, and an empty text for any other number.
-fn number_head(number: u64) -> &'static str
-    ensures { result.now ≡ number_head number }
+fn at_least_prefix(number: u64) -> &'static str
+    ensures { result.now ≡ at_least_prefix number }
 {
     if number == u64::MAX { "at least " } else { "" }
 }
 
 // Returns how many instructions were executed in these images, saturating at the greatest 64-bit number.
 fn executed_in_images(images: &[ImageCounts]) -> u64
-    ensures { result ≡ shown_number (executed_in_images images.now) }
+    ensures { result ≡ capped_number (executed_in_images images.now) }
 {
     let mut total = 0;
     for image in images {
@@ -73,7 +73,7 @@ fn executed_in_images(images: &[ImageCounts]) -> u64
 
 // Returns `before` plus the number of instructions that were executed at these addresses, saturating at the greatest 64-bit number.
 fn add_executed(before: u64, addresses: &[AddressCounts]) -> u64
-    ensures { result ≡ shown_number (before + executed_at_addresses addresses.now) }
+    ensures { result ≡ capped_number (before + executed_at_addresses addresses.now) }
 {
     let mut total = before;
     for counts in addresses {

@@ -3,7 +3,7 @@
 ghost use Rattle.std.specs.Prelude.{◌≡◌};
 ghost use Rattle.rvtest_app.specs.Crews.{AreRequestedWorkers, requested_group};
 
-use rv_files::limits::{MOST_GROUP, MOST_WORKERS};
+use rv_files::limits::{MAX_GROUP, MAX_WORKERS};
 use rv_stream::Crew;
 use rvtest_cli::RunArgs;
 use std::alloc::Global;
@@ -18,7 +18,7 @@ pub(crate) fn requested_crew<'r, R: Threads>(
     ensures workers { AreRequestedWorkers args.now.workers result.workers }
     ensures group { result.group ≡ requested_group args.now.group }
 {
-    let group = args.group.clamp(1, MOST_GROUP);
+    let group = args.group.clamp(1, MAX_GROUP);
     Crew::new(rt, alloc, requested_workers(rt, args), group)
 }
 
@@ -27,9 +27,9 @@ fn requested_workers<R: Threads>(rt: &R, args: &RunArgs<'_>) -> u32
     ensures { AreRequestedWorkers args.now.workers result }
 {
     match args.workers {
-        Some(workers) => workers.clamp(1, MOST_WORKERS),
+        Some(workers) => workers.clamp(1, MAX_WORKERS),
         None => match thread::available_parallelism(rt) {
-            Ok(count) => count.get().clamp(1, MOST_WORKERS as usize) as u32,
+            Ok(count) => count.get().clamp(1, MAX_WORKERS as usize) as u32,
             Err(_) => 1,
         },
     }

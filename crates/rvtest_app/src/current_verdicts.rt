@@ -5,11 +5,11 @@ ghost use Rattle.std.specs.Prelude.{◌≡◌, ◌++◌, ◌∷◌, [], IfOk, On
 ghost use Rattle.std.specs.List.{list_any};
 ghost use Rattle.rv_accept.specs.Runs.{row_or_none};
 ghost use Rattle.rv_command.specs.Texts.{optional_text};
-ghost use Rattle.rv_expect.specs.Comparisons.{sides_of};
+ghost use Rattle.rv_expect.specs.Comparisons.{comparison_view};
 ghost use Rattle.rv_expect.specs.UnmetExpectations.{is_same};
 ghost use Rattle.rv_files.specs.UnreadPaths.{resolved_path};
-ghost use Rattle.rvtest_app.specs.CurrentVerdicts.{AreCandidates, IsCandidateAt, IsGoldenText, IsStanding, IsWholeText, compared_row, is_selected, is_none_unmet, path_to_read};
-ghost use Rattle.rvtest_app.specs.CurrentVerdicts.{sides_over, verdict_by, verdict_of_sides};
+ghost use Rattle.rvtest_app.specs.CurrentVerdicts.{AreCandidates, IsCandidateAt, IsGoldenText, IsCurrentVerdict, AreContentsUpToLimit, compared_row, is_selected, are_all_met, path_to_read};
+ghost use Rattle.rvtest_app.specs.CurrentVerdicts.{comparison_with, verdict_by, verdict_of_comparison};
 
 use crate::accepted_files::golden_file_path;
 use rv_accept::{Acceptance, Candidate, CurrentVerdict, console_path, is_accepted_end};
@@ -78,23 +78,23 @@ impl<'x, D: Inputs> CurrentFiles<'x, D> {
 
     // Returns the verdict on a job with this row, given its golden files as they are now.
     fn standing(&self, job: &Job, row: &Row) -> Result<CurrentVerdict, AllocError>
-        ensures { IfOk result (IsStanding (D.contents self.now.inputs.now) (optional_text self.now.folder)
+        ensures { IfOk result (IsCurrentVerdict (D.contents self.now.inputs.now) (optional_text self.now.folder)
             self.now.rows.now job.now row.now) }
     {
         let console = self.golden_text(path_to_read(job, row, console_path(job)))?;
         let signature = self.golden_text(path_to_read(job, row, signature_path(job)))?;
-        self.verdict_over(job, row, text_of(&console), text_of(&signature))
+        self.verdict_with_golden_files(job, row, text_of(&console), text_of(&signature))
     }
 
     // Returns the verdict on a job, given the contents of its golden files.
-    fn verdict_over<'r>(
+    fn verdict_with_golden_files<'r>(
         &self,
         job: &'r Job,
         row: &'r Row,
         console: Option<&'r [u8]>,
         signature: Option<&'r [u8]>,
     ) -> Result<CurrentVerdict, AllocError>
-        ensures { IfOk result (λ standing. standing ≡ verdict_of_sides (sides_over self.now.rows.now job.now row.now
+        ensures { IfOk result (λ standing. standing ≡ verdict_of_comparison (comparison_with self.now.rows.now job.now row.now
             (option_map (λ bytes. bytes.now) console.entry) (option_map (λ bytes. bytes.now) signature.entry))) }
     {
         let comparison = Comparison {
@@ -139,7 +139,7 @@ impl<'x, D: Inputs> CurrentFiles<'x, D> {
     // Returns the contents of the golden file at a path, resolved against the `--root` directory; `None` if it cannot be read or is too
     // long.
     fn text_of_path(&self, path: &str) -> Result<Option<Vec<u8>>, AllocError>
-        ensures { IfOk result (λ text. IsWholeText (D.contents self.now.inputs.now)
+        ensures { IfOk result (λ text. AreContentsUpToLimit (D.contents self.now.inputs.now)
             (resolved_path (optional_text self.now.folder) path.now) (option_map (λ bytes. bytes.items) text)) }
     {
         let place = golden_file_path(self.alloc, self.folder, path)?;
@@ -148,7 +148,7 @@ impl<'x, D: Inputs> CurrentFiles<'x, D> {
 
     // Reads the file at a path. Returns `None` if it cannot be read or is too long.
     fn text_at(&self, place: &str) -> Result<Option<Vec<u8>>, AllocError>
-        ensures { IfOk result (λ text. IsWholeText (D.contents self.now.inputs.now) place.now
+        ensures { IfOk result (λ text. AreContentsUpToLimit (D.contents self.now.inputs.now) place.now
             (option_map (λ bytes. bytes.items) text)) }
     {
         match read_whole_up_to(self.inputs, self.alloc, place, MOST_BYTES) {
@@ -225,9 +225,9 @@ fn row_if_run(row: Option<&Option<Row>>) -> Option<&Row>
 fn verdict_by(ran: bool, unmet: &[Unmet]) -> CurrentVerdict
     ensures { result ≡ verdict_by ran unmet.now }
 {
-    if ran && is_none_unmet(unmet) {
+    if ran && are_all_met(unmet) {
         CurrentVerdict::Passes
-    } else if is_any_difference(unmet) {
+    } else if has_difference(unmet) {
         CurrentVerdict::Differs
     } else {
         CurrentVerdict::Fails
@@ -235,8 +235,8 @@ fn verdict_by(ran: bool, unmet: &[Unmet]) -> CurrentVerdict
 }
 
 // Whether the list of unmet expectations is empty.
-fn is_none_unmet(unmet: &[Unmet]) -> bool
-    ensures { result ≡ is_none_unmet unmet.now }
+fn are_all_met(unmet: &[Unmet]) -> bool
+    ensures { result ≡ are_all_met unmet.now }
 {
     match unmet {
         [] => true,
@@ -245,14 +245,14 @@ fn is_none_unmet(unmet: &[Unmet]) -> bool
 }
 
 // Whether `same_as` is among the unmet expectations.
-fn is_any_difference(unmet: &[Unmet]) -> bool
+fn has_difference(unmet: &[Unmet]) -> bool
     ensures { result ≡ list_any is_same unmet.now }
 {
-    unmet.iter().any(|one| is_difference(*one))
+    unmet.iter().any(|one| is_same_as(*one))
 }
 
 // Whether the unmet expectation is `same_as`.
-fn is_difference(unmet: Unmet) -> bool
+fn is_same_as(unmet: Unmet) -> bool
     ensures { result ≡ is_same unmet }
 {
     match unmet {

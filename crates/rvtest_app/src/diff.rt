@@ -1,21 +1,21 @@
 //! The command `diff`.
 
 ghost use Rattle.std.specs.Prelude.{◌≡◌, ◌⊎◌, ◌≤◌, ◌<◌, ◌^◌, ◌++◌, IfErr, IfOk, MatchResult, length};
-ghost use Rattle.rv_command.specs.Messages.{cut_off_note};
+ghost use Rattle.rv_command.specs.Messages.{truncation_note};
 ghost use Rattle.rvtest_app.specs.Commands.{diff_status};
-ghost use Rattle.rvtest_app.specs.Reports.{IsDiffAt, IsDiffOf, IsDiffOfReports, IsDiffWritten, compared_rows, leaves_out, left_out_count};
+ghost use Rattle.rvtest_app.specs.Reports.{IsDiffAt, IsDiffOf, IsDiffOfReports, IsDiffWritten, compared_rows, is_partial_of_whole, uncompared_row_count};
 ghost use Rattle.rvtest_app.specs.Reports.{requested_comparison};
 ghost use Rattle.rvtest_app.specs.CommandOutputs.{outputs_of};
 ghost use Rattle.rvtest_app.specs.CommandStops.{IsDiffAtStop};
 ghost use Rattle.rvtest_app.specs.ReportedStops.{IsDiffStop};
 ghost use Rattle.rv_command.specs.declared.stop.Stop.TheVariants.{OutOfMemory, WriteFailed};
-ghost use Rattle.rv_diff.specs.Diff.{diff_text, counts_of_differing};
+ghost use Rattle.rv_diff.specs.Diff.{diff_text, difference_counts};
 
-use crate::command_output::Found;
+use crate::command_result::Found;
 use crate::destinations::Destinations;
 use rv_command::{
-    DONE, RequestedReport, SOME_FAIL, Stop, cut_off_note, parse_requested_report, put_message,
-    put_results, read_result_file,
+    DONE, RequestedReport, SOME_FAIL, Stop, truncation_note, parse_requested_report, write_message,
+    write_results, read_result_file,
 };
 use rv_diff::{Compare, Compared, Differing, push_diff, rows_in_both};
 use rv_files::{Inputs, Outputs, Sink};
@@ -45,8 +45,8 @@ pub(crate) fn diff_reports<D: Inputs, F: Outputs + Drop, O: Sink + Drop, E: Sink
         ⊎ IsDiffAtStop (D.contents inputs.now) args.entry why) }
 {
     let NotedDiff { found, notes } = diff_of_files(inputs, alloc, args)?;
-    put_message(&mut to.errors, notes.as_slice());
-    put_results(&mut to.out, found.text.as_slice())?;
+    write_message(&mut to.errors, notes.as_slice());
+    write_results(&mut to.out, found.text.as_slice())?;
     Ok(found.status)
 }
 
@@ -108,12 +108,12 @@ fn diff_read_reports(
     ensures diff { IfOk result (λ noted. IsDiffOfReports (requested_comparison args.entry.steps args.entry.slower)
         old.report new.report noted.found.text.items noted.found.status) }
     ensures noted { IfOk result (λ noted. noted.notes.items
-        ≡ cut_off_note args.entry.old.now old ++ cut_off_note args.entry.new.now new) }
+        ≡ truncation_note args.entry.old.now old ++ truncation_note args.entry.new.now new) }
     ensures low { IfOk result (λ noted. noted.found.status ≤ 1) }
     ensures memory { IfErr result (λ stop. stop ≡ OutOfMemory) }
 {
-    let mut notes = cut_off_note(alloc, args.old, &old)?;
-    notes.extend_from_slice(cut_off_note(alloc, args.new, &new)?.as_slice())?;
+    let mut notes = truncation_note(alloc, args.old, &old)?;
+    notes.extend_from_slice(truncation_note(alloc, args.new, &new)?.as_slice())?;
     let compare = requested_comparison(args.steps, args.slower);
     let found = diff_saved_reports(alloc, compare, old.report, new.report)?;
     Ok(NotedDiff { found, notes })
@@ -130,9 +130,9 @@ fn diff_saved_reports(
     requires new { length new.rows < 2 ^ 32 }
     ensures low { IfOk result (λ found. found.status ≤ 1) }
     ensures text { IfOk result (λ found. found.text.items
-        ≡ diff_text compare (compared_rows new old) (compared_rows old new) (left_out_count old new)) }
+        ≡ diff_text compare (compared_rows new old) (compared_rows old new) (uncompared_row_count old new)) }
     ensures judged { IfOk result (λ found. found.status
-        ≡ diff_status (counts_of_differing compare (compared_rows new old) (compared_rows old new))) }
+        ≡ diff_status (difference_counts compare (compared_rows new old) (compared_rows old new))) }
     ensures memory { IfErr result (λ stop. stop ≡ OutOfMemory) }
 {
     let all = old.rows.as_slice().len() + new.rows.as_slice().len();
@@ -156,8 +156,8 @@ fn compared_rows(
     ensures new { IfOk result (λ rows. rows.1.items ≡ compared_rows old new) }
 {
     let (is_old_part, is_new_part) = (
-        leaves_out(&old.extent, &new.extent),
-        leaves_out(&new.extent, &old.extent),
+        is_partial_of_whole(&old.extent, &new.extent),
+        is_partial_of_whole(&new.extent, &old.extent),
     );
     let (old, new) = (old.rows.into_vec(), new.rows.into_vec());
     if is_new_part {
@@ -172,8 +172,8 @@ fn compared_rows(
 }
 
 // Whether `part` has only chosen jobs of a list, and `other` is a whole report.
-fn leaves_out(part: &Extent, other: &Extent) -> bool
-    ensures { result ≡ leaves_out part.now other.now }
+fn is_partial_of_whole(part: &Extent, other: &Extent) -> bool
+    ensures { result ≡ is_partial_of_whole part.now other.now }
 {
     match (part, other) {
         (Extent::Choice(_), Extent::Whole) => true,
@@ -200,7 +200,7 @@ fn diff_rows(alloc: Global, compare: Compare, compared: Compared<'_>) -> Result<
     ensures text { IfOk result (λ found. found.text.items
         ≡ diff_text compare compared.entry.old.now compared.entry.new.now compared.entry.left_out) }
     ensures judged { IfOk result (λ found. found.status
-        ≡ diff_status (counts_of_differing compare compared.entry.old.now compared.entry.new.now)) }
+        ≡ diff_status (difference_counts compare compared.entry.old.now compared.entry.new.now)) }
     ensures memory { IfErr result (λ stop. stop ≡ OutOfMemory) }
 {
     let mut text = Vec::new(alloc);

@@ -12,7 +12,7 @@ ghost use Rattle.rvtest_app.specs.Reports.{IsExplanationAt, IsExplanationOf, IsJ
 ghost use Rattle.rv_command.specs.Texts.{optional_text};
 ghost use Rattle.rvtest_app.specs.CommandStops.{IsExplainStop, IsNoJobStop};
 
-use crate::command_output::Found;
+use crate::command_result::Found;
 use crate::named_job::{NamedJob, find_named_job};
 use crate::rules::passing_status;
 use rv_command::{Stop, read_list_text};

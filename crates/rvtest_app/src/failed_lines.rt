@@ -1,7 +1,7 @@
 //! The lines of failed rows, as far as a report knows them.
 
 ghost use Rattle.std.specs.Prelude.{◌≡◌, ◌++◌, OnOk};
-ghost use Rattle.rv_expect.specs.Judgement.{judging_of};
+ghost use Rattle.rv_expect.specs.Judgement.{judge_view};
 ghost use Rattle.rvtest_app.specs.ReportSummary.{failed_line};
 
 use rv_expect::Judge;
@@ -16,10 +16,10 @@ pub struct FailedLines<'a> {
 }
 
 impl<'a> RowReporter for FailedLines<'a> {
-    ghost use Rattle.rv_expect.specs.Judgement.{judging_of};
+    ghost use Rattle.rv_expect.specs.Judgement.{judge_view};
     ghost use Rattle.rvtest_app.specs.ReportSummary.{failed_line};
 
-    ghost line = { λ told _ row. failed_line (judging_of told.judge) row };
+    ghost line = { λ told _ row. failed_line (judge_view told.judge) row };
 
     // Appends the result line of a row that is a failure; nothing for any other row.
     fn push_row_text(
@@ -40,7 +40,7 @@ pub(crate) fn push_failed_line(
     judge: &Judge<'_>,
     row: &Row,
 ) -> Result<(), AllocError>
-    ensures { OnOk result (text.new.items ≡ text.old.items ++ failed_line (judging_of judge.now) row.now) }
+    ensures { OnOk result (text.new.items ≡ text.old.items ++ failed_line (judge_view judge.now) row.now) }
 {
     let judgement = judge.judgement(row);
     if !judgement.is_failing() {

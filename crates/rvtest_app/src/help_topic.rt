@@ -4,7 +4,7 @@ ghost use Rattle.std.specs.Prelude.{◌≡◌, IfErr, IfOk};
 ghost use Rattle.rv_command.specs.Stops.{IsStop};
 ghost use Rattle.rvtest_app.specs.HelpTopics.{IsNoTopicStop, IsTopicPrinted, no_topic_message};
 
-use crate::command_output::Found;
+use crate::command_result::Found;
 use crate::list_keys::LIST_KEYS;
 use rv_command::{DONE, Stop};
 use rv_job_text::{Span, push_text, text_of_spans};
@@ -28,7 +28,7 @@ pub(crate) fn topic_help(alloc: Global, args: HelpArgs<'_>) -> Result<Found, Sto
 fn no_topic_stop(alloc: Global, topic: &str) -> Stop
     ensures { IsStop 2 (no_topic_message topic.now) result }
 {
-    Stop::of_refusal(no_topic_message(alloc, topic))
+    Stop::rejection(no_topic_message(alloc, topic))
 }
 
 // Returns the message about an unknown topic.

@@ -12,7 +12,7 @@ use rvtest_cli::RunArgs;
 
 /// What the report of a run has in addition to the run's rows.
 #[derive(Drop)]
-pub(crate) struct ReportFrame {
+pub(crate) struct ReportContext {
     /// The shard whose jobs the run executes.
     pub(crate) shard: Option<Shard>,
     /// The rows of the report that the run updates: one for each job of the list.

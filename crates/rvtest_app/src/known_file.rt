@@ -5,7 +5,7 @@ ghost use Rattle.rv_command.specs.Texts.{optional_text};
 ghost use Rattle.rv_expect.specs.KnownJobs.{job_names};
 ghost use Rattle.rv_rows.specs.JobList.{names_of_jobs};
 ghost use Rattle.rvtest_app.specs.KnownFiles.{IsKnownAt, IsKnownFile, known_fault_message, known_fault_text};
-ghost use Rattle.rvtest_app.specs.KnownStops.{IsKnownStop, IsNoKnownFileStop};
+ghost use Rattle.rvtest_app.specs.KnownStops.{IsKnownStop, IsKnownFileStop};
 
 use rv_command::{Stop, read_list_text};
 use rv_expect::{KnownFault, KnownFaultKind, KnownJobs, read_known_jobs};
@@ -40,7 +40,7 @@ fn read_known_file<D: Inputs>(
     jobs: &[Job],
 ) -> Result<KnownJobs, Stop>
     ensures known { IfOk result (IsKnownFile (D.contents inputs.now) path.now jobs.now) }
-    ensures stopped { IfErr result (IsNoKnownFileStop (D.contents inputs.now) path.now list.now jobs.now) }
+    ensures stopped { IfErr result (IsKnownFileStop (D.contents inputs.now) path.now list.now jobs.now) }
 {
     let text = read_list_text(inputs, alloc, path)?;
     let names = job_names(alloc, jobs)?;
@@ -49,7 +49,7 @@ fn read_known_file<D: Inputs>(
             let path = Text::copy(alloc, path)?;
             Ok(KnownJobs { path, jobs })
         }
-        Err(fault) => Err(Stop::of_refusal(known_fault_message(alloc, path, list, &fault))),
+        Err(fault) => Err(Stop::rejection(known_fault_message(alloc, path, list, &fault))),
     }
 }
 
@@ -99,7 +99,7 @@ fn push_known_fault<'a>(
     ensures { OnOk result (message.new.items ≡ message.old.items ++ known_fault_text list.now name.now kind) }
 {
     match kind {
-        KnownFaultKind::NoName => push_spans(
+        KnownFaultKind::InvalidName => push_spans(
             message,
             &[
                 Span::Text("\""),
@@ -115,7 +115,7 @@ fn push_known_fault<'a>(
                 Span::Text("\""),
             ],
         ),
-        KnownFaultKind::NoJob => push_spans(
+        KnownFaultKind::UnknownJob => push_spans(
             message,
             &[
                 Span::Text("no job named \""),

@@ -4,14 +4,14 @@ ghost use Rattle.std.specs.Prelude.{◌≡◌, ◌⊎◌, ◌≤◌, ◌<◌, �
 ghost use Rattle.std.specs.List.{All};
 ghost use Rattle.rvtest_app.specs.CommandStops.{IsListStop, IsNoChoiceStop};
 ghost use Rattle.rvtest_app.specs.Commands.{failure_rule};
-ghost use Rattle.rvtest_app.specs.Lists.{AreListedOf, AreListedAt, IsListWritten, name_line, name_lines};
+ghost use Rattle.rvtest_app.specs.Lists.{IsListOutputOf, IsListOutputAt, IsListWritten, name_line, name_lines};
 ghost use Rattle.rvtest_app.specs.Runs.{selected_job_indices};
 ghost use Rattle.rvtest_app.specs.CommandOutputs.{outputs_of};
 
 use crate::destinations::Destinations;
 use crate::rules::failure_rule;
 use rv_choice::{Choice, Chooser};
-use rv_command::{DONE, Stop, parse_list, put_message, put_results, read_list_text};
+use rv_command::{DONE, Stop, parse_list, write_message, write_results, read_list_text};
 use rv_files::{Inputs, Outputs, Sink};
 use rv_job_text::push_text;
 use rv_rows::{Job, selected_indices};
@@ -39,14 +39,14 @@ pub(crate) fn list_chosen_jobs<D: Inputs, F: Outputs + Drop, O: Sink + Drop, E: 
         ⊎ IsListStop (D.contents inputs.now) args.now why) }
 {
     let ListedJobs { names, notes } = chosen_jobs(inputs, alloc, args)?;
-    put_message(&mut to.errors, notes.as_slice());
-    put_results(&mut to.out, names.as_slice())?;
+    write_message(&mut to.errors, notes.as_slice());
+    write_results(&mut to.out, names.as_slice())?;
     Ok(DONE)
 }
 
 // Returns the names of the chosen jobs of the list at the path in the arguments, and the notes about the choice.
 fn chosen_jobs<D: Inputs>(inputs: &D, alloc: Global, args: &RunArgs<'_>) -> Result<ListedJobs, Stop>
-    ensures listed { IfOk result (λ listed. AreListedAt (D.contents inputs.now) args.now
+    ensures listed { IfOk result (λ listed. IsListOutputAt (D.contents inputs.now) args.now
         listed.names.items listed.notes.items) }
     ensures stopped { IfErr result (IsListStop (D.contents inputs.now) args.now) }
 {
@@ -61,7 +61,7 @@ fn chosen_jobs_of_text<D: Inputs>(
     args: &RunArgs<'_>,
     text: &[u8],
 ) -> Result<ListedJobs, Stop>
-    ensures listed { IfOk result (λ listed. AreListedOf (D.contents inputs.now) args.now text.now
+    ensures listed { IfOk result (λ listed. IsListOutputOf (D.contents inputs.now) args.now text.now
         listed.names.items listed.notes.items) }
     ensures stopped { IfErr result (IsNoChoiceStop (D.contents inputs.now) args.now text.now) }
 {
@@ -75,14 +75,14 @@ fn chosen_jobs_of_text<D: Inputs>(
     };
     let Choice { marks, notes } = chooser.choose(jobs.as_slice())?;
     let names = match marks {
-        Some(marks) => marked_name_lines(alloc, jobs.as_slice(), marks.as_slice())?,
+        Some(marks) => selected_name_lines(alloc, jobs.as_slice(), marks.as_slice())?,
         None => Vec::new(alloc),
     };
     Ok(ListedJobs { names, notes })
 }
 
 // Returns the names of the selected jobs, one per line.
-fn marked_name_lines(alloc: Global, jobs: &[Job], marks: &[bool]) -> Result<Vec<u8>, AllocError>
+fn selected_name_lines(alloc: Global, jobs: &[Job], marks: &[bool]) -> Result<Vec<u8>, AllocError>
     requires { length marks.now ≡ length jobs.now }
     ensures { IfOk result (λ names. names.items ≡ name_lines jobs.now (selected_job_indices marks.now)) }
 {

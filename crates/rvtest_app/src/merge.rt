@@ -3,16 +3,16 @@
 ghost use Rattle.std.specs.Prelude.{◌≡◌, ◌≤◌, ◌++◌, ◌∷◌, [], IfErr, IfOk, IfSome, OnErr, OnOk, Some, codes, length, map};
 ghost use Rattle.std.specs.Fmt.{decimal};
 ghost use Rattle.rv_job_text.specs.TotalsLine.{totals_line};
-ghost use Rattle.rv_files.specs.Limits.{most_jobs};
+ghost use Rattle.rv_files.specs.Limits.{max_jobs};
 ghost use Rattle.rv_merge.specs.Parts.{AreParts, bytes_of_texts, nth_text};
 ghost use Rattle.rvtest_app.specs.Commands.{report_judging};
 ghost use Rattle.rv_rows.specs.Report.{report_text};
-ghost use Rattle.rvtest_app.specs.MergeRefusals.{ArePartsRefused, IsMergeErrorStop, flaw_message, other_run_message};
-ghost use Rattle.rvtest_app.specs.MergeRefusals.{part_path, two_parts_message};
-ghost use Rattle.rvtest_app.specs.MergeStops.{ArePartsUnread, IsMergeStop, IsMergeWriteStop};
-ghost use Rattle.rvtest_app.specs.Merges.{AreTextsAt, IsMergedAt, IsUndoneMergeAt, merged_junit, merged_report_path, merged_suite};
+ghost use Rattle.rvtest_app.specs.MergeErrors.{IsPartsErrorStop, IsMergeErrorStop, flaw_message, other_run_message};
+ghost use Rattle.rvtest_app.specs.MergeErrors.{part_path, two_parts_message};
+ghost use Rattle.rvtest_app.specs.MergeStops.{IsPartsUnreadStop, IsMergeStop, IsMergeWriteStop};
+ghost use Rattle.rvtest_app.specs.Merges.{AreTextsAt, IsMergedAt, IsAbortedMergeAt, merged_junit, merged_report_path, merged_suite};
 ghost use Rattle.rvtest_app.specs.Outlets.{AreFilesPartlyCommitted, file_at};
-ghost use Rattle.rvtest_app.specs.Overwrites.{AreMergeFilesApart, IsMergeOverwriteStop, IsPlacedApart};
+ghost use Rattle.rvtest_app.specs.Overwrites.{AreMergeFilesNoInputs, IsMergeOverwriteStop, HoldsIfCommitted};
 ghost use Rattle.rvtest_app.specs.OutputWrites.{IsOutputWritten};
 ghost use Rattle.rvtest_app.specs.RunOutput.{rows_status};
 ghost use Rattle.rvtest_app.specs.CommandOutputs.{outputs_of};
@@ -21,12 +21,12 @@ ghost use Rattle.rv_command.specs.Texts.{optional_text};
 use crate::destinations::Destinations;
 use crate::junit_class::suite_name;
 use crate::outlets::{abandon_outlets, open_outlets};
-use crate::output_writes::put_shown;
-use crate::overwrites::{look_up_files, read_paths_of_words, refuse_overwrite};
+use crate::output_writes::write_shown;
+use crate::overwrites::{identified_files, inputs_of_args, reject_option_overwrite};
 use crate::rules::{report_judge, rows_status};
-use crate::whole_files::put_whole_files;
+use crate::whole_files::write_whole_files;
 use rv_command::{
-    ResultKind, Stop, path_message, path_number_message, read_result_file, refused_line_message,
+    ResultKind, Stop, path_message, path_number_message, read_result_file, invalid_line_message,
 };
 use rv_files::{Inputs, Outputs, Sink};
 use rv_job_text::{Span, push_totals_line, text_of_spans};
@@ -54,36 +54,36 @@ pub(crate) fn merge_reports<D: Inputs, F: Outputs + Drop, O: Sink + Drop, E: Sin
     ensures low { IfOk result (λ status. status ≤ 1) }
     ensures merged { IfOk result (λ status. IsMergedAt (D.contents inputs.now) args.now status
         (outputs_of F.placed O.taken E.taken E.failed to.old) (outputs_of F.placed O.taken E.taken E.failed to.new)) }
-    ensures undone { OnErr result (IsUndoneMergeAt (D.contents inputs.now) args.now
+    ensures undone { OnErr result (IsAbortedMergeAt (D.contents inputs.now) args.now
         (F.placed to.old.files) (F.placed to.new.files)) }
     ensures stopped { IfErr result (IsMergeStop (D.contents inputs.now) args.now) }
     // The shards are not overwritten.
-    ensures kept { IsPlacedApart (AreMergeFilesApart args.now) (F.placed to.old.files) (F.placed to.new.files) }
+    ensures kept { HoldsIfCommitted (AreMergeFilesNoInputs args.now) (F.placed to.old.files) (F.placed to.new.files) }
 {
-    refuse_merge_overwrites(&to.files, alloc, args)?;
+    reject_merge_overwrites(&to.files, alloc, args)?;
     let texts = read_part_texts(inputs, alloc, args)?;
     let merged = merge_part_texts(alloc, args, texts.as_slice())?;
     let status = merged.status;
-    put_merged(alloc, args, merged, to)?;
+    write_merged(alloc, args, merged, to)?;
     Ok(status)
 }
 
 // Returns an error if an output file would overwrite a part.
-fn refuse_merge_overwrites<F: Outputs>(
+fn reject_merge_overwrites<F: Outputs>(
     files: &F,
     alloc: Global,
     args: &MergeArgs<'_>,
 ) -> Result<(), Stop>
-    ensures apart { OnOk result (IfSome (F.placed files.now) (λ _. AreMergeFilesApart args.now)) }
+    ensures apart { OnOk result (IfSome (F.placed files.now) (λ _. AreMergeFilesNoInputs args.now)) }
     ensures stopped { IfErr result (IsMergeOverwriteStop args.now) }
 {
-    let read = look_up_files(
+    let read = identified_files(
         files,
         alloc,
-        read_paths_of_words(alloc, args.parts.as_slice(), "the part")?,
+        inputs_of_args(alloc, args.parts.as_slice(), "the part")?,
     )?;
-    refuse_overwrite(files, alloc, "--report", args.report, &read)?;
-    refuse_overwrite(files, alloc, "--junit", args.junit, &read)
+    reject_option_overwrite(files, alloc, "--report", args.report, &read)?;
+    reject_option_overwrite(files, alloc, "--junit", args.junit, &read)
 }
 
 // Returns the path of the merged report: by default standard output, unless the JUnit XML goes there.
@@ -107,7 +107,7 @@ fn merge_part_texts(alloc: Global, args: &MergeArgs<'_>, texts: &[Vec<u8>]) -> R
     ensures judged { IfOk result (λ merged. merged.status
         ≡ rows_status (report_judging args.now.lenient) merged.rows) }
     ensures low { IfOk result (λ merged. merged.status ≤ 1) }
-    ensures blamed { IfErr result (ArePartsRefused args.now.parts.items (map (λ text. text.items) texts.now)) }
+    ensures blamed { IfErr result (IsPartsErrorStop args.now.parts.items (map (λ text. text.items) texts.now)) }
 {
     let judge = report_judge(args.lenient);
     let rows = rows_of_part_texts(alloc, args, texts)?;
@@ -120,8 +120,8 @@ fn merge_part_texts(alloc: Global, args: &MergeArgs<'_>, texts: &[Vec<u8>]) -> R
 // Returns the merged rows of the parts with these texts, in list order.
 fn rows_of_part_texts(alloc: Global, args: &MergeArgs<'_>, texts: &[Vec<u8>]) -> Result<Rows, Stop>
     ensures parts { IfOk result (λ rows. AreParts rows (map (λ text. text.items) texts.now)) }
-    ensures few { IfOk result (λ rows. length rows ≤ most_jobs) }
-    ensures blamed { IfErr result (ArePartsRefused args.now.parts.items (map (λ text. text.items) texts.now)) }
+    ensures few { IfOk result (λ rows. length rows ≤ max_jobs) }
+    ensures blamed { IfErr result (IsPartsErrorStop args.now.parts.items (map (λ text. text.items) texts.now)) }
 {
     let parts = text_slices(alloc, texts)?;
     match merge_parts(alloc, parts.as_slice()) {
@@ -138,18 +138,18 @@ fn read_part_texts<D: Inputs>(
 ) -> Result<Vec<Vec<u8>>, Stop>
     ensures read { IfOk result (λ texts. AreTextsAt (D.contents inputs.now)
         args.now.parts.items (map (λ text. text.items) texts.items)) }
-    ensures unread { IfErr result (ArePartsUnread (D.contents inputs.now) args.now.parts.items) }
+    ensures unread { IfErr result (IsPartsUnreadStop (D.contents inputs.now) args.now.parts.items) }
 {
     let mut texts = Vec::new(alloc);
     for path in &args.parts {
         let text = read_result_file(inputs, alloc, path)?;
-        add_part_text(&mut texts, text)?;
+        push_part_text(&mut texts, text)?;
     }
     Ok(texts)
 }
 
 // Appends the text of a part.
-fn add_part_text(texts: &mut Vec<Vec<u8>>, text: Vec<u8>) -> Result<(), AllocError>
+fn push_part_text(texts: &mut Vec<Vec<u8>>, text: Vec<u8>) -> Result<(), AllocError>
     ensures { OnOk result (texts.new.items ≡ texts.old.items ++ text ∷ []) }
 {
     texts.push(text)?;
@@ -169,7 +169,7 @@ fn text_slices(alloc: Global, texts: &[Vec<u8>]) -> Result<Vec<&[u8]>, AllocErro
 }
 
 // Writes the summary line, the merged report and the JUnit XML to the requested paths.
-fn put_merged<F: Outputs + Drop, O: Sink + Drop, E: Sink + Drop>(
+fn write_merged<F: Outputs + Drop, O: Sink + Drop, E: Sink + Drop>(
     alloc: Global,
     args: &MergeArgs<'_>,
     merged: Merged,
@@ -190,8 +190,8 @@ fn put_merged<F: Outputs + Drop, O: Sink + Drop, E: Sink + Drop>(
         name: merged_suite(args).as_bytes(),
         judge: report_judge(args.lenient),
     };
-    match put_shown(to, line.as_slice(), outlets.use_stdout()) {
-        Ok(()) => put_whole_files(alloc, to, outlets, suite, rows),
+    match write_shown(to, line.as_slice(), outlets.use_stdout()) {
+        Ok(()) => write_whole_files(alloc, to, outlets, suite, rows),
         Err(stop) => {
             abandon_outlets(&mut to.files, outlets);
             Err(stop)
@@ -216,7 +216,7 @@ fn merge_error_stop(alloc: Global, args: &MergeArgs<'_>, texts: &[&[u8]], error:
     match error {
         MergeError::OutOfMemory => Stop::OutOfMemory,
         MergeError::NoTexts => {
-            Stop::of_refusal(text_of_spans(
+            Stop::rejection(text_of_spans(
                 alloc,
                 &[Span::Text("rvtest: expected at least one part\n")],
             ))
@@ -226,9 +226,9 @@ fn merge_error_stop(alloc: Global, args: &MergeArgs<'_>, texts: &[&[u8]], error:
                 path: part_path(args, at),
                 text: part_text(texts, at),
             };
-            Stop::of_refusal(part_flaw_message(alloc, args, part, flaw))
+            Stop::rejection(part_flaw_message(alloc, args, part, flaw))
         }
-        MergeError::Missing(number) => Stop::of_refusal(missing_shard_message(alloc, number)),
+        MergeError::Missing(number) => Stop::rejection(missing_shard_message(alloc, number)),
     }
 }
 
@@ -283,7 +283,7 @@ fn part_flaw_message(
 {
     let Part { path, text } = part;
     match flaw {
-        Flaw::Line(line) => refused_line_message(alloc, ResultKind::Part, path, text, line),
+        Flaw::Line(line) => invalid_line_message(alloc, ResultKind::Part, path, text, line),
         Flaw::CutOff => path_message(alloc, path, "the part is truncated"),
         Flaw::Whole => path_message(
             alloc,
@@ -295,32 +295,32 @@ fn part_flaw_message(
             path,
             "expected the part of a shard, found a report of selected jobs",
         ),
-        Flaw::OtherShards => other_run_message(
+        Flaw::DifferentShardCount => other_run_message(
             alloc,
             args,
             path,
             "a different number of shards than \"",
         ),
-        Flaw::OtherJobs => other_run_message(
+        Flaw::DifferentJobCount => other_run_message(
             alloc,
             args,
             path,
             "a list with a different number of jobs than \"",
         ),
-        Flaw::OtherStamp => other_run_message(
+        Flaw::DifferentStamp => other_run_message(
             alloc,
             args,
             path,
             "the stamp differs from that of \"",
         ),
-        Flaw::OtherText(earlier) => two_parts_message(
+        Flaw::DifferentText(earlier) => two_parts_message(
             alloc,
             path,
             "covers the same shard as \"",
             part_path(args, earlier),
             "\", but differs from it\n",
         ),
-        Flaw::NameTwice(number) => {
+        Flaw::RepeatedName(number) => {
             let what = " has the same name as an earlier job\n";
             path_number_message(alloc, path, ": job ", number, what)
         }

@@ -4,7 +4,7 @@ ghost use Rattle.std.specs.Prelude.{◌≡◌, ◌<◌, IfErr, IfOk, IfSome, Ok,
 ghost use Rattle.std.specs.Str.{bytes_eq};
 ghost use Rattle.rv_rows.specs.JobList.{job_list_of};
 ghost use Rattle.rvtest_app.specs.CommandStops.{IsNoJobStop};
-ghost use Rattle.rvtest_app.specs.Reports.{IsFirstNamed};
+ghost use Rattle.rvtest_app.specs.Reports.{IsFirstJobNamed};
 
 use rv_choice::unknown_name_stop;
 use rv_command::{Stop, parse_list};
@@ -26,19 +26,19 @@ pub(crate) fn find_named_job(
     text: &[u8],
 ) -> Result<NamedJob, Stop>
     ensures listed { IfOk result (λ named. job_list_of text.now ≡ Ok named.jobs) }
-    ensures first { IfOk result (λ named. IsFirstNamed named.jobs name.now named.place) }
+    ensures first { IfOk result (λ named. IsFirstJobNamed named.jobs name.now named.place) }
     ensures within { IfOk result (λ named. named.place < length named.jobs) }
     ensures stopped { IfErr result (IsNoJobStop list.now text.now name.now) }
 {
     let jobs = parse_list(alloc, list, text)?;
-    match named_job_place(jobs.as_slice(), name) {
+    match named_job_index(jobs.as_slice(), name) {
         Some(place) => Ok(NamedJob { jobs, place }),
         None => Err(unknown_name_stop(alloc, list, jobs.as_slice(), name)),
     }
 }
 
 // Returns the index of the first job with this name; `None` if there is none.
-fn named_job_place(jobs: &[Job], name: &str) -> Option<usize>
+fn named_job_index(jobs: &[Job], name: &str) -> Option<usize>
     ensures within { IfSome result (λ place. place < length jobs.now) }
     ensures named { result ≡ position (λ job. bytes_eq job.name name.now) jobs.now }
 {

@@ -2,12 +2,12 @@
 
 ghost use Rattle.std.specs.Prelude.{◌≡◌, [], Some, false, IfErr, IfOk, IsErr, IsOk, IsSomeAnd, MatchResult, OnErr, OnOk, is_some};
 ghost use Rattle.std.specs.Io.KnownBytes.{Appends};
-ghost use Rattle.rv_files.specs.Sinks.{AppendsBeginning};
+ghost use Rattle.rv_files.specs.Sinks.{AppendsPrefix};
 ghost use Rattle.rv_command.specs.Texts.{optional_text};
-ghost use Rattle.rv_expect.specs.Judgement.{judging_of};
-ghost use Rattle.rvtest_app.specs.Outlets.{HasTaken, IsPutInto, file_path_at, has_no_failure, is_out, is_stdout, is_stdout_at};
-ghost use Rattle.rvtest_app.specs.Outlets.{outlet_path, stdout_part, uses_stdout};
-ghost use Rattle.rvtest_app.specs.WriteStops.{IsEitherFileStop, IsTextStop, IsUnopenedStop, IsUnwrittenStop, IsWriteErrorStop, IsWriteStop};
+ghost use Rattle.rv_expect.specs.Judgement.{judge_view};
+ghost use Rattle.rvtest_app.specs.Outlets.{HasReceived, IsWrittenToOutlet, file_path_at, has_no_failure, is_stdout_outlet, is_stdout, is_stdout_at};
+ghost use Rattle.rvtest_app.specs.Outlets.{outlet_path, text_if_stdout, uses_stdout};
+ghost use Rattle.rvtest_app.specs.WriteStops.{IsEitherFileStop, IsTextNotWrittenStop, IsUnopenedJobStop, IsUnwrittenStop, IsWriteErrorStop, IsWriteStop};
 ghost use Rattle.rvtest_app.specs.WriteStops.{stop_of_write_error};
 ghost use Rattle.rv_junit.specs.Junit.{junit_text};
 ghost use Rattle.rv_junit.specs.KnownLines.{AreLinesOf};
@@ -55,9 +55,9 @@ pub(crate) fn open_outlets<'a, F: Outputs>(
     junit: Option<&'a str>,
 ) -> Result<Outlets<'a, F::Place, F::File>, Stop>
     ensures same { F.placed files.new ≡ F.placed files.old }
-    ensures report { IfOk result (λ outlets. HasTaken F.pending_path F.File.taken F.File.failed
+    ensures report { IfOk result (λ outlets. HasReceived F.pending_path F.File.taken F.File.failed
         (F.placed files.old) (optional_text report.entry) [] outlets.report) }
-    ensures junit { IfOk result (λ outlets. HasTaken F.pending_path F.File.taken F.File.failed
+    ensures junit { IfOk result (λ outlets. HasReceived F.pending_path F.File.taken F.File.failed
         (F.placed files.old) (optional_text junit.entry) [] outlets.junit) }
     ensures unfailed { IfOk result (λ outlets. has_no_failure F.File.failed outlets.report
         × has_no_failure F.File.failed outlets.junit) }
@@ -81,10 +81,10 @@ pub(crate) fn open_outlet<'a, F: Outputs>(
     path: Option<&'a str>,
 ) -> Result<Outlet<'a, F::Place, F::File>, Stop>
     ensures same { F.placed files.new ≡ F.placed files.old }
-    ensures open { IfOk result (HasTaken F.pending_path F.File.taken F.File.failed
+    ensures open { IfOk result (HasReceived F.pending_path F.File.taken F.File.failed
         (F.placed files.old) (optional_text path.entry) []) }
     ensures stopped { IfErr result (λ why. IsSomeAnd (file_path_at (optional_text path.entry))
-        (λ path. IsUnopenedStop path why)) }
+        (λ path. IsUnopenedJobStop path why)) }
 {
     match path {
         None => Ok(Outlet::Nowhere),
@@ -118,9 +118,9 @@ fn open_file<'a, F: Outputs>(
 ) -> Result<Outlet<'a, F::Place, F::File>, Stop>
     requires { is_stdout path.now ≡ false }
     ensures same { F.placed files.new ≡ F.placed files.old }
-    ensures open { IfOk result (HasTaken F.pending_path F.File.taken F.File.failed
+    ensures open { IfOk result (HasReceived F.pending_path F.File.taken F.File.failed
         (F.placed files.old) (Some path.now) []) }
-    ensures stopped { IfErr result (IsUnopenedStop path.now) }
+    ensures stopped { IfErr result (IsUnopenedJobStop path.now) }
 {
     match files.create(alloc, path) {
         Ok((place, sink)) => Ok(Outlet::File(OpenFile { path, place, sink })),
@@ -130,7 +130,7 @@ fn open_file<'a, F: Outputs>(
 
 impl<'a, P: Drop, W: Drop> Outlet<'a, P, W> {
     /// Separates the outlet from its sink. The sink is `None` if the outlet is not a file.
-    pub(crate) fn take_sink(self) -> (Outlet<'a, P, ()>, Option<W>)
+    pub(crate) fn split_sink(self) -> (Outlet<'a, P, ()>, Option<W>)
         ensures parts { AreOutletParts result.0 result.1 self.entry }
         ensures there { is_some result.1 ≡ is_file result.0 }
     {
@@ -171,14 +171,14 @@ impl<'a, P: Drop, W: Sink + LastError + Drop> Outlets<'a, P, W> {
     pub(crate) fn use_stdout(&self) -> bool
         ensures { result ≡ uses_stdout self.now }
     {
-        self.report.is_out() || self.junit.is_out()
+        self.report.is_stdout_outlet() || self.junit.is_stdout_outlet()
     }
 }
 
 impl<'a, P: Drop, W: Sink + LastError + Drop> Outlet<'a, P, W> {
     // Whether the outlet is standard output.
-    fn is_out(&self) -> bool
-        ensures { result ≡ is_out self.now }
+    fn is_stdout_outlet(&self) -> bool
+        ensures { result ≡ is_stdout_outlet self.now }
     {
         matches!(self, Outlet::Out)
     }
@@ -199,14 +199,14 @@ impl<'a, P: Drop, W: Sink + LastError + Drop> Outlet<'a, P, W> {
         report: ReportText<'_>,
     ) -> Result<(), Stop>
         ensures put { OnOk result
-            (IsPutInto W.taken W.failed self.old self.new (report_rest_of report.entry)) }
+            (IsWrittenToOutlet W.taken W.failed self.old self.new (report_rest_of report.entry)) }
         ensures out { OnOk result (Appends (O.taken out.old) (O.taken out.new)
-            (stdout_part self.old (report_text_of report.entry))) }
+            (text_if_stdout self.old (report_text_of report.entry))) }
         ensures counted { OnOk result (O.failed out.new ≡ O.failed out.old) }
-        ensures part { OnErr result (AppendsBeginning (O.taken out.old) (O.taken out.new)
-            (stdout_part self.old (report_text_of report.entry))) }
+        ensures part { OnErr result (AppendsPrefix (O.taken out.old) (O.taken out.new)
+            (text_if_stdout self.old (report_text_of report.entry))) }
         ensures path { outlet_path self.new ≡ outlet_path self.old }
-        ensures stopped { IfErr result (IsTextStop (outlet_path self.old)) }
+        ensures stopped { IfErr result (IsTextNotWrittenStop (outlet_path self.old)) }
     {
         match self {
             Outlet::Nowhere => Ok(()),
@@ -227,15 +227,15 @@ impl<'a, P: Drop, W: Sink + LastError + Drop> Outlet<'a, P, W> {
         cases: &Cases<'_, T>,
     ) -> Result<(), Stop>
         requires known { AreLinesOf (T.line cases.now.reporter.now) cases.now.places.now cases.now.rows.now cases.now.texts.now }
-        ensures put { OnOk result (IsPutInto W.taken W.failed self.old self.new
-            (junit_text suite.now.name.now (judging_of suite.now.judge)
+        ensures put { OnOk result (IsWrittenToOutlet W.taken W.failed self.old self.new
+            (junit_text suite.now.name.now (judge_view suite.now.judge)
             (row_text_list (T.line cases.now.reporter.now) cases.now.places.now cases.now.rows.now) cases.now.rows.now)) }
-        ensures out { OnOk result (Appends (O.taken out.old) (O.taken out.new) (stdout_part self.old
-            (junit_text suite.now.name.now (judging_of suite.now.judge)
+        ensures out { OnOk result (Appends (O.taken out.old) (O.taken out.new) (text_if_stdout self.old
+            (junit_text suite.now.name.now (judge_view suite.now.judge)
             (row_text_list (T.line cases.now.reporter.now) cases.now.places.now cases.now.rows.now) cases.now.rows.now))) }
         ensures counted { OnOk result (O.failed out.new ≡ O.failed out.old) }
         ensures path { outlet_path self.new ≡ outlet_path self.old }
-        ensures stopped { IfErr result (IsTextStop (outlet_path self.old)) }
+        ensures stopped { IfErr result (IsTextNotWrittenStop (outlet_path self.old)) }
     {
         match self {
             Outlet::Nowhere => Ok(()),
@@ -289,7 +289,7 @@ pub(crate) fn unwritten_stop(alloc: Global, path: &str, reason: ErrorKind) -> St
 fn write_stop(alloc: Global, path: &str, reason: ErrorKind) -> Stop
     ensures { IsWriteStop path.now reason result }
 {
-    Stop::of_failure(path_message(alloc, path, write_error_text(reason)))
+    Stop::system_failure(path_message(alloc, path, write_error_text(reason)))
 }
 
 /// Abandons the files of both outlets, so that neither is created.

@@ -5,36 +5,36 @@ ghost use Rattle.std.specs.List.{list_any};
 ghost use Rattle.std.specs.Path.{path_buf_bytes};
 ghost use Rattle.rv_command.specs.Texts.{optional_text};
 ghost use Rattle.rv_files.specs.UnreadPaths.{resolved_path};
-ghost use Rattle.rvtest_app.specs.Overwrites.{AreFilesOf, IsApart, IsOptionStop, IsOverwriteStop, IsOverwriteReported, IsUnread, is_among, job_file_text, overwrite_head, overwrite_message, read_path_text, read_paths, role_text};
+ghost use Rattle.rvtest_app.specs.Overwrites.{AreFilesOf, IsNoInputIfFile, IsOptionOverwriteStop, IsOverwriteStop, IsOverwriteReported, IsUnread, is_among, job_input_text, overwrite_prefix, overwrite_message, input_path_text, input_paths, input_role_text};
 ghost use Rattle.rvtest_app.specs.Outlets.{is_stdout};
 
 use crate::outlets::is_stdout;
-use crate::read_files::{ReadFiles, ReadPath, ReadRole};
+use crate::input_file::{InputFiles, InputPath, InputRole};
 use rv_command::{Stop, file_error_stop};
 use rv_files::{Outputs, Text, resolved_path};
 use rv_job_text::{Span, push_spans, push_text, text_of_spans};
 use std::alloc::{AllocError, Global};
 
 /// Returns the input files at these paths with their identities.
-pub(crate) fn look_up_files<'a, F: Outputs>(
+pub(crate) fn identified_files<'a, F: Outputs>(
     files: &F,
     alloc: Global,
-    paths: Vec<ReadPath<'a>>,
-) -> Result<ReadFiles<'a>, AllocError>
-    ensures { IfOk result (λ read. AreFilesOf (F.placed files.now) (read_paths paths.entry.items) read) }
+    paths: Vec<InputPath<'a>>,
+) -> Result<InputFiles<'a>, AllocError>
+    ensures { IfOk result (λ read. AreFilesOf (F.placed files.now) (input_paths paths.entry.items) read) }
 {
     let identities = file_identities(files, alloc, paths.as_slice())?;
-    Ok(ReadFiles { paths, identities })
+    Ok(InputFiles { paths, identities })
 }
 
 // Returns the identity of the file at each of these paths, in order.
 fn file_identities<F: Outputs>(
     files: &F,
     alloc: Global,
-    paths: &[ReadPath<'_>],
+    paths: &[InputPath<'_>],
 ) -> Result<Vec<Text>, AllocError>
     ensures counted { IfOk result (λ found. length found.items ≡ length paths.now) }
-    ensures told { IfOk result (λ found. IfSome (F.placed files.now) (λ _. found.items ≡ read_paths paths.now)) }
+    ensures told { IfOk result (λ found. IfSome (F.placed files.now) (λ _. found.items ≡ input_paths paths.now)) }
 {
     let mut found = Vec::new(alloc);
     for at in 0..paths.len() {
@@ -44,30 +44,30 @@ fn file_identities<F: Outputs>(
 }
 
 /// Returns an error if an option names a file that would overwrite an input.
-pub(crate) fn refuse_overwrite<F: Outputs>(
+pub(crate) fn reject_option_overwrite<F: Outputs>(
     files: &F,
     alloc: Global,
     option: &str,
     path: Option<&str>,
-    read: &ReadFiles<'_>,
+    read: &InputFiles<'_>,
 ) -> Result<(), Stop>
     ensures apart { (paths : List (List ℕ)) → AreFilesOf (F.placed files.now) paths read.now
-        → OnOk result (IfSome (F.placed files.now) (λ _. IsApart paths (optional_text path.entry))) }
-    ensures stopped { IfErr result (IsOptionStop option.now (optional_text path.entry)) }
+        → OnOk result (IfSome (F.placed files.now) (λ _. IsNoInputIfFile paths (optional_text path.entry))) }
+    ensures stopped { IfErr result (IsOptionOverwriteStop option.now (optional_text path.entry)) }
 {
     match path {
-        Some(path) if !is_stdout(path) => refuse_file(files, alloc, option, path, read),
+        Some(path) if !is_stdout(path) => reject_file_overwrite(files, alloc, option, path, read),
         _ => Ok(()),
     }
 }
 
 /// Returns an error if writing the file at the path would overwrite an input.
-pub(crate) fn refuse_file<F: Outputs>(
+pub(crate) fn reject_file_overwrite<F: Outputs>(
     files: &F,
     alloc: Global,
     option: &str,
     path: &str,
-    read: &ReadFiles<'_>,
+    read: &InputFiles<'_>,
 ) -> Result<(), Stop>
     ensures apart { (paths : List (List ℕ)) → AreFilesOf (F.placed files.now) paths read.now
         → OnOk result (IfSome (F.placed files.now) (λ _. IsUnread paths path.now)) }
@@ -83,7 +83,7 @@ pub(crate) fn refuse_file<F: Outputs>(
     }
 }
 
-impl<'a> ReadFiles<'a> {
+impl<'a> InputFiles<'a> {
     /// Returns the index of the first input whose identity is in `files`; `None` if there is none.
     pub(crate) fn first_of(&self, files: &[Text]) -> Option<usize>
         ensures within { IfSome result (λ at. at < length self.now.identities.items) }
@@ -110,11 +110,11 @@ pub(crate) fn overwrite_stop<'a>(
     alloc: Global,
     option: &'a str,
     path: &'a str,
-    read: &ReadPath<'_>,
+    read: &InputPath<'_>,
 ) -> Stop
     ensures { IsOverwriteReported option.entry.now path.entry.now result }
 {
-    Stop::of_refusal(overwrite_message(alloc, option, path, read))
+    Stop::rejection(overwrite_message(alloc, option, path, read))
 }
 
 // Returns the message that `option`, with this path, would overwrite the input `read`.
@@ -122,20 +122,20 @@ fn overwrite_message<'a>(
     alloc: Global,
     option: &'a str,
     path: &'a str,
-    read: &ReadPath<'_>,
+    read: &InputPath<'_>,
 ) -> Result<Vec<u8>, AllocError>
     ensures { IfOk result (λ text. text.items
-        ≡ overwrite_message option.entry.now path.entry.now (role_text read.now.role) (path_buf_bytes read.now.path)) }
+        ≡ overwrite_message option.entry.now path.entry.now (input_role_text read.now.role) (path_buf_bytes read.now.path)) }
 {
-    let mut text = overwrite_head(alloc, option, path)?;
+    let mut text = overwrite_prefix(alloc, option, path)?;
     push_role(&mut text, read.role)?;
-    push_read_path(&mut text, read.path.as_str())?;
+    push_input_path(&mut text, read.path.as_str())?;
     Ok(text)
 }
 
 // Returns the first half of the message: that `option`, with this path, would overwrite a file.
-fn overwrite_head<'a>(alloc: Global, option: &'a str, path: &'a str) -> Result<Vec<u8>, AllocError>
-    ensures { IfOk result (λ text. text.items ≡ overwrite_head option.entry.now path.entry.now) }
+fn overwrite_prefix<'a>(alloc: Global, option: &'a str, path: &'a str) -> Result<Vec<u8>, AllocError>
+    ensures { IfOk result (λ text. text.items ≡ overwrite_prefix option.entry.now path.entry.now) }
 {
     text_of_spans(
         alloc,
@@ -150,18 +150,18 @@ fn overwrite_head<'a>(alloc: Global, option: &'a str, path: &'a str) -> Result<V
 }
 
 // Appends how a message refers to an input: by its placeholder in the usage, such as LIST, or by the key of the job that names it.
-fn push_role(text: &mut Vec<u8>, role: ReadRole<'_>) -> Result<(), AllocError>
-    ensures { OnOk result (text.new.items ≡ text.old.items ++ role_text role.entry) }
+fn push_role(text: &mut Vec<u8>, role: InputRole<'_>) -> Result<(), AllocError>
+    ensures { OnOk result (text.new.items ≡ text.old.items ++ input_role_text role.entry) }
 {
     match role {
-        ReadRole::Word(word) => push_text(text, word),
-        ReadRole::JobFile { key, job } => push_job_file(text, key, job),
+        InputRole::Word(word) => push_text(text, word),
+        InputRole::JobFile { key, job } => push_job_file(text, key, job),
     }
 }
 
 // Appends how a message refers to an input that a job names: by the key and the job's name.
 fn push_job_file<'a>(text: &mut Vec<u8>, key: &'a str, job: &'a str) -> Result<(), AllocError>
-    ensures { OnOk result (text.new.items ≡ text.old.items ++ job_file_text key.now job.now) }
+    ensures { OnOk result (text.new.items ≡ text.old.items ++ job_input_text key.now job.now) }
 {
     push_spans(
         text,
@@ -176,8 +176,8 @@ fn push_job_file<'a>(text: &mut Vec<u8>, key: &'a str, job: &'a str) -> Result<(
 }
 
 // Appends the second half of the message: a colon and the path of the input in double quotes.
-fn push_read_path(text: &mut Vec<u8>, path: &str) -> Result<(), AllocError>
-    ensures { OnOk result (text.new.items ≡ text.old.items ++ read_path_text path.now) }
+fn push_input_path(text: &mut Vec<u8>, path: &str) -> Result<(), AllocError>
+    ensures { OnOk result (text.new.items ≡ text.old.items ++ input_path_text path.now) }
 {
     push_spans(
         text,
@@ -190,31 +190,31 @@ fn push_read_path(text: &mut Vec<u8>, path: &str) -> Result<(), AllocError>
 }
 
 /// Appends the input that `role` describes, with its path resolved against `folder` if given.
-pub(crate) fn push_read<'a>(
+pub(crate) fn push_input<'a>(
     alloc: Global,
-    read: &mut Vec<ReadPath<'a>>,
+    read: &mut Vec<InputPath<'a>>,
     folder: Option<&str>,
     path: &str,
-    role: ReadRole<'a>,
+    role: InputRole<'a>,
 ) -> Result<(), AllocError>
-    ensures { OnOk result (read_paths read.new.items ≡ read_paths read.old.items ++ resolved_path (optional_text folder.entry) path.now ∷ []) }
+    ensures { OnOk result (input_paths read.new.items ≡ input_paths read.old.items ++ resolved_path (optional_text folder.entry) path.now ∷ []) }
 {
     let path = resolved_path(alloc, folder, path)?;
-    read.push(ReadPath { path, role })?;
+    read.push(InputPath { path, role })?;
     Ok(())
 }
 
 /// Returns the inputs at these paths; messages refer to each of them as `word`.
-pub(crate) fn read_paths_of_words<'a>(
+pub(crate) fn inputs_of_args<'a>(
     alloc: Global,
     paths: &[&str],
     word: &'a str,
-) -> Result<Vec<ReadPath<'a>>, AllocError>
-    ensures { IfOk result (λ read. read_paths read.items ≡ map (λ path. path.now) paths.now) }
+) -> Result<Vec<InputPath<'a>>, AllocError>
+    ensures { IfOk result (λ read. input_paths read.items ≡ map (λ path. path.now) paths.now) }
 {
     let mut read = Vec::new(alloc);
     for path in paths {
-        push_read(alloc, &mut read, None, path, ReadRole::Word(word))?;
+        push_input(alloc, &mut read, None, path, InputRole::Word(word))?;
     }
     Ok(read)
 }

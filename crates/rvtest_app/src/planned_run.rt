@@ -5,7 +5,7 @@ ghost use Rattle.std.specs.Option.{ForSome};
 ghost use Rattle.std.specs.List.Sorted.{IsStrictlyIncreasing};
 ghost use Rattle.rv_stream.specs.Choices.{AreJobIndices};
 
-use crate::into_report::ReportFrame;
+use crate::into_report::ReportContext;
 use rv_expect::KnownJobs;
 use rv_job_text::TextReporter;
 use rv_rows::JobList;
@@ -16,7 +16,7 @@ pub(crate) struct RequestedJobs {
     pub(crate) jobs: JobList,
     /// `None` if no job is to run.
     pub(crate) marks: Option<Vec<bool>>,
-    pub(crate) frame: ReportFrame,
+    pub(crate) frame: ReportContext,
     /// The notes about the choice.
     pub(crate) notes: Vec<u8>,
     ghost counted: { ForSome marks (λ marks. length marks.items ≡ length jobs) },
@@ -28,7 +28,7 @@ pub(crate) struct RequestedJobs {
 pub(crate) struct SelectedJobs {
     pub(crate) jobs: JobList,
     pub(crate) marks: Vec<bool>,
-    pub(crate) frame: ReportFrame,
+    pub(crate) frame: ReportContext,
     /// The jobs that are known to fail, with `--known`.
     pub(crate) known: Option<KnownJobs>,
     ghost counted: { length marks.items ≡ length jobs },

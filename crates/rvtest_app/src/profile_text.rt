@@ -27,7 +27,7 @@ pub(crate) fn text_of_profile(
         ⊎ IsPast64BitsStop table.now (images_of_files images.now) source.now why) }
 {
     match image_past_64_bits(table, images) {
-        Some(path) => Err(Stop::of_refusal(past_64_bits_message(alloc, source, path))),
+        Some(path) => Err(Stop::rejection(past_64_bits_message(alloc, source, path))),
         None => Ok(profile_text(alloc, format, table, images)?),
     }
 }

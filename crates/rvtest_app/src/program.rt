@@ -3,17 +3,17 @@
 ghost use Rattle.std.specs.Prelude.{◌≡◌, ◌⊎◌, ◌≤◌, ℕ, List, Option, Ok, Err, IfErr, IfOk, MatchResult, false, map};
 ghost use Rattle.std.specs.IoError.{error_kind};
 ghost use Rattle.rv_command.specs.Messages.{IsMessageWritten};
-ghost use Rattle.rv_terminal.specs.ColorSinks.{IsOutInPart};
+ghost use Rattle.rv_terminal.specs.ColorSinks.{IsPartlyColoredAs};
 ghost use Rattle.rvtest_app.specs.Answers.{IsAnswered, IsCommandDone, IsDoneInColors};
 ghost use Rattle.rvtest_app.specs.Colors.{requested_colors};
-ghost use Rattle.rvtest_app.specs.CommandStops.{IsCommandStop, IsStopFor};
+ghost use Rattle.rvtest_app.specs.CommandStops.{IsCommandStop, IsProgramStop};
 ghost use Rattle.rvtest_app.specs.CommandOutputs.{outputs_of};
-ghost use Rattle.rvtest_app.specs.ReportedStops.{IsStopReported, unreadable_words_message, unreadable_words_status};
+ghost use Rattle.rvtest_app.specs.ReportedStops.{IsStopReported, unreadable_args_message, unreadable_args_status};
 
 use crate::accept::accept_runs;
 use crate::check::check_list;
 use crate::colors::requested_colors;
-use crate::command_output::put_findings;
+use crate::command_result::write_command_result;
 use crate::console::put_job_console;
 use crate::counts::put_sum_of_tables;
 use crate::cover::cover_requested_jobs;
@@ -21,7 +21,7 @@ use crate::destinations::Destinations;
 use crate::diff::diff_reports;
 use crate::explain::explain_named_job;
 use crate::gdb::show_job_to_gdb;
-use crate::help::respond_to_words_error;
+use crate::help::respond_to_args_error;
 use crate::help_topic::topic_help;
 use crate::host::Host;
 use crate::list::list_chosen_jobs;
@@ -30,7 +30,7 @@ use crate::profile::profile_requested_jobs;
 use crate::run::run_requested_jobs;
 use crate::show::show_report;
 use crate::terminals::Terminals;
-use rv_command::{REFUSED, Stop, put_end_message, put_message, put_stop_message};
+use rv_command::{REFUSED, Stop, put_end_message, write_message, write_stop_message};
 use rv_files::{Closable, Inputs, Outputs, Sink, SinkFailed};
 use rv_terminal::{ColorSink, Results};
 use rvtest_cli::{Request, read_words};
@@ -72,7 +72,7 @@ where
         terminals.is_out_terminal terminals.is_out_colored (map T.text words.entry.now) result.1
         (outputs_of F.placed O.taken E.taken E.failed to) (outputs_of F.placed O.taken E.taken E.failed result.0)
         ⊎ IsStopReported (O.closed result.0.out)
-        (IsStopFor (D.contents host.now.inputs.now) terminals.is_out_terminal (map T.text words.entry.now))
+        (IsProgramStop (D.contents host.now.inputs.now) terminals.is_out_terminal (map T.text words.entry.now))
         result.1 (outputs_of F.placed O.taken E.taken E.failed result.0) }
 {
     let (mut to, answer) = match read_words(host.alloc, words) {
@@ -82,7 +82,7 @@ where
         Ok(None) => (to, Ok(REFUSED)),
         Err(error) => {
             let mut to = to;
-            let answer = respond_to_words_error(&mut to.out, error);
+            let answer = respond_to_args_error(&mut to.out, error);
             (to, answer)
         }
     };
@@ -123,7 +123,7 @@ where
         (outputs_of F.placed O.taken E.taken E.failed to) (outputs_of F.placed O.taken E.taken E.failed result.0)) }
     ensures stopped { IfErr result.1 (IsCommandStop (D.contents host.now.inputs.now) terminals.is_out_terminal request.entry) }
     // Whatever the result, standard output received coloured results, followed at most by the first bytes of an escape sequence.
-    ensures shown { (plain : Option (List ℕ)) × IsOutInPart (requested_colors request.entry terminals.is_out_colored)
+    ensures shown { (plain : Option (List ℕ)) × IsPartlyColoredAs (requested_colors request.entry terminals.is_out_colored)
         (O.taken to.out) plain (O.taken result.0.out) }
 {
     let colors = requested_colors(&request, terminals.is_out_colored);
@@ -134,11 +134,11 @@ where
     let Destinations { files, out, errors } = to;
     let (out, whole) = out.finish();
     let to = Destinations { files, out, errors };
-    (to, whole_answer(answer, whole))
+    (to, outcome_if_written(answer, whole))
 }
 
 // Returns the result of the command, or an error if it succeeded but its coloured results were not written completely.
-fn whole_answer(answer: Result<u8, Stop>, whole: Result<(), SinkFailed>) -> Result<u8, Stop>
+fn outcome_if_written(answer: Result<u8, Stop>, whole: Result<(), SinkFailed>) -> Result<u8, Stop>
     ensures { MatchResult answer
         (λ status. MatchResult whole (λ _. result ≡ Ok status) (λ _. result ≡ Err Stop.WriteFailed))
         (λ stop. result ≡ Err stop) }
@@ -182,14 +182,14 @@ where
     let answer = match request {
         Request::Run(args) => return run_requested_jobs(host, &args, to, terminals),
         Request::Explain(args) => {
-            put_findings(&mut to.out, explain_named_job(inputs, alloc, args))
+            write_command_result(&mut to.out, explain_named_job(inputs, alloc, args))
         }
         Request::List(args) => list_chosen_jobs(inputs, alloc, &args, &mut to),
         Request::Console(args) => put_job_console(inputs, alloc, args, &mut to),
         Request::Gdb(args) => {
             show_job_to_gdb(host, args, terminals.is_out_terminal, input, &mut to)
         }
-        Request::Check(args) => put_findings(&mut to.out, check_list(inputs, alloc, args)),
+        Request::Check(args) => write_command_result(&mut to.out, check_list(inputs, alloc, args)),
         Request::Accept(args) => accept_runs(host, &args, &mut to),
         Request::Merge(args) => merge_reports(inputs, alloc, &args, &mut to),
         Request::Diff(args) => diff_reports(inputs, alloc, args, &mut to),
@@ -197,22 +197,22 @@ where
         Request::Counts(args) => put_sum_of_tables(inputs, alloc, &args, &mut to),
         Request::Cover(args) => cover_requested_jobs(host, &args, &mut to),
         Request::Profile(args) => profile_requested_jobs(host, &args, &mut to),
-        Request::Help(args) => put_findings(&mut to.out, topic_help(alloc, args)),
+        Request::Help(args) => write_command_result(&mut to.out, topic_help(alloc, args)),
     };
     (to, answer)
 }
 
 /// Reports that the program cannot get its arguments: memory ran out, or an argument is not UTF-8. Returns the exit status.
-pub fn refuse_unreadable_words<E: Sink>(error: &io::Error, errors: &mut E) -> u8
+pub fn reject_unreadable_args<E: Sink>(error: &io::Error, errors: &mut E) -> u8
     ensures low { result ≤ 3 }
-    ensures status { result ≡ unreadable_words_status (error_kind error.now) }
+    ensures status { result ≡ unreadable_args_status (error_kind error.now) }
     ensures told { IsMessageWritten (E.taken errors.old) (E.taken errors.new) (E.failed errors.old) (E.failed errors.new)
-        (unreadable_words_message (error_kind error.now)) }
+        (unreadable_args_message (error_kind error.now)) }
 {
     match error.kind() {
-        ErrorKind::OutOfMemory => put_stop_message(errors, Stop::OutOfMemory),
+        ErrorKind::OutOfMemory => write_stop_message(errors, Stop::OutOfMemory),
         _ => {
-            put_message(errors, b"rvtest: an argument is not valid UTF-8\n");
+            write_message(errors, b"rvtest: an argument is not valid UTF-8\n");
             REFUSED
         }
     }

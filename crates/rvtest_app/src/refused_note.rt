@@ -2,9 +2,9 @@
 
 ghost use Rattle.std.specs.Prelude.{◌≡◌, ◌<◌, ◌++◌, IfOk, OnOk, length, slice_index_or};
 ghost use Rattle.rv_stream.specs.Choices.{AreJobIndices};
-ghost use Rattle.rv_expect.specs.Judgement.{judging_of};
+ghost use Rattle.rv_expect.specs.Judgement.{judge_view};
 ghost use Rattle.rv_rows.specs.declared_job.Job.{Job as AJob};
-ghost use Rattle.rvtest_app.specs.RefusedNotes.{refused_line, refused_lines, refused_note};
+ghost use Rattle.rvtest_app.specs.RefusedNotes.{invalid_line, refused_lines, refused_note};
 
 use crate::missing_images::missing_images_note;
 use crate::rules::failure_rule;
@@ -48,7 +48,7 @@ fn push_refused_lines(
 ) -> Result<(), AllocError>
     requires { AreJobIndices reporter.now.plan.now places.now }
     ensures { OnOk result (text.new.items ≡ text.old.items
-        ++ refused_lines (judging_of reporter.now.judge) reporter.now.plan.now reporter.now.unread.now places.now) }
+        ++ refused_lines (judge_view reporter.now.judge) reporter.now.plan.now reporter.now.unread.now places.now) }
 {
     for place in places {
         push_refused_line(alloc, reporter, *place, text)?;
@@ -57,7 +57,7 @@ fn push_refused_lines(
 }
 
 // Appends the result line of the job at index `place` if the job is refused; otherwise nothing.
-#[tactic(auto, unfolding(crate::specs::RefusedNotes::refused_line))]
+#[tactic(auto, unfolding(crate::specs::RefusedNotes::invalid_line))]
 fn push_refused_line(
     alloc: Global,
     reporter: &TextReporter<'_>,
@@ -66,13 +66,13 @@ fn push_refused_line(
 ) -> Result<(), AllocError>
     requires place { place < length reporter.now.plan.now.jobs }
     ensures { OnOk result ((d : AJob) → text.new.items ≡ text.old.items
-        ++ refused_line (judging_of reporter.now.judge) reporter.now.plan.now reporter.now.unread.now
+        ++ invalid_line (judge_view reporter.now.judge) reporter.now.plan.now reporter.now.unread.now
         (slice_index_or reporter.now.plan.now.jobs place d)) }
 {
     match refusal_at(alloc, reporter.plan, place)? {
         Some(_) => {
             let row = row_at(alloc, reporter.plan, place)?;
-            reporter.push_lone_row_line(alloc, place, &row, text)
+            reporter.push_only_row_line(alloc, place, &row, text)
         }
         None => Ok(()),
     }

@@ -2,7 +2,7 @@
 
 ghost use Rattle.std.specs.Prelude.{◌≡◌, ◌++◌, ◌<◌, ◌^◌, OnOk, length};
 ghost use Rattle.std.specs.List.{flat_map};
-ghost use Rattle.rv_expect.specs.Judgement.{judging_of};
+ghost use Rattle.rv_expect.specs.Judgement.{judge_view};
 ghost use Rattle.rvtest_app.specs.ReportSummary.{failed_line, most_steps_text, summary_text, steps_line};
 
 use crate::failed_lines::push_failed_line;
@@ -21,7 +21,7 @@ pub fn push_summary(
     rows: &[Row],
 ) -> Result<(), AllocError>
     requires { length rows.now < 2 ^ 32 }
-    ensures { OnOk result (text.new.items ≡ text.old.items ++ summary_text (judging_of judge.now) rows.now) }
+    ensures { OnOk result (text.new.items ≡ text.old.items ++ summary_text (judge_view judge.now) rows.now) }
 {
     push_failed_lines(alloc, text, judge, rows)?;
     push_totals_line(text, judge, rows)?;
@@ -36,7 +36,7 @@ fn push_failed_lines(
     rows: &[Row],
 ) -> Result<(), AllocError>
     ensures { OnOk result
-        (text.new.items ≡ text.old.items ++ flat_map (failed_line (judging_of judge.now)) rows.now) }
+        (text.new.items ≡ text.old.items ++ flat_map (failed_line (judge_view judge.now)) rows.now) }
 {
     for row in rows {
         push_failed_line(alloc, text, judge, row)?;

@@ -4,13 +4,13 @@ ghost use Rattle.std.specs.Prelude.{◌≡◌, IfErr, OnErr, OnOk, length};
 ghost use Rattle.std.specs.Option.{ForSome};
 ghost use Rattle.std.specs.Io.KnownBytes.{Appends};
 ghost use Rattle.rv_files.specs.Counts.{HasIncreased};
-ghost use Rattle.rv_files.specs.Sinks.{AppendsBeginning};
+ghost use Rattle.rv_files.specs.Sinks.{AppendsPrefix};
 ghost use Rattle.rv_rows.specs.Report.{report_text};
 ghost use Rattle.rvtest_app.specs.IntoReports.{merged_rows, run_report_rest, run_report_text};
 ghost use Rattle.rvtest_app.specs.ReportTexts.{report_rest_of, report_rows, report_text_of};
 
 use crate::chosen_rows::ChosenRows;
-use crate::into_report::{IntoRows, ReportFrame};
+use crate::into_report::{IntoRows, ReportContext};
 use crate::rows_report::{write_chosen_report, write_last_line};
 use rv_files::Sink;
 use rv_rows::{Report, Row, Rows, Shard, WriteError, write_report};
@@ -45,7 +45,7 @@ impl<'a> ReportText<'a> {
             (Appends (W.taken out.old) (W.taken out.new) (report_text_of self.entry)) }
         ensures counted { OnOk result (W.failed out.new ≡ W.failed out.old) }
         ensures part { OnErr result
-            (AppendsBeginning (W.taken out.old) (W.taken out.new) (report_text_of self.entry)) }
+            (AppendsPrefix (W.taken out.old) (W.taken out.new) (report_text_of self.entry)) }
         ensures failed { IfErr result (λ error. error ≡ WriteError.Failed
             → HasIncreased (W.failed out.old) (W.failed out.new)) }
     {
@@ -62,7 +62,7 @@ impl<'a> ReportText<'a> {
             (Appends (W.taken out.old) (W.taken out.new) (report_rest_of self.entry)) }
         ensures counted { OnOk result (W.failed out.new ≡ W.failed out.old) }
         ensures part { OnErr result
-            (AppendsBeginning (W.taken out.old) (W.taken out.new) (report_rest_of self.entry)) }
+            (AppendsPrefix (W.taken out.old) (W.taken out.new) (report_rest_of self.entry)) }
         ensures failed { IfErr result (λ error. error ≡ WriteError.Failed
             → HasIncreased (W.failed out.old) (W.failed out.new)) }
     {
@@ -83,7 +83,7 @@ fn write_whole_report<W: Sink>(
     ensures all { OnOk result (Appends (W.taken out.old) (W.taken out.new)
         (report_text (merged_rows into.entry.chosen.places.now into.entry.chosen.rows into.entry.old))) }
     ensures counted { OnOk result (W.failed out.new ≡ W.failed out.old) }
-    ensures part { OnErr result (AppendsBeginning (W.taken out.old) (W.taken out.new)
+    ensures part { OnErr result (AppendsPrefix (W.taken out.old) (W.taken out.new)
         (report_text (merged_rows into.entry.chosen.places.now into.entry.chosen.rows into.entry.old))) }
     ensures failed { IfErr result (λ error. error ≡ WriteError.Failed
         → HasIncreased (W.failed out.old) (W.failed out.new)) }
@@ -93,7 +93,7 @@ fn write_whole_report<W: Sink>(
 }
 
 /// Returns the report to write: the old report, updated with these rows, if there is one; otherwise a report of these rows alone.
-pub(crate) fn framed_report(chosen: ChosenRows<'_>, frame: ReportFrame) -> ReportText<'_>
+pub(crate) fn report_with_context(chosen: ChosenRows<'_>, frame: ReportContext) -> ReportText<'_>
     requires { ForSome frame.old (λ rows. length rows ≡ chosen.jobs) }
     ensures text { report_text_of result
         ≡ run_report_text frame.old chosen.entry.jobs chosen.entry.places.now frame.shard chosen.entry.rows }
@@ -101,7 +101,7 @@ pub(crate) fn framed_report(chosen: ChosenRows<'_>, frame: ReportFrame) -> Repor
         ≡ run_report_rest frame.old chosen.entry.jobs chosen.entry.places.now frame.shard chosen.entry.rows }
     ensures rows { report_rows result ≡ chosen.entry.rows }
 {
-    let ReportFrame { shard, old } = frame;
+    let ReportContext { shard, old } = frame;
     match old {
         Some(old) => ReportText::Into(IntoRows { chosen, old }),
         None => ReportText::Chosen(chosen, shard),

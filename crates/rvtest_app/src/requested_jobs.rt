@@ -8,10 +8,10 @@ ghost use Rattle.rv_merge.specs.Shards.{shard_selection};
 ghost use Rattle.rvtest_app.specs.Commands.{failure_rule};
 ghost use Rattle.rvtest_app.specs.IntoReports.{AreOldRows};
 ghost use Rattle.rvtest_app.specs.IntoStops.{IsIntoStop};
-ghost use Rattle.rvtest_app.specs.RunStops.{IsUnrequestedStop};
+ghost use Rattle.rvtest_app.specs.RunStops.{IsJobRequestStop};
 ghost use Rattle.rvtest_app.specs.Runs.{AreRequestedJobs};
 
-use crate::into_report::ReportFrame;
+use crate::into_report::ReportContext;
 use crate::planned_run::RequestedJobs;
 use crate::rules::failure_rule;
 use crate::run::ListRun;
@@ -32,7 +32,7 @@ impl<'x, R, D: Inputs> ListRun<'x, R, D> {
             self.now.args.now requested.jobs (option_map (λ marks. marks.items) requested.marks)
             requested.frame.shard requested.frame.old requested.notes.items) }
         ensures stopped { IfErr result
-            (IsUnrequestedStop (D.contents self.now.host.now.inputs.now) self.now.args.now) }
+            (IsJobRequestStop (D.contents self.now.host.now.inputs.now) self.now.args.now) }
     {
         let (alloc, args) = (self.host.alloc, self.args);
         let text = read_list_text(self.host.inputs, alloc, args.list)?;
@@ -78,7 +78,7 @@ impl<'x, R, D: Inputs> ListRun<'x, R, D> {
         Ok(RequestedJobs {
             jobs,
             marks: Some(marks),
-            frame: ReportFrame {
+            frame: ReportContext {
                 shard: Some(shard),
                 old,
             },
@@ -112,7 +112,7 @@ impl<'x, R, D: Inputs> ListRun<'x, R, D> {
         Ok(RequestedJobs {
             jobs,
             marks,
-            frame: ReportFrame { shard: None, old },
+            frame: ReportContext { shard: None, old },
             notes,
         })
     }

@@ -3,8 +3,8 @@
 ghost use Rattle.std.specs.Prelude.{◌≡◌, ◌<◌, IfErr, IfOk, OnErr, OnOk};
 ghost use Rattle.std.specs.Io.KnownBytes.{Appends};
 ghost use Rattle.std.specs.List.{All};
-ghost use Rattle.rv_files.specs.Limits.{most_jobs};
-ghost use Rattle.rv_files.specs.Sinks.{AppendsBeginning};
+ghost use Rattle.rv_files.specs.Limits.{max_jobs};
+ghost use Rattle.rv_files.specs.Sinks.{AppendsPrefix};
 ghost use Rattle.rv_files.specs.Counts.{HasIncreased};
 ghost use Rattle.rvtest_app.specs.RunOutput.{chosen_last_line, chosen_report_text, job_numbers, part_text};
 
@@ -27,7 +27,7 @@ pub(crate) fn write_chosen_report<W: Sink>(
     ensures all { OnOk result (Appends (W.taken out.old) (W.taken out.new)
         (chosen_report_text chosen.entry.jobs chosen.entry.places.now shard chosen.entry.rows)) }
     ensures counted { OnOk result (W.failed out.new ≡ W.failed out.old) }
-    ensures part { OnErr result (AppendsBeginning (W.taken out.old) (W.taken out.new)
+    ensures part { OnErr result (AppendsPrefix (W.taken out.old) (W.taken out.new)
         (chosen_report_text chosen.entry.jobs chosen.entry.places.now shard chosen.entry.rows)) }
     ensures failed { IfErr result (λ error. error ≡ WriteError.Failed
         → HasIncreased (W.failed out.old) (W.failed out.new)) }
@@ -52,7 +52,7 @@ pub(crate) fn write_last_line<W: Sink>(
     ensures all { OnOk result (Appends (W.taken out.old) (W.taken out.new)
         (chosen_last_line chosen.entry.jobs chosen.entry.places.now shard chosen.entry.rows)) }
     ensures counted { OnOk result (W.failed out.new ≡ W.failed out.old) }
-    ensures part { OnErr result (AppendsBeginning (W.taken out.old) (W.taken out.new)
+    ensures part { OnErr result (AppendsPrefix (W.taken out.old) (W.taken out.new)
         (chosen_last_line chosen.entry.jobs chosen.entry.places.now shard chosen.entry.rows)) }
     ensures failed { IfErr result (λ error. error ≡ WriteError.Failed
         → HasIncreased (W.failed out.old) (W.failed out.new)) }
@@ -78,7 +78,7 @@ fn write_part_report<W: Sink>(
     ensures all { OnOk result (Appends (W.taken out.old) (W.taken out.new)
         (part_text extent chosen.entry.places.now chosen.entry.rows)) }
     ensures counted { OnOk result (W.failed out.new ≡ W.failed out.old) }
-    ensures part { OnErr result (AppendsBeginning (W.taken out.old) (W.taken out.new)
+    ensures part { OnErr result (AppendsPrefix (W.taken out.old) (W.taken out.new)
         (part_text extent chosen.entry.places.now chosen.entry.rows)) }
     ensures failed { IfErr result (λ error. error ≡ WriteError.Failed
         → HasIncreased (W.failed out.old) (W.failed out.new)) }
@@ -93,7 +93,7 @@ fn write_part_report<W: Sink>(
 
 // Returns the numbers of the jobs at these indices, counted from 1.
 fn job_numbers(alloc: Global, places: &[usize]) -> Result<Vec<u32>, AllocError>
-    requires { All (λ place. place < most_jobs) places.now }
+    requires { All (λ place. place < max_jobs) places.now }
     ensures { IfOk result (λ numbers. numbers.items ≡ job_numbers places.now) }
 {
     let mut numbers = Vec::new(alloc);

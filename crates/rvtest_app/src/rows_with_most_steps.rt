@@ -8,9 +8,9 @@ use rv_rows::Row;
 use std::alloc::{AllocError, Global};
 
 /// How many of the rows with the most steps are shown.
-pub const MOST_SHOWN: usize = 10;
+pub const MAX_SHOWN: usize = 10;
 
-/// Returns the rows with the most steps, at most [`MOST_SHOWN`], by descending steps; rows with equal steps keep their order.
+/// Returns the rows with the most steps, at most [`MAX_SHOWN`], by descending steps; rows with equal steps keep their order.
 pub(crate) fn rows_with_most_steps(alloc: Global, rows: &[Row]) -> Result<Vec<&Row>, AllocError>
     ensures { IfOk result (λ most. map (λ row. row.now) most.items ≡ rows_with_most_steps rows.now) }
 {
@@ -25,16 +25,16 @@ pub(crate) fn rows_with_most_steps(alloc: Global, rows: &[Row]) -> Result<Vec<&R
 
 // Inserts a row after all rows that have more steps than it, and drops the last row if there are then too many.
 fn insert_by_steps<'a>(most: &mut Vec<&'a Row>, row: &'a Row) -> Result<(), AllocError>
-    requires { length most.old.items ≤ MOST_SHOWN }
+    requires { length most.old.items ≤ MAX_SHOWN }
     ensures rows { OnOk result (map (λ row. row.now) most.new.items
-        ≡ take MOST_SHOWN (inserted_by_steps row.now (map (λ row. row.now) most.old.items))) }
-    ensures few { OnOk result (length most.new.items ≤ MOST_SHOWN) }
+        ≡ take MAX_SHOWN (inserted_by_steps row.now (map (λ row. row.now) most.old.items))) }
+    ensures few { OnOk result (length most.new.items ≤ MAX_SHOWN) }
 {
     let place = rank_by_steps(most.as_slice(), row.steps);
-    if place == MOST_SHOWN {
+    if place == MAX_SHOWN {
         return Ok(());
     }
-    most.truncate(MOST_SHOWN - 1);
+    most.truncate(MAX_SHOWN - 1);
     most.insert(place, row)?;
     Ok(())
 }

@@ -1,7 +1,7 @@
 //! Which rows are failures, and the status for rows.
 
 ghost use Rattle.std.specs.Prelude.{◌≡◌, ◌≤◌};
-ghost use Rattle.rv_expect.specs.Judgement.{judging_of};
+ghost use Rattle.rv_expect.specs.Judgement.{judge_view};
 ghost use Rattle.rvtest_app.specs.Commands.{failure_rule, passing_status, report_judging};
 ghost use Rattle.rvtest_app.specs.RunOutput.{rows_status};
 
@@ -22,7 +22,7 @@ pub(crate) fn failure_rule(is_lenient: bool) -> Rule
 
 /// Returns how the rows of a report are judged, with or without `--lenient`; no job is known to fail.
 pub(crate) fn report_judge<'a>(is_lenient: bool) -> Judge<'a>
-    ensures { judging_of result ≡ report_judging is_lenient }
+    ensures { judge_view result ≡ report_judging is_lenient }
 {
     Judge::by_rule(failure_rule(is_lenient))
 }
@@ -37,10 +37,10 @@ pub(crate) fn passing_status(passed: bool) -> u8
 
 /// Returns the exit status for these rows: [`SOME_FAIL`] if one of them is a failure, and otherwise [`DONE`].
 pub(crate) fn rows_status(judge: &Judge<'_>, rows: &[Row]) -> u8
-    ensures value { result ≡ rows_status (judging_of judge.now) rows.now }
+    ensures value { result ≡ rows_status (judge_view judge.now) rows.now }
     ensures low { result ≤ 1 }
 {
-    if judge.fail_some(rows) {
+    if judge.any_counts_as_failure(rows) {
         SOME_FAIL
     } else {
         DONE

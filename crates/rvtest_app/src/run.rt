@@ -2,11 +2,11 @@
 
 ghost use Rattle.std.specs.Prelude.{◌≡◌, ◌⊎◌, ◌≤◌, ◌<◌, None, Some, IfErr, IfOk, OnErr, true, length};
 ghost use Rattle.std.specs.List.{All};
-ghost use Rattle.rv_rows.specs.Plans.{AgreeWithContents, jobs_needed_for, one_more_times, paths_of, paths_used, unreadable_count};
+ghost use Rattle.rv_rows.specs.Plans.{AgreeWithContents, jobs_needed_for, after_increments, paths_of, paths_used, unreadable_count};
 ghost use Rattle.rvtest_app.specs.Commands.{failure_rule, requested_verbosity};
-ghost use Rattle.rvtest_app.specs.Overwrites.{AreRunInputsKept};
+ghost use Rattle.rvtest_app.specs.Overwrites.{AreRunInputsPreserved};
 ghost use Rattle.rvtest_app.specs.RunStops.{IsRunWriteStop, IsRunStop};
-ghost use Rattle.rvtest_app.specs.Runs.{AreJobsToRun, IsRunAt, IsRunOfSelected, IsUndoneRunAt, IsUndoneRunOfPlaces};
+ghost use Rattle.rvtest_app.specs.Runs.{AreJobsToRun, IsRunAt, IsRunOfSelected, IsAbortedRunAt, IsAbortedRunOfJobs};
 ghost use Rattle.rvtest_app.specs.Runs.{selected_job_indices};
 ghost use Rattle.rvtest_app.specs.CommandOutputs.{outputs_of};
 
@@ -16,9 +16,9 @@ use crate::known_file::requested_known_jobs;
 use crate::missing_images::missing_images_note;
 use crate::planned_run::{PlannedRun, RequestedJobs, SelectedJobs};
 use crate::rules::failure_rule;
-use crate::run_inputs::refuse_run_overwrites;
+use crate::run_inputs::reject_run_overwrites;
 use crate::terminals::Terminals;
-use rv_command::{DONE, Stop, put_message};
+use rv_command::{DONE, Stop, write_message};
 use rv_expect::{Judge, Rule};
 use rv_files::{Inputs, Outputs, RecordingStore, Sink, Store};
 use rv_job_text::{TextReporter, Verbosity};
@@ -57,14 +57,14 @@ where
     F::File: Send,
     ensures run { IfOk result.1 (λ status. IsRunAt (D.contents host.now.inputs.now) args.now status
         (outputs_of F.placed O.taken E.taken E.failed to) (outputs_of F.placed O.taken E.taken E.failed result.0)) }
-    ensures undone { OnErr result.1 (IsUndoneRunAt (D.contents host.now.inputs.now) args.now
+    ensures undone { OnErr result.1 (IsAbortedRunAt (D.contents host.now.inputs.now) args.now
         (F.placed to.files) (F.placed result.0.files)) }
     ensures low { IfOk result.1 (λ status. status ≤ 1) }
     ensures untouched { IfOk result.1 (λ _. AreJobsToRun (D.contents host.now.inputs.now) args.now
         ⊎ (result.0.out ≡ to.out)) }
     ensures stopped { IfErr result.1 (IsRunStop (D.contents host.now.inputs.now) args.now) }
     // The inputs of the run are not overwritten.
-    ensures kept { AreRunInputsKept (D.contents host.now.inputs.now) args.now (F.placed to.files) (F.placed result.0.files) }
+    ensures kept { AreRunInputsPreserved (D.contents host.now.inputs.now) args.now (F.placed to.files) (F.placed result.0.files) }
 {
     let run = ListRun {
         host,
@@ -86,10 +86,10 @@ where
         Ok(known) => known,
         Err(stop) => return (to, Err(stop)),
     };
-    if let Err(stop) = refuse_run_overwrites(&to.files, host.alloc, args, jobs.as_slice()) {
+    if let Err(stop) = reject_run_overwrites(&to.files, host.alloc, args, jobs.as_slice()) {
         return (to, Err(stop));
     }
-    put_message(&mut to.errors, notes.as_slice());
+    write_message(&mut to.errors, notes.as_slice());
     match marks {
         Some(marks) => {
             let marked = SelectedJobs {
@@ -123,7 +123,7 @@ impl<'x, R: Threads + Wait + Sync + Clock, D: Inputs> ListRun<'x, R, D> {
         ensures run { IfOk result.1 (λ status. IsRunOfSelected (D.contents self.now.host.now.inputs.now) self.now.args.now
             marked.known marked.jobs (Some marked.marks.items) marked.frame.shard marked.frame.old status
             (outputs_of F.placed O.taken E.taken E.failed to) (outputs_of F.placed O.taken E.taken E.failed result.0)) }
-        ensures undone { OnErr result.1 (IsUndoneRunOfPlaces (D.contents self.now.host.now.inputs.now) self.now.args.now
+        ensures undone { OnErr result.1 (IsAbortedRunOfJobs (D.contents self.now.host.now.inputs.now) self.now.args.now
             marked.known marked.jobs (selected_job_indices marked.marks.items) marked.frame.shard marked.frame.old
             (F.placed to.files) (F.placed result.0.files)) }
         ensures stopped { IfErr result.1 (IsRunWriteStop self.now.args.now) }
@@ -153,7 +153,7 @@ impl<'x, R: Threads + Wait + Sync + Clock, D: Inputs> ListRun<'x, R, D> {
             Err(error) => return (to, Err(Stop::from(error))),
         };
         let mut to = to;
-        put_message(&mut to.errors, note.as_slice());
+        write_message(&mut to.errors, note.as_slice());
         let judge = Judge {
             rule: self.rule,
             known: known.as_ref(),
@@ -187,7 +187,7 @@ pub(crate) fn gather_jobs_at<S: Store>(
         ≡ paths_used (jobs_needed_for jobs places.now)) }
     ensures kept { IfOk result (λ plan. AgreeWithContents (S.contents store.old) plan.answers) }
     ensures faults { IfOk result (λ plan. S.faulted store.new
-        ≡ one_more_times (S.faulted store.old) (unreadable_count plan.answers)) }
+        ≡ after_increments (S.faulted store.old) (unreadable_count plan.answers)) }
 {
     gather_jobs(alloc, jobs, Vec::from_slice(alloc, places)?, store)
 }

@@ -4,9 +4,9 @@ ghost use Rattle.std.specs.Prelude.{◌≡◌, [], ℕ, List, None, Option, IfEr
 ghost use Rattle.std.specs.List.Sorted.{IsStrictlyIncreasing};
 ghost use Rattle.rv_files.specs.CommittedFiles.{CommittedFile};
 ghost use Rattle.rv_stream.specs.Choices.{AreJobIndices};
-ghost use Rattle.rvtest_app.specs.Outlets.{HasTaken, outlet_path};
+ghost use Rattle.rvtest_app.specs.Outlets.{HasReceived, outlet_path};
 ghost use Rattle.rvtest_app.specs.Runs.{AreCountsWritten, IsCountsTable, IsCountsText};
-ghost use Rattle.rvtest_app.specs.CommandOutputs.{outputs_of, with_placed_if_reported};
+ghost use Rattle.rvtest_app.specs.CommandOutputs.{outputs_of, with_committed_if_reported};
 ghost use Rattle.rvtest_app.specs.StackStops.{IsCountsWriteStop, IsUncountedRunStop};
 
 use crate::counts::sum_error_stop;
@@ -14,7 +14,7 @@ use crate::crew::requested_crew;
 use crate::destinations::Destinations;
 use crate::outlets::{Outlet, abandon_outlet};
 use crate::run::ListRun;
-use crate::written_text::put_into_outlet;
+use crate::written_text::write_to_outlet;
 use rv_command::Stop;
 use rv_count_tables::{CountTable, table_text};
 use rv_files::{Inputs, Outputs, Sink};
@@ -27,7 +27,7 @@ use std::time::Clock;
 
 impl<'x, R: Threads + Wait + Sync + Clock, D: Inputs> ListRun<'x, R, D> {
     /// Runs the jobs at these indices once more, and writes their table of counts to the outlet. Does nothing if no table is requested.
-    pub(crate) fn put_counts<F: Outputs + Drop, O: Sink + Drop, E: Sink + Drop>(
+    pub(crate) fn write_counts<F: Outputs + Drop, O: Sink + Drop, E: Sink + Drop>(
         &self,
         plan: &Plan,
         places: &[usize],
@@ -37,14 +37,14 @@ impl<'x, R: Threads + Wait + Sync + Clock, D: Inputs> ListRun<'x, R, D> {
         requires within { AreJobIndices plan.now places.now }
         requires rising { IsStrictlyIncreasing places.now }
         requires open { (path : Option (List ℕ))
-            × HasTaken F.pending_path F.File.taken F.File.failed None path [] outlet }
+            × HasReceived F.pending_path F.File.taken F.File.failed None path [] outlet }
         ensures counted { (path : Option (List ℕ)) (earlier : Option (List CommittedFile))
-            → HasTaken F.pending_path F.File.taken F.File.failed earlier path [] outlet.entry
+            → HasReceived F.pending_path F.File.taken F.File.failed earlier path [] outlet.entry
             → OnOk result (AreCountsWritten self.now.args.now.stacks path plan.now places.now
-            (with_placed_if_reported earlier (outputs_of F.placed O.taken E.taken E.failed to.old))
+            (with_committed_if_reported earlier (outputs_of F.placed O.taken E.taken E.failed to.old))
             (outputs_of F.placed O.taken E.taken E.failed to.new)) }
         ensures requested { (path : Option (List ℕ)) (earlier : Option (List CommittedFile))
-            → HasTaken F.pending_path F.File.taken F.File.failed earlier path [] outlet.entry
+            → HasReceived F.pending_path F.File.taken F.File.failed earlier path [] outlet.entry
             → OnErr result (is_some path ≡ true) }
         ensures same { OnErr result (F.placed to.new.files ≡ F.placed to.old.files) }
         ensures stopped { IfErr result (IsCountsWriteStop self.now.args.now (outlet_path outlet.entry)) }
@@ -53,7 +53,7 @@ impl<'x, R: Threads + Wait + Sync + Clock, D: Inputs> ListRun<'x, R, D> {
             return Ok(());
         }
         match self.counts_text(plan, places) {
-            Ok(text) => put_into_outlet(self.host.alloc, to, outlet, text.as_bytes()),
+            Ok(text) => write_to_outlet(self.host.alloc, to, outlet, text.as_bytes()),
             Err(stop) => {
                 abandon_outlet(&mut to.files, outlet);
                 Err(stop)

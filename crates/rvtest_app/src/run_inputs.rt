@@ -4,10 +4,10 @@ ghost use Rattle.std.specs.Prelude.{◌≡◌, ◌++◌, ◌∷◌, [], IfErr, I
 ghost use Rattle.rv_command.specs.Texts.{optional_text};
 ghost use Rattle.rv_files.specs.UnreadPaths.{resolved_path};
 ghost use Rattle.rv_rows.specs.Jobs.{console_path};
-ghost use Rattle.rvtest_app.specs.Overwrites.{AreReportsKept, AreRunFilesApart, IsRunOverwriteStop, failed_of_run, golden_paths_of_job, inputs_of_run, paths_of_job, read_paths, reports_of_run};
+ghost use Rattle.rvtest_app.specs.Overwrites.{AreReportsPreserved, AreRunFilesNoInputs, IsRunOverwriteStop, failed_report_path, golden_paths_of_job, inputs_of_run, paths_of_job, input_paths, report_paths_of_run};
 
-use crate::overwrites::{look_up_files, push_read, refuse_overwrite};
-use crate::read_files::{ReadPath, ReadRole};
+use crate::overwrites::{identified_files, push_input, reject_option_overwrite};
+use crate::input_file::{InputPath, InputRole};
 use rv_command::Stop;
 use rv_files::Outputs;
 use rv_rows::Job;
@@ -16,37 +16,37 @@ use std::alloc::{AllocError, Global};
 
 /// Returns an error if an output file of a run would overwrite an input: the list, the file of `--known`, a file of any job of the list, or
 /// a report that the run reads, except the one that `--into` updates.
-pub(crate) fn refuse_run_overwrites<F: Outputs>(
+pub(crate) fn reject_run_overwrites<F: Outputs>(
     files: &F,
     alloc: Global,
     args: &RunArgs<'_>,
     jobs: &[Job],
 ) -> Result<(), Stop>
-    ensures apart { OnOk result (IfSome (F.placed files.now) (λ _. AreRunFilesApart args.now jobs.now)) }
+    ensures apart { OnOk result (IfSome (F.placed files.now) (λ _. AreRunFilesNoInputs args.now jobs.now)) }
     ensures stopped { IfErr result (IsRunOverwriteStop args.now) }
 {
-    let inputs = look_up_files(files, alloc, inputs_of_run(alloc, args, jobs)?)?;
-    refuse_overwrite(files, alloc, "--report", args.report, &inputs)?;
-    refuse_overwrite(files, alloc, "--junit", args.junit, &inputs)?;
-    refuse_overwrite(files, alloc, "--counts", args.counts, &inputs)?;
-    refuse_overwrite(files, alloc, "--into", args.into, &inputs)?;
-    refuse_report_overwrites(files, alloc, args)
+    let inputs = identified_files(files, alloc, inputs_of_run(alloc, args, jobs)?)?;
+    reject_option_overwrite(files, alloc, "--report", args.report, &inputs)?;
+    reject_option_overwrite(files, alloc, "--junit", args.junit, &inputs)?;
+    reject_option_overwrite(files, alloc, "--counts", args.counts, &inputs)?;
+    reject_option_overwrite(files, alloc, "--into", args.into, &inputs)?;
+    reject_report_overwrites(files, alloc, args)
 }
 
 // Returns an error if an output file of a run would overwrite a report that it reads, except the one that `--into` updates.
-fn refuse_report_overwrites<F: Outputs>(
+fn reject_report_overwrites<F: Outputs>(
     files: &F,
     alloc: Global,
     args: &RunArgs<'_>,
 ) -> Result<(), Stop>
-    ensures apart { OnOk result (IfSome (F.placed files.now) (λ _. AreReportsKept args.now)) }
+    ensures apart { OnOk result (IfSome (F.placed files.now) (λ _. AreReportsPreserved args.now)) }
     ensures stopped { IfErr result (IsRunOverwriteStop args.now) }
 {
-    let failed = look_up_files(files, alloc, failed_of_run(alloc, args)?)?;
-    refuse_overwrite(files, alloc, "--report", args.report, &failed)?;
-    let reports = look_up_files(files, alloc, reports_of_run(alloc, args)?)?;
-    refuse_overwrite(files, alloc, "--junit", args.junit, &reports)?;
-    refuse_overwrite(files, alloc, "--counts", args.counts, &reports)
+    let failed = identified_files(files, alloc, failed_report_path(alloc, args)?)?;
+    reject_option_overwrite(files, alloc, "--report", args.report, &failed)?;
+    let reports = identified_files(files, alloc, report_paths_of_run(alloc, args)?)?;
+    reject_option_overwrite(files, alloc, "--junit", args.junit, &reports)?;
+    reject_option_overwrite(files, alloc, "--counts", args.counts, &reports)
 }
 
 // Returns the files that a run must not write: its list, the file of `--known`, and the files of all jobs.
@@ -54,24 +54,24 @@ fn inputs_of_run<'a>(
     alloc: Global,
     args: &RunArgs<'_>,
     jobs: &'a [Job],
-) -> Result<Vec<ReadPath<'a>>, AllocError>
-    ensures { IfOk result (λ read. read_paths read.items ≡ inputs_of_run args.now jobs.now) }
+) -> Result<Vec<InputPath<'a>>, AllocError>
+    ensures { IfOk result (λ read. input_paths read.items ≡ inputs_of_run args.now jobs.now) }
 {
     let mut read = Vec::new(alloc);
-    push_read(
+    push_input(
         alloc,
         &mut read,
         None,
         args.list,
-        ReadRole::Word("the job list"),
+        InputRole::Word("the job list"),
     )?;
     if let Some(known) = args.known {
-        push_read(
+        push_input(
             alloc,
             &mut read,
             None,
             known,
-            ReadRole::Word("the file of --known"),
+            InputRole::Word("the file of --known"),
         )?;
     }
     for job in jobs {
@@ -83,11 +83,11 @@ fn inputs_of_run<'a>(
 // Appends the path of the job's image and the paths of its golden files, resolved against `root`.
 fn push_job_paths<'a>(
     alloc: Global,
-    read: &mut Vec<ReadPath<'a>>,
+    read: &mut Vec<InputPath<'a>>,
     root: Option<&str>,
     job: &'a Job,
 ) -> Result<(), AllocError>
-    ensures { OnOk result (read_paths read.new.items ≡ read_paths read.old.items ++ paths_of_job (optional_text root.entry) job.now) }
+    ensures { OnOk result (input_paths read.new.items ≡ input_paths read.old.items ++ paths_of_job (optional_text root.entry) job.now) }
 {
     push_image_path(alloc, read, root, job)?;
     push_golden_paths(alloc, read, root, job)
@@ -96,50 +96,50 @@ fn push_job_paths<'a>(
 /// Appends the path of the job's image, resolved against `root`.
 pub(crate) fn push_image_path<'a>(
     alloc: Global,
-    read: &mut Vec<ReadPath<'a>>,
+    read: &mut Vec<InputPath<'a>>,
     root: Option<&str>,
     job: &'a Job,
 ) -> Result<(), AllocError>
-    ensures { OnOk result (read_paths read.new.items
-        ≡ read_paths read.old.items ++ resolved_path (optional_text root.entry) job.now.image ∷ []) }
+    ensures { OnOk result (input_paths read.new.items
+        ≡ input_paths read.old.items ++ resolved_path (optional_text root.entry) job.now.image ∷ []) }
 {
-    let role = ReadRole::JobFile {
+    let role = InputRole::JobFile {
         key: "image",
         job: job.name.as_str(),
     };
-    push_read(alloc, read, root, job.image.as_str(), role)
+    push_input(alloc, read, root, job.image.as_str(), role)
 }
 
 /// Appends the paths of the job's golden files, resolved against `root`: first the signature, then the console.
 pub(crate) fn push_golden_paths<'a>(
     alloc: Global,
-    read: &mut Vec<ReadPath<'a>>,
+    read: &mut Vec<InputPath<'a>>,
     root: Option<&str>,
     job: &'a Job,
 ) -> Result<(), AllocError>
-    ensures { OnOk result (read_paths read.new.items
-        ≡ read_paths read.old.items ++ golden_paths_of_job (optional_text root.entry) job.now) }
+    ensures { OnOk result (input_paths read.new.items
+        ≡ input_paths read.old.items ++ golden_paths_of_job (optional_text root.entry) job.now) }
 {
     let name = job.name.as_str();
     if let Some(path) = &job.expect_signature {
-        let signature = ReadRole::JobFile {
+        let signature = InputRole::JobFile {
             key: "expect_signature",
             job: name,
         };
-        push_read(alloc, read, root, path.as_str(), signature)?;
+        push_input(alloc, read, root, path.as_str(), signature)?;
     }
-    if let Some(path) = console_file(job) {
-        let console = ReadRole::JobFile {
+    if let Some(path) = golden_console_path(job) {
+        let console = InputRole::JobFile {
             key: "expect_console_file",
             job: name,
         };
-        push_read(alloc, read, root, path, console)?;
+        push_input(alloc, read, root, path, console)?;
     }
     Ok(())
 }
 
 // Returns the path of the job's golden console; `None` if the job names none.
-fn console_file(job: &Job) -> Option<&str>
+fn golden_console_path(job: &Job) -> Option<&str>
     ensures { optional_text result ≡ console_path job.now.expect_console }
 {
     match &job.expect_console {
@@ -149,37 +149,37 @@ fn console_file(job: &Job) -> Option<&str>
 }
 
 /// Returns a list with the path of the report of `--failed`; empty without this option.
-pub(crate) fn failed_of_run<'a>(
+pub(crate) fn failed_report_path<'a>(
     alloc: Global,
     args: &RunArgs<'_>,
-) -> Result<Vec<ReadPath<'a>>, AllocError>
-    ensures { IfOk result (λ read. read_paths read.items ≡ failed_of_run args.now) }
+) -> Result<Vec<InputPath<'a>>, AllocError>
+    ensures { IfOk result (λ read. input_paths read.items ≡ failed_report_path args.now) }
 {
     let mut read = Vec::new(alloc);
     if let Some(failed) = args.failed {
-        push_read(
+        push_input(
             alloc,
             &mut read,
             None,
             failed,
-            ReadRole::Word("the report of --failed"),
+            InputRole::Word("the report of --failed"),
         )?;
     }
     Ok(read)
 }
 
 // Returns the paths of the reports that a run reads, of `--failed` and of `--into`.
-fn reports_of_run<'a>(alloc: Global, args: &RunArgs<'_>) -> Result<Vec<ReadPath<'a>>, AllocError>
-    ensures { IfOk result (λ read. read_paths read.items ≡ reports_of_run args.now) }
+fn report_paths_of_run<'a>(alloc: Global, args: &RunArgs<'_>) -> Result<Vec<InputPath<'a>>, AllocError>
+    ensures { IfOk result (λ read. input_paths read.items ≡ report_paths_of_run args.now) }
 {
-    let mut read = failed_of_run(alloc, args)?;
+    let mut read = failed_report_path(alloc, args)?;
     if let Some(into) = args.into {
-        push_read(
+        push_input(
             alloc,
             &mut read,
             None,
             into,
-            ReadRole::Word("the report of --into"),
+            InputRole::Word("the report of --into"),
         )?;
     }
     Ok(read)

@@ -3,38 +3,38 @@
 ghost use Rattle.std.specs.Prelude.{◌≡◌, ◌⊎◌, ◌≤◌, ◌++◌, [], ℕ, List, Option, Some, IfErr, IfOk, OnErr, OnOk, is_some, length, true};
 ghost use Rattle.std.specs.Io.KnownBytes.{Appends};
 ghost use Rattle.std.specs.Option.{ForSome};
-ghost use Rattle.rv_expect.specs.Judgement.{judging_of};
+ghost use Rattle.rv_expect.specs.Judgement.{judge_view};
 ghost use Rattle.rv_job_text.specs.RowReporter.{row_lines_at, reporter_of};
 ghost use Rattle.rv_junit.specs.KnownLines.{AreLinesOf};
 ghost use Rattle.rv_rows.specs.declared_row.Row.{Row as ARow};
 ghost use Rattle.rvtest_app.specs.FailureLines.{failure_lines};
 ghost use Rattle.rvtest_app.specs.IntoReports.{run_report_path, run_report_text, streamed_rows, uses_run_stdout};
-ghost use Rattle.rvtest_app.specs.Outlets.{AreFilesCommitted, AreFilesPartlyCommitted, HasTaken, file_at, has_no_failure};
+ghost use Rattle.rvtest_app.specs.Outlets.{AreFilesCommitted, AreFilesPartlyCommitted, HasReceived, file_at, has_no_failure};
 ghost use Rattle.rvtest_app.specs.Outlets.{file_path_at, outlet_path, stdout_at};
-ghost use Rattle.rvtest_app.specs.OutputWrites.{IsShown};
-ghost use Rattle.rvtest_app.specs.RunOutlets.{HaveRunOutletsTaken};
+ghost use Rattle.rvtest_app.specs.OutputWrites.{IsWrittenToErrorsIf};
+ghost use Rattle.rvtest_app.specs.RunOutlets.{HaveRunOutletsReceived};
 ghost use Rattle.rvtest_app.specs.WriteStops.{IsOutputWriteStop};
 ghost use Rattle.rvtest_app.specs.RunOutput.{rows_status, run_output_text};
 ghost use Rattle.rvtest_app.specs.RunStops.{IsRunWriteStop};
-ghost use Rattle.rvtest_app.specs.Runs.{AreRunFilesPlacedInPart, IsCountedRunWritten, run_junit, run_rows, shown_indices};
+ghost use Rattle.rvtest_app.specs.Runs.{AreRunFilesPartlyCommitted, IsCountedRunWritten, run_junit, run_rows, shown_indices};
 ghost use Rattle.rvtest_app.specs.CommandOutputs.{CommandOutputs, outputs_of};
 ghost use Rattle.rvtest_app.specs.declared.run_output.ShowError.TheVariants.{ReportFailed};
 
 use crate::chosen_rows::ChosenRows;
 use crate::destinations::Destinations;
 use crate::file_texts::FileTexts;
-use crate::into_report::{ReportFrame, run_report_path, uses_run_stdout};
+use crate::into_report::{ReportContext, run_report_path, uses_run_stdout};
 use crate::junit_class::suite_name;
 use crate::outlets::{Outlets, abandon_outlet};
 use crate::output_writes::put_files;
 use crate::planned_run::PlannedRun;
 use crate::report_row_reporter::ReportRowReporter;
-use crate::report_texts::framed_report;
+use crate::report_texts::report_with_context;
 use crate::rules::rows_status;
 use crate::run::ListRun;
 use crate::run_outlets::{RunOutlets, open_run_outlets};
 use crate::run_output::show_stop;
-use crate::shown_run::{ShownOn, ShownRun};
+use crate::shown_run::{RunDisplay, ShownRun};
 use crate::terminals::Terminals;
 use rv_command::Stop;
 use rv_files::{Inputs, Outputs, Sink};
@@ -58,24 +58,24 @@ impl<'x, R: Threads + Wait + Sync + Clock, D: Inputs> ListRun<'x, R, D> {
     >(
         &self,
         planned: &PlannedRun<'_>,
-        frame: ReportFrame,
+        frame: ReportContext,
         to: Destinations<F, O, E>,
         terminals: Terminals<P>,
     ) -> (Destinations<F, O, E>, Result<u8, Stop>)
     where
         F::File: Send,
         requires whole { ForSome frame.old (λ rows. length rows ≡ length planned.now.reporter.now.plan.now.jobs) }
-        ensures status { IfOk result.1 (λ status. status ≡ rows_status (judging_of planned.now.reporter.now.judge) (run_rows
-            self.now.args.now.stop_after (judging_of planned.now.reporter.now.judge) planned.now.reporter.now.plan.now
+        ensures status { IfOk result.1 (λ status. status ≡ rows_status (judge_view planned.now.reporter.now.judge) (run_rows
+            self.now.args.now.stop_after (judge_view planned.now.reporter.now.judge) planned.now.reporter.now.plan.now
             planned.now.places.now)) }
         ensures outputs_of { OnOk result.1 (IsCountedRunWritten self.now.args.now (reporter_of planned.now.reporter.now)
             planned.now.places.now frame.shard frame.old (run_rows self.now.args.now.stop_after
-            (judging_of planned.now.reporter.now.judge) planned.now.reporter.now.plan.now planned.now.places.now)
+            (judge_view planned.now.reporter.now.judge) planned.now.reporter.now.plan.now planned.now.places.now)
             (outputs_of F.placed O.taken E.taken E.failed to) (outputs_of F.placed O.taken E.taken E.failed result.0)) }
         ensures part { (rows : List ARow) → rows ≡ run_rows self.now.args.now.stop_after
-            (judging_of planned.now.reporter.now.judge) planned.now.reporter.now.plan.now planned.now.places.now
+            (judge_view planned.now.reporter.now.judge) planned.now.reporter.now.plan.now planned.now.places.now
             → OnErr result.1 ((F.placed result.0.files ≡ F.placed to.files)
-            ⊎ AreRunFilesPlacedInPart self.now.args.now (reporter_of planned.now.reporter.now) planned.now.places.now frame.shard
+            ⊎ AreRunFilesPartlyCommitted self.now.args.now (reporter_of planned.now.reporter.now) planned.now.places.now frame.shard
             frame.old rows (F.placed to.files) (F.placed result.0.files)) }
         ensures stopped { IfErr result.1 (IsRunWriteStop self.now.args.now) }
     {
@@ -92,10 +92,10 @@ impl<'x, R: Threads + Wait + Sync + Clock, D: Inputs> ListRun<'x, R, D> {
         let rows = ReportRowReporter {
             is_streaming: frame.old.is_none(),
         };
-        let (report, sink) = report.take_sink();
+        let (report, sink) = report.split_sink();
         let Destinations { files, out, errors } = to;
         if uses_run_stdout(args) {
-            let shown = ShownOn {
+            let shown = RunDisplay {
                 stream: errors,
                 is_terminal: terminals.is_errors_terminal,
             };
@@ -110,7 +110,7 @@ impl<'x, R: Threads + Wait + Sync + Clock, D: Inputs> ListRun<'x, R, D> {
             let to = Destinations { files, out, errors };
             self.finish_run(planned, frame, run, outlets, to)
         } else {
-            let shown = ShownOn {
+            let shown = RunDisplay {
                 stream: out,
                 is_terminal: terminals.is_out_terminal,
             };
@@ -131,12 +131,12 @@ impl<'x, R: Threads + Wait + Sync + Clock, D: Inputs> ListRun<'x, R, D> {
     fn finish_run<F: Outputs + Drop, O: Sink + Drop, E: Sink + Drop>(
         &self,
         planned: &PlannedRun<'_>,
-        frame: ReportFrame,
+        frame: ReportContext,
         run: ShownRun,
         outlets: RunOutlets<'_, F::Place, F::File>,
         to: Destinations<F, O, E>,
     ) -> (Destinations<F, O, E>, Result<u8, Stop>)
-        requires rows { IfOk run.ran (λ rows. rows ≡ run_rows self.now.args.now.stop_after (judging_of planned.now.reporter.now.judge)
+        requires rows { IfOk run.ran (λ rows. rows ≡ run_rows self.now.args.now.stop_after (judge_view planned.now.reporter.now.judge)
             planned.now.reporter.now.plan.now planned.now.places.now) }
         requires few { IfOk run.ran (λ rows. length rows ≤ length planned.now.places.now) }
         requires texts { IfOk run.ran (λ rows. AreLinesOf (failure_lines (reporter_of planned.now.reporter.now))
@@ -144,23 +144,23 @@ impl<'x, R: Threads + Wait + Sync + Clock, D: Inputs> ListRun<'x, R, D> {
         requires failed { IfErr run.ran (λ error. error ≡ ReportFailed → is_some (outlet_path outlets.report) ≡ true) }
         requires whole { ForSome frame.old (λ rows. length rows ≡ length planned.now.reporter.now.plan.now.jobs) }
         requires path { outlet_path outlets.report ≡ file_path_at (run_report_path self.now.args.now) }
-        requires taken { IfOk run.ran (λ rows. HaveRunOutletsTaken F.pending_path F.File.taken F.File.failed (F.placed to.files)
+        requires taken { IfOk run.ran (λ rows. HaveRunOutletsReceived F.pending_path F.File.taken F.File.failed (F.placed to.files)
             self.now.args.now (streamed_rows frame.old (shown_indices planned.now.places.now rows) rows) outlets) }
-        ensures status { IfOk result.1 (λ status. status ≡ rows_status (judging_of planned.now.reporter.now.judge) (run_rows
-            self.now.args.now.stop_after (judging_of planned.now.reporter.now.judge) planned.now.reporter.now.plan.now
+        ensures status { IfOk result.1 (λ status. status ≡ rows_status (judge_view planned.now.reporter.now.judge) (run_rows
+            self.now.args.now.stop_after (judge_view planned.now.reporter.now.judge) planned.now.reporter.now.plan.now
             planned.now.places.now)) }
-        ensures outputs_of { (before : CommandOutputs) → OnOk run.ran (IsShown (uses_run_stdout self.now.args.now) (run_output_text
-            (row_lines_at (reporter_of planned.now.reporter.now)) (judging_of planned.now.reporter.now.judge)
+        ensures outputs_of { (before : CommandOutputs) → OnOk run.ran (IsWrittenToErrorsIf (uses_run_stdout self.now.args.now) (run_output_text
+            (row_lines_at (reporter_of planned.now.reporter.now)) (judge_view planned.now.reporter.now.judge)
             planned.now.reporter.now.plan.now planned.now.places.now (run_rows self.now.args.now.stop_after
-            (judging_of planned.now.reporter.now.judge) planned.now.reporter.now.plan.now planned.now.places.now))
+            (judge_view planned.now.reporter.now.judge) planned.now.reporter.now.plan.now planned.now.places.now))
             before (outputs_of F.placed O.taken E.taken E.failed to))
             → OnOk result.1 (IsCountedRunWritten self.now.args.now (reporter_of planned.now.reporter.now) planned.now.places.now
-            frame.shard frame.old (run_rows self.now.args.now.stop_after (judging_of planned.now.reporter.now.judge)
+            frame.shard frame.old (run_rows self.now.args.now.stop_after (judge_view planned.now.reporter.now.judge)
             planned.now.reporter.now.plan.now planned.now.places.now) before
             (outputs_of F.placed O.taken E.taken E.failed result.0)) }
         ensures part { OnErr result.1 ((F.placed result.0.files ≡ F.placed to.files)
-            ⊎ AreRunFilesPlacedInPart self.now.args.now (reporter_of planned.now.reporter.now) planned.now.places.now frame.shard
-            frame.old (run_rows self.now.args.now.stop_after (judging_of planned.now.reporter.now.judge)
+            ⊎ AreRunFilesPartlyCommitted self.now.args.now (reporter_of planned.now.reporter.now) planned.now.places.now frame.shard
+            frame.old (run_rows self.now.args.now.stop_after (judge_view planned.now.reporter.now.judge)
             planned.now.reporter.now.plan.now planned.now.places.now) (F.placed to.files) (F.placed result.0.files)) }
         ensures stopped { IfErr result.1 (IsRunWriteStop self.now.args.now) }
     {
@@ -168,7 +168,7 @@ impl<'x, R: Threads + Wait + Sync + Clock, D: Inputs> ListRun<'x, R, D> {
         let mut to = to;
         match ran {
             Ok(rows) => {
-                let status = self.put_all_files(planned, frame, rows, texts, outlets, &mut to);
+                let status = self.write_all_files(planned, frame, rows, texts, outlets, &mut to);
                 (to, status)
             }
             Err(error) => {
@@ -180,31 +180,31 @@ impl<'x, R: Threads + Wait + Sync + Clock, D: Inputs> ListRun<'x, R, D> {
     }
 
     // Writes the report, the JUnit XML and then the table of counts of a run that was shown, and returns the exit status for its rows.
-    fn put_all_files<F: Outputs + Drop, O: Sink + Drop, E: Sink + Drop>(
+    fn write_all_files<F: Outputs + Drop, O: Sink + Drop, E: Sink + Drop>(
         &self,
         planned: &PlannedRun<'_>,
-        frame: ReportFrame,
+        frame: ReportContext,
         rows: Rows,
         texts: Vec<Option<Vec<u8>>>,
         outlets: RunOutlets<'_, F::Place, F::File>,
         to: &mut Destinations<F, O, E>,
     ) -> Result<u8, Stop>
-        requires rows { rows ≡ run_rows self.now.args.now.stop_after (judging_of planned.now.reporter.now.judge)
+        requires rows { rows ≡ run_rows self.now.args.now.stop_after (judge_view planned.now.reporter.now.judge)
             planned.now.reporter.now.plan.now planned.now.places.now }
         requires few { length rows ≤ length planned.now.places.now }
         requires texts { AreLinesOf (failure_lines (reporter_of planned.now.reporter.now)) planned.now.places.now rows texts.items }
         requires whole { ForSome frame.old (λ rows. length rows ≡ length planned.now.reporter.now.plan.now.jobs) }
-        requires taken { HaveRunOutletsTaken F.pending_path F.File.taken F.File.failed (F.placed to.old.files) self.now.args.now
+        requires taken { HaveRunOutletsReceived F.pending_path F.File.taken F.File.failed (F.placed to.old.files) self.now.args.now
             (streamed_rows frame.old (shown_indices planned.now.places.now rows) rows) outlets }
-        ensures status { IfOk result (λ status. status ≡ rows_status (judging_of planned.now.reporter.now.judge) rows) }
-        ensures outputs_of { (before : CommandOutputs) → IsShown (uses_run_stdout self.now.args.now) (run_output_text
-            (row_lines_at (reporter_of planned.now.reporter.now)) (judging_of planned.now.reporter.now.judge)
+        ensures status { IfOk result (λ status. status ≡ rows_status (judge_view planned.now.reporter.now.judge) rows) }
+        ensures outputs_of { (before : CommandOutputs) → IsWrittenToErrorsIf (uses_run_stdout self.now.args.now) (run_output_text
+            (row_lines_at (reporter_of planned.now.reporter.now)) (judge_view planned.now.reporter.now.judge)
             planned.now.reporter.now.plan.now planned.now.places.now rows)
             before (outputs_of F.placed O.taken E.taken E.failed to.old)
             → OnOk result (IsCountedRunWritten self.now.args.now (reporter_of planned.now.reporter.now) planned.now.places.now
             frame.shard frame.old rows before (outputs_of F.placed O.taken E.taken E.failed to.new)) }
         ensures part { OnErr result ((F.placed to.new.files ≡ F.placed to.old.files)
-            ⊎ AreRunFilesPlacedInPart self.now.args.now (reporter_of planned.now.reporter.now) planned.now.places.now frame.shard
+            ⊎ AreRunFilesPartlyCommitted self.now.args.now (reporter_of planned.now.reporter.now) planned.now.places.now frame.shard
             frame.old rows (F.placed to.old.files) (F.placed to.new.files)) }
         ensures stopped { IfErr result (IsRunWriteStop self.now.args.now) }
     {
@@ -215,9 +215,9 @@ impl<'x, R: Threads + Wait + Sync + Clock, D: Inputs> ListRun<'x, R, D> {
         } = outlets;
         let first = planned.first_jobs(rows.as_slice().len());
         let files = Outlets { report, junit };
-        match self.put_run_files(&first, frame, rows, texts, files, to) {
+        match self.write_run_files(&first, frame, rows, texts, files, to) {
             Ok(status) => {
-                self.put_counts(planned.reporter.plan, first.places, counts, to)?;
+                self.write_counts(planned.reporter.plan, first.places, counts, to)?;
                 Ok(status)
             }
             Err(stop) => {
@@ -228,10 +228,10 @@ impl<'x, R: Threads + Wait + Sync + Clock, D: Inputs> ListRun<'x, R, D> {
     }
 
     // Writes the report and the JUnit XML of the rows of a run, and returns the exit status for these rows.
-    fn put_run_files<F: Outputs + Drop, O: Sink + Drop, E: Sink + Drop>(
+    fn write_run_files<F: Outputs + Drop, O: Sink + Drop, E: Sink + Drop>(
         &self,
         planned: &PlannedRun<'_>,
-        frame: ReportFrame,
+        frame: ReportContext,
         rows: Rows,
         texts: Vec<Option<Vec<u8>>>,
         outlets: Outlets<'_, F::Place, F::File>,
@@ -242,26 +242,26 @@ impl<'x, R: Threads + Wait + Sync + Clock, D: Inputs> ListRun<'x, R, D> {
         requires whole { ForSome frame.old (λ rows. length rows ≡ length planned.now.reporter.now.plan.now.jobs) }
         requires report { has_no_failure F.File.failed outlets.report }
         requires junit { has_no_failure F.File.failed outlets.junit }
-        ensures status { IfOk result (λ status. status ≡ rows_status (judging_of planned.now.reporter.now.judge) rows) }
+        ensures status { IfOk result (λ status. status ≡ rows_status (judge_view planned.now.reporter.now.judge) rows) }
         ensures errors { to.new.errors ≡ to.old.errors }
         ensures put { (report_path junit_path : Option (List ℕ))
-            → HasTaken F.pending_path F.File.taken F.File.failed (F.placed to.old.files) report_path
+            → HasReceived F.pending_path F.File.taken F.File.failed (F.placed to.old.files) report_path
             (streamed_rows frame.old planned.now.places.now rows) outlets.entry.report
-            → HasTaken F.pending_path F.File.taken F.File.failed (F.placed to.old.files) junit_path [] outlets.entry.junit
+            → HasReceived F.pending_path F.File.taken F.File.failed (F.placed to.old.files) junit_path [] outlets.entry.junit
             → OnOk result (Appends (O.taken to.old.out) (O.taken to.new.out)
             (stdout_at junit_path (run_junit self.now.args.now (reporter_of planned.now.reporter.now)
             planned.now.places.now rows) ++ stdout_at report_path (run_report_text frame.old
             (length planned.now.reporter.now.plan.now.jobs) planned.now.places.now frame.shard rows))) }
         ensures placed { (report_path junit_path : Option (List ℕ))
-            → HasTaken F.pending_path F.File.taken F.File.failed (F.placed to.old.files) report_path
+            → HasReceived F.pending_path F.File.taken F.File.failed (F.placed to.old.files) report_path
             (streamed_rows frame.old planned.now.places.now rows) outlets.entry.report
-            → HasTaken F.pending_path F.File.taken F.File.failed (F.placed to.old.files) junit_path [] outlets.entry.junit
+            → HasReceived F.pending_path F.File.taken F.File.failed (F.placed to.old.files) junit_path [] outlets.entry.junit
             → OnOk result (AreFilesCommitted (F.placed to.old.files) (F.placed to.new.files)
             (Some (file_at junit_path (run_junit self.now.args.now (reporter_of planned.now.reporter.now)
             planned.now.places.now rows) ++ file_at report_path (run_report_text frame.old
             (length planned.now.reporter.now.plan.now.jobs) planned.now.places.now frame.shard rows)))) }
         ensures part { (junit_path : Option (List ℕ))
-            → HasTaken F.pending_path F.File.taken F.File.failed (F.placed to.old.files) junit_path [] outlets.entry.junit
+            → HasReceived F.pending_path F.File.taken F.File.failed (F.placed to.old.files) junit_path [] outlets.entry.junit
             → OnErr result (AreFilesPartlyCommitted (F.placed to.old.files) (F.placed to.new.files)
             (Some (file_at junit_path (run_junit self.now.args.now (reporter_of planned.now.reporter.now)
             planned.now.places.now rows)))) }
@@ -286,7 +286,7 @@ impl<'x, R: Threads + Wait + Sync + Clock, D: Inputs> ListRun<'x, R, D> {
             },
             reporter: &told,
             places,
-            report: framed_report(chosen, frame),
+            report: report_with_context(chosen, frame),
             texts: texts.as_slice(),
         };
         put_files(self.host.alloc, to, outlets, texts)?;

@@ -1,7 +1,7 @@
 //! The destinations of a run's files.
 
 ghost use Rattle.std.specs.Prelude.{◌≡◌, [], IfErr, IfOk};
-ghost use Rattle.rvtest_app.specs.RunOutlets.{HaveRunOutletsTaken};
+ghost use Rattle.rvtest_app.specs.RunOutlets.{HaveRunOutletsReceived};
 ghost use Rattle.rvtest_app.specs.RunStops.{IsRunWriteStop};
 
 use crate::into_report::run_report_path;
@@ -26,7 +26,7 @@ pub(crate) fn open_run_outlets<'a, F: Outputs>(
     args: &RunArgs<'a>,
 ) -> Result<RunOutlets<'a, F::Place, F::File>, Stop>
     ensures same { F.placed files.new ≡ F.placed files.old }
-    ensures open { IfOk result (HaveRunOutletsTaken F.pending_path F.File.taken F.File.failed (F.placed files.old) args.now []) }
+    ensures open { IfOk result (HaveRunOutletsReceived F.pending_path F.File.taken F.File.failed (F.placed files.old) args.now []) }
     ensures stopped { IfErr result (IsRunWriteStop args.now) }
 {
     let counts = open_outlet(files, alloc, args.counts)?;

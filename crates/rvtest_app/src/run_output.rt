@@ -2,11 +2,11 @@
 
 ghost use Rattle.std.specs.Prelude.{◌≡◌, ◌-◌, ◌≤◌, Err, IfErr, IfOk, Ok, OnErr, OnOk, false, is_ok, is_some, length, true};
 ghost use Rattle.std.specs.Io.KnownBytes.{Appends};
-ghost use Rattle.rv_expect.specs.Judgement.{judging_of};
+ghost use Rattle.rv_expect.specs.Judgement.{judge_view};
 ghost use Rattle.rv_job_text.specs.TotalsLine.{run_totals_line};
 ghost use Rattle.rv_stream.specs.declared.error.StreamError.TheVariants as stream;
 ghost use Rattle.rvtest_app.specs.Outlets.{outlet_path};
-ghost use Rattle.rvtest_app.specs.RunStops.{IsShowStop};
+ghost use Rattle.rvtest_app.specs.RunStops.{IsShowErrorStop};
 ghost use Rattle.rvtest_app.specs.declared.run_output.ShowError.TheVariants.{OutOfMemory, ReportFailed};
 
 use crate::outlets::{Outlet, unwritten_stop};
@@ -62,7 +62,7 @@ pub(crate) fn rows_if_written(
 
 /// Writes the summary line of a run, which counts its rows and the jobs that have no row, and returns the rows. After an error of the run,
 /// returns this error.
-pub(crate) fn put_totals_line<W: Sink>(
+pub(crate) fn write_totals_line<W: Sink>(
     alloc: Global,
     judge: &Judge<'_>,
     batch: &Batch<'_>,
@@ -72,7 +72,7 @@ pub(crate) fn put_totals_line<W: Sink>(
     requires few { IfOk ran (λ rows. length rows ≤ length batch.now.places.now) }
     ensures rows { IfOk result (λ rows. ran ≡ Ok rows) }
     ensures line { IfOk result (λ rows. Appends (W.taken out.old) (W.taken out.new)
-        (run_totals_line (judging_of judge.now) batch.now.plan.now batch.now.places.now rows
+        (run_totals_line (judge_view judge.now) batch.now.plan.now batch.now.places.now rows
         (length batch.now.places.now - length rows))) }
     ensures counted { OnOk result (W.failed out.new ≡ W.failed out.old) }
     ensures report { IfErr result (λ error. error ≡ ReportFailed → ran ≡ Err ReportFailed) }
@@ -99,7 +99,7 @@ pub(crate) fn show_stop<P: Drop, W: Sink + LastError + Drop>(
     error: ShowError,
 ) -> Stop
     requires { error ≡ ReportFailed → is_some (outlet_path report.now) ≡ true }
-    ensures { IsShowStop (outlet_path report.now) error result }
+    ensures { IsShowErrorStop (outlet_path report.now) error result }
 {
     match (error, report) {
         (ShowError::OutOfMemory, _) => Stop::OutOfMemory,

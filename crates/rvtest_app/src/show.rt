@@ -1,29 +1,29 @@
 //! The command `show`.
 
 ghost use Rattle.std.specs.Prelude.{◌≡◌, ◌≤◌, ◌<◌, ◌^◌, None, IfErr, IfOk, IfSome, OnErr, OnOk, Some, length};
-ghost use Rattle.rv_expect.specs.Judgement.{judging_of};
+ghost use Rattle.rv_expect.specs.Judgement.{judge_view};
 ghost use Rattle.rv_command.specs.Texts.{optional_text};
 ghost use Rattle.rv_rows.specs.Report.{report_text};
-ghost use Rattle.rvtest_app.specs.CommandStops.{IsShowStop};
+ghost use Rattle.rvtest_app.specs.CommandStops.{IsShowErrorStop};
 ghost use Rattle.rvtest_app.specs.OutputWrites.{IsOutputWritten};
 ghost use Rattle.rvtest_app.specs.WriteStops.{IsOutputStop};
 ghost use Rattle.rvtest_app.specs.Commands.{report_judging};
 ghost use Rattle.rvtest_app.specs.RunOutput.{rows_status};
 ghost use Rattle.rvtest_app.specs.ReportSummary.{summary_text};
 ghost use Rattle.rvtest_app.specs.Outlets.{AreFilesPartlyCommitted, file_at};
-ghost use Rattle.rvtest_app.specs.Overwrites.{IsPlacedApart, IsShowFileApart, IsShowOverwriteStop};
-ghost use Rattle.rvtest_app.specs.Shows.{IsShownAt, IsUndoneShowAt, shown_junit};
+ghost use Rattle.rvtest_app.specs.Overwrites.{HoldsIfCommitted, IsShowFileNoInput, IsShowOverwriteStop};
+ghost use Rattle.rvtest_app.specs.Shows.{IsShowWritten, IsAbortedShowAt, shown_junit};
 ghost use Rattle.rvtest_app.specs.CommandOutputs.{outputs_of};
 
 use crate::destinations::Destinations;
 use crate::junit_class::suite_name;
 use crate::outlets::{abandon_outlets, open_outlets};
-use crate::output_writes::put_shown;
-use crate::overwrites::{look_up_files, read_paths_of_words, refuse_overwrite};
+use crate::output_writes::write_shown;
+use crate::overwrites::{identified_files, inputs_of_args, reject_option_overwrite};
 use crate::report_summary::push_summary;
 use crate::rules::{report_judge, rows_status};
-use crate::whole_files::put_whole_files;
-use rv_command::{RequestedReport, Stop, cut_off_note, put_message, read_requested_report};
+use crate::whole_files::write_whole_files;
+use rv_command::{RequestedReport, Stop, truncation_note, write_message, read_requested_report};
 use rv_expect::Judge;
 use rv_files::{Inputs, Outputs, Sink};
 use rv_junit::Suite;
@@ -47,43 +47,43 @@ pub(crate) fn show_report<D: Inputs, F: Outputs + Drop, O: Sink + Drop, E: Sink 
     to: &mut Destinations<F, O, E>,
 ) -> Result<u8, Stop>
     ensures low { IfOk result (λ status. status ≤ 1) }
-    ensures shown { IfOk result (λ status. IsShownAt (D.contents inputs.now) args.entry status
+    ensures shown { IfOk result (λ status. IsShowWritten (D.contents inputs.now) args.entry status
         (outputs_of F.placed O.taken E.taken E.failed to.old) (outputs_of F.placed O.taken E.taken E.failed to.new)) }
-    ensures undone { OnErr result (IsUndoneShowAt (D.contents inputs.now) args.entry
+    ensures undone { OnErr result (IsAbortedShowAt (D.contents inputs.now) args.entry
         (F.placed to.old.files) (F.placed to.new.files)) }
-    ensures stopped { IfErr result (IsShowStop (D.contents inputs.now) args.entry) }
+    ensures stopped { IfErr result (IsShowErrorStop (D.contents inputs.now) args.entry) }
     // The report is not overwritten.
-    ensures kept { IsPlacedApart (IsShowFileApart args.entry) (F.placed to.old.files) (F.placed to.new.files) }
+    ensures kept { HoldsIfCommitted (IsShowFileNoInput args.entry) (F.placed to.old.files) (F.placed to.new.files) }
 {
-    refuse_show_overwrite(&to.files, alloc, &args)?;
+    reject_show_overwrite(&to.files, alloc, &args)?;
     let requested = RequestedReport {
         path: args.report,
         partial: args.partial,
     };
     let found = read_requested_report(inputs, alloc, requested)?;
-    let note = cut_off_note(alloc, args.report, &found)?;
+    let note = truncation_note(alloc, args.report, &found)?;
     let summarized = summarize_report(alloc, args, found.report)?;
-    put_message(&mut to.errors, note.as_slice());
+    write_message(&mut to.errors, note.as_slice());
     let status = summarized.status;
-    put_summarized_report(alloc, args, summarized, to)?;
+    write_summarized_report(alloc, args, summarized, to)?;
     Ok(status)
 }
 
 // Returns an error if the JUnit file would overwrite the report.
-fn refuse_show_overwrite<F: Outputs>(
+fn reject_show_overwrite<F: Outputs>(
     files: &F,
     alloc: Global,
     args: &ShowArgs<'_>,
 ) -> Result<(), Stop>
-    ensures apart { OnOk result (IfSome (F.placed files.now) (λ _. IsShowFileApart args.now)) }
+    ensures apart { OnOk result (IfSome (F.placed files.now) (λ _. IsShowFileNoInput args.now)) }
     ensures stopped { IfErr result (IsShowOverwriteStop args.now) }
 {
-    let read = look_up_files(
+    let read = identified_files(
         files,
         alloc,
-        read_paths_of_words(alloc, &[args.report], "the report")?,
+        inputs_of_args(alloc, &[args.report], "the report")?,
     )?;
-    refuse_overwrite(files, alloc, "--junit", args.junit, &read)
+    reject_option_overwrite(files, alloc, "--junit", args.junit, &read)
 }
 
 // Returns the report together with its summary and the exit status.
@@ -111,7 +111,7 @@ fn summarize_report(
 }
 
 // Writes the summary and, if requested, the JUnit XML.
-fn put_summarized_report<F: Outputs + Drop, O: Sink + Drop, E: Sink + Drop>(
+fn write_summarized_report<F: Outputs + Drop, O: Sink + Drop, E: Sink + Drop>(
     alloc: Global,
     args: ShowArgs<'_>,
     summarized: SummarizedReport,
@@ -135,8 +135,8 @@ fn put_summarized_report<F: Outputs + Drop, O: Sink + Drop, E: Sink + Drop>(
         name: suite_name(args.suite, args.report).as_bytes(),
         judge: report_judge(args.lenient),
     };
-    match put_shown(to, summary.as_slice(), outlets.use_stdout()) {
-        Ok(()) => put_whole_files(alloc, to, outlets, suite, report.rows),
+    match write_shown(to, summary.as_slice(), outlets.use_stdout()) {
+        Ok(()) => write_whole_files(alloc, to, outlets, suite, report.rows),
         Err(stop) => {
             abandon_outlets(&mut to.files, outlets);
             Err(stop)
@@ -147,7 +147,7 @@ fn put_summarized_report<F: Outputs + Drop, O: Sink + Drop, E: Sink + Drop>(
 // Returns what `show` prints about the rows of a report: the failures, the totals, and the rows with the most steps.
 fn summary_text(alloc: Global, judge: &Judge<'_>, rows: &[Row]) -> Result<Vec<u8>, AllocError>
     requires { length rows.now < 2 ^ 32 }
-    ensures { IfOk result (λ text. text.items ≡ summary_text (judging_of judge.now) rows.now) }
+    ensures { IfOk result (λ text. text.items ≡ summary_text (judge_view judge.now) rows.now) }
 {
     let mut text = Vec::new(alloc);
     push_summary(alloc, &mut text, judge, rows)?;

@@ -2,12 +2,12 @@
 
 ghost use Rattle.std.specs.Prelude.{◌≡◌, ◌≤◌, [], ℕ, List, IfErr, IfOk, IfSome, None, OnOk, is_some, length, true};
 ghost use Rattle.std.specs.Io.KnownBytes.{Appends};
-ghost use Rattle.rv_expect.specs.Judgement.{judging_of};
+ghost use Rattle.rv_expect.specs.Judgement.{judge_view};
 ghost use Rattle.rv_job_text.specs.RowReporter.{row_lines_at, reporter_of};
 ghost use Rattle.rv_junit.specs.KnownLines.{AreFailureTexts, AreLinesOf};
 ghost use Rattle.rv_rows.specs.declared_row.Row.{Row as ARow};
 ghost use Rattle.rv_stream.specs.Streams.{joined_row_texts};
-ghost use Rattle.rvtest_app.specs.FailureLines.{failure_lines, keeps_failures};
+ghost use Rattle.rvtest_app.specs.FailureLines.{failure_lines, stores_failure_texts};
 ghost use Rattle.rvtest_app.specs.IntoReports.{report_row_text};
 ghost use Rattle.rvtest_app.specs.RowSinks.{AreRowsWritten};
 ghost use Rattle.rvtest_app.specs.RunOutput.{run_output_text};
@@ -18,7 +18,7 @@ use crate::crew::requested_crew;
 use crate::planned_run::PlannedRun;
 use crate::report_row_reporter::ReportRowReporter;
 use crate::run::ListRun;
-use crate::run_output::{ShowError, put_totals_line, rows_if_written};
+use crate::run_output::{ShowError, write_totals_line, rows_if_written};
 use crate::terminals::Terminals;
 use rv_files::{Inputs, Sink};
 use rv_job_text::{TextReporter, Verbosity};
@@ -35,7 +35,7 @@ use std::time::Clock;
 
 /// The stream on which a run is shown.
 #[derive(Drop)]
-pub(crate) struct ShownOn<W: Drop> {
+pub(crate) struct RunDisplay<W: Drop> {
     pub(crate) stream: W,
     pub(crate) is_terminal: bool,
 }
@@ -59,7 +59,7 @@ impl<'x, R: Threads + Wait + Sync + Clock, D: Inputs> ListRun<'x, R, D> {
     >(
         &self,
         planned: &PlannedRun<'m>,
-        shown: ShownOn<W>,
+        shown: RunDisplay<W>,
         rows: &ReportRowReporter,
         sink: Option<V>,
         terminals: Terminals<P>,
@@ -67,20 +67,20 @@ impl<'x, R: Threads + Wait + Sync + Clock, D: Inputs> ListRun<'x, R, D> {
         requires there { is_some sink ≡ K.sends }
         requires sink { IfSome sink (λ sink. (K.before ≡ V.taken sink) × (K.failures ≡ V.failed sink)) }
         requires line { report_row_text rows.now.is_streaming ≡ K.line }
-        requires judging { judging_of planned.now.reporter.now.judge ≡ K.judging }
-        requires keeps { keeps_failures self.now.args.now planned.now.reporter.now.verbosity ≡ K.keeps }
+        requires judging { judge_view planned.now.reporter.now.judge ≡ K.judging }
+        requires keeps { stores_failure_texts self.now.args.now planned.now.reporter.now.verbosity ≡ K.keeps }
         ensures rows { IfOk result.2.ran (λ rows. rows ≡ run_rows self.now.args.now.stop_after
-            (judging_of planned.now.reporter.now.judge) planned.now.reporter.now.plan.now planned.now.places.now) }
+            (judge_view planned.now.reporter.now.judge) planned.now.reporter.now.plan.now planned.now.places.now) }
         ensures few { IfOk result.2.ran (λ rows. length rows ≤ length planned.now.places.now) }
         ensures shown { OnOk result.2.ran (Appends (W.taken shown.stream) (W.taken result.0)
             (run_output_text (row_lines_at (reporter_of planned.now.reporter.now))
-            (judging_of planned.now.reporter.now.judge) planned.now.reporter.now.plan.now planned.now.places.now
-            (run_rows self.now.args.now.stop_after (judging_of planned.now.reporter.now.judge)
+            (judge_view planned.now.reporter.now.judge) planned.now.reporter.now.plan.now planned.now.places.now
+            (run_rows self.now.args.now.stop_after (judge_view planned.now.reporter.now.judge)
             planned.now.reporter.now.plan.now planned.now.places.now))) }
         ensures counted { OnOk result.2.ran (W.failed result.0 ≡ W.failed shown.stream) }
         ensures report { OnOk result.2.ran (AreRowsWritten V.taken V.failed sink result.1
             (joined_row_texts (report_row_text rows.now.is_streaming) planned.now.places.now (run_rows self.now.args.now.stop_after
-            (judging_of planned.now.reporter.now.judge) planned.now.reporter.now.plan.now planned.now.places.now))) }
+            (judge_view planned.now.reporter.now.judge) planned.now.reporter.now.plan.now planned.now.places.now))) }
         ensures sink { is_some result.1 ≡ is_some sink }
         ensures report_failed { IfErr result.2.ran (λ error. error ≡ ReportFailed → is_some sink ≡ true) }
         ensures texts { IfOk result.2.ran (λ rows. AreLinesOf (failure_lines (reporter_of planned.now.reporter.now))
@@ -90,7 +90,7 @@ impl<'x, R: Threads + Wait + Sync + Clock, D: Inputs> ListRun<'x, R, D> {
         let (reporter, places) = (planned.reporter, planned.places);
         let progress = self.run_progress(planned, terminals);
         let counting = ProgressReporter::new(rt, reporter, &progress);
-        let ShownOn {
+        let RunDisplay {
             stream,
             is_terminal,
         } = shown;
@@ -124,7 +124,7 @@ impl<'x, R: Threads + Wait + Sync + Clock, D: Inputs> ListRun<'x, R, D> {
         let (sink, sent) = sender.finish();
         let texts = texts.into_texts();
         let ran = rows_if_written(ran, sent);
-        let ran = put_totals_line(alloc, &reporter.judge, &batch, ran, &mut stream);
+        let ran = write_totals_line(alloc, &reporter.judge, &batch, ran, &mut stream);
         let stream = stream.into_inner();
         progress.finish();
         (stream, sink, ShownRun { texts, ran })
@@ -137,7 +137,7 @@ impl<'x, R: Threads + Wait + Sync + Clock, D: Inputs> ListRun<'x, R, D> {
         terminals: Terminals<P>,
     ) -> Progress<'m, P>
         ensures jobs { result.jobs ≡ length planned.now.places.now }
-        ensures judge { judging_of result.judge ≡ (judging_of planned.now.reporter.now.judge) }
+        ensures judge { judge_view result.judge ≡ (judge_view planned.now.reporter.now.judge) }
         ensures terminal { result.is_terminal ≡ terminals.is_errors_terminal }
     {
         let Terminals {
@@ -156,8 +156,8 @@ impl<'x, R: Threads + Wait + Sync + Clock, D: Inputs> ListRun<'x, R, D> {
 
     // Returns an observer of the rows that stores the texts of failures, if the JUnit document needs them.
     fn failure_texts<'m, K: StreamSpec>(&self, reporter: &TextReporter<'m>) -> FailureTexts<'m, K>
-        requires judging { judging_of reporter.now.judge ≡ K.judging }
-        requires keeps { keeps_failures self.now.args.now reporter.now.verbosity ≡ K.keeps }
+        requires judging { judge_view reporter.now.judge ≡ K.judging }
+        requires keeps { stores_failure_texts self.now.args.now reporter.now.verbosity ≡ K.keeps }
         ensures { AreFailureTexts K.judging result.is_closed result.texts.items [] }
     {
         let is_needed = match reporter.verbosity {

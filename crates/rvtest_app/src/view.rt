@@ -7,8 +7,8 @@ ghost use Rattle.rv_profile.specs.JobImages.{AreSmall, images_of_files};
 ghost use Rattle.rv_stream.specs.Choices.{AreJobIndices};
 ghost use Rattle.rvtest_app.specs.Runs.{selected_job_indices};
 ghost use Rattle.rvtest_app.specs.CommandOutputs.{outputs_of};
-ghost use Rattle.rvtest_app.specs.ViewStops.{IsTableTextStop, IsUnshownStop, IsUnviewedStop, IsViewStop, counts_source};
-ghost use Rattle.rvtest_app.specs.Views.{IsViewOfPlaces, IsViewOfPlan, IsViewWritten, IsViewText};
+ghost use Rattle.rvtest_app.specs.ViewStops.{IsTableTextStop, IsUnshownStop, IsViewFailedStop, IsViewStop, counts_source};
+ghost use Rattle.rvtest_app.specs.Views.{IsViewOfJobs, IsViewOfPlan, IsViewWritten, IsViewText};
 
 use crate::destinations::Destinations;
 use crate::host::Host;
@@ -17,7 +17,7 @@ use crate::profile_text::text_of_profile;
 use crate::refused_note::refused_note;
 use crate::rules::failure_rule;
 use crate::run::{ListRun, gather_jobs_at};
-use rv_command::{DONE, Stop, put_message, put_results};
+use rv_command::{DONE, Stop, write_message, write_results};
 use rv_count_tables::CountTable;
 use rv_files::{Inputs, Outputs, RecordingStore, Sink};
 use rv_profile::{ImageFile, ProfileFormat, cover_text, images_of_jobs};
@@ -67,26 +67,26 @@ impl<'x, R: Threads + Wait + Sync, D: Inputs> JobsView<'x, R, D> {
             rule: failure_rule(self.args.lenient),
         };
         let requested = run.requested_jobs(command)?;
-        put_message(&mut to.errors, requested.notes.as_slice());
+        write_message(&mut to.errors, requested.notes.as_slice());
         let RequestedJobs { jobs, marks, .. } = requested;
         match marks {
-            Some(marks) => self.put_of_selected(jobs, marks.as_slice(), to),
+            Some(marks) => self.write_selected(jobs, marks.as_slice(), to),
             None => Ok(DONE),
         }
     }
 
     // Writes the notes about missing images and refused jobs, and then the view of the selected jobs.
-    fn put_of_selected<F: Outputs + Drop, O: Sink + Drop, E: Sink + Drop>(
+    fn write_selected<F: Outputs + Drop, O: Sink + Drop, E: Sink + Drop>(
         &self,
         jobs: JobList,
         marks: &[bool],
         to: &mut Destinations<F, O, E>,
     ) -> Result<u8, Stop>
         requires { length marks.now ≡ length jobs }
-        ensures put { IfOk result (λ status. (status ≡ 0) × IsViewOfPlaces (D.contents self.now.host.now.inputs.now)
+        ensures put { IfOk result (λ status. (status ≡ 0) × IsViewOfJobs (D.contents self.now.host.now.inputs.now)
             self.now.args.now self.now.view jobs (selected_job_indices marks.now)
             (outputs_of F.placed O.taken E.taken E.failed to.old) (outputs_of F.placed O.taken E.taken E.failed to.new)) }
-        ensures stopped { IfErr result (IsUnviewedStop (D.contents self.now.host.now.inputs.now) self.now.args.now
+        ensures stopped { IfErr result (IsViewFailedStop (D.contents self.now.host.now.inputs.now) self.now.args.now
             self.now.view jobs (selected_job_indices marks.now)) }
     {
         let (alloc, inputs) = (self.host.alloc, self.host.inputs);
@@ -95,14 +95,14 @@ impl<'x, R: Threads + Wait + Sync, D: Inputs> JobsView<'x, R, D> {
         let mut store = RecordingStore::new(inputs, alloc, self.args.root);
         let plan = gather_jobs_at(alloc, jobs, places, &mut store)?;
         let note = refused_note(alloc, self.args, &plan, store.unreadable_paths(), places)?;
-        put_message(&mut to.errors, note.as_slice());
-        let text = self.text_of_places(&plan, places)?;
-        put_results(&mut to.out, text.as_slice())?;
+        write_message(&mut to.errors, note.as_slice());
+        let text = self.view_of_jobs(&plan, places)?;
+        write_results(&mut to.out, text.as_slice())?;
         Ok(DONE)
     }
 
     // Returns the view of the images of the jobs at these indices of a plan.
-    fn text_of_places(&self, plan: &Plan, places: &[usize]) -> Result<Vec<u8>, Stop>
+    fn view_of_jobs(&self, plan: &Plan, places: &[usize]) -> Result<Vec<u8>, Stop>
         requires within { AreJobIndices plan.now places.now }
         requires rising { IsStrictlyIncreasing places.now }
         requires small { AreSmall plan.now.answers }
@@ -114,13 +114,13 @@ impl<'x, R: Threads + Wait + Sync, D: Inputs> JobsView<'x, R, D> {
         let files = images_of_jobs(self.host.alloc, plan, places)?;
         let images = files.as_slice();
         let table = self.table_for_images(plan, places, images)?;
-        self.text_of_table(&table, images)
+        self.view_of_table(&table, images)
     }
 }
 
 impl<'x, R, D> JobsView<'x, R, D> {
     // Returns the view of these images, computed from a table of counts.
-    fn text_of_table(&self, table: &CountTable, images: &[ImageFile<'_>]) -> Result<Vec<u8>, Stop>
+    fn view_of_table(&self, table: &CountTable, images: &[ImageFile<'_>]) -> Result<Vec<u8>, Stop>
         requires { IsTable table.now }
         ensures shown { IfOk result (λ text. IsViewText self.now.view table.now (images_of_files images.now) text.items) }
         ensures stopped { IfErr result (IsTableTextStop self.now.view table.now (images_of_files images.now)

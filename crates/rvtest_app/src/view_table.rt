@@ -5,12 +5,12 @@ ghost use Rattle.std.specs.List.Sorted.{IsStrictlyIncreasing};
 ghost use Rattle.rv_command.specs.Texts.{optional_text};
 ghost use Rattle.rv_profile.specs.ImageCounts.{other_image};
 ghost use Rattle.rv_profile.specs.JobImages.{images_of, images_of_files};
-ghost use Rattle.rv_stacks.specs.JobTables.{IsTableOfPlaces, jobs_at};
+ghost use Rattle.rv_stacks.specs.JobTables.{IsTableOfJobsAt, jobs_at};
 ghost use Rattle.rv_stream.specs.Choices.{AreJobIndices};
 ghost use Rattle.rv_stacks.specs.StackTables.{IsTableWithStacks};
 ghost use Rattle.rvtest_app.specs.CountSums.{IsTableAt};
-ghost use Rattle.rvtest_app.specs.ViewStops.{IsNoTableStop, IsUncountedStop, IsUnfitTableStop, IsUnstackedJobsStop, IsUntabledStop, no_stacks_message, other_image_message};
-ghost use Rattle.rvtest_app.specs.Views.{IsCountedFor, IsFitTableAt, IsTableFor, has_counts_for};
+ghost use Rattle.rvtest_app.specs.ViewStops.{IsNoTableStop, IsUncountedStop, IsMismatchedTableStop, IsStackSumOfJobsStop, IsNoViewTableStop, no_stacks_message, other_image_message};
+ghost use Rattle.rvtest_app.specs.Views.{IsRunTableForView, IsMatchingTableAt, IsTableForView, has_counts_for};
 
 use crate::counts::{sum_error_stop, table_of_text};
 use crate::crew::requested_crew;
@@ -41,13 +41,13 @@ impl<'x, R: Threads + Wait + Sync, D: Inputs> JobsView<'x, R, D> {
         requires within { AreJobIndices plan.now places.now }
         requires rising { IsStrictlyIncreasing places.now }
         requires images { images_of_files images.now ≡ images_of plan.now.answers (jobs_at plan.now places.now) }
-        ensures table { IfOk result (IsTableFor (D.contents self.now.host.now.inputs.now) self.now.view
+        ensures table { IfOk result (IsTableForView (D.contents self.now.host.now.inputs.now) self.now.view
             (optional_text self.now.args.now.counts) plan.now places.now) }
-        ensures stopped { IfErr result (IsUntabledStop (D.contents self.now.host.now.inputs.now) self.now.args.now
+        ensures stopped { IfErr result (IsNoViewTableStop (D.contents self.now.host.now.inputs.now) self.now.args.now
             self.now.view (optional_text self.now.args.now.counts) plan.now places.now) }
     {
         match self.args.counts {
-            Some(path) => self.read_fit_table(path, images),
+            Some(path) => self.read_matching_table(path, images),
             None => self.count_jobs(plan, places),
         }
     }
@@ -56,7 +56,7 @@ impl<'x, R: Threads + Wait + Sync, D: Inputs> JobsView<'x, R, D> {
     fn count_jobs(&self, plan: &Plan, places: &[usize]) -> Result<CountTable, Stop>
         requires within { AreJobIndices plan.now places.now }
         requires rising { IsStrictlyIncreasing places.now }
-        ensures counted { IfOk result (IsCountedFor self.now.view plan.now places.now) }
+        ensures counted { IfOk result (IsRunTableForView self.now.view plan.now places.now) }
         ensures stopped { IfErr result (IsUncountedStop self.now.view plan.now places.now self.now.args.now.list.now) }
     {
         match self.view {
@@ -67,10 +67,10 @@ impl<'x, R: Threads + Wait + Sync, D: Inputs> JobsView<'x, R, D> {
 
     // Reads the table at the path. Returns an error if it lacks the counts that the view needs, or counted an image that is not one of
     // `images`.
-    fn read_fit_table(&self, path: &str, images: &[ImageFile<'_>]) -> Result<CountTable, Stop>
-        ensures table { IfOk result (IsFitTableAt (D.contents self.now.host.now.inputs.now) self.now.view path.now
+    fn read_matching_table(&self, path: &str, images: &[ImageFile<'_>]) -> Result<CountTable, Stop>
+        ensures table { IfOk result (IsMatchingTableAt (D.contents self.now.host.now.inputs.now) self.now.view path.now
             (images_of_files images.now)) }
-        ensures stopped { IfErr result (IsUnfitTableStop (D.contents self.now.host.now.inputs.now) self.now.view path.now
+        ensures stopped { IfErr result (IsMismatchedTableStop (D.contents self.now.host.now.inputs.now) self.now.view path.now
             (images_of_files images.now)) }
     {
         let alloc = self.host.alloc;
@@ -78,7 +78,7 @@ impl<'x, R: Threads + Wait + Sync, D: Inputs> JobsView<'x, R, D> {
         if has_counts_for(self.view, &table) {
             Ok(table)
         } else {
-            Err(Stop::of_refusal(no_stacks_message(alloc, path)))
+            Err(Stop::rejection(no_stacks_message(alloc, path)))
         }
     }
 }
@@ -92,7 +92,7 @@ fn counts_of_jobs<R: Threads + Wait + Sync, D>(
 ) -> Result<CountTable, AllocError>
     requires within { AreJobIndices plan.now places.now }
     requires rising { IsStrictlyIncreasing places.now }
-    ensures { IfOk result (IsTableOfPlaces plan.now places.now) }
+    ensures { IfOk result (IsTableOfJobsAt plan.now places.now) }
 {
     let crew = requested_crew(host.rt, host.alloc, args);
     count_batch(&crew, &Batch::new(plan, places))
@@ -108,7 +108,7 @@ fn counts_with_stacks_of_jobs<R: Threads + Wait + Sync, D>(
     requires within { AreJobIndices plan.now places.now }
     requires rising { IsStrictlyIncreasing places.now }
     ensures stacks { IfOk result (IsTableWithStacks plan.now places.now) }
-    ensures stopped { IfErr result (IsUnstackedJobsStop plan.now places.now args.now.list.now) }
+    ensures stopped { IfErr result (IsStackSumOfJobsStop plan.now places.now args.now.list.now) }
 {
     let crew = requested_crew(host.rt, host.alloc, args);
     match count_batch_with_stacks(&crew, &Batch::new(plan, places)) {
@@ -131,7 +131,7 @@ fn read_table_for_images<D: Inputs>(
     let text = read_result_file(inputs, alloc, path)?;
     let table = table_of_text(alloc, path, text.as_slice())?;
     match other_image(alloc, &table, images)? {
-        Some(other) => Err(Stop::of_refusal(other_image_message(alloc, path, other))),
+        Some(other) => Err(Stop::rejection(other_image_message(alloc, path, other))),
         None => Ok(table),
     }
 }

@@ -2,9 +2,9 @@
 
 ghost use Rattle.std.specs.Prelude.{◌≡◌, ◌++◌, [], ℕ, List, Option, IfErr, OnErr, OnOk, Some};
 ghost use Rattle.std.specs.Io.KnownBytes.{Appends};
-ghost use Rattle.rv_expect.specs.Judgement.{judging_of};
+ghost use Rattle.rv_expect.specs.Judgement.{judge_view};
 ghost use Rattle.rv_rows.specs.Report.{report_text};
-ghost use Rattle.rvtest_app.specs.Outlets.{AreFilesCommitted, AreFilesPartlyCommitted, HasTaken, file_at, has_no_failure, outlet_path, stdout_at};
+ghost use Rattle.rvtest_app.specs.Outlets.{AreFilesCommitted, AreFilesPartlyCommitted, HasReceived, file_at, has_no_failure, outlet_path, stdout_at};
 ghost use Rattle.rvtest_app.specs.WriteStops.{IsOutputWriteStop};
 ghost use Rattle.rvtest_app.specs.JunitTexts.{failures_junit};
 
@@ -21,7 +21,7 @@ use rv_rows::Rows;
 use std::alloc::Global;
 
 /// Writes the report of all rows and their JUnit XML to their outlets, and then moves the files to their paths.
-pub(crate) fn put_whole_files<F: Outputs + Drop, O: Sink + Drop, E: Sink + Drop>(
+pub(crate) fn write_whole_files<F: Outputs + Drop, O: Sink + Drop, E: Sink + Drop>(
     alloc: Global,
     to: &mut Destinations<F, O, E>,
     outlets: Outlets<'_, F::Place, F::File>,
@@ -32,21 +32,21 @@ pub(crate) fn put_whole_files<F: Outputs + Drop, O: Sink + Drop, E: Sink + Drop>
     requires junit { has_no_failure F.File.failed outlets.junit }
     ensures errors { to.new.errors ≡ to.old.errors }
     ensures put { (report_path junit_path : Option (List ℕ))
-        → HasTaken F.pending_path F.File.taken F.File.failed (F.placed to.old.files) report_path [] outlets.entry.report
-        → HasTaken F.pending_path F.File.taken F.File.failed (F.placed to.old.files) junit_path [] outlets.entry.junit
+        → HasReceived F.pending_path F.File.taken F.File.failed (F.placed to.old.files) report_path [] outlets.entry.report
+        → HasReceived F.pending_path F.File.taken F.File.failed (F.placed to.old.files) junit_path [] outlets.entry.junit
         → OnOk result (Appends (O.taken to.old.out) (O.taken to.new.out)
-        (stdout_at junit_path (failures_junit suite.entry.name.now (judging_of suite.entry.judge) rows)
+        (stdout_at junit_path (failures_junit suite.entry.name.now (judge_view suite.entry.judge) rows)
         ++ stdout_at report_path (report_text rows))) }
     ensures placed { (report_path junit_path : Option (List ℕ))
-        → HasTaken F.pending_path F.File.taken F.File.failed (F.placed to.old.files) report_path [] outlets.entry.report
-        → HasTaken F.pending_path F.File.taken F.File.failed (F.placed to.old.files) junit_path [] outlets.entry.junit
+        → HasReceived F.pending_path F.File.taken F.File.failed (F.placed to.old.files) report_path [] outlets.entry.report
+        → HasReceived F.pending_path F.File.taken F.File.failed (F.placed to.old.files) junit_path [] outlets.entry.junit
         → OnOk result (AreFilesCommitted (F.placed to.old.files) (F.placed to.new.files)
-        (Some (file_at junit_path (failures_junit suite.entry.name.now (judging_of suite.entry.judge) rows)
+        (Some (file_at junit_path (failures_junit suite.entry.name.now (judge_view suite.entry.judge) rows)
         ++ file_at report_path (report_text rows)))) }
     ensures part { (junit_path : Option (List ℕ))
-        → HasTaken F.pending_path F.File.taken F.File.failed (F.placed to.old.files) junit_path [] outlets.entry.junit
+        → HasReceived F.pending_path F.File.taken F.File.failed (F.placed to.old.files) junit_path [] outlets.entry.junit
         → OnErr result (AreFilesPartlyCommitted (F.placed to.old.files) (F.placed to.new.files)
-        (Some (file_at junit_path (failures_junit suite.entry.name.now (judging_of suite.entry.judge) rows)))) }
+        (Some (file_at junit_path (failures_junit suite.entry.name.now (judge_view suite.entry.judge) rows)))) }
     ensures stopped { IfErr result
         (IsOutputWriteStop (outlet_path outlets.entry.report) (outlet_path outlets.entry.junit)) }
 {

@@ -1,11 +1,11 @@
 //! The whole report of a list into which a run merges its rows.
 
 ghost use Rattle.std.specs.Prelude.{◌≡◌, ◌≤◌, IfErr, IfOk, IfSome, None, length};
-ghost use Rattle.rv_files.specs.Limits.{most_jobs};
+ghost use Rattle.rv_files.specs.Limits.{max_jobs};
 ghost use Rattle.rv_rows.specs.Saved.{row_names};
 ghost use Rattle.rvtest_app.specs.IntoReports.{IsWholeReport, IsWholeReportAt, job_names};
-ghost use Rattle.rvtest_app.specs.IntoStops.{IsFirstOtherName, IsNotWholeReportStop, IsNotWhole, count_refusal};
-ghost use Rattle.rvtest_app.specs.IntoStops.{jobs_of_partial_report, name_refusal, not_whole_refusal, part_refusal};
+ghost use Rattle.rvtest_app.specs.IntoStops.{IsFirstNameMismatch, IsNotWholeReportStop, IsNotWholeBecause, row_count_message};
+ghost use Rattle.rvtest_app.specs.IntoStops.{jobs_of_partial_report, name_mismatch_message, not_whole_message, part_refusal};
 
 use rv_command::{Stop, read_report_file};
 use rv_files::Inputs;
@@ -15,24 +15,24 @@ use std::alloc::{AllocError, Global};
 
 /// Why a report is not a report of all jobs of a list.
 #[derive(Clone, Copy)]
-pub(crate) enum NotWhole<'a> {
+pub(crate) enum NotWholeReason<'a> {
     /// It has only this many rows, of a list of this many jobs.
     Part(usize, u32),
     /// It has this many rows, but the list has this many jobs.
     Count(usize, usize),
     /// A row has another name than the job of the list.
-    Name(OtherName<'a>),
+    Name(NameMismatch<'a>),
 }
 
 /// The number of a job, counted from 1, its name in the report, and its name in the list.
 #[derive(Clone, Copy)]
-pub(crate) struct OtherName<'a> {
+pub(crate) struct NameMismatch<'a> {
     pub(crate) number: usize,
     pub(crate) in_report: &'a str,
     pub(crate) listed: &'a str,
 }
 
-const WANTED: &str = ": --into expects a report of the whole list\n";
+const EXPECTED_WHOLE_REPORT: &str = ": --into expects a report of the whole list\n";
 
 /// Returns the rows of the report at `path`, which must have one row for each job of the list at `list`, in list order.
 pub(crate) fn read_whole_report<D: Inputs>(
@@ -47,27 +47,27 @@ pub(crate) fn read_whole_report<D: Inputs>(
     ensures stopped { IfErr result (IsNotWholeReportStop (D.contents inputs.now) path.now list.now jobs.now) }
 {
     let report = read_report_file(inputs, alloc, path)?;
-    match not_whole(&report, jobs) {
+    match not_whole_reason(&report, jobs) {
         None => Ok(report.rows),
-        Some(other) => Err(Stop::of_refusal(not_whole_refusal(alloc, path, list, other))),
+        Some(other) => Err(Stop::rejection(not_whole_message(alloc, path, list, other))),
     }
 }
 
 // Returns the reason why a report is not a report of all jobs of a list; `None` if it is one.
-fn not_whole<'a>(report: &'a SavedReport, jobs: &'a [Job]) -> Option<NotWhole<'a>>
-    requires few { length report.now.rows ≤ most_jobs }
+fn not_whole_reason<'a>(report: &'a SavedReport, jobs: &'a [Job]) -> Option<NotWholeReason<'a>>
+    requires few { length report.now.rows ≤ max_jobs }
     ensures whole { result ≡ None → IsWholeReport jobs.now report.now }
-    ensures other { IfSome result (IsNotWhole jobs.now report.now) }
+    ensures other { IfSome result (IsNotWholeBecause jobs.now report.now) }
 {
     let rows = report.rows.as_slice();
     if let Some(count) = jobs_of_partial_report(&report.extent) {
-        return Some(NotWhole::Part(rows.len(), count));
+        return Some(NotWholeReason::Part(rows.len(), count));
     }
     if rows.len() != jobs.len() {
-        return Some(NotWhole::Count(rows.len(), jobs.len()));
+        return Some(NotWholeReason::Count(rows.len(), jobs.len()));
     }
-    match first_other_name(rows, jobs) {
-        Some(name) => Some(NotWhole::Name(name)),
+    match first_name_mismatch(rows, jobs) {
+        Some(name) => Some(NotWholeReason::Name(name)),
         None => None,
     }
 }
@@ -84,15 +84,15 @@ fn jobs_of_partial_report(extent: &Extent) -> Option<u32>
 }
 
 // Returns the first index at which the row and the job have different names, with both names; `None` if all names agree.
-fn first_other_name<'a>(rows: &'a [Row], jobs: &'a [Job]) -> Option<OtherName<'a>>
+fn first_name_mismatch<'a>(rows: &'a [Row], jobs: &'a [Job]) -> Option<NameMismatch<'a>>
     requires { length rows.now ≡ length jobs.now }
     ensures same { result ≡ None → row_names rows.now ≡ job_names jobs.now }
-    ensures first { IfSome result (IsFirstOtherName (row_names rows.now) (job_names jobs.now)) }
+    ensures first { IfSome result (IsFirstNameMismatch (row_names rows.now) (job_names jobs.now)) }
 {
     for place in 0..rows.len() {
         let (met, listed) = (rows[place].name.as_str(), jobs[place].name.as_str());
         if met != listed {
-            return Some(OtherName {
+            return Some(NameMismatch {
                 number: place + 1,
                 in_report: met,
                 listed,
@@ -103,18 +103,18 @@ fn first_other_name<'a>(rows: &'a [Row], jobs: &'a [Job]) -> Option<OtherName<'a
 }
 
 // Returns the message that the report at `path` is not a report of all jobs of the list at `list`, with the reason.
-fn not_whole_refusal<'a>(
+fn not_whole_message<'a>(
     alloc: Global,
     path: &'a str,
     list: &'a str,
-    other: NotWhole<'a>,
+    other: NotWholeReason<'a>,
 ) -> Result<Vec<u8>, AllocError>
-    ensures { IfOk result (λ text. text.items ≡ not_whole_refusal path.now list.now other.entry) }
+    ensures { IfOk result (λ text. text.items ≡ not_whole_message path.now list.now other.entry) }
 {
     match other {
-        NotWhole::Part(rows, jobs) => part_refusal(alloc, path, rows, jobs),
-        NotWhole::Count(rows, jobs) => count_refusal(alloc, path, list, rows, jobs),
-        NotWhole::Name(name) => name_refusal(alloc, path, list, name),
+        NotWholeReason::Part(rows, jobs) => part_refusal(alloc, path, rows, jobs),
+        NotWholeReason::Count(rows, jobs) => row_count_message(alloc, path, list, rows, jobs),
+        NotWholeReason::Name(name) => name_mismatch_message(alloc, path, list, name),
     }
 }
 
@@ -137,20 +137,20 @@ fn part_refusal<'a>(
             Span::Text(" of "),
             Span::Count(u64::from(jobs), "job"),
             Span::Text(")"),
-            Span::Text(WANTED),
+            Span::Text(EXPECTED_WHOLE_REPORT),
         ],
     )
 }
 
 // Returns the message that the report at `path` has `rows` rows, but the list at `list` has `jobs` jobs.
-fn count_refusal<'a>(
+fn row_count_message<'a>(
     alloc: Global,
     path: &'a str,
     list: &'a str,
     rows: usize,
     jobs: usize,
 ) -> Result<Vec<u8>, AllocError>
-    ensures { IfOk result (λ text. text.items ≡ count_refusal path.now list.now rows jobs) }
+    ensures { IfOk result (λ text. text.items ≡ row_count_message path.now list.now rows jobs) }
 {
     text_of_spans(
         alloc,
@@ -163,20 +163,20 @@ fn count_refusal<'a>(
             Span::Shown(list.as_bytes()),
             Span::Text(" has "),
             Span::Count(jobs as u64, "job"),
-            Span::Text(WANTED),
+            Span::Text(EXPECTED_WHOLE_REPORT),
         ],
     )
 }
 
 // Returns the message that the job with this number has different names in the report at `path` and in the list at `list`.
-fn name_refusal<'a>(
+fn name_mismatch_message<'a>(
     alloc: Global,
     path: &'a str,
     list: &'a str,
-    name: OtherName<'a>,
+    name: NameMismatch<'a>,
 ) -> Result<Vec<u8>, AllocError>
     ensures { IfOk result (λ text. text.items
-        ≡ name_refusal path.now list.now name.entry.number name.entry.in_report.now name.entry.listed.now) }
+        ≡ name_mismatch_message path.now list.now name.entry.number name.entry.in_report.now name.entry.listed.now) }
 {
     text_of_spans(
         alloc,
@@ -191,7 +191,7 @@ fn name_refusal<'a>(
             Span::Text(name.listed),
             Span::Text("\" in "),
             Span::Shown(list.as_bytes()),
-            Span::Text(WANTED),
+            Span::Text(EXPECTED_WHOLE_REPORT),
         ],
     )
 }

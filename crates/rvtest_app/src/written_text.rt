@@ -4,14 +4,14 @@ ghost use Rattle.std.specs.Prelude.{◌≡◌, ◌⊎◌, ◌∷◌, [], ℕ, Li
 ghost use Rattle.rv_command.specs.Texts.{optional_text};
 ghost use Rattle.rv_files.specs.CommittedFiles.{CommittedFile, committed_file};
 ghost use Rattle.rvtest_app.specs.AcceptStops.{IsFileNotCreatedStop};
-ghost use Rattle.rvtest_app.specs.Outlets.{AreFilesCommitted, HasTaken, is_stdout, outlet_path};
+ghost use Rattle.rvtest_app.specs.Outlets.{AreFilesCommitted, HasReceived, is_stdout, outlet_path};
 ghost use Rattle.rvtest_app.specs.WriteStops.{IsFileStop};
-ghost use Rattle.rvtest_app.specs.CommandOutputs.{outputs_of, with_placed_if_reported};
+ghost use Rattle.rvtest_app.specs.CommandOutputs.{outputs_of, with_committed_if_reported};
 ghost use Rattle.rvtest_app.specs.WrittenTexts.{IsUnwrittenAtStop, IsWrittenAt, written_path};
 
 use crate::destinations::Destinations;
 use crate::outlets::{OpenFile, Outlet, is_stdout, unwritten_stop};
-use rv_command::{Stop, file_error_stop, put_results};
+use rv_command::{Stop, file_error_stop, write_results};
 use rv_files::{LastError, Outputs, Sink, put_all};
 use std::alloc::Global;
 
@@ -47,7 +47,7 @@ fn write_text_at<F: Outputs + Drop, O: Sink + Drop, E: Sink + Drop>(
     ensures stopped { IfErr result (IsUnwrittenAtStop path.now) }
 {
     if is_stdout(path) {
-        put_results(&mut to.out, bytes)
+        write_results(&mut to.out, bytes)
     } else {
         write_file(&mut to.files, alloc, path, bytes)
     }
@@ -110,16 +110,16 @@ pub(crate) fn finish_file<F: Outputs>(
 }
 
 /// Writes a text to an open and still empty outlet, and moves its file to its path. After an error the file is not created.
-pub(crate) fn put_into_outlet<F: Outputs + Drop, O: Sink + Drop, E: Sink + Drop>(
+pub(crate) fn write_to_outlet<F: Outputs + Drop, O: Sink + Drop, E: Sink + Drop>(
     alloc: Global,
     to: &mut Destinations<F, O, E>,
     outlet: Outlet<'_, F::Place, F::File>,
     bytes: &[u8],
 ) -> Result<(), Stop>
-    requires { (path : Option (List ℕ)) × HasTaken F.pending_path F.File.taken F.File.failed None path [] outlet }
+    requires { (path : Option (List ℕ)) × HasReceived F.pending_path F.File.taken F.File.failed None path [] outlet }
     ensures written { (path : Option (List ℕ)) (earlier : Option (List CommittedFile))
-        → HasTaken F.pending_path F.File.taken F.File.failed earlier path [] outlet.entry → OnOk result (IsWrittenAt path bytes.now
-        (with_placed_if_reported earlier (outputs_of F.placed O.taken E.taken E.failed to.old))
+        → HasReceived F.pending_path F.File.taken F.File.failed earlier path [] outlet.entry → OnOk result (IsWrittenAt path bytes.now
+        (with_committed_if_reported earlier (outputs_of F.placed O.taken E.taken E.failed to.old))
         (outputs_of F.placed O.taken E.taken E.failed to.new)) }
     ensures errors { to.new.errors ≡ to.old.errors }
     ensures same { OnErr result (F.placed to.new.files ≡ F.placed to.old.files) }
@@ -127,7 +127,7 @@ pub(crate) fn put_into_outlet<F: Outputs + Drop, O: Sink + Drop, E: Sink + Drop>
 {
     match outlet {
         Outlet::Nowhere => Ok(()),
-        Outlet::Out => put_results(&mut to.out, bytes),
+        Outlet::Out => write_results(&mut to.out, bytes),
         Outlet::File(file) => finish_file(&mut to.files, alloc, file, bytes),
     }
 }

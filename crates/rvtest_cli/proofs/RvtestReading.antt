@@ -17,15 +17,15 @@ use Rattle.clap.specs.declared.error.kind.ErrorKind.TheVariants.{OutOfMemory}
 use Rattle.clap.specs.declared.parser.matches.ArgMatches.{ArgMatches}
 use Rattle.clap.specs.declared.parser.matches.ArgMatches.TheViews.{out-SubCommand}
 use Rattle.clap.specs.declared.parser.matches.SubCommand.{SubCommand}
-use Rattle.rvtest_cli.specs.RvtestCommand.{test_app}
-use Rattle.rvtest_cli.specs.RvtestWords.{FailsByMisuse, IsRequestInRange, IsMisuseReported, value_of_request, help_command_args, is_command_help, is_help}
-use Rattle.rvtest_cli.specs.RvtestWords.{matched_misuse, matched_request, misuse_kinds, plain_fault_kinds, plain_misuse, words_fault_kinds, words_faults}
-use Rattle.rvtest_cli.specs.RvtestWords.{words_misuse, request_of_args}
-use Rattle.rvtest_cli.specs.WordsErrors.{FailsByKinds, IsErrorOfKinds, IsErrorOfKind}
+use Rattle.rvtest_cli.specs.RvtestCommand.{rvtest_full_app}
+use Rattle.rvtest_cli.specs.RvtestArgs.{FailsByMisuse, IsRequestInRange, IsMisuseReported, value_of_request, help_command_args, is_command_help, is_help}
+use Rattle.rvtest_cli.specs.RvtestArgs.{matched_misuse, matched_request, misuse_kinds, plain_error_kinds, plain_misuse, args_error_kinds, args_errors}
+use Rattle.rvtest_cli.specs.RvtestArgs.{args_misuse, request_of_args}
+use Rattle.rvtest_cli.specs.ArgsErrors.{FailsByKinds, IsErrorOfKinds, IsErrorOfKind}
 use Rattle.rvtest_cli.specs.declared.refusals.Misuse.{Misuse}
 use Rattle.rvtest_cli.specs.declared.requests.Request.{Request}
-use Rattle.rvtest_cli.specs.declared.words_error.WordsError.{WordsError}
-use Rattle.rvtest_cli.specs.declared.words_error.WordsError.TheVariants as error
+use Rattle.rvtest_cli.specs.declared.args_error.ArgsError.{ArgsError}
+use Rattle.rvtest_cli.specs.declared.args_error.ArgsError.TheVariants as error
 
 module _ {Z : Type 0} where
   -- a subcommand that was met, by its name and its values
@@ -41,52 +41,52 @@ module _ {Z : Type 0} where
   none_met (Some b) none = cc
 
 -- a command that is this one has met, with its matches, the subcommand of the words
-pub here : (app : App) (words : List Text) (found : ArgMatches) → app ≡ test_app → HasMatchesOf app words found
-    → subcommand_rows_of found ≡ subcommand_of test_app words
+pub here : (app : App) (words : List Text) (found : ArgMatches) → app ≡ rvtest_full_app → HasMatchesOf app words found
+    → subcommand_rows_of found ≡ subcommand_of rvtest_full_app words
 here app words found is has = (has (ap is_simple is)).1 ∙ ap (λ a. subcommand_of a words) is
 
 -- where `clap` finds no fault, the faults are options that do not go together
-pub faults : (words : List Text) → fault_of test_app words ≡ [] → misuse_kinds (plain_misuse words) ≡ plain_fault_kinds words
-faults words none = sym (past (fault_of test_app words) _ none)
+pub faults : (words : List Text) → fault_of rvtest_full_app words ≡ [] → misuse_kinds (plain_misuse words) ≡ plain_error_kinds words
+faults words none = sym (past (fault_of rvtest_full_app words) _ none)
 
 -- a fault that `clap` finds is one of the faults
-pub refused : (app : App) (words : List Text) (error : Error) → app ≡ test_app → HasKind (fault_of app words) error
-    → HasKind (plain_fault_kinds words) error
+pub refused : (app : App) (words : List Text) (error : Error) → app ≡ rvtest_full_app → HasKind (fault_of app words) error
+    → HasKind (plain_error_kinds words) error
 refused app words error is has =
-    first_fails (fault_of test_app words) _ (kind_of error) (subst (λ a. HasKind (fault_of a words) error) is has)
+    first_fails (fault_of rvtest_full_app words) _ (kind_of error) (subst (λ a. HasKind (fault_of a words) error) is has)
 
 -- an error of one of these kinds is told as one of them
-pub told_of : (kinds : Kinds) (met : ErrorKind) (told : WordsError) → (met ≡ OutOfMemory) ⊎ IsAmong met kinds
+pub plan_text : (kinds : Kinds) (met : ErrorKind) (told : ArgsError) → (met ≡ OutOfMemory) ⊎ IsAmong met kinds
     → IsErrorOfKind met told → IsErrorOfKinds kinds told
-told_of kinds met error.OutOfMemory has is = tt
-told_of kinds met (error.Told fault text) has is =
+plan_text kinds met error.OutOfMemory has is = tt
+plan_text kinds met (error.Told fault text) has is =
     ⊎_elim (λ memory. absurd (is.1 memory)) (λ among. subst (λ k. IsAmong k kinds) (sym is.0) among) has
 
 -- where there is none of any kind, memory was wanting
-pub none_told : (misuse : Option Misuse) (told : WordsError) → IsErrorOfKinds [] told → IsMisuseReported misuse told
+pub none_told : (misuse : Option Misuse) (told : ArgsError) → IsErrorOfKinds [] told → IsMisuseReported misuse told
 none_told misuse error.OutOfMemory is = tt
 none_told misuse (error.Told fault text) is = absurd is
 
 -- want of memory is no fault of words
-pub of_memory : {T : Type 0} (r : Result T WordsError) (kinds : Kinds) → IsErrAnd r (λ e. e ≡ error.OutOfMemory)
+pub of_memory : {T : Type 0} (r : Result T ArgsError) (kinds : Kinds) → IsErrAnd r (λ e. e ≡ error.OutOfMemory)
     → FailsByKinds kinds r
 of_memory (Ok x) kinds fails = absurd fails
 of_memory (Err e) kinds fails = subst (IsErrorOfKinds kinds) (sym fails) tt
 
-pub no_misuse : {T : Type 0} (r : Result T WordsError) (misuse : Option Misuse) → IsErrAnd r (λ e. e ≡ error.OutOfMemory)
+pub no_misuse : {T : Type 0} (r : Result T ArgsError) (misuse : Option Misuse) → IsErrAnd r (λ e. e ≡ error.OutOfMemory)
     → IfErr r (IsMisuseReported misuse)
 no_misuse (Ok x) misuse fails = absurd fails
 no_misuse (Err e) misuse fails = subst (IsMisuseReported misuse) (sym fails) tt
 
 -- options that do not go together are a fault of their kind
-pub kinds_of_misuse : {T : Type 0} (misuse : Option Misuse) (r : Result T WordsError) → FailsByMisuse misuse r
+pub kinds_of_misuse : {T : Type 0} (misuse : Option Misuse) (r : Result T ArgsError) → FailsByMisuse misuse r
     → FailsByKinds (misuse_kinds misuse) r
 kinds_of_misuse misuse (Ok x) fails = ap misuse_kinds fails
 kinds_of_misuse misuse (Err error.OutOfMemory) fails = tt
 kinds_of_misuse None (Err (error.Told fault text)) fails = absurd fails
 kinds_of_misuse (Some misuse) (Err (error.Told fault text)) fails = subst (IsAmong fault) (sym fails.0) (inl refl)
 
-pub told_where_failed : {T : Type 0} (misuse : Option Misuse) (r : Result T WordsError) → FailsByMisuse misuse r
+pub told_where_failed : {T : Type 0} (misuse : Option Misuse) (r : Result T ArgsError) → FailsByMisuse misuse r
     → IfErr r (IsMisuseReported misuse)
 told_where_failed misuse (Ok x) fails = tt
 told_where_failed misuse (Err e) fails = fails
@@ -98,46 +98,46 @@ or_none [] = refl
 or_none (kind ∷ kinds) = refl
 
 -- nothing is within every range
-pub help_within : (r : Result (Option Request) WordsError) → IfOk r (λ request. request ≡ None)
+pub help_within : (r : Result (Option Request) ArgsError) → IfOk r (λ request. request ≡ None)
     → IfOk r (λ request. IfSome request IsRequestInRange)
 help_within r none = IfOk-weaker r _ _ (λ request nothing. subst (λ a. IfSome a IsRequestInRange) (sym nothing) tt) none
 
 -- arguments that request it, in whose place an option requests the same help
 module _ (words help : List Text) (is : help_command_args words ≡ Some help) where
-  pub help_value : (r : Result (Option Request) WordsError) → IfOk r (λ request. request ≡ None)
+  pub help_value : (r : Result (Option Request) ArgsError) → IfOk r (λ request. request ≡ None)
       → IfOk r (λ request. option_map value_of_request request ≡ request_of_args words)
   help_value r none =
       IfOk-weaker r _ _ (λ request nothing. ap (option_map value_of_request) nothing
-      ∙ sym (ap (λ found. matched_request (option_map_or (λ _. None) found (subcommand_of test_app words))) is)) none
+      ∙ sym (ap (λ found. matched_request (option_map_or (λ _. None) found (subcommand_of rvtest_full_app words))) is)) none
 
-  pub help_kinds : {T : Type 0} (r : Result T WordsError) → FailsByKinds (fault_of test_app help) r
-      → FailsByKinds (words_fault_kinds words) r
+  pub help_kinds : {T : Type 0} (r : Result T ArgsError) → FailsByKinds (fault_of rvtest_full_app help) r
+      → FailsByKinds (args_error_kinds words) r
   help_kinds r fails =
-      let kinds : Option (List Text) → Kinds = λ found. or_else (fault_of test_app (option_map_or (λ h. h) found words))
-      (misuse_kinds (matched_misuse (option_map_or (λ _. None) found (subcommand_of test_app words)))) in
-      subst (λ k. FailsByKinds k r) (sym (or_none (fault_of test_app help)) ∙ sym (ap kinds is)) fails
+      let kinds : Option (List Text) → Kinds = λ found. or_else (fault_of rvtest_full_app (option_map_or (λ h. h) found words))
+      (misuse_kinds (matched_misuse (option_map_or (λ _. None) found (subcommand_of rvtest_full_app words)))) in
+      subst (λ k. FailsByKinds k r) (sym (or_none (fault_of rvtest_full_app help)) ∙ sym (ap kinds is)) fails
 
-  pub help_misused : {T : Type 0} (r : Result T WordsError) → FailsByKinds (fault_of test_app help) r
-      → words_faults words ≡ [] → IfErr r (IsMisuseReported (words_misuse words))
+  pub help_misused : {T : Type 0} (r : Result T ArgsError) → FailsByKinds (fault_of rvtest_full_app help) r
+      → args_errors words ≡ [] → IfErr r (IsMisuseReported (args_misuse words))
   help_misused (Ok x) fails none = tt
   help_misused (Err e) fails none =
-      let found : Option (List Text) → Kinds = λ h. fault_of test_app (option_map_or (λ h. h) h words) in
-      none_told (words_misuse words) e (subst (λ kinds. IsErrorOfKinds kinds e) (sym (ap found is) ∙ none) fails)
+      let found : Option (List Text) → Kinds = λ h. fault_of rvtest_full_app (option_map_or (λ h. h) h words) in
+      none_told (args_misuse words) e (subst (λ kinds. IsErrorOfKinds kinds e) (sym (ap found is) ∙ none) fails)
 
 -- other arguments, which are parsed as they are
 module _ (words : List Text) (none : help_command_args words ≡ None) where
-  pub plain_value : (r : Result (Option Request) WordsError)
-      → IfOk r (λ request. option_map value_of_request request ≡ matched_request (subcommand_of test_app words))
+  pub plain_value : (r : Result (Option Request) ArgsError)
+      → IfOk r (λ request. option_map value_of_request request ≡ matched_request (subcommand_of rvtest_full_app words))
       → IfOk r (λ request. option_map value_of_request request ≡ request_of_args words)
   plain_value r request = rw none request
 
-  pub plain_kinds : {T : Type 0} (r : Result T WordsError) → FailsByKinds (plain_fault_kinds words) r
-      → FailsByKinds (words_fault_kinds words) r
+  pub plain_kinds : {T : Type 0} (r : Result T ArgsError) → FailsByKinds (plain_error_kinds words) r
+      → FailsByKinds (args_error_kinds words) r
   plain_kinds r fails = rw none fails
 
-  pub plain_misused : {T : Type 0} (r : Result T WordsError)
-      → (fault_of test_app words ≡ [] → IfErr r (IsMisuseReported (plain_misuse words)))
-      → words_faults words ≡ [] → IfErr r (IsMisuseReported (words_misuse words))
+  pub plain_misused : {T : Type 0} (r : Result T ArgsError)
+      → (fault_of rvtest_full_app words ≡ [] → IfErr r (IsMisuseReported (plain_misuse words)))
+      → args_errors words ≡ [] → IfErr r (IsMisuseReported (args_misuse words))
   plain_misused r misused = rw none misused
 
 -- ---- which arguments request the help of a command

@@ -1,3 +1,3 @@
 pub mod RvtestCommand
-pub mod RvtestWords
-pub mod WordsErrors
+pub mod RvtestArgs
+pub mod ArgsErrors

@@ -4,13 +4,13 @@ use Rattle.std.specs.Borrow.{Bor}
 use Rattle.clap.specs.Words.{App, Rule, Text, new_app, new_rule, with_rule, with_subcommand}
 use Rattle.clap.specs.declared.builder.action.ArgAction.TheVariants.{Append, SetTrue}
 use Rattle.clap.specs.declared.builder.value_parser.ValueParser.TheVariants as value_parser
-use Rattle.rv_cli.specs.Limits.{most_budget, most_jobs, most_workers}
+use Rattle.rv_cli.specs.Limits.{max_budget, max_jobs, max_workers}
 use Rattle.rvtest_cli.specs.declared.arguments.Argument.{Argument}
 use Rattle.rvtest_cli.specs.declared.arguments.Argument.TheVariants as argument
 use Rattle.rvtest_cli.specs.declared.command.ChoosingCommand.{ChoosingCommand}
 use Rattle.rvtest_cli.specs.declared.command.ChoosingCommand.TheVariants as choosing
 use Rattle.rvtest_cli.specs.declared.command.Subcommand.{Subcommand}
-use Rattle.rv_cli.specs.CommandBuilder.{option_rule, word_rule}
+use Rattle.rv_cli.specs.CommandBuilder.{option_rule, positional_rule}
 use Rattle.rv_cli.specs.RvfleetCommand.{group_rule}
 
 -- the rule of an argument, changed so that the argument is repeatable: each use adds a value
@@ -38,30 +38,30 @@ with_letter rule None = rule
 with_letter rule (Some letter) = record rule { short = Some letter }
 
 -- the letter of the short option `-j`, for `--workers`
-abbrev pub letter_of_workers : ℕ
-letter_of_workers = 106
+abbrev pub workers_letter : ℕ
+workers_letter = 106
 
 -- the letter of the short option `-q`, for `--quiet`
-abbrev pub letter_of_quiet : ℕ
-letter_of_quiet = 113
+abbrev pub quiet_letter : ℕ
+quiet_letter = 113
 
 -- the letter of the short option `-v`, for `--verbose`
-abbrev pub letter_of_verbose : ℕ
-letter_of_verbose = 118
+abbrev pub verbose_letter : ℕ
+verbose_letter = 118
 
 -- the greatest value of `--last`
-abbrev pub most_last_instructions : ℕ
-most_last_instructions = 100000
+abbrev pub max_last_instructions : ℕ
+max_last_instructions = 100000
 
 -- the rule of the optional positional argument `name`, such as [NAME]
-abbrev pub optional_word_rule : Text → Rule
-optional_word_rule name = record (new_rule name) { value_names = 1 }
+abbrev pub optional_positional_rule : Text → Rule
+optional_positional_rule name = record (new_rule name) { value_names = 1 }
 
 -- the rule by which `clap` parses an argument of the table
 abbrev pub argument_rule : Argument → Rule
-argument_rule (argument.Word name value help) = word_rule name.now
-argument_rule (argument.OptionalWord name value help) = optional_word_rule name.now
-argument_rule (argument.Words name value help) = repeated_rule (word_rule name.now)
+argument_rule (argument.Word name value help) = positional_rule name.now
+argument_rule (argument.OptionalPositional name value help) = optional_positional_rule name.now
+argument_rule (argument.Words name value help) = repeated_rule (positional_rule name.now)
 argument_rule (argument.Option name value help) = option_rule name.now
 argument_rule (argument.File name help) = file_rule name.now
 argument_rule (argument.Again name value help) = repeated_rule (option_rule name.now)
@@ -72,27 +72,27 @@ argument_rule argument.Group = group_rule
 
 -- the rule of the positional argument <PART>.., which is repeatable
 abbrev pub parts_rule : Rule
-parts_rule = repeated_rule (word_rule (codes "part"))
+parts_rule = repeated_rule (positional_rule (codes "part"))
 
 -- the rule of --only <NAME>, which is repeatable
 abbrev pub only_rule : Rule
 only_rule = repeated_rule (option_rule (codes "only"))
 
 -- the rule of --workers <N>, or -j <N>
-abbrev pub test_workers_rule : Rule
-test_workers_rule = with_letter (number_rule (codes "workers") (pos 1) (pos most_workers) []) (Some letter_of_workers)
+abbrev pub rvtest_workers_rule : Rule
+rvtest_workers_rule = with_letter (number_rule (codes "workers") (pos 1) (pos max_workers) []) (Some workers_letter)
 
 -- the rule of --verbose, or -v
 abbrev pub verbose_rule : Rule
-verbose_rule = with_letter (flag_rule (codes "verbose")) (Some letter_of_verbose)
+verbose_rule = with_letter (flag_rule (codes "verbose")) (Some verbose_letter)
 
 -- the rule of --quiet, or -q
 abbrev pub quiet_rule : Rule
-quiet_rule = with_letter (flag_rule (codes "quiet")) (Some letter_of_quiet)
+quiet_rule = with_letter (flag_rule (codes "quiet")) (Some quiet_letter)
 
 -- the rule of --last <N>, without a default
 abbrev pub last_rule : Rule
-last_rule = number_rule (codes "last") (pos 0) (pos most_last_instructions) []
+last_rule = number_rule (codes "last") (pos 0) (pos max_last_instructions) []
 
 -- the rule of --last <N>, with the default 16
 abbrev pub explain_last_rule : Rule
@@ -100,7 +100,7 @@ explain_last_rule = record last_rule { defaults = codes "16" ∷ [] }
 
 -- the rule of --budget <N>, which overrides each job's own budget
 abbrev pub job_budget_rule : Rule
-job_budget_rule = number_rule (codes "budget") (pos 1) (pos most_budget) []
+job_budget_rule = number_rule (codes "budget") (pos 1) (pos max_budget) []
 
 -- the rule of --memory <N>, in megabytes
 abbrev pub memory_rule : Rule
@@ -141,8 +141,8 @@ with_shard app = with_rule (with_rule app (option_rule (codes "shard")))
     (option_rule (codes "stamp"))
 
 -- `app` with the options [--workers <N>] [--group <N>] [--budget <N>] [--root <DIR>] added
-abbrev pub with_machine : App → App
-with_machine app = with_rule (with_rule (with_rule (with_rule app test_workers_rule)
+abbrev pub with_run_options : App → App
+with_run_options app = with_rule (with_rule (with_rule (with_rule app rvtest_workers_rule)
     group_rule) job_budget_rule) (option_rule (codes "root"))
 
 -- `app` with the options [--junit <FILE>] [--suite <NAME>] [--lenient] added
@@ -151,8 +151,8 @@ with_junit app = with_rule (with_rule (with_rule app (file_rule (codes "junit"))
     (option_rule (codes "suite"))) (flag_rule (codes "lenient"))
 
 -- `app` with the options [--report <FILE>] [--junit <FILE>] [--suite <NAME>] [--lenient] added
-abbrev pub with_files : App → App
-with_files app = with_junit (with_rule app (file_rule (codes "report")))
+abbrev pub with_report_files : App → App
+with_report_files app = with_junit (with_rule app (file_rule (codes "report")))
 
 -- `app` with the options [--counts <FILE>] [--stacks] added
 abbrev pub with_counts : App → App
@@ -164,7 +164,7 @@ with_known app = with_rule app (file_rule (codes "known"))
 
 -- `app` with the option [--stop-after <N>] added
 abbrev pub with_stop_after : App → App
-with_stop_after app = with_rule app (number_rule (codes "stop-after") (pos 1) (pos most_jobs) [])
+with_stop_after app = with_rule app (number_rule (codes "stop-after") (pos 1) (pos max_jobs) [])
 
 -- `app` with the option [--color <WHEN>] added
 abbrev pub with_color : App → App
@@ -175,17 +175,17 @@ abbrev pub with_into : App → App
 with_into app = with_rule app (file_rule (codes "into"))
 
 -- `app` with the options [--verbose] [--quiet] [--last <N>] [--color <WHEN>] added
-abbrev pub with_results : App → App
-with_results app = with_color (with_rule (with_rule (with_rule app verbose_rule) quiet_rule) last_rule)
+abbrev pub with_output_options : App → App
+with_output_options app = with_color (with_rule (with_rule (with_rule app verbose_rule) quiet_rule) last_rule)
 
 -- the command `name` with the positional argument <LIST>
 abbrev pub app_of_list : Text → App
-app_of_list name = with_rule (new_app name) (word_rule (codes "list"))
+app_of_list name = with_rule (new_app name) (positional_rule (codes "list"))
 
 -- the rules of `run <LIST>` with its options
-abbrev pub test_run_app : App
-test_run_app =
-    with_results (with_stop_after (with_known (with_counts (with_files (with_into (with_machine (with_shard (with_choice
+abbrev pub rvtest_run_app : App
+rvtest_run_app =
+    with_output_options (with_stop_after (with_known (with_counts (with_report_files (with_into (with_run_options (with_shard (with_choice
     (app_of_list (codes "run"))))))))))
 
 -- the rules of `list <LIST> [--only <NAME>].. [--match <REGEX>] [--exclude <REGEX>] [--failed <REPORT>] [--partial] [--lenient]`
@@ -194,7 +194,7 @@ list_app = with_rule (with_choice (app_of_list (codes "list"))) (flag_rule (code
 
 -- `app` with the options [--workers <N>] [--group <N>] [--root <DIR>] added
 abbrev pub with_threads : App → App
-with_threads app = with_rule (with_rule (with_rule app test_workers_rule) group_rule) (option_rule (codes "root"))
+with_threads app = with_rule (with_rule (with_rule app rvtest_workers_rule) group_rule) (option_rule (codes "root"))
 
 -- the rules of `accept <LIST> [--only <NAME>].. [--match <REGEX>] [--exclude <REGEX>] [--failed <REPORT>] [--partial] [--ends] [--check]
 -- [--outside] [--workers <N>] [--group <N>] [--root <DIR>]`
@@ -209,19 +209,19 @@ cover_app = with_rule (with_rule (with_threads (with_rule (with_rule (with_choic
     (option_rule (codes "shard"))) (flag_rule (codes "lenient")))) (option_rule (codes "counts"))) (flag_rule (codes "csv"))
 
 -- the greatest value of `--top`, which limits the number of functions shown for each image
-abbrev pub most_functions : ℕ
-most_functions = 1000000
+abbrev pub max_functions : ℕ
+max_functions = 1000000
 
 -- the rules of `profile <LIST> [NAME] [--only <NAME>].. [--match <REGEX>] [--exclude <REGEX>] [--failed <REPORT>] [--partial] [--shard
 -- <K/N>] [--lenient] [--workers <N>] [--group <N>] [--root <DIR>] [--counts <TABLE>] [--top <N>] [--csv]`
 abbrev pub profile_app : App
 profile_app = with_rule (with_rule (with_rule (with_threads (with_rule (with_rule (with_choice (with_rule (app_of_list (codes "profile"))
-    (optional_word_rule (codes "name")))) (option_rule (codes "shard"))) (flag_rule (codes "lenient")))) (option_rule (codes "counts")))
-    (number_rule (codes "top") (pos 1) (pos most_functions) [])) (flag_rule (codes "csv"))
+    (optional_positional_rule (codes "name")))) (option_rule (codes "shard"))) (flag_rule (codes "lenient")))) (option_rule (codes "counts")))
+    (number_rule (codes "top") (pos 1) (pos max_functions) [])) (flag_rule (codes "csv"))
 
 -- the `clap` command for a command that chooses jobs
 abbrev pub choosing_app : ChoosingCommand → App
-choosing_app choosing.Run = test_run_app
+choosing_app choosing.Run = rvtest_run_app
 choosing_app choosing.List = list_app
 choosing_app choosing.Accept = accept_app
 choosing_app choosing.Cover = cover_app
@@ -230,15 +230,15 @@ choosing_app choosing.Profile = profile_app
 -- the rules of `explain <LIST> <NAME> [--last <N>] [--budget <N>] [--root <DIR>] [--color <WHEN>]`
 abbrev pub explain_app : App
 explain_app = with_color (with_rule (with_rule (with_rule (with_rule (app_of_list (codes "explain"))
-    (word_rule (codes "name"))) explain_last_rule) job_budget_rule) (option_rule (codes "root")))
+    (positional_rule (codes "name"))) explain_last_rule) job_budget_rule) (option_rule (codes "root")))
 
 -- the rules of `console <LIST> <NAME> [--root <DIR>]`
 abbrev pub console_app : App
-console_app = with_rule (with_rule (app_of_list (codes "console")) (word_rule (codes "name"))) (option_rule (codes "root"))
+console_app = with_rule (with_rule (app_of_list (codes "console")) (positional_rule (codes "name"))) (option_rule (codes "root"))
 
 -- the rules of `gdb <LIST> <NAME> [--root <DIR>] [--memory <MB>]`
 abbrev pub gdb_app : App
-gdb_app = with_rule (with_rule (with_rule (app_of_list (codes "gdb")) (word_rule (codes "name"))) (option_rule (codes "root")))
+gdb_app = with_rule (with_rule (with_rule (app_of_list (codes "gdb")) (positional_rule (codes "name"))) (option_rule (codes "root")))
     memory_rule
 
 -- the rules of `check <LIST> [--root <DIR>]`
@@ -247,29 +247,29 @@ check_app = with_rule (app_of_list (codes "check")) (option_rule (codes "root"))
 
 -- the rules of `merge <PART>.. [--report <FILE>] [--junit <FILE>] [--suite <NAME>] [--lenient]`
 abbrev pub merge_app : App
-merge_app = with_files (with_rule (new_app (codes "merge")) parts_rule)
+merge_app = with_report_files (with_rule (new_app (codes "merge")) parts_rule)
 
 -- the greatest value of `--slower`, in percent
-abbrev pub most_slower : ℕ
-most_slower = 1000
+abbrev pub max_slower : ℕ
+max_slower = 1000
 
 -- the rules of `diff <OLD> <NEW> [--partial] [--steps | --slower <N>] [--color <WHEN>]`
 abbrev pub diff_app : App
 diff_app = with_color (with_rule (with_rule (with_partial (with_rule (with_rule (new_app (codes "diff"))
-    (word_rule (codes "old"))) (word_rule (codes "new")))) (flag_rule (codes "steps")))
-    (number_rule (codes "slower") (pos 0) (pos most_slower) []))
+    (positional_rule (codes "old"))) (positional_rule (codes "new")))) (flag_rule (codes "steps")))
+    (number_rule (codes "slower") (pos 0) (pos max_slower) []))
 
 -- the rules of `show <REPORT> [--partial] [--junit <FILE>] [--suite <NAME>] [--lenient] [--color <WHEN>]`
 abbrev pub show_app : App
-show_app = with_color (with_junit (with_partial (with_rule (new_app (codes "show")) (word_rule (codes "report")))))
+show_app = with_color (with_junit (with_partial (with_rule (new_app (codes "show")) (positional_rule (codes "report")))))
 
 -- the rules of `counts <TABLE>.. [--out <FILE>]`
 abbrev pub counts_app : App
-counts_app = with_rule (with_rule (new_app (codes "counts")) (repeated_rule (word_rule (codes "table")))) (file_rule (codes "out"))
+counts_app = with_rule (with_rule (new_app (codes "counts")) (repeated_rule (positional_rule (codes "table")))) (file_rule (codes "out"))
 
 -- the command `rvtest` before its subcommands are added: it requires a subcommand, has a version, and lets `clap` add no `help` subcommand
-abbrev pub test_top_app : App
-test_top_app = let app = new_app (codes "rvtest") in
+abbrev pub rvtest_top_app : App
+rvtest_top_app = let app = new_app (codes "rvtest") in
     record app {
       top = record app.top {
         subcommand_required = true;
@@ -280,7 +280,7 @@ test_top_app = let app = new_app (codes "rvtest") in
 
 -- `app` with the subcommands `run`, `list` and `explain` added
 abbrev pub with_runs : App → App
-with_runs app = with_subcommand (with_subcommand (with_subcommand app test_run_app.top) list_app.top) explain_app.top
+with_runs app = with_subcommand (with_subcommand (with_subcommand app rvtest_run_app.top) list_app.top) explain_app.top
 
 -- `app` with the subcommands that read a list added: `run`, `list`, `explain`, `console`, `gdb`, `check` and `accept`
 abbrev pub with_lists : App → App
@@ -294,9 +294,9 @@ with_reports app = with_subcommand (with_subcommand (with_subcommand app merge_a
 
 -- the rules of `help [TOPIC]`
 abbrev pub help_app : App
-help_app = with_rule (new_app (codes "help")) (optional_word_rule (codes "topic"))
+help_app = with_rule (new_app (codes "help")) (optional_positional_rule (codes "topic"))
 
 -- the command `rvtest` with all its subcommands
-abbrev pub test_app : App
-test_app = with_subcommand (with_subcommand (with_subcommand (with_subcommand (with_reports (with_lists test_top_app)) counts_app.top)
+abbrev pub rvtest_full_app : App
+rvtest_full_app = with_subcommand (with_subcommand (with_subcommand (with_subcommand (with_reports (with_lists rvtest_top_app)) counts_app.top)
     cover_app.top) profile_app.top) help_app.top

@@ -2,15 +2,15 @@
 
 ghost use Rattle.std.specs.Prelude.{None};
 ghost use Rattle.clap.specs.Words.{found_of, rows_of};
-ghost use Rattle.rvtest_cli.specs.RvtestWords.{ReadsRequest, accept_request, choice_misuse};
+ghost use Rattle.rvtest_cli.specs.RvtestArgs.{IsRequestRead, accept_request, choice_misuse};
 
 use crate::command::accept_command;
 use crate::refusals::choice_misuse;
 use crate::requests::Request;
 use crate::run::{RunArgs, run_args};
-use crate::words_error::WordsError;
+use crate::args_error::ArgsError;
 use clap::ArgMatches;
-use rv_cli::limits::MOST_GROUP;
+use rv_cli::limits::MAX_GROUP;
 use rv_cli::values::{is_flag_set, number_value, text_value};
 use std::alloc::Global;
 
@@ -31,8 +31,8 @@ pub struct AcceptArgs<'a> {
 pub(crate) fn accept_request<'a>(
     alloc: Global,
     values: &ArgMatches<'a>,
-) -> Result<Option<Request<'a>>, WordsError>
-    ensures { ReadsRequest (accept_request (rows_of (found_of values.now)))
+) -> Result<Option<Request<'a>>, ArgsError>
+    ensures { IsRequestRead (accept_request (rows_of (found_of values.now)))
         (choice_misuse (rows_of (found_of values.now))) result }
 {
     match choice_misuse(values) {
@@ -45,13 +45,13 @@ pub(crate) fn accept_request<'a>(
 fn valid_accept_request<'a>(
     alloc: Global,
     values: &ArgMatches<'a>,
-) -> Result<Option<Request<'a>>, WordsError>
-    ensures { ReadsRequest (accept_request (rows_of (found_of values.now))) None result }
+) -> Result<Option<Request<'a>>, ArgsError>
+    ensures { IsRequestRead (accept_request (rows_of (found_of values.now))) None result }
 {
     let Some(list) = text_value(values, "list") else {
         return Ok(None);
     };
-    let Some(group) = number_value(values, "group", 1, MOST_GROUP) else {
+    let Some(group) = number_value(values, "group", 1, MAX_GROUP) else {
         return Ok(None);
     };
     let run = run_args(alloc, values, list, group)?;

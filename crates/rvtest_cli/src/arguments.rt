@@ -3,12 +3,12 @@
 ghost use Rattle.std.specs.Prelude.{◌≡◌, false};
 ghost use Rattle.clap.specs.Words.{App, rule_of};
 ghost use Rattle.rv_cli.specs.CommandBuilder.{IsBuilt};
-ghost use Rattle.rvtest_cli.specs.RvtestCommand.{file_rule, flag_rule, number_rule, optional_word_rule, argument_rule};
+ghost use Rattle.rvtest_cli.specs.RvtestCommand.{file_rule, flag_rule, number_rule, optional_positional_rule, argument_rule};
 ghost use Rattle.rvtest_cli.specs.RvtestCommand.{with_arguments, with_letter};
 
 use clap::builder::ValueParser;
 use clap::{Arg, ArgAction};
-use rv_cli::arguments::{group_argument, option_argument, word_argument};
+use rv_cli::arguments::{group_argument, option_argument, positional_argument};
 use rv_cli::command_builder::{Built, with_argument};
 use std::alloc::Global;
 
@@ -25,7 +25,7 @@ pub(crate) enum Argument<'a> {
     /// A required positional argument.
     Word(&'a str, &'a str, &'a str),
     /// An optional positional argument.
-    OptionalWord(&'a str, &'a str, &'a str),
+    OptionalPositional(&'a str, &'a str, &'a str),
     /// One or more positional arguments.
     Words(&'a str, &'a str, &'a str),
     /// An option with a value.
@@ -48,12 +48,12 @@ impl<'a> Argument<'a> {
         ensures { (rule_of result ≡ argument_rule self.now) × (result.global ≡ false) }
     {
         match *self {
-            Argument::Word(name, value, help) => word_argument(alloc, name, value, help),
-            Argument::OptionalWord(name, value, help) => {
-                optional_word_argument(alloc, name, value, help)
+            Argument::Word(name, value, help) => positional_argument(alloc, name, value, help),
+            Argument::OptionalPositional(name, value, help) => {
+                optional_positional_argument(alloc, name, value, help)
             }
             Argument::Words(name, value, help) => {
-                word_argument(alloc, name, value, help).action(ArgAction::Append)
+                positional_argument(alloc, name, value, help).action(ArgAction::Append)
             }
             Argument::Option(name, value, help) => option_argument(alloc, name, value, help),
             Argument::File(name, help) => file_argument(alloc, name, help),
@@ -99,13 +99,13 @@ fn with_letter<'a>(argument: Arg<'a>, letter: Option<char>) -> Arg<'a>
 }
 
 // Returns the optional positional argument `name`; the usage shows its value as `value`.
-fn optional_word_argument<'a>(
+fn optional_positional_argument<'a>(
     alloc: Global,
     name: &'a str,
     value: &'a str,
     help: &'a str,
 ) -> Arg<'a>
-    ensures { (rule_of result ≡ optional_word_rule name.entry.now) × (result.global ≡ false) }
+    ensures { (rule_of result ≡ optional_positional_rule name.entry.now) × (result.global ≡ false) }
 {
     Arg::new(alloc, name).value_name(value).help(help)
 }

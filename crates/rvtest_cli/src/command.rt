@@ -3,9 +3,9 @@
 ghost use Rattle.std.specs.Prelude.{◌≡◌, ◌++◌, IfOk, codes, false, string_bytes};
 ghost use Rattle.clap.specs.Words.{App, app_of, new_app};
 ghost use Rattle.clap.specs.declared.builder.command.Command.TheViews.{out-Command};
-ghost use Rattle.rv_cli.specs.CommandBuilder.{HasApp, HasHelpEnd, HasUsageOf, HasVersion, IsBuilt};
-ghost use Rattle.rvtest_cli.specs.RvtestCommand.{accept_app, choosing_app, cover_app, diff_app, explain_app, list_app, subcommand_app, merge_app, profile_app, show_app, test_run_app, test_app};
-ghost use Rattle.rvtest_cli.specs.RvtestCommand.{test_top_app, with_subcommands};
+ghost use Rattle.rv_cli.specs.CommandBuilder.{HasApp, HasAfterHelp, HasUsageOf, HasVersion, IsBuilt};
+ghost use Rattle.rvtest_cli.specs.RvtestCommand.{accept_app, choosing_app, cover_app, diff_app, explain_app, list_app, subcommand_app, merge_app, profile_app, show_app, rvtest_run_app, rvtest_full_app};
+ghost use Rattle.rvtest_cli.specs.RvtestCommand.{rvtest_top_app, with_subcommands};
 
 use crate::arguments::{Argument, with_arguments};
 use crate::table::{ACCEPT, COMMANDS, COVER, DIFF, EXPLAIN, LIST, MERGE, PROFILE, RUN, SHOW};
@@ -24,15 +24,15 @@ pub(crate) struct Subcommand<'a> {
 }
 
 /// Returns the command line of `rvtest` with all its subcommands.
-pub(crate) fn test_command<'a>(alloc: Global) -> Result<Command<'a>, AllocError>
-    ensures { IfOk result (λ command. app_of command ≡ test_app) }
+pub(crate) fn rvtest_command<'a>(alloc: Global) -> Result<Command<'a>, AllocError>
+    ensures { IfOk result (λ command. app_of command ≡ rvtest_full_app) }
 {
     with_subcommands(alloc, top_command(alloc), &COMMANDS)
 }
 
 // Returns the command `rvtest` with its version, but without its subcommands.
 fn top_command<'a>(alloc: Global) -> Built<'a>
-    ensures app { IsBuilt test_top_app result }
+    ensures app { IsBuilt rvtest_top_app result }
     ensures version { HasVersion (codes "1.0.0") result }
 {
     Command::new(alloc, "rvtest")
@@ -67,7 +67,7 @@ fn subcommand_of_table<'a>(alloc: Global, stated: &Subcommand<'a>) -> Built<'a>
 fn bare_command<'a>(alloc: Global, stated: &Subcommand<'a>) -> Built<'a>
     ensures app { IsBuilt (new_app stated.now.name.now) result }
     ensures usage { HasUsageOf (codes "rvtest " ++ stated.now.name.now) result }
-    ensures after { HasHelpEnd stated.now.after.now result }
+    ensures after { HasAfterHelp stated.now.after.now result }
 {
     match usage_text(alloc, stated.name) {
         Ok(usage) => Command::new(alloc, stated.name)
@@ -148,7 +148,7 @@ pub(crate) fn profile_command<'a>(alloc: Global) -> Result<Command<'a>, AllocErr
 /// Returns the command `rvtest run`, whose usage is shown if its arguments are rejected.
 pub(crate) fn run_command<'a>(alloc: Global) -> Result<Command<'a>, AllocError>
     ensures { IfOk result (λ command.
-        (app_of command ≡ test_run_app) × ((out-Command command).has_globals ≡ false)) }
+        (app_of command ≡ rvtest_run_app) × ((out-Command command).has_globals ≡ false)) }
 {
     subcommand_of_table(alloc, &RUN)
 }

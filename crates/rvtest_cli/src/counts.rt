@@ -2,10 +2,10 @@
 
 ghost use Rattle.std.specs.Prelude.{None, Some};
 ghost use Rattle.clap.specs.Words.{found_of, rows_of};
-ghost use Rattle.rvtest_cli.specs.RvtestWords.{ReadsRequest, counts_request};
+ghost use Rattle.rvtest_cli.specs.RvtestArgs.{IsRequestRead, counts_request};
 
 use crate::requests::Request;
-use crate::words_error::WordsError;
+use crate::args_error::ArgsError;
 use clap::ArgMatches;
 use rv_cli::values::{argument_values, text_value};
 use std::alloc::Global;
@@ -23,8 +23,8 @@ pub struct CountsArgs<'a> {
 pub(crate) fn counts_request<'a>(
     alloc: Global,
     values: &ArgMatches<'a>,
-) -> Result<Option<Request<'a>>, WordsError>
-    ensures { ReadsRequest (Some (counts_request (rows_of (found_of values.now)))) None result }
+) -> Result<Option<Request<'a>>, ArgsError>
+    ensures { IsRequestRead (Some (counts_request (rows_of (found_of values.now)))) None result }
 {
     let out = text_value(values, "out");
     let tables = argument_values(alloc, values, "table")?;

@@ -2,15 +2,15 @@
 
 ghost use Rattle.std.specs.Prelude.{◌≡◌, None};
 ghost use Rattle.clap.specs.Words.{found_of, rows_of};
-ghost use Rattle.rvtest_cli.specs.RvtestWords.{ReadsRequest, cover_misuse, cover_request};
+ghost use Rattle.rvtest_cli.specs.RvtestArgs.{IsRequestRead, cover_misuse, cover_request};
 
 use crate::command::cover_command;
 use crate::refusals::{Misuse, choice_misuse};
 use crate::requests::Request;
 use crate::run::{RunArgs, is_choice_given, run_args};
-use crate::words_error::WordsError;
+use crate::args_error::ArgsError;
 use clap::ArgMatches;
-use rv_cli::limits::MOST_GROUP;
+use rv_cli::limits::MAX_GROUP;
 use rv_cli::values::{is_flag_set, is_option_given, number_value, text_value};
 use std::alloc::Global;
 
@@ -28,8 +28,8 @@ pub struct CoverArgs<'a> {
 pub(crate) fn cover_request<'a>(
     alloc: Global,
     values: &ArgMatches<'a>,
-) -> Result<Option<Request<'a>>, WordsError>
-    ensures { ReadsRequest (cover_request (rows_of (found_of values.now)))
+) -> Result<Option<Request<'a>>, ArgsError>
+    ensures { IsRequestRead (cover_request (rows_of (found_of values.now)))
         (cover_misuse (rows_of (found_of values.now))) result }
 {
     match cover_misuse(values) {
@@ -42,13 +42,13 @@ pub(crate) fn cover_request<'a>(
 fn valid_cover_request<'a>(
     alloc: Global,
     values: &ArgMatches<'a>,
-) -> Result<Option<Request<'a>>, WordsError>
-    ensures { ReadsRequest (cover_request (rows_of (found_of values.now))) None result }
+) -> Result<Option<Request<'a>>, ArgsError>
+    ensures { IsRequestRead (cover_request (rows_of (found_of values.now))) None result }
 {
     let Some(list) = text_value(values, "list") else {
         return Ok(None);
     };
-    let Some(group) = number_value(values, "group", 1, MOST_GROUP) else {
+    let Some(group) = number_value(values, "group", 1, MAX_GROUP) else {
         return Ok(None);
     };
     let run = run_args(alloc, values, list, group)?;

@@ -2,12 +2,12 @@
 
 ghost use Rattle.std.specs.Prelude.{◌≡◌};
 ghost use Rattle.clap.specs.Words.{found_of, rows_of};
-ghost use Rattle.rvtest_cli.specs.RvtestWords.{IsRequestFor, ReadsRequest, diff_misuse, diff_request};
+ghost use Rattle.rvtest_cli.specs.RvtestArgs.{IsRequestFor, IsRequestRead, diff_misuse, diff_request};
 
 use crate::command::diff_command;
 use crate::refusals::{Misuse, color_misuse};
 use crate::requests::Request;
-use crate::words_error::WordsError;
+use crate::args_error::ArgsError;
 use clap::ArgMatches;
 use rv_cli::values::{is_flag_set, is_option_given, number_value, text_value};
 use std::alloc::Global;
@@ -33,8 +33,8 @@ pub struct DiffArgs<'a> {
 pub(crate) fn diff_request<'a>(
     alloc: Global,
     values: &ArgMatches<'a>,
-) -> Result<Option<Request<'a>>, WordsError>
-    ensures { ReadsRequest (diff_request (rows_of (found_of values.now)))
+) -> Result<Option<Request<'a>>, ArgsError>
+    ensures { IsRequestRead (diff_request (rows_of (found_of values.now)))
         (diff_misuse (rows_of (found_of values.now))) result }
 {
     match diff_misuse(values) {

@@ -1,14 +1,14 @@
 //! The arguments of `explain`.
 
 ghost use Rattle.clap.specs.Words.{found_of, rows_of};
-ghost use Rattle.rvtest_cli.specs.RvtestWords.{IsRequestFor, ReadsRequest, color_misuse, explain_request};
+ghost use Rattle.rvtest_cli.specs.RvtestArgs.{IsRequestFor, IsRequestRead, color_misuse, explain_request};
 
 use crate::command::explain_command;
 use crate::refusals::color_misuse;
 use crate::requests::Request;
-use crate::words_error::WordsError;
+use crate::args_error::ArgsError;
 use clap::ArgMatches;
-use rv_cli::limits::MOST_BUDGET;
+use rv_cli::limits::MAX_BUDGET;
 use rv_cli::values::{number_value, text_value};
 use std::alloc::Global;
 
@@ -33,8 +33,8 @@ pub struct ExplainArgs<'a> {
 pub(crate) fn explain_request<'a>(
     alloc: Global,
     values: &ArgMatches<'a>,
-) -> Result<Option<Request<'a>>, WordsError>
-    ensures { ReadsRequest (explain_request (rows_of (found_of values.now)))
+) -> Result<Option<Request<'a>>, ArgsError>
+    ensures { IsRequestRead (explain_request (rows_of (found_of values.now)))
         (color_misuse (rows_of (found_of values.now))) result }
 {
     match color_misuse(values) {
@@ -50,7 +50,7 @@ fn valid_explain_request<'a>(values: &ArgMatches<'a>) -> Option<Request<'a>>
     let list = text_value(values, "list")?;
     let name = text_value(values, "name")?;
     let last = number_value(values, "last", 0, 100_000)?;
-    let budget = number_value(values, "budget", 1, MOST_BUDGET);
+    let budget = number_value(values, "budget", 1, MAX_BUDGET);
     let root = text_value(values, "root");
     let color = text_value(values, "color");
     Some(Request::Explain(ExplainArgs {

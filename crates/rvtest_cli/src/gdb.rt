@@ -1,7 +1,7 @@
 //! The arguments of `gdb`.
 
 ghost use Rattle.clap.specs.Words.{found_of, rows_of};
-ghost use Rattle.rvtest_cli.specs.RvtestWords.{IsRequestFor, gdb_request};
+ghost use Rattle.rvtest_cli.specs.RvtestArgs.{IsRequestFor, gdb_request};
 
 use crate::requests::Request;
 use clap::ArgMatches;

@@ -25,7 +25,7 @@ mod run;
 mod show;
 mod table;
 mod tips;
-mod words_error;
+mod args_error;
 
 pub use accept::AcceptArgs;
 pub use check::CheckArgs;
@@ -42,4 +42,4 @@ pub use profile::ProfileArgs;
 pub use requests::{Request, read_words};
 pub use run::RunArgs;
 pub use show::ShowArgs;
-pub use words_error::{WordsError, usage_error};
+pub use args_error::{ArgsError, usage_error};

@@ -2,13 +2,13 @@
 
 ghost use Rattle.std.specs.Prelude.{None};
 ghost use Rattle.clap.specs.Words.{found_of, rows_of};
-ghost use Rattle.rvtest_cli.specs.RvtestWords.{ReadsRequest, choice_misuse, list_request};
+ghost use Rattle.rvtest_cli.specs.RvtestArgs.{IsRequestRead, choice_misuse, list_request};
 
 use crate::command::list_command;
 use crate::refusals::choice_misuse;
 use crate::requests::Request;
 use crate::run::run_args;
-use crate::words_error::WordsError;
+use crate::args_error::ArgsError;
 use clap::ArgMatches;
 use rv_cli::values::text_value;
 use std::alloc::Global;
@@ -17,8 +17,8 @@ use std::alloc::Global;
 pub(crate) fn list_request<'a>(
     alloc: Global,
     values: &ArgMatches<'a>,
-) -> Result<Option<Request<'a>>, WordsError>
-    ensures { ReadsRequest (list_request (rows_of (found_of values.now)))
+) -> Result<Option<Request<'a>>, ArgsError>
+    ensures { IsRequestRead (list_request (rows_of (found_of values.now)))
         (choice_misuse (rows_of (found_of values.now))) result }
 {
     match choice_misuse(values) {
@@ -31,8 +31,8 @@ pub(crate) fn list_request<'a>(
 fn valid_list_request<'a>(
     alloc: Global,
     values: &ArgMatches<'a>,
-) -> Result<Option<Request<'a>>, WordsError>
-    ensures { ReadsRequest (list_request (rows_of (found_of values.now))) None result }
+) -> Result<Option<Request<'a>>, ArgsError>
+    ensures { IsRequestRead (list_request (rows_of (found_of values.now))) None result }
 {
     let Some(list) = text_value(values, "list") else {
         return Ok(None);

@@ -2,12 +2,12 @@
 
 ghost use Rattle.std.specs.Prelude.{None, Some};
 ghost use Rattle.clap.specs.Words.{found_of, rows_of};
-ghost use Rattle.rvtest_cli.specs.RvtestWords.{ReadsRequest, merge_request, files_misuse};
+ghost use Rattle.rvtest_cli.specs.RvtestArgs.{IsRequestRead, merge_request, files_misuse};
 
 use crate::command::merge_command;
 use crate::refusals::files_misuse;
 use crate::requests::Request;
-use crate::words_error::WordsError;
+use crate::args_error::ArgsError;
 use clap::ArgMatches;
 use rv_cli::values::{argument_values, is_flag_set, text_value};
 use std::alloc::Global;
@@ -31,8 +31,8 @@ pub struct MergeArgs<'a> {
 pub(crate) fn merge_request<'a>(
     alloc: Global,
     values: &ArgMatches<'a>,
-) -> Result<Option<Request<'a>>, WordsError>
-    ensures { ReadsRequest (Some (merge_request (rows_of (found_of values.now))))
+) -> Result<Option<Request<'a>>, ArgsError>
+    ensures { IsRequestRead (Some (merge_request (rows_of (found_of values.now))))
         (files_misuse (rows_of (found_of values.now))) result }
 {
     match files_misuse(values) {
@@ -45,8 +45,8 @@ pub(crate) fn merge_request<'a>(
 fn valid_merge_request<'a>(
     alloc: Global,
     values: &ArgMatches<'a>,
-) -> Result<Option<Request<'a>>, WordsError>
-    ensures { ReadsRequest (Some (merge_request (rows_of (found_of values.now)))) None result }
+) -> Result<Option<Request<'a>>, ArgsError>
+    ensures { IsRequestRead (Some (merge_request (rows_of (found_of values.now)))) None result }
 {
     let report = text_value(values, "report");
     let junit = text_value(values, "junit");

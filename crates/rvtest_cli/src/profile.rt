@@ -2,23 +2,23 @@
 
 ghost use Rattle.std.specs.Prelude.{◌≡◌, ◌≤◌, IfOk, None, map};
 ghost use Rattle.clap.specs.Words.{found_of, rows_of};
-ghost use Rattle.rv_cli.specs.Limits.{most_group};
-ghost use Rattle.rvtest_cli.specs.RvtestWords.{AreRunArgsInRange, ReadsRequest, is_name_combined_with_choice, chosen_names, named_run_words};
-ghost use Rattle.rvtest_cli.specs.RvtestWords.{profile_misuse, profile_request, run_options_of_args};
+ghost use Rattle.rv_cli.specs.Limits.{max_group};
+ghost use Rattle.rvtest_cli.specs.RvtestArgs.{AreRunArgsInRange, IsRequestRead, is_name_combined_with_choice, chosen_names, named_run_options};
+ghost use Rattle.rvtest_cli.specs.RvtestArgs.{profile_misuse, profile_request, run_options_of_args};
 
 use crate::command::profile_command;
 use crate::cover::cover_misuse;
 use crate::refusals::Misuse;
 use crate::requests::Request;
 use crate::run::{RunArgs, is_choice_given, run_args};
-use crate::words_error::WordsError;
+use crate::args_error::ArgsError;
 use clap::ArgMatches;
-use rv_cli::limits::MOST_GROUP;
+use rv_cli::limits::MAX_GROUP;
 use rv_cli::values::{argument_values, is_flag_set, is_option_given, number_value, text_value};
 use std::alloc::{AllocError, Global};
 
 /// The greatest value of `--top`, the number of functions shown for each image.
-pub(crate) const MOST_FUNCTIONS: u32 = 1_000_000;
+pub(crate) const MAX_FUNCTIONS: u32 = 1_000_000;
 
 /// The arguments of `profile`: the jobs whose profile is shown, and how.
 #[derive(Drop)]
@@ -36,8 +36,8 @@ pub struct ProfileArgs<'a> {
 pub(crate) fn profile_request<'a>(
     alloc: Global,
     values: &ArgMatches<'a>,
-) -> Result<Option<Request<'a>>, WordsError>
-    ensures { ReadsRequest (profile_request (rows_of (found_of values.now)))
+) -> Result<Option<Request<'a>>, ArgsError>
+    ensures { IsRequestRead (profile_request (rows_of (found_of values.now)))
         (profile_misuse (rows_of (found_of values.now))) result }
 {
     match profile_misuse(values) {
@@ -50,17 +50,17 @@ pub(crate) fn profile_request<'a>(
 fn valid_profile_request<'a>(
     alloc: Global,
     values: &ArgMatches<'a>,
-) -> Result<Option<Request<'a>>, WordsError>
-    ensures { ReadsRequest (profile_request (rows_of (found_of values.now))) None result }
+) -> Result<Option<Request<'a>>, ArgsError>
+    ensures { IsRequestRead (profile_request (rows_of (found_of values.now))) None result }
 {
     let Some(list) = text_value(values, "list") else {
         return Ok(None);
     };
-    let Some(group) = number_value(values, "group", 1, MOST_GROUP) else {
+    let Some(group) = number_value(values, "group", 1, MAX_GROUP) else {
         return Ok(None);
     };
     let run = named_run(alloc, values, list, group)?;
-    let top = number_value(values, "top", 1, MOST_FUNCTIONS);
+    let top = number_value(values, "top", 1, MAX_FUNCTIONS);
     let csv = is_flag_set(values, "csv");
     Ok(Some(Request::Profile(ProfileArgs { run, top, csv })))
 }
@@ -72,8 +72,8 @@ fn named_run<'a>(
     list: &'a str,
     group: u32,
 ) -> Result<RunArgs<'a>, AllocError>
-    requires { (1 ≤ group) × (group ≤ most_group) }
-    ensures { IfOk result (λ request. (run_options_of_args request ≡ named_run_words list.entry.now group (rows_of (found_of values.now)))
+    requires { (1 ≤ group) × (group ≤ max_group) }
+    ensures { IfOk result (λ request. (run_options_of_args request ≡ named_run_options list.entry.now group (rows_of (found_of values.now)))
         × AreRunArgsInRange request) }
 {
     let mut run = run_args(alloc, values, list, group)?;

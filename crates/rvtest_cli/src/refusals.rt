@@ -2,11 +2,11 @@
 
 ghost use Rattle.std.specs.Prelude.{◌≡◌, [], ◌∷◌, Some};
 ghost use Rattle.clap.specs.Words.{found_of, rows_of};
-ghost use Rattle.rvtest_cli.specs.RvtestWords.{IsMisuseReported, choice_misuse, color_misuse, files_misuse, is_color_unknown, is_color_word, is_into_path, is_partial_alone};
-ghost use Rattle.rvtest_cli.specs.RvtestWords.{is_failed_path, is_junit_path, is_report_path, is_suite_nameless};
-ghost use Rattle.rvtest_cli.specs.RvtestWords.{misuse_kinds, misuse_text, show_misuse, suite_misuse};
+ghost use Rattle.rvtest_cli.specs.RvtestArgs.{IsMisuseReported, choice_misuse, color_misuse, files_misuse, is_color_unknown, is_color_value, is_into_path, is_partial_alone};
+ghost use Rattle.rvtest_cli.specs.RvtestArgs.{is_failed_path, is_junit_path, is_report_path, is_suite_empty};
+ghost use Rattle.rvtest_cli.specs.RvtestArgs.{misuse_kinds, misuse_text, show_misuse, suite_misuse};
 
-use crate::words_error::{WordsError, usage_error};
+use crate::args_error::{ArgsError, usage_error};
 use clap::error::ErrorKind;
 use clap::{ArgMatches, Command};
 use rv_cli::values::{is_flag_set, is_option_given, text_value};
@@ -42,15 +42,15 @@ pub(crate) enum Misuse {
     /// A suite without JUnit XML.
     SuiteAlone,
     /// A suite whose name is empty.
-    NamelessSuite,
+    EmptySuite,
     /// An unknown word for colours.
     UnknownColor,
     /// One destination for a report and JUnit XML.
-    OneFile,
+    ReportIsJunit,
     /// One path for the report to update and JUnit XML.
-    IntoOneFile,
+    IntoIsJunit,
     /// One destination for the table of counts and a report or JUnit XML, or the report that chooses the jobs.
-    CountsOneFile,
+    CountsIsOther,
 }
 
 impl Misuse {
@@ -59,7 +59,7 @@ impl Misuse {
         self,
         alloc: Global,
         command: Result<Command<'_>, AllocError>,
-    ) -> WordsError
+    ) -> ArgsError
         ensures { IsMisuseReported (Some self) result }
     {
         usage_error(alloc, command, self.misuse_error_kind(), self.misuse_text())
@@ -72,7 +72,7 @@ impl Misuse {
         match self {
             Misuse::StampAlone | Misuse::PartialAlone | Misuse::StacksAlone | Misuse::SuiteAlone =>
                 ErrorKind::MissingRequiredArgument,
-            Misuse::NamelessSuite | Misuse::UnknownColor | Misuse::IntoStdout => {
+            Misuse::EmptySuite | Misuse::UnknownColor | Misuse::IntoStdout => {
                 ErrorKind::InvalidValue
             }
             Misuse::VerboseAndQuiet
@@ -83,9 +83,9 @@ impl Misuse {
             | Misuse::IntoAndReport
             | Misuse::FailedIsReport
             | Misuse::StepsAndSlower
-            | Misuse::OneFile
-            | Misuse::IntoOneFile
-            | Misuse::CountsOneFile => ErrorKind::ArgumentConflict,
+            | Misuse::ReportIsJunit
+            | Misuse::IntoIsJunit
+            | Misuse::CountsIsOther => ErrorKind::ArgumentConflict,
         }
     }
 
@@ -131,19 +131,19 @@ impl Misuse {
             Misuse::SuiteAlone => {
                 "the argument '--suite <NAME>' cannot be used without '--junit <FILE>'"
             }
-            Misuse::NamelessSuite => {
+            Misuse::EmptySuite => {
                 "a value is required for '--suite <NAME>' but none was supplied"
             }
             Misuse::UnknownColor => {
                 "invalid value for '--color <WHEN>': expected always, never or auto"
             }
-            Misuse::OneFile => {
+            Misuse::ReportIsJunit => {
                 "the argument '--report <FILE>' cannot name the same file as '--junit <FILE>'"
             }
-            Misuse::IntoOneFile => {
+            Misuse::IntoIsJunit => {
                 "the argument '--into <FILE>' cannot name the same file as '--junit <FILE>'"
             }
-            Misuse::CountsOneFile => {
+            Misuse::CountsIsOther => {
                 "the argument '--counts <FILE>' cannot name the same file as '--report <FILE>', '--into <FILE>', '--junit <FILE>' or '--failed <REPORT>'"
             }
         }
@@ -174,8 +174,8 @@ pub(crate) fn files_misuse(values: &ArgMatches<'_>) -> Option<Misuse>
     ensures { result ≡ files_misuse (rows_of (found_of values.now)) }
 {
     match text_value(values, "junit") {
-        Some(path) if is_report_path(values, path) => Some(Misuse::OneFile),
-        Some(path) if is_into_path(values, path) => Some(Misuse::IntoOneFile),
+        Some(path) if is_report_path(values, path) => Some(Misuse::ReportIsJunit),
+        Some(path) if is_into_path(values, path) => Some(Misuse::IntoIsJunit),
         _ => suite_misuse(values),
     }
 }
@@ -207,14 +207,14 @@ pub(crate) fn is_color_unknown(values: &ArgMatches<'_>) -> bool
     ensures { result ≡ is_color_unknown (rows_of (found_of values.now)) }
 {
     match text_value(values, "color") {
-        Some(word) => !is_color_word(word),
+        Some(word) => !is_color_value(word),
         None => false,
     }
 }
 
 // Whether a value of `--color` is valid: `always`, `never` or `auto`.
-fn is_color_word(word: &str) -> bool
-    ensures { result ≡ is_color_word word.now }
+fn is_color_value(word: &str) -> bool
+    ensures { result ≡ is_color_value word.now }
 {
     word == "always" || word == "never" || word == "auto"
 }
@@ -225,16 +225,16 @@ pub(crate) fn suite_misuse(values: &ArgMatches<'_>) -> Option<Misuse>
 {
     if is_option_given(values, "suite") && !is_option_given(values, "junit") {
         Some(Misuse::SuiteAlone)
-    } else if is_suite_nameless(values) {
-        Some(Misuse::NamelessSuite)
+    } else if is_suite_empty(values) {
+        Some(Misuse::EmptySuite)
     } else {
         None
     }
 }
 
 // Whether `--suite` is given with an empty value.
-fn is_suite_nameless(values: &ArgMatches<'_>) -> bool
-    ensures { result ≡ is_suite_nameless (rows_of (found_of values.now)) }
+fn is_suite_empty(values: &ArgMatches<'_>) -> bool
+    ensures { result ≡ is_suite_empty (rows_of (found_of values.now)) }
 {
     match text_value(values, "suite") {
         Some(name) => name == "",

@@ -2,15 +2,15 @@
 
 ghost use Rattle.std.specs.Prelude.{◌≡◌, [], IfErr, IfOk, IfSome, None, map, option_map};
 ghost use Rattle.clap.specs.Words.{fault_of, found_of, rows_of, subcommand_of, subcommand_rows_of};
-ghost use Rattle.rvtest_cli.specs.RvtestCommand.{test_app};
-ghost use Rattle.rvtest_cli.specs.RvtestWords.{IsRequestInRange, IsMisuseReported, ReadsRequest, matched_misuse, subcommand_misuse};
-ghost use Rattle.rvtest_cli.specs.RvtestWords.{value_of_request, is_command_help, is_help, matched_request, plain_fault_kinds, plain_misuse};
-ghost use Rattle.rvtest_cli.specs.RvtestWords.{subcommand_request, words_fault_kinds, words_faults, words_misuse, request_of_args};
-ghost use Rattle.rvtest_cli.specs.WordsErrors.{FailsByKinds};
+ghost use Rattle.rvtest_cli.specs.RvtestCommand.{rvtest_full_app};
+ghost use Rattle.rvtest_cli.specs.RvtestArgs.{IsRequestInRange, IsMisuseReported, IsRequestRead, matched_misuse, subcommand_misuse};
+ghost use Rattle.rvtest_cli.specs.RvtestArgs.{value_of_request, is_command_help, is_help, matched_request, plain_error_kinds, plain_misuse};
+ghost use Rattle.rvtest_cli.specs.RvtestArgs.{subcommand_request, args_error_kinds, args_errors, args_misuse, request_of_args};
+ghost use Rattle.rvtest_cli.specs.ArgsErrors.{FailsByKinds};
 
 use crate::accept::{AcceptArgs, accept_request};
 use crate::check::{CheckArgs, check_request};
-use crate::command::test_command;
+use crate::command::rvtest_command;
 use crate::console::{ConsoleArgs, console_request};
 use crate::counts::{CountsArgs, counts_request};
 use crate::cover::{CoverArgs, cover_request};
@@ -21,10 +21,10 @@ use crate::help::{HelpArgs, help_request};
 use crate::list::list_request;
 use crate::merge::{MergeArgs, merge_request};
 use crate::profile::{ProfileArgs, profile_request};
-use crate::run::{RunArgs, test_run_request};
+use crate::run::{RunArgs, rvtest_run_request};
 use crate::show::{ShowArgs, show_request};
 use crate::tips::FirstWord;
-use crate::words_error::WordsError;
+use crate::args_error::ArgsError;
 use clap::ArgMatches;
 use std::alloc::Global;
 use std::convert::AsStr;
@@ -68,17 +68,17 @@ pub enum Request<'a> {
 pub fn read_words<'a, T: AsStr>(
     alloc: Global,
     words: &'a [T],
-) -> Result<Option<Request<'a>>, WordsError>
+) -> Result<Option<Request<'a>>, ArgsError>
     // The result is the request that the arguments make.
     ensures value { IfOk result
         (λ request. option_map value_of_request request ≡ request_of_args (map T.text words.entry.now)) }
     // Each number is within the range of its argument.
     ensures within { IfOk result (λ request. IfSome request IsRequestInRange) }
     // Arguments fail because of an error that is found in them or because memory runs out; otherwise they have no error.
-    ensures kinds { FailsByKinds (words_fault_kinds (map T.text words.entry.now)) result }
+    ensures kinds { FailsByKinds (args_error_kinds (map T.text words.entry.now)) result }
     // If `clap` finds no error, the message says which options cannot be combined.
-    ensures misused { words_faults (map T.text words.entry.now) ≡ []
-        → IfErr result (IsMisuseReported (words_misuse (map T.text words.entry.now))) }
+    ensures misused { args_errors (map T.text words.entry.now) ≡ []
+        → IfErr result (IsMisuseReported (args_misuse (map T.text words.entry.now))) }
 {
     match words {
         [program, word] if is_help(word.as_str()) => {
@@ -106,14 +106,14 @@ fn is_command_help(word: &str, topic: &str) -> bool
 }
 
 // Parses arguments that request help with `--help`. Returns the help as an error, as `clap` does.
-fn command_help<'a, T: AsStr>(alloc: Global, words: &[T]) -> Result<Option<Request<'a>>, WordsError>
+fn command_help<'a, T: AsStr>(alloc: Global, words: &[T]) -> Result<Option<Request<'a>>, ArgsError>
     ensures value { IfOk result (λ request. request ≡ None) }
-    ensures kinds { FailsByKinds (fault_of test_app (map T.text words.entry.now)) result }
+    ensures kinds { FailsByKinds (fault_of rvtest_full_app (map T.text words.entry.now)) result }
 {
-    let command = test_command(alloc)?;
+    let command = rvtest_command(alloc)?;
     match command.try_get_matches_from(words) {
         Ok(_) => Ok(None),
-        Err(error) => Err(WordsError::of_clap(alloc, &error, FirstWord::Topic)),
+        Err(error) => Err(ArgsError::from_clap(alloc, &error, FirstWord::Topic)),
     }
 }
 
@@ -121,18 +121,18 @@ fn command_help<'a, T: AsStr>(alloc: Global, words: &[T]) -> Result<Option<Reque
 fn read_request<'a, T: AsStr>(
     alloc: Global,
     words: &'a [T],
-) -> Result<Option<Request<'a>>, WordsError>
+) -> Result<Option<Request<'a>>, ArgsError>
     ensures value { IfOk result
-        (λ request. option_map value_of_request request ≡ matched_request (subcommand_of test_app (map T.text words.entry.now))) }
+        (λ request. option_map value_of_request request ≡ matched_request (subcommand_of rvtest_full_app (map T.text words.entry.now))) }
     ensures within { IfOk result (λ request. IfSome request IsRequestInRange) }
-    ensures kinds { FailsByKinds (plain_fault_kinds (map T.text words.entry.now)) result }
-    ensures misused { fault_of test_app (map T.text words.entry.now) ≡ []
+    ensures kinds { FailsByKinds (plain_error_kinds (map T.text words.entry.now)) result }
+    ensures misused { fault_of rvtest_full_app (map T.text words.entry.now) ≡ []
         → IfErr result (IsMisuseReported (plain_misuse (map T.text words.entry.now))) }
 {
-    let command = test_command(alloc)?;
+    let command = rvtest_command(alloc)?;
     match command.try_get_matches_from(words) {
         Ok(matches) => matched_request(alloc, &matches),
-        Err(error) => Err(WordsError::of_clap(alloc, &error, FirstWord::Command)),
+        Err(error) => Err(ArgsError::from_clap(alloc, &error, FirstWord::Command)),
     }
 }
 
@@ -140,8 +140,8 @@ fn read_request<'a, T: AsStr>(
 fn matched_request<'a>(
     alloc: Global,
     matches: &ArgMatches<'a>,
-) -> Result<Option<Request<'a>>, WordsError>
-    ensures { ReadsRequest (matched_request (subcommand_rows_of matches.now))
+) -> Result<Option<Request<'a>>, ArgsError>
+    ensures { IsRequestRead (matched_request (subcommand_rows_of matches.now))
         (matched_misuse (subcommand_rows_of matches.now)) result }
 {
     match matches.subcommand() {
@@ -155,12 +155,12 @@ fn subcommand_request<'a>(
     alloc: Global,
     name: &str,
     values: &ArgMatches<'a>,
-) -> Result<Option<Request<'a>>, WordsError>
-    ensures { ReadsRequest (subcommand_request name.now (rows_of (found_of values.now)))
+) -> Result<Option<Request<'a>>, ArgsError>
+    ensures { IsRequestRead (subcommand_request name.now (rows_of (found_of values.now)))
         (subcommand_misuse name.now (rows_of (found_of values.now))) result }
 {
     match name {
-        "run" => test_run_request(alloc, values),
+        "run" => rvtest_run_request(alloc, values),
         "list" => list_request(alloc, values),
         "explain" => explain_request(alloc, values),
         "console" => Ok(console_request(values)),

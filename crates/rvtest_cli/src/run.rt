@@ -2,9 +2,9 @@
 
 ghost use Rattle.std.specs.Prelude.{◌≡◌, ◌≤◌, IfOk, None};
 ghost use Rattle.clap.specs.Words.{found_of, rows_of};
-ghost use Rattle.rv_cli.specs.Limits.{most_group};
-ghost use Rattle.rvtest_cli.specs.RvtestWords.{AreRunArgsInRange, ReadsRequest, are_counts_overwriting, are_rows_saved, are_rows_written_twice, are_stacks_alone, is_choice_given, is_failed_report_overwritten, is_report_given, is_into_stdout, run_options_of_args};
-ghost use Rattle.rvtest_cli.specs.RvtestWords.{run_misuse, test_run_request, run_words};
+ghost use Rattle.rv_cli.specs.Limits.{max_group};
+ghost use Rattle.rvtest_cli.specs.RvtestArgs.{AreRunArgsInRange, IsRequestRead, are_counts_overwriting, are_rows_saved, are_rows_written_twice, are_stacks_alone, is_choice_given, is_failed_report_overwritten, is_report_given, is_into_stdout, run_options_of_args};
+ghost use Rattle.rvtest_cli.specs.RvtestArgs.{run_misuse, rvtest_run_request, run_words};
 
 use crate::command::run_command;
 use crate::refusals::{
@@ -12,9 +12,9 @@ use crate::refusals::{
     is_partial_alone, is_report_path,
 };
 use crate::requests::Request;
-use crate::words_error::WordsError;
+use crate::args_error::ArgsError;
 use clap::ArgMatches;
-use rv_cli::limits::{MOST_BUDGET, MOST_GROUP, MOST_JOBS, MOST_WORKERS};
+use rv_cli::limits::{MAX_BUDGET, MAX_GROUP, MAX_JOBS, MAX_WORKERS};
 use rv_cli::values::{argument_values, is_flag_set, is_option_given, number_value, text_value};
 use std::alloc::{AllocError, Global};
 
@@ -74,11 +74,11 @@ pub struct RunArgs<'a> {
 }
 
 /// Returns the request of `run` with these values, or an error if they misuse an option.
-pub(crate) fn test_run_request<'a>(
+pub(crate) fn rvtest_run_request<'a>(
     alloc: Global,
     values: &ArgMatches<'a>,
-) -> Result<Option<Request<'a>>, WordsError>
-    ensures { ReadsRequest (test_run_request (rows_of (found_of values.now)))
+) -> Result<Option<Request<'a>>, ArgsError>
+    ensures { IsRequestRead (rvtest_run_request (rows_of (found_of values.now)))
         (run_misuse (rows_of (found_of values.now))) result }
 {
     match run_misuse(values) {
@@ -91,27 +91,27 @@ pub(crate) fn test_run_request<'a>(
 fn valid_run_request<'a>(
     alloc: Global,
     values: &ArgMatches<'a>,
-) -> Result<Option<Request<'a>>, WordsError>
-    ensures { ReadsRequest (test_run_request (rows_of (found_of values.now))) None result }
+) -> Result<Option<Request<'a>>, ArgsError>
+    ensures { IsRequestRead (rvtest_run_request (rows_of (found_of values.now))) None result }
 {
     let Some(list) = text_value(values, "list") else {
         return Ok(None);
     };
-    let Some(group) = number_value(values, "group", 1, MOST_GROUP) else {
+    let Some(group) = number_value(values, "group", 1, MAX_GROUP) else {
         return Ok(None);
     };
     Ok(Some(Request::Run(run_args(alloc, values, list, group)?)))
 }
 
 /// Returns the arguments of a command that runs jobs of `list` in chunks of `group` jobs, with its options taken from `values`.
-#[tactic(auto, unfolding(crate::specs::RvtestWords::run_words))]
+#[tactic(auto, unfolding(crate::specs::RvtestArgs::run_words))]
 pub(crate) fn run_args<'a>(
     alloc: Global,
     values: &ArgMatches<'a>,
     list: &'a str,
     group: u32,
 ) -> Result<RunArgs<'a>, AllocError>
-    requires { (1 ≤ group) × (group ≤ most_group) }
+    requires { (1 ≤ group) × (group ≤ max_group) }
     ensures { IfOk result (λ request. (run_options_of_args request ≡ run_words list.entry.now group (rows_of (found_of values.now)))
         × AreRunArgsInRange request) }
 {
@@ -123,9 +123,9 @@ pub(crate) fn run_args<'a>(
         partial: is_flag_set(values, "partial"),
         shard: text_value(values, "shard"),
         stamp: text_value(values, "stamp"),
-        workers: number_value(values, "workers", 1, MOST_WORKERS),
+        workers: number_value(values, "workers", 1, MAX_WORKERS),
         group,
-        budget: number_value(values, "budget", 1, MOST_BUDGET),
+        budget: number_value(values, "budget", 1, MAX_BUDGET),
         root: text_value(values, "root"),
         into: text_value(values, "into"),
         report: text_value(values, "report"),
@@ -135,7 +135,7 @@ pub(crate) fn run_args<'a>(
         counts: text_value(values, "counts"),
         stacks: is_flag_set(values, "stacks"),
         known: text_value(values, "known"),
-        stop_after: number_value(values, "stop-after", 1, MOST_JOBS as u32),
+        stop_after: number_value(values, "stop-after", 1, MAX_JOBS as u32),
         verbose: is_flag_set(values, "verbose"),
         quiet: is_flag_set(values, "quiet"),
         last: number_value(values, "last", 0, 100_000),
@@ -171,7 +171,7 @@ fn run_misuse(values: &ArgMatches<'_>) -> Option<Misuse>
     } else if are_stacks_alone(values) {
         Some(Misuse::StacksAlone)
     } else if are_counts_overwriting(values) {
-        Some(Misuse::CountsOneFile)
+        Some(Misuse::CountsIsOther)
     } else {
         files_misuse(values)
     }

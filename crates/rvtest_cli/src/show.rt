@@ -1,12 +1,12 @@
 //! The arguments of `show`.
 
 ghost use Rattle.clap.specs.Words.{found_of, rows_of};
-ghost use Rattle.rvtest_cli.specs.RvtestWords.{IsRequestFor, ReadsRequest, show_misuse, show_request};
+ghost use Rattle.rvtest_cli.specs.RvtestArgs.{IsRequestFor, IsRequestRead, show_misuse, show_request};
 
 use crate::command::show_command;
 use crate::refusals::show_misuse;
 use crate::requests::Request;
-use crate::words_error::WordsError;
+use crate::args_error::ArgsError;
 use clap::ArgMatches;
 use rv_cli::values::{is_flag_set, text_value};
 use std::alloc::Global;
@@ -32,8 +32,8 @@ pub struct ShowArgs<'a> {
 pub(crate) fn show_request<'a>(
     alloc: Global,
     values: &ArgMatches<'a>,
-) -> Result<Option<Request<'a>>, WordsError>
-    ensures { ReadsRequest (show_request (rows_of (found_of values.now)))
+) -> Result<Option<Request<'a>>, ArgsError>
+    ensures { IsRequestRead (show_request (rows_of (found_of values.now)))
         (show_misuse (rows_of (found_of values.now))) result }
 {
     match show_misuse(values) {

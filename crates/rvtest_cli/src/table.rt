@@ -3,8 +3,8 @@
 use crate::arguments::{Argument, Bounds};
 use crate::command::Subcommand;
 use crate::examples;
-use crate::profile::MOST_FUNCTIONS;
-use rv_cli::limits::{MOST_BUDGET, MOST_GROUP, MOST_JOBS, MOST_WORKERS};
+use crate::profile::MAX_FUNCTIONS;
+use rv_cli::limits::{MAX_BUDGET, MAX_GROUP, MAX_JOBS, MAX_WORKERS};
 
 /// The commands of `rvtest`, in the order in which the help lists them.
 pub(crate) const COMMANDS: [Subcommand<'static>; 14] = [
@@ -13,7 +13,7 @@ pub(crate) const COMMANDS: [Subcommand<'static>; 14] = [
 ];
 
 /// Returns the range of the numbers that the option `name` accepts; `None` if its value is not a number.
-pub(crate) fn number_bounds(name: &str) -> Option<Bounds> {
+pub(crate) fn number_range(name: &str) -> Option<Bounds> {
     if name == "group" {
         return Some(GROUP_BOUNDS);
     }
@@ -45,7 +45,7 @@ pub(crate) const RUN: Subcommand<'static> = Subcommand {
             "TEXT",
             "Stamp the part with this text; merge accepts only parts with equal stamps [default: a digest of the list]",
         ),
-        Argument::Number("workers", Some('j'), THREADS, WORKERS, &[]),
+        Argument::Number("workers", Some('j'), THREADS, WORKERS_RANGE, &[]),
         Argument::Group,
         Argument::Number("budget", None, BUDGET, BUDGET_BOUNDS, &[]),
         Argument::Option("root", "DIR", ROOT),
@@ -161,7 +161,7 @@ pub(crate) const ACCEPT: Subcommand<'static> = Subcommand {
             None,
             "Also write golden files outside the list's directory (or the --root directory)",
         ),
-        Argument::Number("workers", Some('j'), THREADS, WORKERS, &[]),
+        Argument::Number("workers", Some('j'), THREADS, WORKERS_RANGE, &[]),
         Argument::Group,
         Argument::Option("root", "DIR", ROOT),
     ],
@@ -201,7 +201,7 @@ pub(crate) const DIFF: Subcommand<'static> = Subcommand {
             "slower",
             None,
             "Report jobs that take more than N percent more steps, from 0 to 1000",
-            SLOWER,
+            SLOWER_RANGE,
             &[],
         ),
         Argument::Option("color", "WHEN", COLOR),
@@ -248,7 +248,7 @@ pub(crate) const COVER: Subcommand<'static> = Subcommand {
         Argument::Flag("partial", None, PARTIAL),
         Argument::Option("shard", "K/N", SHARD),
         Argument::Flag("lenient", None, LENIENT),
-        Argument::Number("workers", Some('j'), THREADS, WORKERS, &[]),
+        Argument::Number("workers", Some('j'), THREADS, WORKERS_RANGE, &[]),
         Argument::Group,
         Argument::Option("root", "DIR", ROOT),
         Argument::Option("counts", "TABLE", COUNTS_TABLE),
@@ -262,7 +262,7 @@ pub(crate) const PROFILE: Subcommand<'static> = Subcommand {
     after: examples::PROFILE,
     arguments: &[
         Argument::Word("list", "LIST", LIST_PATH),
-        Argument::OptionalWord(
+        Argument::OptionalPositional(
             "name",
             "NAME",
             "Name of the job [default: all selected jobs]",
@@ -274,7 +274,7 @@ pub(crate) const PROFILE: Subcommand<'static> = Subcommand {
         Argument::Flag("partial", None, PARTIAL),
         Argument::Option("shard", "K/N", SHARD),
         Argument::Flag("lenient", None, LENIENT),
-        Argument::Number("workers", Some('j'), THREADS, WORKERS, &[]),
+        Argument::Number("workers", Some('j'), THREADS, WORKERS_RANGE, &[]),
         Argument::Group,
         Argument::Option("root", "DIR", ROOT),
         Argument::Option("counts", "TABLE", COUNTS_TABLE),
@@ -287,7 +287,7 @@ const HELP: Subcommand<'static> = Subcommand {
     name: "help",
     about: "Print help for a command, or describe the keys of a job list",
     after: examples::HELP,
-    arguments: &[Argument::OptionalWord(
+    arguments: &[Argument::OptionalPositional(
         "topic",
         "TOPIC",
         "Name of a command, or keys for the keys of a job list",
@@ -345,34 +345,34 @@ const BUDGET: &str = "Override every job's step budget, from 1 to 1000000000";
 
 const GROUP_BOUNDS: Bounds = Bounds {
     least: 1,
-    most: MOST_GROUP as i64,
+    most: MAX_GROUP as i64,
 };
 
 const BUDGET_BOUNDS: Bounds = Bounds {
     least: 1,
-    most: MOST_BUDGET as i64,
+    most: MAX_BUDGET as i64,
 };
 
-const WORKERS: Bounds = Bounds {
+const WORKERS_RANGE: Bounds = Bounds {
     least: 1,
-    most: MOST_WORKERS as i64,
+    most: MAX_WORKERS as i64,
 };
 
-const SLOWER: Bounds = Bounds {
+const SLOWER_RANGE: Bounds = Bounds {
     least: 0,
     most: 1_000,
 };
 
 const STOP_AFTER_BOUNDS: Bounds = Bounds {
     least: 1,
-    most: MOST_JOBS as i64,
+    most: MAX_JOBS as i64,
 };
 
 const TOP: &str = "Show only the first N functions of each image";
 
 const TOP_BOUNDS: Bounds = Bounds {
     least: 1,
-    most: MOST_FUNCTIONS as i64,
+    most: MAX_FUNCTIONS as i64,
 };
 
 const MEMORY: &str = "Use at most N megabytes, from 64 to 4096 [default: 256]";

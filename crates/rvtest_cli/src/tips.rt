@@ -4,7 +4,7 @@
 //! when another was meant. Of a value that is not a number, it does not say which numbers are accepted.
 
 use crate::arguments::Bounds;
-use crate::table::number_bounds;
+use crate::table::number_range;
 use clap::Error;
 use rv_cli::is_name;
 use rv_text::{Span, push_spans};
@@ -42,7 +42,7 @@ fn text_with_tips(alloc: Global, told: &str, first: FirstWord) -> Result<String,
     let mut is_behind_empty = false;
     for line in told.lines() {
         let is_empty = line.is_empty();
-        if is_tip_wrong(alloc, written, line)? || is_empty && is_behind_empty {
+        if is_misleading_tip(alloc, written, line)? || is_empty && is_behind_empty {
             continue;
         }
         is_behind_empty = is_empty;
@@ -79,7 +79,7 @@ fn push_line(text: &mut Vec<u8>, line: &str) -> Result<(), AllocError> {
 fn rejected_number(line: &str) -> Option<(&str, &str, Bounds)> {
     let (front, behind) = line.rsplit_once("' for '--")?;
     let (option, _) = behind.split_once(" <N>': ")?;
-    let bounds = number_bounds(option)?;
+    let bounds = number_range(option)?;
     if front.starts_with("error: invalid value '") {
         Some((front, option, bounds))
     } else {
@@ -95,7 +95,7 @@ fn push_tip(
     usage: &str,
     first: FirstWord,
 ) -> Result<(), AllocError> {
-    let argument = word_between(told, "error: unexpected argument '", "' found\n");
+    let argument = text_between(told, "error: unexpected argument '", "' found\n");
     if usage.starts_with("Usage: rvtest run ") && is_job_name(argument) {
         return push_spans(
             text,
@@ -106,7 +106,7 @@ fn push_tip(
             ],
         );
     }
-    let topic = word_between(told, "error: unrecognized subcommand '", "'\n");
+    let topic = text_between(told, "error: unrecognized subcommand '", "'\n");
     if matches!(first, FirstWord::Topic) && levenshtein(alloc, topic, "keys")? == 1 {
         push_spans(
             text,
@@ -122,7 +122,7 @@ fn is_job_name(word: &str) -> bool {
 }
 
 // If `told` begins with `front` and has `behind` after that, returns the text between them; otherwise an empty text.
-fn word_between<'a>(told: &'a str, front: &str, behind: &str) -> &'a str {
+fn text_between<'a>(told: &'a str, front: &str, behind: &str) -> &'a str {
     match told.strip_prefix(front) {
         Some(rest) => match rest.split_once(behind) {
             Some((word, _)) => word,
@@ -144,7 +144,7 @@ fn unknown_option(told: &str) -> &str {
 }
 
 // Whether a line is a misleading tip: it explains how to pass an option as a value, or suggests an option that is not similar to `written`.
-fn is_tip_wrong(alloc: Global, written: &str, line: &str) -> Result<bool, AllocError> {
+fn is_misleading_tip(alloc: Global, written: &str, line: &str) -> Result<bool, AllocError> {
     if line.starts_with("  tip: to pass '") {
         return Ok(true);
     }

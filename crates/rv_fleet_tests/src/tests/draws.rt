@@ -22,7 +22,7 @@ pub(super) fn halves(claims: &Claims, pass: Pass) -> Option<(Pass, Pass)>
 }
 
 // Appends the response of a pass: whether it has ended if the request ends with a question mark, else the number that it draws, or `none`.
-fn push_answer(
+fn push_response(
     text: &mut String,
     claims: &Claims,
     pass: &mut Pass,
@@ -45,7 +45,7 @@ fn push_answer(
 }
 
 // Appends the responses of a pass to requests that are separated by spaces.
-fn push_answers(
+fn push_responses(
     text: &mut String,
     claims: &Claims,
     pass: &mut Pass,
@@ -55,13 +55,13 @@ fn push_answers(
     ensures { pass.new.draw ≡ claims.now }
 {
     for ask in asks.split(' ') {
-        push_answer(text, claims, pass, ask)?;
+        push_response(text, claims, pass, ask)?;
     }
     Ok(())
 }
 
 // Appends the responses of two passes to requests that are separated by spaces: those to the second pass begin with `q`.
-fn push_answers_of_both(
+fn push_responses_of_both(
     text: &mut String,
     claims: &Claims,
     first: &mut Pass,
@@ -75,9 +75,9 @@ fn push_answers_of_both(
 {
     for ask in asks.split(' ') {
         if ask.starts_with('q') {
-            push_answer(text, claims, second, ask)?;
+            push_response(text, claims, second, ask)?;
         } else {
-            push_answer(text, claims, first, ask)?;
+            push_response(text, claims, first, ask)?;
         }
     }
     Ok(())
@@ -114,7 +114,7 @@ fn split(
     let Some((mut first, mut second)) = halves(claims, pass) else {
         return Err("no place is free".into());
     };
-    push_answers_of_both(text, claims, &mut first, &mut second, asks)?;
+    push_responses_of_both(text, claims, &mut first, &mut second, asks)?;
     Ok(one_of(claims, first, second, end))
 }
 
@@ -153,9 +153,9 @@ fn push_all(text: &mut String, claims: &Claims, mut pass: Pass, line: &str) -> R
     requires { pass.draw ≡ claims.now }
     ensures { IfOk result (λ pass. pass.draw ≡ claims.now) }
 {
-    push_answers(text, claims, &mut pass, cell_of(line, 2))?;
+    push_responses(text, claims, &mut pass, cell_of(line, 2))?;
     let mut pass = between(text, claims, pass, line)?;
-    push_answers(text, claims, &mut pass, cell_of(line, 5))?;
+    push_responses(text, claims, &mut pass, cell_of(line, 5))?;
     Ok(pass)
 }
 

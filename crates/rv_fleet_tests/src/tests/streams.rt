@@ -56,12 +56,12 @@ impl Observer<ReportedRow> for Unobserved {
 
     // Does nothing, and returns that the run should continue.
     fn see(&mut self, _made: &ReportedRow) -> Flow {
-        Flow::GoOn
+        Flow::Continue
     }
 
     // Does nothing, and returns that the run should continue.
     fn pause(&mut self) -> Flow {
-        Flow::GoOn
+        Flow::Continue
     }
 }
 
@@ -219,7 +219,7 @@ fn is_cut(told: &str, whole: &str, sent: usize) -> bool {
 }
 
 // Checks that if each write accepts one byte and one write fails, exactly the bytes before it have been written.
-fn check_puts<R: Threads + Wait + Sync>(rt: &R, alloc: Global, line: &str) -> Result<(), Fail> {
+fn check_writes<R: Threads + Wait + Sync>(rt: &R, alloc: Global, line: &str) -> Result<(), Fail> {
     let whole = cell_of(line, 5);
     for sent in 0..whole.len() + 1 {
         let text = told(rt, alloc, line, 1, (sent as u64).saturating_add(1))?;
@@ -232,10 +232,10 @@ fn check_puts<R: Threads + Wait + Sync>(rt: &R, alloc: Global, line: &str) -> Re
 
 // If a write fails, the output is a prefix of the whole output.
 #[test]
-fn beginnings_go_out(rt: HostRuntime) -> Result<(), Fail> {
+fn failed_writes_leave_a_prefix(rt: HostRuntime) -> Result<(), Fail> {
     has_lines(STREAMS, 11)?;
     for line in STREAMS.lines() {
-        check_puts(&rt, rt.alloc(), line)?;
+        check_writes(&rt, rt.alloc(), line)?;
     }
     Ok(())
 }

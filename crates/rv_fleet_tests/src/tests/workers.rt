@@ -99,7 +99,7 @@ fn worked<R: Threads>(
 
 /// The chunks that the workers made, and whether the joined pass has ended and holds every pass index.
 #[derive(Drop)]
-struct PiecesMade {
+struct ComputedPieces {
     pieces: Vec<Piece>,
     ended: bool,
     finished: bool,
@@ -112,7 +112,7 @@ fn made<R: Threads>(
     plan: &Plan,
     line: &str,
     gate: &NotingGate,
-) -> Result<PiecesMade, Fail> {
+) -> Result<ComputedPieces, Fail> {
     let (workers, group) = crew_of(line);
     let count = piece_count(plan, group);
     if count > 4096 {
@@ -122,7 +122,7 @@ fn made<R: Threads>(
     let (pass, pieces) = worked(rt, alloc, &claims, pass, plan, workers, group, gate)?;
     let ended = pass.ended();
     let finished = claims.finish(pass);
-    Ok(PiecesMade {
+    Ok(ComputedPieces {
         pieces,
         ended,
         finished,
@@ -148,7 +148,7 @@ fn push_piece(
 }
 
 // Appends the number of chunks, and the rows of each.
-fn push_pieces(text: &mut String, pieces: &[Piece], alone: bool) -> Result<(), AllocError> {
+fn push_xml_pieces(text: &mut String, pieces: &[Piece], alone: bool) -> Result<(), AllocError> {
     let count = pieces.len();
     write!(text, "{count} pieces")?;
     for place in 0..count as u64 {
@@ -161,12 +161,12 @@ fn push_pieces(text: &mut String, pieces: &[Piece], alone: bool) -> Result<(), A
 // gate recorded.
 fn text_of(
     alloc: Global,
-    made: &PiecesMade,
+    made: &ComputedPieces,
     alone: bool,
     gate: &NotingGate,
 ) -> Result<String, Fail> {
     let mut text = String::new(alloc);
-    push_pieces(&mut text, made.pieces.as_slice(), alone)?;
+    push_xml_pieces(&mut text, made.pieces.as_slice(), alone)?;
     let (ended, finished) = (made.ended, made.finished);
     let order = if alone { gate.order() } else { 0 };
     write!(text, " {ended} {finished} {order}")?;
@@ -184,7 +184,7 @@ pub(super) fn told<R: Threads>(rt: &R, alloc: Global, line: &str) -> Result<Stri
 
 // label | budgets | | workers, one or two | group | | how many of the first chunks wait at the gate | for how many chunks to enter | the
 // chunks, whether the joined pass ended and holds every pass index, in which order one worker's chunks entered, and what the gate recorded
-pub(super) const WORKERS: &str = "\
+pub(super) const WORKERS_RANGE: &str = "\
 two workers | 3 3 3 3 | | 2 | 1 | | 1 | 2 | 4 pieces 0: j0 Exit(5) 2, 1: j1 Exit(5) 2, \
     2: j2 Exit(5) 2, 3: j3 Exit(5) 2, true true 0 entered 1111, late false
 two jobs a piece, and one in the last | 3 3 3 3 3 | | 1 | 2 | | | | 3 pieces 0: j0 Exit(5) 2, j1 Exit(5) 2, \

@@ -23,18 +23,18 @@ allows Fault = false
 allows Allow = true
 
 -- the treatment of misaligned accesses: allowed if the Boolean is true, and rejected with a fault if it is false
-abbrev pub choice_of : Bool → Choice
-choice_of false = Fault
-choice_of true = Allow
+abbrev pub policy_of : Bool → Choice
+policy_of false = Fault
+policy_of true = Allow
 
 -- a treatment of misaligned accesses that is stored as `allows` says and then recovered is unchanged
-abbrev pub choice_round_trips : (m : Choice) → choice_of (allows m) ≡ m
-choice_round_trips Fault = refl
-choice_round_trips Allow = refl
+abbrev pub policy_round_trips : (m : Choice) → policy_of (allows m) ≡ m
+policy_round_trips Fault = refl
+policy_round_trips Allow = refl
 
 -- how the treatment of misaligned accesses is stored, with the proof that it is recovered unchanged
-abbrev pub choice_code : Coded Choice
-choice_code = code_by Bool coded_bool allows choice_of choice_round_trips
+abbrev pub policy_code : Coded Choice
+policy_code = code_by Bool coded_bool allows policy_of policy_round_trips
 
 -- the fields of a bus's contents as nested pairs, in order
 abbrev pub Parts : Type 0
@@ -48,7 +48,7 @@ parts_code =
     coded× (coded_list region_code)
     (coded× (fin.code coded_ℕ coded_ℕ)
     (coded× (set.code coded_ℕ)
-    (coded× (coded_list coded_ℕ) (coded× (coded_list coded_ℕ) choice_code))))
+    (coded× (coded_list coded_ℕ) (coded× (coded_list coded_ℕ) policy_code))))
 
 -- how a bus's contents are stored: as their fields
 abbrev pub contents_code : Coded Contents

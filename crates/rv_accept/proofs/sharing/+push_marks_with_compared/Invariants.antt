@@ -1,5 +1,5 @@
 use Rattle.std.proofs.Common.{length}
-use Rattle.rv_accept.proofs.sharing.+push_marks_with_compared.Given as goal
+use Rattle.rv_accept.proofs.sharing.+push_with_compared_jobs.Given as goal
 
-abbrev pub decreases-push_marks_with_compared : goal.decreases-push_marks_with_compared
-decreases-push_marks_with_compared l = length l.jobs.now
+abbrev pub decreases-push_with_compared_jobs : goal.decreases-push_with_compared_jobs
+decreases-push_with_compared_jobs l = length l.jobs.now

@@ -1,5 +1,5 @@
 use Rattle.std.proofs.Common.{length}
-use Rattle.rv_accept.proofs.sharing.+push_sharing_marks.Given as goal
+use Rattle.rv_accept.proofs.sharing.+push_with_sharing_jobs.Given as goal
 
-abbrev pub decreases-push_sharing_marks : goal.decreases-push_sharing_marks
-decreases-push_sharing_marks l = length l.jobs.now
+abbrev pub decreases-push_with_sharing_jobs : goal.decreases-push_with_sharing_jobs
+decreases-push_with_sharing_jobs l = length l.jobs.now

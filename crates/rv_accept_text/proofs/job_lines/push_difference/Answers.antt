@@ -7,4 +7,4 @@ pub returns : goal.returns
 returns c =
     subst (λ (name : List ℕ). OnOk c.push_spans.result (c.push_spans.new.bytes.items ≡ c.args.out.now.items
     ++ (codes "the result differs from that of job \"" ++ printable_text name ++ codes "\" (same_as)")))
-    (c.as_bytes.ensures.value ∙ c.name_of_compared.ensures) c.push_spans.ensures
+    (c.as_bytes.ensures.value ∙ c.compared_job_name.ensures) c.push_spans.ensures

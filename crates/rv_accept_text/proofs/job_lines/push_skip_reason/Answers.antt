@@ -2,11 +2,11 @@ use Rattle.std.specs.Prelude.{codes}
 use Rattle.rv_accept_text.proofs.Appending.{one_behind}
 use Rattle.rv_accept_text.proofs.job_lines.push_skip_reason.Goals as goal
 
-pub returns-in_ok-push_text-in-NoPlace : goal.returns-in_ok-push_text-in-NoPlace
-returns-in_ok-push_text-in-NoPlace c =
-    rw c.in-NoPlace.is (one_behind c.push_new_entry.result c.args.out.now.items c.push_text-in-NoPlace.new.bytes.items _
+pub returns-in_ok-push_text-in-NotEditable : goal.returns-in_ok-push_text-in-NotEditable
+returns-in_ok-push_text-in-NotEditable c =
+    rw c.in-NotEditable.is (one_behind c.push_new_entry.result c.args.out.now.items c.push_text-in-NotEditable.new.bytes.items _
     (codes "cannot edit an inline table; set this by hand: ") _
-    c.in_ok-push_text-in-NoPlace.ensures c.push_new_entry.ensures)
+    c.in_ok-push_text-in-NotEditable.ensures c.push_new_entry.ensures)
 
 pub returns-in_ok-push_text-in-Made : goal.returns-in_ok-push_text-in-Made
 returns-in_ok-push_text-in-Made c =

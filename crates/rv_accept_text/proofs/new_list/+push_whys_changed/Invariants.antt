@@ -1,5 +1,5 @@
 use Rattle.std.proofs.Common.{length}
-use Rattle.rv_accept_text.proofs.new_list.+push_whys_changed.Given as goal
+use Rattle.rv_accept_text.proofs.new_list.+push_change_skip_reasons.Given as goal
 
-abbrev pub decreases-push_whys_changed : goal.decreases-push_whys_changed
-decreases-push_whys_changed l = length l.jobs.now
+abbrev pub decreases-push_change_skip_reasons : goal.decreases-push_change_skip_reasons
+decreases-push_change_skip_reasons l = length l.jobs.now

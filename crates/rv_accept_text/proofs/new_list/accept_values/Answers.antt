@@ -9,5 +9,5 @@ returns-in-Some-clause-left c = left_once c.args.runs.items c.as_slice-2.result.
 
 pub returns-clause-left : goal.returns-clause-left
 returns-clause-left c =
-    left_twice c.skip_changed.result c.args.runs.items c.as_slice-2.result.now _ c.in_ok-runs.ensures
-    c.skip_changed.ensures.left
+    left_twice c.skip_changed_jobs.result c.args.runs.items c.as_slice-2.result.now _ c.in_ok-runs.ensures
+    c.skip_changed_jobs.ensures.left

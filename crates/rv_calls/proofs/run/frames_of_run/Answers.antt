@@ -24,7 +24,7 @@ steps-preserved c =
     let end = frames_of_run c.args.budget (state_of c.args.machine.now) in
     record {
       ahead = subst (λ (fs : List Frame). LeadsTo (c.args.budget - (c.steps.counter + 1)) t fs end)
-          (sym (c.in_ok-pass_control.ensures ∙ ap (after_transfer c.steps.frames.items) c.in-Some.ensures.1))
+          (sym (c.in_ok-apply_transfer.ensures ∙ ap (after_transfer c.steps.frames.items) c.in-Some.ensures.1))
           (one_more c.args.budget c.steps.counter s t c.steps.frames.items end c.steps-test.true c.in-Some.ensures.0
           c.steps.invariant.ahead);
       reached = nearer c.args.budget c.steps.counter s t _ c.steps-test.true c.in-Some.ensures.0

@@ -4,7 +4,7 @@ use Rattle.std.specs.List.{list_all}
 use Rattle.rv_choice.proofs.Digits.{no_numeral}
 use Rattle.rv_choice.proofs.shard.parse_digits.Goals as goal
 
-pub returns-else-has_digits_alone : goal.returns-else-has_digits_alone
-returns-else-has_digits_alone c =
-    let told = ap (list_all is_ascii_digit) (sym c.as_bytes.ensures.value) ∙ (sym c.has_digits_alone.ensures ∙ c.if-has_digits_alone.false) in
+pub returns-else-has_only_digits : goal.returns-else-has_only_digits
+returns-else-has_only_digits c =
+    let told = ap (list_all is_ascii_digit) (sym c.as_bytes.ensures.value) ∙ (sym c.has_only_digits.ensures ∙ c.if-has_only_digits.false) in
     λ numeral. absurd (no_numeral c.args.words.now told numeral)

@@ -6,6 +6,6 @@ use Rattle.rv_cli.proofs.rvfleet.one_image_command.Goals as goal
 pub returns : goal.returns
 returns c =
     let begun : Is (new_app (codes "one")) c.about.result = search rules in
-    let first = c.with_argument-command.ensures _ _ c.word_argument.ensures.rule begun in
+    let first = c.with_argument-command.ensures _ _ c.positional_argument.ensures.rule begun in
     let second = c.with_argument-command-2.ensures _ _ c.budget_argument.ensures first in
     c.with_argument.ensures _ _ c.option_argument.ensures.rule second

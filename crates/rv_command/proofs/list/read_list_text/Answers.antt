@@ -5,4 +5,4 @@ use Rattle.rv_command.proofs.list.read_list_text.Goals as goal
 pub returns-in-None-clause-unread : goal.returns-in-None-clause-unread
 returns-in-None-clause-unread g c =
     let long = rw c.in-None.is at c.in_ok-text.ensures.long in
-    inr (long, told_stop _ _ _ _ c.of_failure.ensures c.path_message.ensures)
+    inr (long, told_stop _ _ _ _ c.system_failure.ensures c.path_message.ensures)

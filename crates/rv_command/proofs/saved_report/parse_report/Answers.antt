@@ -17,7 +17,7 @@ pub returns-in-Err-CutOff-clause-fault : goal.returns-in-Err-CutOff-clause-fault
 returns-in-Err-CutOff-clause-fault c =
     let least = rw c.in-Err-CutOff.field-0-is at c.in-Err-CutOff.ensures.least in
     let only = rw c.in-Err-CutOff.field-0-is at c.in-Err-CutOff.ensures.only in
-    let told = told_stop _ _ _ _ c.of_refusal.ensures c.path_message-told.ensures in
+    let told = told_stop _ _ _ _ c.rejection.ensures c.path_message-told.ensures in
     record {
       told = inr (inr (least, told));
       cut = λ begins. told;

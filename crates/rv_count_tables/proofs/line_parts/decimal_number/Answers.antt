@@ -1,7 +1,7 @@
 -- Each digit is one more.
 use Rattle.std.proofs.Common.{◌≡◌, ◌∙◌, ◌+◌, ◌-◌, ◌^◌, ℕ, get_or, drop, ap, sym, arith}
 use Rattle.rv_count_tables.proofs.LineLoops.{number_step, number_end}
-use Rattle.rv_count_tables.proofs.Words.{decimal_number_on, with_digit, number_of-decimal}
+use Rattle.rv_count_tables.proofs.Words.{decimal_number_from, with_digit, number_of-decimal}
 use Rattle.rv_count_tables.proofs.line_parts.decimal_number.Goals as goal
 
 pub loop-b-preserved : goal.loop-b-preserved
@@ -9,10 +9,10 @@ loop-b-preserved c =
     let text = c.args.text.now in
     let i = c.loop-b.b-index in
     let same : c.saturating_add-value.result ≡ with_digit (2 ^ 64 - 1) 10 c.loop-b.value (get_or text i 0 - 48) = omega arith in
-    ap (λ (v : ℕ). decimal_number_on v (drop (i + 1) text)) same ∙ sym (number_step c.loop-b.value text i (omega arith))
+    ap (λ (v : ℕ). decimal_number_from v (drop (i + 1) text)) same ∙ sym (number_step c.loop-b.value text i (omega arith))
     ∙ c.loop-b.invariant
 
 pub returns : goal.returns
 returns c number small is =
     sym (number_end c.loop-b.value c.args.text.now c.loop-b.b-index (omega arith)) ∙ c.loop-b.invariant
-    ∙ ap (decimal_number_on 0) is ∙ number_of-decimal number small
+    ∙ ap (decimal_number_from 0) is ∙ number_of-decimal number small

@@ -5,8 +5,8 @@ use Rattle.rv_count_tables.proofs.Lookups.{IsPlaceOf, none_at, strictly, those_a
 use Rattle.rv_count_tables.proofs.lookup.counts_at.Goals as goal
 use Rattle.rv_count_tables.proofs.lookup.counts_at.Goals.{else-place-counts-via-then-place-counts+else-counts-place, else-place-counts-via-else-place-counts}
 
-abbrev no_entry : AddressCounts
-no_entry = record { address = 0; begun = 0; taken = 0 }
+abbrev empty_entry : AddressCounts
+empty_entry = record { address = 0; begun = 0; taken = 0 }
 
 pub returns-then-counts-place : goal.returns-then-counts-place
 returns-then-counts-place c =
@@ -15,7 +15,7 @@ returns-then-counts-place c =
       lower = c.index_of_address-place.ensures.lower;
       higher = c.index_of_address-place.ensures.higher;
     } in
-    let those = those_at c.args.address 0 c.args.counts.now c.index_of_address-place.result no_entry c.requires place
+    let those = those_at c.args.address 0 c.args.counts.now c.index_of_address-place.result empty_entry c.requires place
     c.if-place-counts.true c.if-counts-place.true in
     λ i. record { address = c.if-counts-place.true i; begun = sym those.0 i; taken = sym those.1 i }
 
@@ -31,8 +31,8 @@ returns c =
     let above : (d : AddressCounts) → n < length cs → c.args.address < (get_or cs n d).address =
     elim c.else-place-counts.branch [
       | else-place-counts-via-then-place-counts+else-counts-place w ↦ λ d l.
-          let same = ap (λ (e : AddressCounts). e.address) (get_or_default cs n d no_entry l) in
-          let strict = strictly c.args.address (get_or cs n no_entry).address (place.higher no_entry l) w.if-counts-place.false in
+          let same = ap (λ (e : AddressCounts). e.address) (get_or_default cs n d empty_entry l) in
+          let strict = strictly c.args.address (get_or cs n empty_entry).address (place.higher empty_entry l) w.if-counts-place.false in
           omega (arith, same, strict)
       | else-place-counts-via-else-place-counts w ↦ λ d l. let f = w.if-place-counts.false in absurd (omega (arith, f, l))
     ] in

@@ -4,8 +4,8 @@ use Rattle.rv_count_tables.specs.declared.table.AddressCounts.{AddressCounts}
 use Rattle.rv_count_tables.proofs.Lookups.{IsPlaceOf, any_within}
 use Rattle.rv_count_tables.proofs.lookup.was_executed_within.Goals as goal
 
-abbrev no_entry : AddressCounts
-no_entry = record { address = 0; begun = 0; taken = 0 }
+abbrev empty_entry : AddressCounts
+empty_entry = record { address = 0; begun = 0; taken = 0 }
 
 pub returns-then-place-counts : goal.returns-then-place-counts
 returns-then-place-counts c =
@@ -17,8 +17,8 @@ returns-then-place-counts c =
       higher = c.index_of_address-place.ensures.higher;
     } in
     ap (λ at. ltb at c.args.behind) c.from.ensures
-    ∙ sym (any_within c.args.from c.args.behind 0 cs n no_entry c.requires place
-    ∙ ap (λ b. b && ltb (get_or cs n no_entry).address c.args.behind) (lt-ltb n (length cs) c.if-place-counts.true))
+    ∙ sym (any_within c.args.from c.args.behind 0 cs n empty_entry c.requires place
+    ∙ ap (λ b. b && ltb (get_or cs n empty_entry).address c.args.behind) (lt-ltb n (length cs) c.if-place-counts.true))
 
 pub returns-else-place-counts : goal.returns-else-place-counts
 returns-else-place-counts c =
@@ -30,5 +30,5 @@ returns-else-place-counts c =
       higher = c.index_of_address-place.ensures.higher;
     } in
     le-ltb n (length cs) c.if-place-counts.false
-    ∙ sym (any_within c.args.from c.args.behind 0 cs n no_entry c.requires place
-    ∙ ap (λ b. b && ltb (get_or cs n no_entry).address c.args.behind) (le-ltb n (length cs) c.if-place-counts.false))
+    ∙ sym (any_within c.args.from c.args.behind 0 cs n empty_entry c.requires place
+    ∙ ap (λ b. b && ltb (get_or cs n empty_entry).address c.args.behind) (le-ltb n (length cs) c.if-place-counts.false))

@@ -4,8 +4,8 @@ use Rattle.rv_count_tables.specs.declared.table.ImageCounts.{ImageCounts}
 use Rattle.rv_count_tables.specs.declared.read.ReadError.{ReadError}
 use Rattle.rv_count_tables.specs.Lines.{whole_line}
 use Rattle.rv_count_tables.specs.Text.{last_line}
-use Rattle.rv_count_tables.specs.ReadSteps.{AreImageLines}
-use Rattle.rv_count_tables.specs.Read.{IsLeast, IsLeastRefusedLine}
+use Rattle.rv_count_tables.specs.ReadSteps.{AreParsedImages}
+use Rattle.rv_count_tables.specs.Read.{IsFirstError, IsFirstInvalidLine}
 use Rattle.rv_count_tables.proofs.Reading.{one_table}
 use Rattle.rv_count_tables.proofs.Refusing.{is_table, no_table_refused}
 use Rattle.rv_count_tables.proofs.ReadTable.{behind_images, end_within, same_first, other_first, least_first, no_table_first}
@@ -24,7 +24,7 @@ returns-then-ne-clause-least c =
     let bytes = c.args.bytes.now in
     let other = other_first c.whole_line.result.now c.as_bytes.result.now bytes c.ne.result c.ne.ensures c.if-ne.true
     c.whole_line.ensures c.as_bytes.ensures.value in
-    subst (λ (e : ReadError). IsLeast e bytes) (sym c.refused_at.ensures) (least_first bytes other)
+    subst (λ (e : ReadError). IsFirstError e bytes) (sym c.refused_at.ensures) (least_first bytes other)
 
 pub overflow_add-end : goal.overflow_add-end
 overflow_add-end c =
@@ -33,7 +33,7 @@ overflow_add-end c =
     let place = 11 + read.length in
     let first = same_first c.whole_line.result.now c.as_bytes.result.now bytes c.ne.result c.ne.ensures c.if-ne.false
     c.whole_line.ensures c.as_bytes.ensures.value in
-    let lines = subst (λ (s : List ℕ). AreImageLines s read) c.tail_from.ensures c.in_ok-read.ensures in
+    let lines = subst (λ (s : List ℕ). AreParsedImages s read) c.tail_from.ensures c.in_ok-read.ensures in
     let few : length read.images < 2 ^ 64 =
     subst (λ (is : List ImageCounts). length is < 2 ^ 64) c.as_slice.ensures c.runs_of_last_line.ensures.few in
     let behind = behind_images bytes read place first lines few refl in
@@ -49,7 +49,7 @@ returns-in-None-clause-only c table is text =
     let place = 11 + read.length in
     let first = same_first c.whole_line.result.now c.as_bytes.result.now bytes c.ne.result c.ne.ensures c.if-ne.false
     c.whole_line.ensures c.as_bytes.ensures.value in
-    let lines = subst (λ (s : List ℕ). AreImageLines s read) c.tail_from.ensures c.in_ok-read.ensures in
+    let lines = subst (λ (s : List ℕ). AreParsedImages s read) c.tail_from.ensures c.in_ok-read.ensures in
     let few : length read.images < 2 ^ 64 =
     subst (λ (is : List ImageCounts). length is < 2 ^ 64) c.as_slice.ensures c.runs_of_last_line.ensures.few in
     let behind = behind_images bytes read place first lines few refl in
@@ -66,7 +66,7 @@ returns-in-None-clause-least c =
     let place = 11 + read.length in
     let first = same_first c.whole_line.result.now c.as_bytes.result.now bytes c.ne.result c.ne.ensures c.if-ne.false
     c.whole_line.ensures c.as_bytes.ensures.value in
-    let lines = subst (λ (s : List ℕ). AreImageLines s read) c.tail_from.ensures c.in_ok-read.ensures in
+    let lines = subst (λ (s : List ℕ). AreParsedImages s read) c.tail_from.ensures c.in_ok-read.ensures in
     let few : length read.images < 2 ^ 64 =
     subst (λ (is : List ImageCounts). length is < 2 ^ 64) c.as_slice.ensures c.runs_of_last_line.ensures.few in
     let behind = behind_images bytes read place first lines few refl in
@@ -74,7 +74,7 @@ returns-in-None-clause-least c =
     let none = rw c.in-None.is at c.in_ok-runs_of_last_line.ensures.none in
     let no_last = λ (r : ℕ) (small : r < 2 ^ 64) (e : whole_line (drop place bytes) ≡ last_line (length read.images) r).
     none r small (w ∙ e ∙ ap (λ (is : List ImageCounts). last_line (length is) r) (sym c.as_slice.ensures)) in
-    subst (λ (e : ReadError). IsLeast e bytes) (sym c.refused_at-in-None.ensures)
+    subst (λ (e : ReadError). IsFirstError e bytes) (sym c.refused_at-in-None.ensures)
     (least_behind bytes read.images place behind no_last)
 
 pub returns-then-end-bytes-clause-text : goal.returns-then-end-bytes-clause-text
@@ -84,7 +84,7 @@ returns-then-end-bytes-clause-text c =
     let place = 11 + read.length in
     let first = same_first c.whole_line.result.now c.as_bytes.result.now bytes c.ne.result c.ne.ensures c.if-ne.false
     c.whole_line.ensures c.as_bytes.ensures.value in
-    let lines = subst (λ (s : List ℕ). AreImageLines s read) c.tail_from.ensures c.in_ok-read.ensures in
+    let lines = subst (λ (s : List ℕ). AreParsedImages s read) c.tail_from.ensures c.in_ok-read.ensures in
     let few : length read.images < 2 ^ 64 =
     subst (λ (is : List ImageCounts). length is < 2 ^ 64) c.as_slice.ensures c.runs_of_last_line.ensures.few in
     let behind = behind_images bytes read place first lines few refl in
@@ -105,7 +105,7 @@ returns-then-end-bytes-clause-only c table is text =
     let place = 11 + read.length in
     let first = same_first c.whole_line.result.now c.as_bytes.result.now bytes c.ne.result c.ne.ensures c.if-ne.false
     c.whole_line.ensures c.as_bytes.ensures.value in
-    let lines = subst (λ (s : List ℕ). AreImageLines s read) c.tail_from.ensures c.in_ok-read.ensures in
+    let lines = subst (λ (s : List ℕ). AreParsedImages s read) c.tail_from.ensures c.in_ok-read.ensures in
     let few : length read.images < 2 ^ 64 =
     subst (λ (is : List ImageCounts). length is < 2 ^ 64) c.as_slice.ensures c.runs_of_last_line.ensures.few in
     let behind = behind_images bytes read place first lines few refl in
@@ -128,7 +128,7 @@ returns-else-end-bytes-clause-only c table is text =
     let place = 11 + read.length in
     let first = same_first c.whole_line.result.now c.as_bytes.result.now bytes c.ne.result c.ne.ensures c.if-ne.false
     c.whole_line.ensures c.as_bytes.ensures.value in
-    let lines = subst (λ (s : List ℕ). AreImageLines s read) c.tail_from.ensures c.in_ok-read.ensures in
+    let lines = subst (λ (s : List ℕ). AreParsedImages s read) c.tail_from.ensures c.in_ok-read.ensures in
     let few : length read.images < 2 ^ 64 =
     subst (λ (is : List ImageCounts). length is < 2 ^ 64) c.as_slice.ensures c.runs_of_last_line.ensures.few in
     let behind = behind_images bytes read place first lines few refl in
@@ -144,9 +144,9 @@ returns-else-end-bytes-clause-only c table is text =
     let same = ap (λ (s : List ℕ). length s) w in
     let other = c.if-end-bytes.false in
     let under : end < length bytes = omega (arith, within, same, other) in
-    let least = subst (λ (n : ℕ). IsLeastRefusedLine n bytes) (sym c.number_of_line.ensures)
+    let least = subst (λ (n : ℕ). IsFirstInvalidLine n bytes) (sym c.line_number_at.ensures)
     (least_end bytes read.images runs end behind.are fits told under) in
-    absurd (no_table_refused c.number_of_line.result bytes least table is text)
+    absurd (no_table_refused c.line_number_at.result bytes least table is text)
 
 pub returns-else-end-bytes-clause-least : goal.returns-else-end-bytes-clause-least
 returns-else-end-bytes-clause-least c =
@@ -155,7 +155,7 @@ returns-else-end-bytes-clause-least c =
     let place = 11 + read.length in
     let first = same_first c.whole_line.result.now c.as_bytes.result.now bytes c.ne.result c.ne.ensures c.if-ne.false
     c.whole_line.ensures c.as_bytes.ensures.value in
-    let lines = subst (λ (s : List ℕ). AreImageLines s read) c.tail_from.ensures c.in_ok-read.ensures in
+    let lines = subst (λ (s : List ℕ). AreParsedImages s read) c.tail_from.ensures c.in_ok-read.ensures in
     let few : length read.images < 2 ^ 64 =
     subst (λ (is : List ImageCounts). length is < 2 ^ 64) c.as_slice.ensures c.runs_of_last_line.ensures.few in
     let behind = behind_images bytes read place first lines few refl in
@@ -171,5 +171,5 @@ returns-else-end-bytes-clause-least c =
     let same = ap (λ (s : List ℕ). length s) w in
     let other = c.if-end-bytes.false in
     let under : end < length bytes = omega (arith, within, same, other) in
-    subst (λ (n : ℕ). IsLeastRefusedLine n bytes) (sym c.number_of_line.ensures)
+    subst (λ (n : ℕ). IsFirstInvalidLine n bytes) (sym c.line_number_at.ensures)
     (least_end bytes read.images runs end behind.are fits told under)

@@ -7,7 +7,7 @@ use Rattle.std.specs.Str.{bytes_eq}
 use Rattle.rv_count_tables.specs.Lines.{whole_line}
 use Rattle.rv_count_tables.specs.Table.{is_greater_than_last}
 use Rattle.rv_count_tables.specs.Text.{image_line}
-use Rattle.rv_count_tables.specs.ReadSteps.{last_digest, AreAddressLines, AreSpotLines}
+use Rattle.rv_count_tables.specs.ReadSteps.{last_digest, AreParsedAddresses, AreParsedNodes}
 use Rattle.rv_count_tables.proofs.ReadingLines.{one_image, no_image_line}
 use Rattle.rv_count_tables.proofs.read_lines.read_image.Goals as goal
 
@@ -38,9 +38,9 @@ returns-clause-found c =
     (ap (is_greater_than_last (last_digest None c.args.earlier.now)) (sym d) ∙ both.1)
     (subst (λ (s : List ℕ). AllByRecursion (λ b. b < 256) s) d c.can_follow.ensures.bytes) c.in_ok-image.ensures.text
     (record {
-      addresses = subst (λ (t : List ℕ). AreAddressLines t lines)
+      addresses = subst (λ (t : List ℕ). AreParsedAddresses t lines)
           (c.tail_from.ensures ∙ ap (λ (s : List ℕ). drop (length s) text) w) c.in_ok-lines.ensures;
-      stacks = subst (λ (t : List ℕ). AreSpotLines t spots)
+      stacks = subst (λ (t : List ℕ). AreParsedNodes t spots)
           (c.tail_from-2.ensures ∙ ap (λ (s : List ℕ). drop (length s + lines.length) text) w) c.in_ok-spots.ensures;
       end = ap (λ (s : List ℕ). length s + lines.length + spots.length) w;
     })

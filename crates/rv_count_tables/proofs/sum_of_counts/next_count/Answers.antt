@@ -3,7 +3,7 @@ use Rattle.std.proofs.Common.{◌≡◌, ◌<◌, length, sym, subst, arith}
 use Rattle.std.proofs.lemmas.Bool.Decides.{nat_tests}
 use Rattle.rv_count_tables.specs.declared.sum_of_counts.NextCount.{NextCount}
 use Rattle.rv_count_tables.specs.SumSteps.{IsNextCount}
-use Rattle.rv_count_tables.proofs.Adding.{of_first_alone, of_second_alone, of_first, of_second, of_both}
+use Rattle.rv_count_tables.proofs.Adding.{of_first_alone, of_second_alone, node_of_first, node_of_second, of_both}
 use Rattle.rv_count_tables.proofs.sum_of_counts.next_count.Goals as goal
 
 pub returns-then-is_empty-clause-value : goal.returns-then-is_empty-clause-value
@@ -29,7 +29,7 @@ returns-then-a-b-clause-value c =
     let some : 0 < length c.args.a.now = grind (arith, nat_tests, e) in
     let other : 0 < length c.args.b.now = grind (arith, nat_tests, f) in
     subst (λ (n : NextCount). IsNextCount c.args.a.now c.args.b.now n) (sym c.count_of_first-then-a-b.ensures)
-    (of_first _ _ _ c.requires.a some other c.if-a-b.true)
+    (node_of_first _ _ _ c.requires.a some other c.if-a-b.true)
 
 pub returns-then-b-a-clause-value : goal.returns-then-b-a-clause-value
 returns-then-b-a-clause-value c =
@@ -38,7 +38,7 @@ returns-then-b-a-clause-value c =
     let some : 0 < length c.args.a.now = grind (arith, nat_tests, e) in
     let other : 0 < length c.args.b.now = grind (arith, nat_tests, f) in
     subst (λ (n : NextCount). IsNextCount c.args.a.now c.args.b.now n) (sym c.count_of_second-then-b-a.ensures)
-    (of_second _ _ _ c.requires.b some other c.if-b-a.true)
+    (node_of_second _ _ _ c.requires.b some other c.if-b-a.true)
 
 pub returns-clause-value : goal.returns-clause-value
 returns-clause-value c =

@@ -1,15 +1,15 @@
 -- Ahead of a sum of what is left of both lists, what stands there makes the sum of both.
 use Rattle.std.proofs.Common.{◌+◌, ◌-◌, ◌≤◌, ◌++◌, List, length, drop}
 use Rattle.rv_count_tables.specs.declared.table.AddressCounts.{AddressCounts}
-use Rattle.rv_count_tables.specs.SumSteps.{AddsUp}
+use Rattle.rv_count_tables.specs.SumSteps.{CountsAddUp}
 use Rattle.rv_count_tables.proofs.sum_of_counts.sum_of_counts.Given as goal
 
 abbrev pub invariant-loop-from_a : goal.invariant-loop-from_a
 invariant-loop-from_a l = record {
   within_a : l.from_a ≤ length l.a;
   within_b : l.from_b ≤ length l.b;
-  ahead : (others : List AddressCounts) → AddsUp (drop l.from_a l.a) (drop l.from_b l.b) others
-      → AddsUp l.a l.b (l.sums.items ++ others);
+  ahead : (others : List AddressCounts) → CountsAddUp (drop l.from_a l.a) (drop l.from_b l.b) others
+      → CountsAddUp l.a l.b (l.sums.items ++ others);
 }
 
 abbrev pub decreases-loop-from_a : goal.decreases-loop-from_a

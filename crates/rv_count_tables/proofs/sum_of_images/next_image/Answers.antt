@@ -22,23 +22,23 @@ returns-then-is_empty-2-clause-value c =
     IfOk-weaker _ _ _ (λ next is. image_of_second_alone _ _ _ c.requires.b (omega (arith, some, none)) none
     c.index-b-0.is next is) c.image_of_second.ensures.value
 
-pub returns-then-is_earlier-clause-value : goal.returns-then-is_earlier-clause-value
-returns-then-is_earlier-clause-value c =
+pub returns-then-has_lower_digest-clause-value : goal.returns-then-has_lower_digest-clause-value
+returns-then-has_lower_digest-clause-value c =
     let e = c.if-is_empty-2.ensures in
     let f = c.if-is_empty.ensures in
     let some : 0 < length c.args.a.now = grind (arith, nat_tests, e) in
     let other : 0 < length c.args.b.now = grind (arith, nat_tests, f) in
     IfOk-weaker _ _ _ (λ next is. image_of_first _ _ _ _ c.requires.a some other c.index-a-0-2.is c.index-b-0-2.is
-    (sym c.if-is_earlier.ensures) next is) c.image_of_first-then-is_earlier.ensures.value
+    (sym c.if-has_lower_digest.ensures) next is) c.image_of_first-then-has_lower_digest.ensures.value
 
-pub returns-then-is_earlier-2-clause-value : goal.returns-then-is_earlier-2-clause-value
-returns-then-is_earlier-2-clause-value c =
+pub returns-then-has_lower_digest-2-clause-value : goal.returns-then-has_lower_digest-2-clause-value
+returns-then-has_lower_digest-2-clause-value c =
     let e = c.if-is_empty-2.ensures in
     let f = c.if-is_empty.ensures in
     let some : 0 < length c.args.a.now = grind (arith, nat_tests, e) in
     let other : 0 < length c.args.b.now = grind (arith, nat_tests, f) in
     IfOk-weaker _ _ _ (λ next is. image_of_second _ _ _ _ c.requires.b some other c.index-a-0-2.is c.index-b-0-2.is
-    (sym c.if-is_earlier-2.ensures) next is) c.image_of_second-then-is_earlier-2.ensures.value
+    (sym c.if-has_lower_digest-2.ensures) next is) c.image_of_second-then-has_lower_digest-2.ensures.value
 
 pub returns-in_err-image-clause-refused : goal.returns-in_err-image-clause-refused
 returns-in_err-image-clause-refused c =
@@ -48,8 +48,8 @@ returns-in_err-image-clause-refused c =
     let other : 0 < length c.args.b.now = grind (arith, nat_tests, f) in
     let error = err_from_is_err_and c.from_residual.result c.from_residual.ensures.1 in
     rw (error.1, error.2)
-    (no_sum_of_first _ _ _ _ _ some other c.index-a-0-2.is c.index-b-0-2.is (sym c.if-is_earlier.ensures)
-    (sym c.if-is_earlier-2.ensures) c.in_err-image.ensures.refused)
+    (no_sum_of_first _ _ _ _ _ some other c.index-a-0-2.is c.index-b-0-2.is (sym c.if-has_lower_digest.ensures)
+    (sym c.if-has_lower_digest-2.ensures) c.in_err-image.ensures.refused)
 
 pub returns-clause-value : goal.returns-clause-value
 returns-clause-value c =
@@ -59,5 +59,5 @@ returns-clause-value c =
     let other : 0 < length c.args.b.now = grind (arith, nat_tests, f) in
     let ensures = c.in_ok-image.ensures in
     image_of_both _ _ _ _ _ c.requires.a c.requires.b some other c.index-a-0-2.is c.index-b-0-2.is
-    (sym c.if-is_earlier.ensures) (sym c.if-is_earlier-2.ensures) ensures.digest ensures.path ensures.counts
+    (sym c.if-has_lower_digest.ensures) (sym c.if-has_lower_digest-2.ensures) ensures.digest ensures.path ensures.counts
     ensures.names ensures.of_spots ensures.tree ensures.spots

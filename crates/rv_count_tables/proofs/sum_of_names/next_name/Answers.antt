@@ -40,8 +40,8 @@ returns-then-second-first-clause-value c =
     IfOk-weaker _ _ _ (λ next is. name_of_second _ _ _ _ c.requires.b some other c.index-a-0-2.is c.index-b-0-2.is
     c.if-second-first.true next is) c.name_of_second-then-second-first.ensures.value
 
-pub returns-then-not-have_one_name-clause-refused : goal.returns-then-not-have_one_name-clause-refused
-returns-then-not-have_one_name-clause-refused c =
+pub returns-then-not-have_equal_names-clause-refused : goal.returns-then-not-have_equal_names-clause-refused
+returns-then-not-have_equal_names-clause-refused c =
     let e = c.if-is_empty-2.ensures in
     let f = c.if-is_empty.ensures in
     let some : 0 < length c.args.a.now = grind (arith, nat_tests, e) in
@@ -49,7 +49,7 @@ returns-then-not-have_one_name-clause-refused c =
     let n = c.if-first-second.false in
     let m = c.if-second-first.false in
     other_names_first _ _ c.index-a-0-2.result c.index-b-0-2.result some other c.index-a-0-2.is c.index-b-0-2.is
-    (omega (arith, n, m)) (λ one. both_ways _ c.if-not-have_one_name.true (c.have_one_name.ensures.1 one))
+    (omega (arith, n, m)) (λ one. both_ways _ c.if-not-have_equal_names.true (c.have_equal_names.ensures.1 one))
 
 pub returns-clause-value : goal.returns-clause-value
 returns-clause-value c =
@@ -60,5 +60,5 @@ returns-clause-value c =
     let n = c.if-first-second.false in
     let m = c.if-second-first.false in
     name_of_both _ _ c.index-a-0-2.result c.index-b-0-2.result c.requires.a some other c.index-a-0-2.is c.index-b-0-2.is
-    (omega (arith, n, m)) (c.have_one_name.ensures.0 c.if-not-have_one_name.false) _
+    (omega (arith, n, m)) (c.have_equal_names.ensures.0 c.if-not-have_equal_names.false) _
     (λ i. record { name = c.in_ok-name.ensures i; of_a = 1; of_b = 1 })

@@ -1,7 +1,7 @@
 -- Each name is one more.
 use Rattle.std.proofs.Common.{◌≡◌, ◌∙◌, ◌++◌, ◌+◌, ◌∷◌, [], List, add-one, ap, subst, sym, take}
 use Rattle.std.proofs.Math.Seq.{take-suc}
-use Rattle.rv_count_tables.specs.SpotLines.{IsIndexOf}
+use Rattle.rv_count_tables.specs.ParsedNodes.{IsIndexOf}
 use Rattle.rv_count_tables.specs.declared.table.FunctionName.{FunctionName}
 use Rattle.rv_count_tables.proofs.SpotIndexes.{index_keeps, index_more, no_index}
 use Rattle.rv_count_tables.proofs.text.index_of_functions.Goals as goal

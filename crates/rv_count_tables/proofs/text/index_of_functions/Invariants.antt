@@ -1,6 +1,6 @@
 -- The index has the names so far.
 use Rattle.std.proofs.Common.{take}
-use Rattle.rv_count_tables.specs.SpotLines.{IsIndexOf}
+use Rattle.rv_count_tables.specs.ParsedNodes.{IsIndexOf}
 use Rattle.rv_count_tables.proofs.text.index_of_functions.Given as goal
 
 abbrev pub invariant-loop-name : goal.invariant-loop-name

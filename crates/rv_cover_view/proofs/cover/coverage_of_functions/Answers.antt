@@ -5,9 +5,9 @@ use Rattle.rv_cover_view.proofs.cover.coverage_of_functions.Goals as goal
 
 pub plus-amounts-requires : goal.plus-amounts-requires
 plus-amounts-requires c = one_function_fits c.args.counts.now c.args.functions.now c.loop-function.function-index _ c.loop-function.amounts
-    c.amounts_of_code.result c.loop-function-test.true c.requires.few c.loop-function.invariant c.amounts_of_code.ensures
+    c.totals_of_code.result c.loop-function-test.true c.requires.few c.loop-function.invariant c.totals_of_code.ensures
 
 pub loop-function-preserved : goal.loop-function-preserved
 loop-function-preserved c = c.plus-amounts.ensures
     ∙ one_function_more c.args.counts.now c.args.functions.now c.loop-function.function-index _ c.loop-function.amounts
-    c.amounts_of_code.result c.loop-function-test.true c.loop-function.invariant c.amounts_of_code.ensures
+    c.totals_of_code.result c.loop-function-test.true c.loop-function.invariant c.totals_of_code.ensures

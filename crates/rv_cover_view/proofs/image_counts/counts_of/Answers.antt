@@ -1,6 +1,6 @@
 use Rattle.std.proofs.Common.{refl}
 use Rattle.sha2.specs.Sha256.{sha256}
-use Rattle.rv_count_tables.specs.Table.{rise_from}
+use Rattle.rv_count_tables.specs.Table.{increase_from}
 use Rattle.rv_cover_view.specs.ImageCounts.{is_of_digest}
 use Rattle.rv_cover_view.proofs.Found.{found_rises}
 use Rattle.rv_cover_view.proofs.image_counts.counts_of.Goals as goal
@@ -9,8 +9,8 @@ pub returns-in-Some-clause-rising : goal.returns-in-Some-clause-rising
 returns-in-Some-clause-rising c =
     rw c.as_slice.ensures
     (found_rises (is_of_digest (sha256 c.args.bytes.now)) c.args.table.now.images c.in-Some.counted.now c.requires.images
-    (rw c.in-Some.is at c.counted_image.ensures))
+    (rw c.in-Some.is at c.entry_of_image.ensures))
 
 pub returns-in-None-clause-rising : goal.returns-in-None-clause-rising
-unfolding rise_from
+unfolding increase_from
 returns-in-None-clause-rising c = refl

@@ -1,8 +1,8 @@
 use Rattle.std.proofs.Common.{◌≡◌, ◌∙◌, ◌++◌, ap, sym, Some}
 use Rattle.std.specs.Prelude.{is_none}
 use Rattle.rv_diff.specs.Change.{change_of}
-use Rattle.rv_diff.specs.ByName.{row_named}
-use Rattle.rv_diff.specs.Diff.{is_alone_in, is_changed, changes_of_row}
+use Rattle.rv_diff.specs.RowsByName.{row_named}
+use Rattle.rv_diff.specs.Diff.{is_missing_from, is_changed, changes_of_row}
 use Rattle.rv_diff.proofs.Changes.{IsCounted, added_is, changed_is, counted_within, same_is}
 use Rattle.rv_diff.proofs.OneMore.{count_all, count_more, one_where_passing, same_where_failing, text_all, text_more}
 use Rattle.rv_diff.proofs.diff.push_added_and_changed_lines.Goals.{in-Added, in-Changed, in_default}
@@ -41,7 +41,7 @@ loop-row-preserved c =
           row c.args.text.now.items c.loop-row.text.items c.push_changes_of_row.new.text.items c.loop-row-test.true
           c.row-item.is c.loop-row.invariant.text
           (c.in_ok-push_changes_of_row.ensures ∙ ap (λ o. c.loop-row.text.items ++ changes_of_row compare o row) found);
-      added = count_more (is_alone_in before) c.args.new.now c.loop-row.row-index row c.loop-row.added
+      added = count_more (is_missing_from before) c.args.new.now c.loop-row.row-index row c.loop-row.added
           c.match-change_of.added c.loop-row-test.true c.row-item.is c.loop-row.invariant.added one.0;
       changed = count_more (λ row. is_changed compare (row_named before row.name) row) c.args.new.now
           c.loop-row.row-index row c.loop-row.changed c.match-change_of.changed c.loop-row-test.true c.row-item.is
@@ -57,7 +57,7 @@ returns-clause-text c =
 
 pub returns-clause-added : goal.returns-clause-added
 returns-clause-added c =
-    count_all (is_alone_in c.args.old.now) c.args.new.now c.loop-row.row-index c.loop-row.added
+    count_all (is_missing_from c.args.old.now) c.args.new.now c.loop-row.row-index c.loop-row.added
     c.loop-row-test.false c.loop-row.invariant.added
 
 pub returns-clause-changed : goal.returns-clause-changed

@@ -1,7 +1,7 @@
 use Rattle.std.proofs.Common.{◌∙◌, ◌+◌, ◌++◌, length}
 use Rattle.std.specs.List.{flat_map}
-use Rattle.rv_diff.specs.ByName.{row_named}
-use Rattle.rv_diff.specs.Diff.{count_line, diff_text, counts_of_differing, gone_line, changes_of_row, step_sums}
+use Rattle.rv_diff.specs.RowsByName.{row_named}
+use Rattle.rv_diff.specs.Diff.{count_line, diff_text, difference_counts, gone_line, changes_of_row, step_sums}
 use Rattle.rv_diff.proofs.OneMore.{more}
 use Rattle.rv_diff.proofs.diff.push_diff.Goals as goal
 
@@ -15,7 +15,7 @@ returns-clause-text c =
     let compare = c.args.compare in
     let gone = flat_map (λ row. gone_line (row_named new row.name) row) old in
     let others = flat_map (λ row. changes_of_row compare (row_named old row.name) row) new in
-    let counts = counts_of_differing compare old new in
+    let counts = difference_counts compare old new in
     let counted = c.in_ok-gone.ensures.count in
     let added = c.in_ok-added.ensures.added in
     let changed = c.in_ok-added.ensures.changed in

@@ -1,8 +1,8 @@
 use Rattle.std.proofs.Common.{◌≡◌, ◌∙◌, ◌+◌, ◌++◌, ap, append-nil, cond, sym, Some}
 use Rattle.std.specs.Prelude.{is_none}
 use Rattle.rv_diff.specs.Change.{change_of}
-use Rattle.rv_diff.specs.ByName.{row_named}
-use Rattle.rv_diff.specs.Diff.{gone_line, is_alone_in}
+use Rattle.rv_diff.specs.RowsByName.{row_named}
+use Rattle.rv_diff.specs.Diff.{gone_line, is_missing_from}
 use Rattle.rv_diff.proofs.Changes.{gone_is_alone, stays_where_not_gone}
 use Rattle.rv_diff.proofs.OneMore.{count_all, count_more, one_where_passing, same_where_failing, text_all, text_more, within_more}
 use Rattle.rv_diff.proofs.diff.push_gone_lines.Goals.{in-Gone+in_ok-push_sign_line, in_default}
@@ -35,7 +35,7 @@ loop-row-preserved c =
       text = text_more (λ row. gone_line (row_named after row.name) row) c.args.old.now c.loop-row.row-index row
           c.args.text.now.items so_far c.match-change_of.text.items c.loop-row-test.true c.row-item.is
           c.loop-row.invariant.text one.0;
-      count = count_more (is_alone_in after) c.args.old.now c.loop-row.row-index row c.loop-row.gone
+      count = count_more (is_missing_from after) c.args.old.now c.loop-row.row-index row c.loop-row.gone
           c.match-change_of.gone c.loop-row-test.true c.row-item.is c.loop-row.invariant.count one.1;
       within = within_more (is_none other) c.loop-row.gone c.match-change_of.gone c.loop-row.row-index one.1
           c.loop-row.invariant.within;
@@ -48,5 +48,5 @@ returns-clause-text c =
 
 pub returns-clause-count : goal.returns-clause-count
 returns-clause-count c =
-    count_all (is_alone_in c.args.new.now) c.args.old.now c.loop-row.row-index c.loop-row.gone c.loop-row-test.false
+    count_all (is_missing_from c.args.new.now) c.args.old.now c.loop-row.row-index c.loop-row.gone c.loop-row-test.false
     c.loop-row.invariant.count

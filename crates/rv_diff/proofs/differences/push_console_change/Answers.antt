@@ -2,12 +2,12 @@ use Rattle.std.proofs.Common.{◌≡◌, ◌∙◌, ap, codes, drop, false, sym,
 use Rattle.std.specs.Fmt.{decimal}
 use Rattle.rv_diff.specs.Change.{have_same_console}
 use Rattle.rv_rows.specs.Printable.{printable_value}
-use Rattle.rv_diff.specs.Differences.{console_words, first_differing_index}
+use Rattle.rv_diff.specs.Differences.{console_change_text, first_differing_index}
 use Rattle.rv_diff.proofs.Told.{byte_told, told}
 use Rattle.rv_diff.proofs.differences.push_console_change.Goals as goal
 
 pub returns-in-Some : goal.returns-in-Some
-unfolding console_words
+unfolding console_change_text
 returns-in-Some c =
     let place = c.in-Some.place in
     let differ : have_same_console c.args.old.now c.args.new.now ≡ false = sym c.have_same_console.ensures ∙ c.if-have_same_console.false in

@@ -13,9 +13,9 @@ loop-k-preserved c =
     elim c.if-is_named_code.branch [
       | then-is_named_code+in_ok-push w ↦
           rw w.symbols-is (with_symbol c.args.table.now c.args.strings.now c.loop-k.k c.loop-k.symbols.items c.loop-k.invariant
-          c.symbol_entry-symbol.result c.symbol_entry-symbol.ensures (sym c.is_named_code.ensures ∙ w.if-is_named_code.true)
+          c.symbol_at_offset-symbol.result c.symbol_at_offset-symbol.ensures (sym c.is_named_code.ensures ∙ w.if-is_named_code.true)
           _ (w.in_ok-push.ensures.items ∙ ap (λ (s : CodeSymbol). c.loop-k.symbols.items ++ s ∷ []) w.code_symbol.ensures))
       | else-is_named_code w ↦
           rw w.symbols-is (without_symbol c.args.table.now c.args.strings.now c.loop-k.k c.loop-k.symbols.items c.loop-k.invariant
-          c.symbol_entry-symbol.result c.symbol_entry-symbol.ensures (sym c.is_named_code.ensures ∙ w.if-is_named_code.false))
+          c.symbol_at_offset-symbol.result c.symbol_at_offset-symbol.ensures (sym c.is_named_code.ensures ∙ w.if-is_named_code.false))
     ]

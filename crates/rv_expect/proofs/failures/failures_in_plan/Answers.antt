@@ -4,14 +4,14 @@ use Rattle.std.specs.Prelude.{option_to_list}
 use Rattle.rv_rows.specs.declared_row.Row.{Row}
 use Rattle.rv_expect.specs.FailureKinds.{failure_in_plan}
 use Rattle.rv_expect.specs.declared.failure_kind.FailureKind.{FailureKind}
-use Rattle.rv_expect.specs.Judgement.{judging_of}
+use Rattle.rv_expect.specs.Judgement.{judge_view}
 use Rattle.rv_expect.proofs.Collecting.{all_of, one_more, pair_at, pairs}
 use Rattle.rv_expect.proofs.failures.failures_in_plan.Goals as goal
 
 pub loop-i-preserved : goal.loop-i-preserved
 loop-i-preserved c =
     let f : ℕ × Row → List FailureKind =
-    λ placed. option_to_list (failure_in_plan (judging_of c.args.judge.now) c.args.plan.now placed.0 placed.1) in
+    λ placed. option_to_list (failure_in_plan (judge_view c.args.judge.now) c.args.plan.now placed.0 placed.1) in
     let places = c.args.places.now in
     let rows = c.args.rows.now in
     let i = c.loop-i.i in
@@ -26,7 +26,7 @@ loop-i-preserved c =
 pub returns : goal.returns
 returns c =
     let f : ℕ × Row → List FailureKind =
-    λ placed. option_to_list (failure_in_plan (judging_of c.args.judge.now) c.args.plan.now placed.0 placed.1) in
+    λ placed. option_to_list (failure_in_plan (judge_view c.args.judge.now) c.args.plan.now placed.0 placed.1) in
     let places = c.args.places.now in
     let rows = c.args.rows.now in
     all_of f (zip places rows) c.loop-i.i _ (omega (arith, pairs places rows c.requires)) c.loop-i.invariant

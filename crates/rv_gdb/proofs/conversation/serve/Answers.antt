@@ -24,18 +24,18 @@ returns-then-is_empty-clause-heard g c =
 pub returns-in-None-clause-heard : goal.returns-in-None-clause-heard
 returns-in-None-clause-heard g c =
     let some : c.loop.chunk.items ≢ [] = search rules in
-    (heard_over (g.E.EndText.end_text c.args.context.now.end.now) c.args.session.now c.loop.session c.answer_chunk.new.session
+    (heard_over (g.E.EndText.end_text c.args.context.now.end.now) c.args.session.now c.loop.session c.respond_to_chunk.new.session
     c.loop.chunk.items _ _ _ _ _ _ some c.loop.invariant.0
     (rw (c.as_slice.ensures.value, c.in-None.is) at c.in_ok-next.ensures.answered)).0
 
 pub loop-preserved : goal.loop-preserved
 loop-preserved g c =
     let some : c.loop.chunk.items ≢ [] = search rules in (
-      heard_more (g.E.EndText.end_text c.args.context.now.end.now) c.args.session.now c.loop.session c.answer_chunk.new.session
+      heard_more (g.E.EndText.end_text c.args.context.now.end.now) c.args.session.now c.loop.session c.respond_to_chunk.new.session
           c.loop.chunk.items c.in-Some.next.items _ _ _ _ _ _ some c.loop.invariant.0
           (rw (c.as_slice.ensures.value, c.in-Some.is) at c.in_ok-next.ensures.answered),
       (
-        same_run_on c.args.session.now c.loop.session c.answer_chunk.new.session c.loop.invariant.1.0 c.in_ok-next.ensures.run,
+        same_run_on c.args.session.now c.loop.session c.respond_to_chunk.new.session c.loop.invariant.1.0 c.in_ok-next.ensures.run,
         c.in_ok-next.ensures.counted ∙ c.loop.invariant.1.1,
       ),
     )

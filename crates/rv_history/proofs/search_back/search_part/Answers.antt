@@ -1,7 +1,7 @@
 use Rattle.std.proofs.Common.{ℕ, ◌≡◌, ◌∙◌, ◌+◌, ◌<◌, ◌≤◌, Option, ap, arith, subst, sym}
 use Rattle.rv_trace.specs.Machine.{state_of}
-use Rattle.rv_history.specs.declared.found.StopInfo.{StopInfo}
-use Rattle.rv_history.specs.LastStop.{IsLastOn}
+use Rattle.rv_history.specs.declared.found.SearchEnd.{SearchEnd}
+use Rattle.rv_history.specs.LastStop.{IsLastStopIn}
 use Rattle.rv_history.specs.Places.{last_step}
 use Rattle.rv_history.specs.Stops.{is_break, watched_bytes}
 use Rattle.rv_history.proofs.Backward.{last_more, stepped_place}
@@ -31,7 +31,7 @@ loop-place-preserved g c =
           let more = last_more stops budget c.in_ok-at.at.place place start s t c.loop-place.last c.has_break-is_break.result
           c.in_ok-stepped.stepped reached (omega arith) (c.has_break-is_break.ensures ∙ ap (is_break stops) c.pc.ensures)
           c.in_ok-stepped.ensures.step (omega arith) (c.loop-place.invariant.last budget within) in
-          subst (λ (last : Option StopInfo). IsLastOn stops budget start c.in_ok-at.at.place (place + 1) last)
+          subst (λ (last : Option SearchEnd). IsLastStopIn stops budget start c.in_ok-at.at.place (place + 1) last)
           (sym c.last_stop_after-last.ensures) more;
     }
 
@@ -41,6 +41,6 @@ returns-clause-part g c =
       begin = omega (arith, near, c.requires.some);
       last = λ budget within.
           let end : c.loop-place.place ≡ c.args.end = omega (arith, near, c.requires.some) in
-          subst (λ (k : ℕ). IsLastOn c.args.stops.now budget c.args.track.now c.in_ok-at.at.place k c.loop-place.last) end
+          subst (λ (k : ℕ). IsLastStopIn c.args.stops.now budget c.args.track.now c.in_ok-at.at.place k c.loop-place.last) end
           (c.loop-place.invariant.last budget within);
     }

@@ -1,6 +1,6 @@
 use Rattle.std.proofs.Common.{ℕ, ◌≡◌, arith, subst}
 use Rattle.rv_trace.proofs.Public.{completes}
-use Rattle.rv_history.specs.LastStop.{AreQuiet}
+use Rattle.rv_history.specs.LastStop.{HaveNoStops}
 use Rattle.rv_history.proofs.Backward.{begins_over, last_before, quiet_joined}
 use Rattle.rv_history.proofs.search_back.stop_before.Goals as goal
 
@@ -39,5 +39,5 @@ pub returns-clause-stop : goal.returns-clause-stop
 returns-clause-stop g c = λ budget within.
     let none : c.loop-end.end ≡ 0 = omega arith in
     begins_over c.args.stops.now budget c.args.from c.args.track.now
-    (subst (λ (k : ℕ). AreQuiet c.args.stops.now budget c.args.track.now k c.args.from) none
+    (subst (λ (k : ℕ). HaveNoStops c.args.stops.now budget c.args.track.now k c.args.from) none
     (c.loop-end.invariant.quiet budget within))

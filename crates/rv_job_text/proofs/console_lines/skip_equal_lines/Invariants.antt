@@ -1,16 +1,16 @@
 use Rattle.std.proofs.Common.{◌≡◌, ◌+◌, ◌≤◌, drop, length}
 use Rattle.std.specs.List.{common_prefix_len}
 use Rattle.std.specs.Str.{bytes_eq}
-use Rattle.rv_job_text.specs.ConsoleLines.{whole_lines}
+use Rattle.rv_job_text.specs.ConsoleLines.{complete_lines}
 use Rattle.rv_job_text.proofs.console_lines.skip_equal_lines.Given as goal
 
 abbrev pub invariant-loop-line : goal.invariant-loop-line
 invariant-loop-line l = record {
-  counted : common_prefix_len bytes_eq (whole_lines l.actual) (whole_lines l.expected)
-      ≡ l.parting.equal + common_prefix_len bytes_eq (whole_lines l.parting.actual.now) (whole_lines l.parting.expected.now);
+  counted : common_prefix_len bytes_eq (complete_lines l.actual) (complete_lines l.expected)
+      ≡ l.parting.equal + common_prefix_len bytes_eq (complete_lines l.parting.actual.now) (complete_lines l.parting.expected.now);
   small : l.parting.equal + length l.parting.actual.now ≤ length l.actual;
-  actual : whole_lines l.parting.actual.now ≡ drop l.parting.equal (whole_lines l.actual);
-  expected : whole_lines l.parting.expected.now ≡ drop l.parting.equal (whole_lines l.expected);
+  actual : complete_lines l.parting.actual.now ≡ drop l.parting.equal (complete_lines l.actual);
+  expected : complete_lines l.parting.expected.now ≡ drop l.parting.equal (complete_lines l.expected);
 }
 
 abbrev pub decreases-loop-line : goal.decreases-loop-line

@@ -1,5 +1,5 @@
-use Rattle.rv_job_text.proofs.FirstLines.{whole_lines-flat}
+use Rattle.rv_job_text.proofs.FirstLines.{complete_lines-flat}
 use Rattle.rv_job_text.proofs.law.lines_are_the_text.Goals as goal
 
 pub returns : goal.returns
-returns c = whole_lines-flat
+returns c = complete_lines-flat

@@ -6,4 +6,4 @@ pub returns : goal.returns
 unfolding signature_difference_text
 returns c =
     rw (c.in-Some.is, ← c.as_str-path.ensures, ← c.signature_words_or_empty-words.ensures, ← c.bytes_or_empty-reference.ensures)
-    (ended _ _ _ _ _ _ c.in_ok-push_compared_name.ensures c.push_reference_difference.ensures)
+    (ended _ _ _ _ _ _ c.in_ok-push_prefixed_name.ensures c.push_reference_difference.ensures)

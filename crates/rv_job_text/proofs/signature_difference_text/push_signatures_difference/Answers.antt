@@ -20,4 +20,4 @@ returns-in-Lengths c =
 
 pub returns-in-Absent : goal.returns-in-Absent
 unfolding signatures_difference_text
-returns-in-Absent c = rw (c.in-Absent.is, ← c.absent_signature_text.ensures) c.push_text.ensures
+returns-in-Absent c = rw (c.in-Absent.is, ← c.missing_signature_text.ensures) c.push_text.ensures

@@ -1,14 +1,14 @@
-use Rattle.rv_expect.specs.Comparisons.{sides_of}
+use Rattle.rv_expect.specs.Comparisons.{comparison_view}
 use Rattle.rv_job_text.specs.UnmetLines.{unmet_line}
 use Rattle.rv_text.proofs.Public.{all_told, one_more}
 use Rattle.rv_job_text.proofs.unmet_line.push_unmet_lines.Goals as goal
 
 pub loop-one-preserved : goal.loop-one-preserved
 loop-one-preserved c =
-    one_more (unmet_line c.args.address (sides_of c.args.comparison.now)) c.args.unmet.now c.loop-one.one-index _ _ _ _
+    one_more (unmet_line c.args.address (comparison_view c.args.comparison.now)) c.args.unmet.now c.loop-one.one-index _ _ _ _
     c.loop-one-test.true c.loop-one.invariant c.in_ok-push_unmet_line.ensures
 
 pub returns : goal.returns
 returns c =
-    all_told (unmet_line c.args.address (sides_of c.args.comparison.now)) c.args.unmet.now c.loop-one.one-index _ _
+    all_told (unmet_line c.args.address (comparison_view c.args.comparison.now)) c.args.unmet.now c.loop-one.one-index _ _
     c.loop-one-test.false c.loop-one.invariant

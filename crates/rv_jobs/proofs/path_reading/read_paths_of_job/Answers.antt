@@ -1,5 +1,5 @@
 use Rattle.std.proofs.Common.{◌≡◌, ◌∙◌, ap}
-use Rattle.rv_jobs.specs.Plans.{paths_of, with_path, with_path_if}
+use Rattle.rv_jobs.specs.Plans.{paths_of, with_path, with_path_if_any}
 use Rattle.rv_jobs.proofs.Answering.{placed_all}
 use Rattle.rv_jobs.proofs.path_reading.read_paths_of_job.Goals as goal
 
@@ -17,6 +17,6 @@ returns-clause-paths g c =
     let job = c.args.job.now in
     let first : paths_of c.in_ok-first.first ≡ with_path asked job.image =
     c.in_ok-first.ensures.paths ∙ ap (with_path asked) c.as_str.ensures in
-    let second : paths_of c.in_ok-second.second ≡ with_path_if (with_path asked job.image) job.expect_signature =
-    c.in_ok-second.ensures.paths ∙ (λ i. with_path_if (first i) (c.reference_path.ensures i)) in
-    c.in_ok-third.ensures.paths ∙ (λ i. with_path_if (second i) (c.console_path.ensures i))
+    let second : paths_of c.in_ok-second.second ≡ with_path_if_any (with_path asked job.image) job.expect_signature =
+    c.in_ok-second.ensures.paths ∙ (λ i. with_path_if_any (first i) (c.reference_path.ensures i)) in
+    c.in_ok-third.ensures.paths ∙ (λ i. with_path_if_any (second i) (c.console_path.ensures i))

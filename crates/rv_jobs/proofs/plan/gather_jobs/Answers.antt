@@ -3,8 +3,8 @@ use Rattle.std.specs.List.{fold}
 use Rattle.std.proofs.lemmas.List.{length-map}
 use Rattle.rv_jobs.specs.declared.answers.Answer.{Answer}
 use Rattle.rv_jobs.specs.declared.kept.Kept.{Kept}
-use Rattle.rv_jobs.specs.Placed.{AreNoted, AreFound}
-use Rattle.rv_jobs.specs.Plans.{paths_of, paths_used, jobs_needed_for, jobs_needed_at, with_job, AgreeWithContents, unreadable_count, one_more_times}
+use Rattle.rv_jobs.specs.Placed.{AreRecorded, ArePartialResultIndicesOfJobs}
+use Rattle.rv_jobs.specs.Plans.{paths_of, paths_used, jobs_needed_for, jobs_needed_at, with_job_paths, AgreeWithContents, unreadable_count, after_increments}
 use Rattle.rv_jobs.proofs.Answering.{start_kept, start_faults, parts_whole}
 use Rattle.rv_jobs.proofs.Needing.{needed_more, needed_whole}
 use Rattle.rv_jobs.proofs.plan.gather_jobs.Goals as goal
@@ -15,8 +15,8 @@ loop-place-init g c = record {
   paths = ap paths_of c.in_ok-none.ensures;
   kept = start_kept c.in_ok-none.none c.in_ok-none.ensures (g.S.Store.contents c.args.store.now);
   faults = start_faults c.in_ok-none.none c.in_ok-none.ensures (g.S.Store.faulted c.args.store.now);
-  noted = subst (λ js. AreNoted (paths_of c.in_ok-none.none) js c.in_ok-noted.noted.items) c.as_slice.ensures.value
-      (subst (λ xs. AreNoted xs c.as_slice.result.now c.in_ok-noted.noted.items)
+  noted = subst (λ js. AreRecorded (paths_of c.in_ok-none.none) js c.in_ok-noted.noted.items) c.as_slice.ensures.value
+      (subst (λ xs. AreRecorded xs c.as_slice.result.now c.in_ok-noted.noted.items)
       (sym (ap paths_of c.in_ok-none.ensures))
       c.in_ok-noted.ensures);
 }
@@ -30,15 +30,15 @@ loop-place-preserved g c =
     record {
       same = c.in_ok-asked.ensures.same ∙ inv.same;
       paths = c.in_ok-asked.ensures.paths
-          ∙ (ap (λ js. fold with_job (paths_of c.loop-place.asked) (jobs_needed_at js place)) jobs
-          ∙ ap (λ ps. fold with_job (paths_of c.loop-place.asked)
+          ∙ (ap (λ js. fold with_job_paths (paths_of c.loop-place.asked) (jobs_needed_at js place)) jobs
+          ∙ ap (λ ps. fold with_job_paths (paths_of c.loop-place.asked)
           (jobs_needed_at c.args.jobs (get_or ps c.loop-place.place-index 0))) c.as_slice-place-items.ensures.value
-          ∙ ap (λ ps. fold with_job ps (jobs_needed_at c.args.jobs (get_or c.args.places.items c.loop-place.place-index 0)))
+          ∙ ap (λ ps. fold with_job_paths ps (jobs_needed_at c.args.jobs (get_or c.args.places.items c.loop-place.place-index 0)))
           inv.paths
           ∙ sym (needed_more c.args.jobs c.args.places.items c.loop-place.place-index 0 (omega arith)));
       kept = rw inv.same at (c.in_ok-asked.ensures.kept kept);
       faults = c.in_ok-asked.ensures.faults (g.S.Store.faulted c.args.store.now) inv.faults;
-      noted = subst (λ js. AreNoted (paths_of c.in_ok-asked.asked) js c.read_paths_for_row.new.noted.items) jobs
+      noted = subst (λ js. AreRecorded (paths_of c.in_ok-asked.asked) js c.read_paths_for_row.new.noted.items) jobs
           c.in_ok-asked.ensures.noted;
     }
 
@@ -49,12 +49,12 @@ invariant_of-result g c =
     record {
       jobs = c.as_slice.ensures.jobs;
       even = sym (ap length used) ∙ length-map c.loop-place.asked (λ (a : Answer). a.path)
-          ∙ sym (ap (length {A = Kept}) c.into_kept-answers.ensures
+          ∙ sym (ap (length {A = Kept}) c.into_results-answers.ensures
           ∙ length-map c.loop-place.asked (λ (a : Answer). a.kept));
-      found = subst (λ js. AreFound (paths_used (jobs_needed_for c.args.jobs c.args.places.items)) js
+      found = subst (λ js. ArePartialResultIndicesOfJobs (paths_used (jobs_needed_for c.args.jobs c.args.places.items)) js
           c.in_ok-found.found.items)
           c.as_slice-2.ensures.value
-          (subst (λ xs. AreFound xs c.as_slice-2.result.now c.in_ok-found.found.items) used c.in_ok-found.ensures);
+          (subst (λ xs. ArePartialResultIndicesOfJobs xs c.as_slice-2.result.now c.in_ok-found.found.items) used c.in_ok-found.ensures);
       unread = refl;
     }
 
@@ -64,14 +64,14 @@ returns-clause-paths g c =
     let used = c.loop-place.invariant.paths
     ∙ needed_whole c.args.jobs c.args.places.items c.loop-place.place-index (omega arith) in
     ap paths_of (parts_whole c.loop-place.asked (paths_used (jobs_needed_for c.args.jobs c.args.places.items))
-    c.into_kept-answers.result.items used c.into_kept-answers.ensures) ∙ used
+    c.into_results-answers.result.items used c.into_results-answers.ensures) ∙ used
 
 pub returns-clause-kept : goal.returns-clause-kept
 returns-clause-kept g c =
     let used = c.loop-place.invariant.paths
     ∙ needed_whole c.args.jobs c.args.places.items c.loop-place.place-index (omega arith) in
     let same = parts_whole c.loop-place.asked (paths_used (jobs_needed_for c.args.jobs c.args.places.items))
-    c.into_kept-answers.result.items used c.into_kept-answers.ensures in
+    c.into_results-answers.result.items used c.into_results-answers.ensures in
     subst (AgreeWithContents (g.S.Store.contents c.args.store.now)) (sym same) c.loop-place.invariant.kept
 
 pub returns-clause-faults : goal.returns-clause-faults
@@ -79,6 +79,6 @@ returns-clause-faults g c =
     let used = c.loop-place.invariant.paths
     ∙ needed_whole c.args.jobs c.args.places.items c.loop-place.place-index (omega arith) in
     let same = parts_whole c.loop-place.asked (paths_used (jobs_needed_for c.args.jobs c.args.places.items))
-    c.into_kept-answers.result.items used c.into_kept-answers.ensures in
+    c.into_results-answers.result.items used c.into_results-answers.ensures in
     c.loop-place.invariant.faults
-    ∙ ap (λ (a : List Answer). one_more_times (g.S.Store.faulted c.args.store.now) (unreadable_count a)) (sym same)
+    ∙ ap (λ (a : List Answer). after_increments (g.S.Store.faulted c.args.store.now) (unreadable_count a)) (sym same)

@@ -4,9 +4,9 @@ use Rattle.std.proofs.lemmas.Result.{err_from_is_err_and}
 use Rattle.std.specs.List.{concat}
 use Rattle.rv_stream.proofs.Public.{beginning_of_longer, failed_under_way, more_under_way, nothing_under_way}
 use Rattle.rv_stream.proofs.Public.{stopped_under_way}
-use Rattle.rv_job_text.specs.Judgement.{judging_of}
+use Rattle.rv_job_text.specs.Judgement.{judge_view}
 use Rattle.rv_junit.specs.Junit.{case_text}
-use Rattle.rv_stream.specs.Sinks.{IsPartlySent}
+use Rattle.rv_stream.specs.Sinks.{IsPartlyWritten}
 use Rattle.rv_stream.specs.declared_row.Row.{Row}
 use Rattle.rv_stream.proofs.Public.{told_behind, told_none, told_rest}
 use Rattle.rv_stream.specs.Streams.{row_text_list, joined_row_texts}
@@ -18,7 +18,7 @@ some_row (row ∷ rows) i lt = row
 
 pub loop-i-init : goal.loop-i-init
 loop-i-init g c =
-    let line = case_text c.args.suite.now.name.now (judging_of c.args.suite.now.judge) (g.T.RowReporter.line c.args.cases.now.reporter.now) in
+    let line = case_text c.args.suite.now.name.now (judge_view c.args.suite.now.judge) (g.T.RowReporter.line c.args.cases.now.reporter.now) in
     let text = c.args.text.now.items in
     let places = c.args.cases.now.places.now in
     let rows = c.args.cases.now.rows.now in
@@ -31,7 +31,7 @@ loop-i-init g c =
 pub returns-in_err-push_case-clause-part : goal.returns-in_err-push_case-clause-part
 returns-in_err-push_case-clause-part g c =
     let error = err_from_is_err_and c.from_residual.result c.from_residual.ensures.1 in
-    let line = case_text c.args.suite.now.name.now (judging_of c.args.suite.now.judge) (g.T.RowReporter.line c.args.cases.now.reporter.now) in
+    let line = case_text c.args.suite.now.name.now (judge_view c.args.suite.now.judge) (g.T.RowReporter.line c.args.cases.now.reporter.now) in
     let text = c.args.text.now.items in
     let places = c.args.cases.now.places.now in
     let rows = c.args.cases.now.rows.now in
@@ -44,7 +44,7 @@ pub returns-in_err-write_if_large-clause-part : goal.returns-in_err-write_if_lar
 returns-in_err-write_if_large-clause-part g c =
     let error = err_from_is_err_and c.from_residual-in_err-write_if_large.result
     c.from_residual-in_err-write_if_large.ensures.1 in
-    let line = case_text c.args.suite.now.name.now (judging_of c.args.suite.now.judge) (g.T.RowReporter.line c.args.cases.now.reporter.now) in
+    let line = case_text c.args.suite.now.name.now (judge_view c.args.suite.now.judge) (g.T.RowReporter.line c.args.cases.now.reporter.now) in
     let text = c.args.text.now.items in
     let places = c.args.cases.now.places.now in
     let rows = c.args.cases.now.rows.now in
@@ -65,7 +65,7 @@ returns-in_err-write_if_large-clause-part g c =
 
 pub loop-i-preserved : goal.loop-i-preserved
 loop-i-preserved g c =
-    let line = case_text c.args.suite.now.name.now (judging_of c.args.suite.now.judge) (g.T.RowReporter.line c.args.cases.now.reporter.now) in
+    let line = case_text c.args.suite.now.name.now (judge_view c.args.suite.now.judge) (g.T.RowReporter.line c.args.cases.now.reporter.now) in
     let text = c.args.text.now.items in
     let places = c.args.cases.now.places.now in
     let rows = c.args.cases.now.rows.now in
@@ -84,8 +84,8 @@ loop-i-preserved g c =
 
 pub returns-clause-under_way : goal.returns-clause-under_way
 returns-clause-under_way g c =
-    let line = case_text c.args.suite.now.name.now (judging_of c.args.suite.now.judge) (g.T.RowReporter.line c.args.cases.now.reporter.now) in
+    let line = case_text c.args.suite.now.name.now (judge_view c.args.suite.now.judge) (g.T.RowReporter.line c.args.cases.now.reporter.now) in
     let text = c.args.text.now.items in
-    subst (λ (rows : List Row). IsPartlySent (g.W.Sink.taken c.args.out.now) (g.W.Sink.taken c.loop-i.out)
+    subst (λ (rows : List Row). IsPartlyWritten (g.W.Sink.taken c.args.out.now) (g.W.Sink.taken c.loop-i.out)
     c.loop-i.text.items (text ++ joined_row_texts line c.args.cases.now.places.now rows))
     (take_all c.loop-i.i c.args.cases.now.rows.now (omega arith)) c.loop-i.invariant.under_way

@@ -1,7 +1,7 @@
 use Rattle.std.proofs.Common.{◌∙◌, ◌++◌, ap}
 use Rattle.std.proofs.lemmas.Result.{err_from_is_err_and}
 use Rattle.rv_stream.proofs.Public.{beginning_of_longer, ended_under_way, failed_under_way, stopped_under_way}
-use Rattle.rv_job_text.specs.Judgement.{judging_of}
+use Rattle.rv_job_text.specs.Judgement.{judge_view}
 use Rattle.rv_junit.specs.Junit.{suite_begin_text, suite_end_text}
 use Rattle.rv_junit.proofs.CaseTexts.{junit_begun, nothing_out}
 use Rattle.rv_junit.proofs.junit_writer.write_junit.Goals as goal
@@ -14,7 +14,7 @@ returns-in_err-push_suite_begin-clause-part g c =
 pub returns-in_err-write_cases-clause-part : goal.returns-in_err-write_cases-clause-part
 returns-in_err-write_cases-clause-part g c =
     let class = c.args.suite.now.name.now in
-    let judging = judging_of c.args.suite.now.judge in
+    let judging = judge_view c.args.suite.now.judge in
     let rows = c.args.cases.now.rows.now in
     let begun = ap (λ v. v.items) c.into_bytes-text.ensures.value ∙ c.in_ok-push_suite_begin.ensures
     ∙ ap (λ xs. xs ++ suite_begin_text class judging rows) c.new-begin.ensures.bytes in
@@ -27,7 +27,7 @@ returns-in_err-write_cases-clause-part g c =
 pub returns-in_err-push_text-clause-part : goal.returns-in_err-push_text-clause-part
 returns-in_err-push_text-clause-part g c =
     let class = c.args.suite.now.name.now in
-    let judging = judging_of c.args.suite.now.judge in
+    let judging = judge_view c.args.suite.now.judge in
     let rows = c.args.cases.now.rows.now in
     let begun = ap (λ v. v.items) c.into_bytes-text.ensures.value ∙ c.in_ok-push_suite_begin.ensures
     ∙ ap (λ xs. xs ++ suite_begin_text class judging rows) c.new-begin.ensures.bytes in
@@ -40,7 +40,7 @@ returns-in_err-push_text-clause-part g c =
 pub returns-in_err-put_all-clause-part : goal.returns-in_err-put_all-clause-part
 returns-in_err-put_all-clause-part g c =
     let class = c.args.suite.now.name.now in
-    let judging = judging_of c.args.suite.now.judge in
+    let judging = judge_view c.args.suite.now.judge in
     let rows = c.args.cases.now.rows.now in
     let begun = ap (λ v. v.items) c.into_bytes-text.ensures.value ∙ c.in_ok-push_suite_begin.ensures
     ∙ ap (λ xs. xs ++ suite_begin_text class judging rows) c.new-begin.ensures.bytes in
@@ -54,7 +54,7 @@ returns-in_err-put_all-clause-part g c =
 pub returns-clause-appended : goal.returns-clause-appended
 returns-clause-appended g c =
     let class = c.args.suite.now.name.now in
-    let judging = judging_of c.args.suite.now.judge in
+    let judging = judge_view c.args.suite.now.judge in
     let rows = c.args.cases.now.rows.now in
     let begun = ap (λ v. v.items) c.into_bytes-text.ensures.value ∙ c.in_ok-push_suite_begin.ensures
     ∙ ap (λ xs. xs ++ suite_begin_text class judging rows) c.new-begin.ensures.bytes in

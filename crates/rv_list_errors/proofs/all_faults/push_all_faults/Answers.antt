@@ -1,6 +1,6 @@
 use Rattle.rv_list_errors.specs.FaultHeads.{fault_head}
 use Rattle.rv_list_errors.proofs.Heads.{read_document, refused_document}
-use Rattle.rv_list_errors.proofs.PlacedLines.{head_is_path, told_in_document, told_without_document}
+use Rattle.rv_list_errors.proofs.FaultLineWriter.{head_is_path, told_in_document, told_without_document}
 use Rattle.rv_list_errors.proofs.all_faults.push_all_faults.Goals as goal
 
 pub returns-in_ok-jobs-in-Ok : goal.returns-in_ok-jobs-in-Ok

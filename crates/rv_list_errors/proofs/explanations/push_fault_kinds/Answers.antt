@@ -1,10 +1,10 @@
-use Rattle.rv_list_errors.specs.Explanation.{first_kinds_text}
+use Rattle.rv_list_errors.specs.Explanation.{first_fault_kinds_text}
 use Rattle.rv_list_errors.proofs.FaultKinds.{one_kind_more}
 use Rattle.rv_list_errors.proofs.NamesTold.{adds_nothing}
 use Rattle.rv_list_errors.proofs.explanations.push_fault_kinds.Goals as goal
 
 pub loop-place-init : goal.loop-place-init
-unfolding first_kinds_text
+unfolding first_fault_kinds_text
 loop-place-init c = adds_nothing c.args.message.now
 
 pub loop-place-preserved : goal.loop-place-preserved

@@ -1,6 +1,6 @@
 use Rattle.rv_list_errors.specs.NearNames.{Adds}
-use Rattle.rv_list_errors.specs.Explanation.{first_kinds_text}
+use Rattle.rv_list_errors.specs.Explanation.{first_fault_kinds_text}
 use Rattle.rv_list_errors.proofs.explanations.push_fault_kinds.Given as goal
 
 abbrev pub invariant-loop-place : goal.invariant-loop-place
-invariant-loop-place l = Adds l.initial.message l.message (first_kinds_text l.place)
+invariant-loop-place l = Adds l.initial.message l.message (first_fault_kinds_text l.place)

@@ -1,18 +1,18 @@
 use Rattle.std.proofs.Common.{◌++◌, subst, sym}
 use Rattle.rv_list_errors.specs.FaultHeads.{location_in_view}
-use Rattle.rv_list_errors.specs.JobFaults.{EndsSo, TellsFoundFault}
+use Rattle.rv_list_errors.specs.JobFaults.{HasHeadAndTail, ExplainsFaultInView}
 use Rattle.rv_list_errors.proofs.OneMore.{no_lines, one_line_more}
 use Rattle.rv_list_errors.proofs.faults.push_fault_lines.Goals as goal
 
 pub loop-at-init : goal.loop-at-init
 loop-at-init c =
-    no_lines (λ fault message. EndsSo (TellsFoundFault c.args.look.now fault)
+    no_lines (λ fault message. HasHeadAndTail (ExplainsFaultInView c.args.look.now fault)
     (c.args.file.now ++ location_in_view c.args.look.now fault.job) message) c.args.bytes.now.items
 
 pub loop-at-preserved : goal.loop-at-preserved
 loop-at-preserved c =
-    one_line_more (λ fault message. EndsSo (TellsFoundFault c.args.look.now fault)
+    one_line_more (λ fault message. HasHeadAndTail (ExplainsFaultInView c.args.look.now fault)
     (c.args.file.now ++ location_in_view c.args.look.now fault.job) message) c.args.faults.now c.loop-at.at _
     c.args.bytes.now.items c.loop-at.bytes.items c.push_spans.new.bytes.items c.as_slice.result.now c.loop-at-test.true
-    c.loop-at.invariant (subst (EndsSo _ _) (sym c.as_slice.ensures.value) c.in_ok-message.ensures.told)
+    c.loop-at.invariant (subst (HasHeadAndTail _ _) (sym c.as_slice.ensures.value) c.in_ok-message.ensures.told)
     c.in_ok-push_spans.ensures

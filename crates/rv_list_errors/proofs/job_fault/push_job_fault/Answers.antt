@@ -12,6 +12,6 @@ returns-in-Some-as_table c =
 
 pub returns-in-None-as_table : goal.returns-in-None-as_table
 returns-in-None-as_table c =
-    some_so c.args.message.now c.push_no_table.new.message _ _ c.push_no_table.ensures
+    some_so c.args.message.now c.push_not_a_table.new.message _ _ c.push_not_a_table.ensures
     (λ told is. told_of_no_table (borrowed_names c.args.list.now.names.items) _ (view c.in-Some.element.now)
     c.args.what told c.in-Some.ensures c.in-None-as_table.ensures is)

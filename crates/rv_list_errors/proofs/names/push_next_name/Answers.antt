@@ -1,15 +1,15 @@
 use Rattle.std.proofs.Common.{◌-◌, List, ℕ, arith}
-use Rattle.rv_list_errors.specs.NearNames.{most_listed_names, names_from, present}
+use Rattle.rv_list_errors.specs.NearNames.{max_listed_names, names_from, present}
 use Rattle.rv_list_errors.proofs.NamesTold.{adds_nothing, take_none}
 use Rattle.rv_list_errors.proofs.names.push_next_name.Goals as goal
 
 pub returns-in-Some-clause-told : goal.returns-in-Some-clause-told
 unfolding present
-returns-in-Some-clause-told c = rw c.in-Some.is c.push_name_if_few.ensures.told
+returns-in-Some-clause-told c = rw c.in-Some.is c.push_name_if_listed.ensures.told
 
 pub returns-in-Some-clause-text : goal.returns-in-Some-clause-text
 unfolding present
-returns-in-Some-clause-text c = rw c.in-Some.is c.push_name_if_few.ensures.text
+returns-in-Some-clause-text c = rw c.in-Some.is c.push_name_if_listed.ensures.text
 
 pub returns-in-None-clause-told : goal.returns-in-None-clause-told
 unfolding present
@@ -18,4 +18,4 @@ returns-in-None-clause-told c = rw c.in-None.is (omega arith)
 pub returns-in-None-clause-text : goal.returns-in-None-clause-text
 unfolding present names_from
 returns-in-None-clause-text c =
-    rw (c.in-None.is, take_none {X = List ℕ} (most_listed_names - c.args.told)) (adds_nothing c.args.message.now)
+    rw (c.in-None.is, take_none {X = List ℕ} (max_listed_names - c.args.told)) (adds_nothing c.args.message.now)

@@ -1,12 +1,12 @@
 use Rattle.std.proofs.Common.{◌≡◌, ◌≤◌, length}
 use denote.Shadow.{shadow}
 use denote.Text.{Utf8}
-use Rattle.rv_list_locations.specs.JobLocations.{after_letters}
+use Rattle.rv_list_locations.specs.JobLocations.{after_word_bytes}
 use Rattle.rv_list_locations.proofs.values.skip_word.Given as goal
 
 abbrev pub invariant-letters : goal.invariant-letters
 invariant-letters l =
-    shadow (Utf8 l.rest) × (length l.rest ≤ length l.text) × (after_letters l.rest ≡ after_letters l.text)
+    shadow (Utf8 l.rest) × (length l.rest ≤ length l.text) × (after_word_bytes l.rest ≡ after_word_bytes l.text)
     × (length l.rest ≡ length l.text → l.rest ≡ l.text)
 
 abbrev pub decreases-letters : goal.decreases-letters

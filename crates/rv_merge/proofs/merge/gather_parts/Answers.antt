@@ -1,5 +1,5 @@
 use Rattle.std.proofs.Common.{◌≡◌, ℕ, arith, refl, subst, length}
-use Rattle.rv_merge.specs.GatheredParts.{HoldsIn, report_of_part}
+use Rattle.rv_merge.specs.GatheredParts.{IsMergeStateAfter, report_of_part}
 use Rattle.rv_merge.specs.Parts.{bytes_of_texts}
 use Rattle.rv_merge.proofs.Gathering.{holds_none}
 use Rattle.rv_merge.proofs.merge.gather_parts.Goals as goal
@@ -16,4 +16,4 @@ add_part-requires-clause-holds c =
 pub returns-clause-holds : goal.returns-clause-holds
 returns-clause-holds c =
     let last : c.loop-at.at ≡ length c.args.texts.now = omega arith in
-    subst (λ (n : ℕ). HoldsIn (bytes_of_texts c.args.texts.now) n c.loop-at.gathered) last c.loop-at.invariant
+    subst (λ (n : ℕ). IsMergeStateAfter (bytes_of_texts c.args.texts.now) n c.loop-at.gathered) last c.loop-at.invariant

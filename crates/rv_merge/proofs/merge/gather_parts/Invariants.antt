@@ -1,6 +1,6 @@
-use Rattle.rv_merge.specs.GatheredParts.{HoldsIn}
+use Rattle.rv_merge.specs.GatheredParts.{IsMergeStateAfter}
 use Rattle.rv_merge.specs.Parts.{bytes_of_texts}
 use Rattle.rv_merge.proofs.merge.gather_parts.Given as goal
 
 abbrev pub invariant-loop-at : goal.invariant-loop-at
-invariant-loop-at l = HoldsIn (bytes_of_texts l.texts) l.at l.gathered
+invariant-loop-at l = IsMergeStateAfter (bytes_of_texts l.texts) l.at l.gathered

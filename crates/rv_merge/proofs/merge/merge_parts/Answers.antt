@@ -3,10 +3,10 @@ use Rattle.std.proofs.Common.{sym, arith, subst}
 use Rattle.std.proofs.lemmas.Bool.{eqb-true, false≢true}
 use Rattle.std.proofs.lemmas.List.{nil_from_length}
 use Rattle.rv_merge.specs.declared.error.MergeError.TheVariants as error
-use Rattle.rv_merge.specs.GatheredParts.{HoldsIn}
+use Rattle.rv_merge.specs.GatheredParts.{IsMergeStateAfter}
 use Rattle.rv_merge.specs.declared.gathered_parts.Gathered.{Gathered}
 use Rattle.rv_merge.specs.Parts.{AreParts, bytes_of_texts}
-use Rattle.rv_merge.specs.Refusals.{IsRefused}
+use Rattle.rv_merge.specs.Refusals.{HasMergeError}
 use Rattle.rv_merge.proofs.Ends.{found_in, refused_job_count, sources_some}
 use Rattle.rv_merge.proofs.Never.{gives, gives_err, refused_only}
 use Rattle.rv_merge.proofs.Texts.{length-bytes_of}
@@ -35,9 +35,9 @@ some_there zero e = absurd (false≢true (sym e))
 some_there (suc n) e = omega arith
 
 -- all texts are gathered, and there are some
-all_held : (texts : List (Bor (List ℕ))) (g : Gathered) → HoldsIn (bytes_of_texts texts) (length texts) g
-    → HoldsIn (bytes_of_texts texts) (length (bytes_of_texts texts)) g
-all_held texts g h = subst (λ (n : ℕ). HoldsIn (bytes_of_texts texts) n g) (sym (length-bytes_of texts)) h
+all_held : (texts : List (Bor (List ℕ))) (g : Gathered) → IsMergeStateAfter (bytes_of_texts texts) (length texts) g
+    → IsMergeStateAfter (bytes_of_texts texts) (length (bytes_of_texts texts)) g
+all_held texts g h = subst (λ (n : ℕ). IsMergeStateAfter (bytes_of_texts texts) n g) (sym (length-bytes_of texts)) h
 
 some_held : (texts : List (Bor (List ℕ))) (b : Bool) → b ≡ (length texts == 0) → b ≡ false
     → 0 < length (bytes_of_texts texts)
@@ -60,7 +60,7 @@ found c =
     (some_held c.args.texts.now c.is_empty.result c.is_empty.ensures c.if-is_empty.false) c.rows_of_parts.result
     c.rows_of_parts.ensures.rows
 
-refused : (c : goal.After-rows_of_parts) → IfErr c.rows_of_parts.result (IsRefused (bytes_of_texts c.args.texts.now))
+refused : (c : goal.After-rows_of_parts) → IfErr c.rows_of_parts.result (HasMergeError (bytes_of_texts c.args.texts.now))
 refused c =
     let g = c.in_ok-gathered.gathered in
     refused_job_count (bytes_of_texts c.args.texts.now) g.first g.sources.items g.slots.items

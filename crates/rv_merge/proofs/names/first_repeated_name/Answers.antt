@@ -10,7 +10,7 @@ use Rattle.std.proofs.lemmas.Option.{slice_get_read}
 use Rattle.rv_rows.specs.Names.{index_in}
 use Rattle.rv_rows.proofs.Public.{places_more}
 use Rattle.rv_rows.specs.declared_row.Row.{Row}
-use Rattle.rv_rows.specs.Saved.{are_new, row_names}
+use Rattle.rv_rows.specs.Saved.{are_distinct, row_names}
 use Rattle.rv_merge.proofs.Named.{fresh_end, fresh_later, names_on, nowhere}
 use Rattle.rv_merge.proofs.names.first_repeated_name.Goals as goal
 
@@ -45,7 +45,7 @@ loop-at-preserved c =
     ap is_some (sym (c.loop-at.invariant.places name)) ∙ sym c.contains_key.ensures ∙ c.if-contains_key.false in
     let grown = names_on rows at row name (omega arith) is in
     let step = fresh_later earlier rows at row name (omega arith) is fresh in
-    let same = ap (λ (ts : List (List ℕ)). are_new ts (row_names (drop (at + 1) rows))) grown in
+    let same = ap (λ (ts : List (List ℕ)). are_distinct ts (row_names (drop (at + 1) rows))) grown in
     let long : at ≡ length earlier =
     sym (length-map (take at rows) (λ (r : Row). r.name) ∙ length-take-le at rows (omega arith)) in
     record {

@@ -3,11 +3,11 @@ use Rattle.std.specs.BTreeMap.{get_by}
 use Rattle.std.specs.Cmp.Lexicographic.{slice_cmp}
 use Rattle.std.specs.Ordering.{nat_cmp}
 use Rattle.rv_rows.specs.Names.{index_in}
-use Rattle.rv_rows.specs.Saved.{are_new, row_names}
+use Rattle.rv_rows.specs.Saved.{are_distinct, row_names}
 use Rattle.rv_merge.proofs.names.first_repeated_name.Given as goal
 
 abbrev pub invariant-loop-at : goal.invariant-loop-at
 invariant-loop-at l = record {
-  rest : are_new (row_names (take l.at l.rows)) (row_names (drop l.at l.rows)) ≡ are_new [] (row_names l.rows);
+  rest : are_distinct (row_names (take l.at l.rows)) (row_names (drop l.at l.rows)) ≡ are_distinct [] (row_names l.rows);
   places : (t : List ℕ) → get_by (λ k. slice_cmp nat_cmp t k.now) l.places ≡ index_in (row_names (take l.at l.rows)) t;
 }

@@ -16,9 +16,9 @@ pub returns : goal.returns
 returns c =
     on_ok c.push_more_line.result _ _
     (functions_put c.args.top c.args.profile.now.sums c.args.profile.now.functions.items c.as_slice-functions.result.now
-    c.first_of-shown.result.now c.in_ok-columns.columns c.args.bytes.now.items c.push_columns_head.new.bytes.items
+    c.first_of-shown.result.now c.in_ok-columns.columns c.args.bytes.now.items c.push_column_header.new.bytes.items
     c.push_function_lines.new.bytes.items c.push_more_line.new.bytes.items
     (sym c.is_empty.ensures ∙ c.if-is_empty.false) c.in_ok-columns.ensures c.as_slice-functions.ensures.value
     (c.first_of-shown.ensures ∙ ap (first_of c.args.top) c.as_slice-functions.ensures.value)
-    c.in_ok-push_columns_head.ensures c.in_ok-push_function_lines.ensures)
+    c.in_ok-push_column_header.ensures c.in_ok-push_function_lines.ensures)
     c.push_more_line.ensures

@@ -11,12 +11,12 @@ pub returns-in_err-sums : goal.returns-in_err-sums
 returns-in_err-sums c =
     c.from_residual.ensures
     ∙ none_of_all c.args.spots.now c.loop-spot.spot-index no_spot c.loop-spot.sums c.loop-spot-test.true c.loop-spot.invariant.is
-    (sym c.in_err-sums.was ∙ c.with_spot.ensures)
+    (sym c.in_err-sums.was ∙ c.with_node.ensures)
 
 pub loop-spot-preserved : goal.loop-spot-preserved
 loop-spot-preserved c =
     let more = one_more c.args.spots.now c.loop-spot.spot-index no_spot c.loop-spot.sums c.in_ok-sums.sums c.loop-spot-test.true
-    c.loop-spot.invariant.is (sym c.in_ok-sums.was ∙ c.with_spot.ensures) in
+    c.loop-spot.invariant.is (sym c.in_ok-sums.was ∙ c.with_node.ensures) in
     record { is = more.0; few = more.1 }
 
 pub returns : goal.returns

@@ -17,15 +17,15 @@ returns-in_err-push_row-clause-part g c =
     rw error.1 (stopped_under_way _ _ _ _ _ _ c.loop-place.invariant.under_way
     (rows_split 0 c.args.rows.now c.loop-place.place c.loop-place.place (omega arith)))
 
-pub returns-in_err-put_text_if_enough-clause-part : goal.returns-in_err-put_text_if_enough-clause-part
-returns-in_err-put_text_if_enough-clause-part g c =
+pub returns-in_err-write_text_if_large-clause-part : goal.returns-in_err-write_text_if_large-clause-part
+returns-in_err-write_text_if_large-clause-part g c =
     let rows = c.args.rows.now in
     let place = c.loop-place.place in
-    let error = err_from_is_err_and c.from_residual-in_err-put_text_if_enough.result
-    c.from_residual-in_err-put_text_if_enough.ensures.1 in
+    let error = err_from_is_err_and c.from_residual-in_err-write_text_if_large.result
+    c.from_residual-in_err-write_text_if_large.ensures.1 in
     rw error.1 (beginning_of_longer _ _ _ _ _
     (failed_under_way _ _ _ _ (row_text place c.index-rows-place.result) _ _ _ c.loop-place.invariant.under_way
-    c.in_ok-push_row.ensures c.in_err-put_text_if_enough.ensures.part
+    c.in_ok-push_row.ensures c.in_err-write_text_if_large.ensures.part
     (rw (← c.index-rows-place.is) at
     (rows_more 0 rows place place c.index-rows-place.result (omega arith) (omega arith))))
     (rows_split 0 rows (suc place) (suc place) (omega arith)))
@@ -34,8 +34,8 @@ pub loop-place-preserved : goal.loop-place-preserved
 loop-place-preserved g c =
     let place = c.loop-place.place in record {
       under_way = rw add-one (more_under_way _ _ _ _ (row_text place c.index-rows-place.result) _ _ _ _
-          c.loop-place.invariant.under_way c.in_ok-push_row.ensures c.in_ok-put_text_if_enough.ensures.under_way
+          c.loop-place.invariant.under_way c.in_ok-push_row.ensures c.in_ok-write_text_if_large.ensures.under_way
           (rw (← c.index-rows-place.is) at
           (rows_more 0 c.args.rows.now place place c.index-rows-place.result (omega arith) (omega arith))));
-      counted = c.in_ok-put_text_if_enough.ensures.counted ∙ c.loop-place.invariant.counted;
+      counted = c.in_ok-write_text_if_large.ensures.counted ∙ c.loop-place.invariant.counted;
     }

@@ -1,11 +1,11 @@
 use Rattle.std.proofs.Common.{◌≡◌, take, string_bytes}
 use Rattle.rv_report.specs.Report.{rows_text}
-use Rattle.rv_base.specs.Sinks.{IsPartlySent}
+use Rattle.rv_base.specs.Sinks.{IsPartlyWritten}
 use Rattle.rv_report.proofs.report.put_rows.Given as goal
 
 abbrev pub invariant-loop-place : goal.invariant-loop-place
 invariant-loop-place g l = record {
-  under_way : IsPartlySent (g.W.Sink.taken l.initial.out) (g.W.Sink.taken l.out) (string_bytes l.text)
+  under_way : IsPartlyWritten (g.W.Sink.taken l.initial.out) (g.W.Sink.taken l.out) (string_bytes l.text)
       (rows_text 0 (take l.place l.rows));
   counted : g.W.Sink.failed l.out ≡ g.W.Sink.failed l.initial.out;
 }

@@ -1,10 +1,10 @@
 use Rattle.std.proofs.Common.{◌≡◌, ◌+◌, ◌≤◌, drop}
-use Rattle.rv_base.specs.Limits.{most_jobs}
+use Rattle.rv_base.specs.Limits.{max_jobs}
 use Rattle.rv_report.specs.Saved.{are_evenly_spaced}
 use Rattle.rv_report.proofs.saved.are_evenly_spaced.Given as goal
 
 abbrev pub invariant-loop-number : goal.invariant-loop-number
 invariant-loop-number l = record {
   rest : are_evenly_spaced l.next l.step l.last (drop l.number-index l.numbers) ≡ are_evenly_spaced l.first l.step l.last l.numbers;
-  small : l.next ≤ most_jobs + most_jobs;
+  small : l.next ≤ max_jobs + max_jobs;
 }

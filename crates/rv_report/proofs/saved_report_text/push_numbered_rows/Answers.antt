@@ -1,7 +1,7 @@
 use Rattle.std.proofs.Common.{◌∙◌, ◌++◌, ℕ, List, get_or, refl, sym, ap, arith, append-nil, append_assoc, ◌-◌}
 use Rattle.std.proofs.Common.{take, add-one}
 use Rattle.std.specs.Prelude.{string_bytes}
-use Rattle.rv_base.specs.Limits.{most_jobs}
+use Rattle.rv_base.specs.Limits.{max_jobs}
 use Rattle.rv_report.specs.Report.{row_text}
 use Rattle.rv_report.specs.Saved.{numbered_text}
 use Rattle.rv_report.proofs.Loops.{numbered_more, above}
@@ -14,7 +14,7 @@ loop-at-init c = sym (append-nil (string_bytes c.args.text.now))
 pub overflow_sub-numbers : goal.overflow_sub-numbers
 overflow_sub-numbers c =
     let h = c.requires.counted in
-    omega (arith, above 0 most_jobs c.args.numbers.now c.loop-at.at c.requires.rising (omega arith))
+    omega (arith, above 0 max_jobs c.args.numbers.now c.loop-at.at c.requires.rising (omega arith))
 
 pub loop-at-preserved : goal.loop-at-preserved
 loop-at-preserved c =

@@ -1,10 +1,10 @@
 -- With a call the walk comes to the caller and then to what is called; without one it goes on where control leads.
 use Rattle.std.proofs.Common.{◌≡◌, ◌∙◌, ◌+◌, ◌<◌, ◌≤◌, ◌++◌, ◌∷◌, [], ℕ, List, Result, Ok, Err, OnOk, length, take, ap, subst, arith}
 use Rattle.rv_calls.specs.declared.frames.Frame.{Frame}
-use Rattle.rv_calls.specs.Stack.{after_transfer, depth_left}
+use Rattle.rv_calls.specs.Stack.{after_transfer, remaining_depth}
 use Rattle.rv_stacks.specs.Walks.{Arrives}
 use Rattle.rv_stacks.specs.Stacks.{function_at}
-use Rattle.rv_stacks.specs.StackSteps.{GoesOn}
+use Rattle.rv_stacks.specs.StackSteps.{ContinuesIn}
 use Rattle.rv_stacks.proofs.Paths.{follows_call, follows_jump, is_call, is_jump}
 use Rattle.rv_stacks.proofs.control_flow.follow.Goals as goal
 
@@ -21,15 +21,15 @@ returns-in_ok-go_on-clause-walk c =
     let new = c.arrive.new.self in
     let caller = c.look_up-caller.result in
     let called = c.look_up-function.result in
-    let left : c.frames_left-left.result ≡ depth_left t.action t.to t.sp frames =
-    c.frames_left-left.ensures ∙ ap (λ (fs : List Frame). depth_left t.action t.to t.sp fs) c.as_slice.ensures.value in
-    let long = ap length c.in_ok-pass_control.ensures in
-    let more : depth_left t.action t.to t.sp frames < length (after_transfer frames t) =
+    let left : c.remaining_frames-left.result ≡ remaining_depth t.action t.to t.sp frames =
+    c.remaining_frames-left.ensures ∙ ap (λ (fs : List Frame). remaining_depth t.action t.to t.sp fs) c.as_slice.ensures.value in
+    let long = ap length c.in_ok-apply_transfer.ensures in
+    let more : remaining_depth t.action t.to t.sp frames < length (after_transfer frames t) =
     let less = c.if-left-len.true in let len = c.len.ensures in omega (arith, less, len, left, long) in
     mapped c.arrive.result _ _ c.arrive.ensures
-    (λ (arrives : Arrives (take (c.frames_left-left.result + 1) mid.path.items ++ called ∷ []) mid new).
+    (λ (arrives : Arrives (take (c.remaining_frames-left.result + 1) mid.path.items ++ called ∷ []) mid new).
     follows_call function frames t (is_call frames t more) c.args.walk.now mid new caller called c.requires.at
-    (subst (λ (n : ℕ). GoesOn n caller c.args.walk.now mid) left c.in_ok-go_on.ensures)
+    (subst (λ (n : ℕ). ContinuesIn n caller c.args.walk.now mid) left c.in_ok-go_on.ensures)
     c.look_up-caller.ensures.value c.look_up-function.ensures.value
     (subst (λ (n : ℕ). Arrives (take (n + 1) mid.path.items ++ called ∷ []) mid new) left arrives))
 
@@ -40,12 +40,12 @@ returns-else-left-len-clause-walk c =
     let t = c.args.transfer in
     let new = c.go_on-else-left-len.new.walk in
     let there = c.look_up-function-else-left-len.result in
-    let left : c.frames_left-left.result ≡ depth_left t.action t.to t.sp frames =
-    c.frames_left-left.ensures ∙ ap (λ (fs : List Frame). depth_left t.action t.to t.sp fs) c.as_slice.ensures.value in
-    let long = ap length c.in_ok-pass_control.ensures in
-    let less : length (after_transfer frames t) ≤ depth_left t.action t.to t.sp frames =
+    let left : c.remaining_frames-left.result ≡ remaining_depth t.action t.to t.sp frames =
+    c.remaining_frames-left.ensures ∙ ap (λ (fs : List Frame). remaining_depth t.action t.to t.sp fs) c.as_slice.ensures.value in
+    let long = ap length c.in_ok-apply_transfer.ensures in
+    let less : length (after_transfer frames t) ≤ remaining_depth t.action t.to t.sp frames =
     let over = c.if-left-len.false in let len = c.len.ensures in omega (arith, over, len, left, long) in
     mapped c.go_on-else-left-len.result _ _ c.go_on-else-left-len.ensures
-    (λ (on : GoesOn c.frames_left-left.result there c.args.walk.now new).
+    (λ (on : ContinuesIn c.remaining_frames-left.result there c.args.walk.now new).
     follows_jump function frames t (is_jump frames t less) c.args.walk.now new there c.requires.at
-    (subst (λ (n : ℕ). GoesOn n there c.args.walk.now new) left on) c.look_up-function-else-left-len.ensures.value)
+    (subst (λ (n : ℕ). ContinuesIn n there c.args.walk.now new) left on) c.look_up-function-else-left-len.ensures.value)

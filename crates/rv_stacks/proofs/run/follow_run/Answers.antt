@@ -5,7 +5,7 @@ use Rattle.rv_counting.proofs.Public.{counted_all}
 use Rattle.rv_counting.specs.Counters.{IsCounting}
 use Rattle.rv_counting.specs.Machine.{state_of}
 use Rattle.rv_stacks.specs.Stacks.{function_at}
-use Rattle.rv_stacks.specs.StackSteps.{BeginsAt, SoFar}
+use Rattle.rv_stacks.specs.StackSteps.{HasEnteredFirst, SoFar}
 use Rattle.rv_stacks.proofs.Advancing.{ready_so_far, still_so_far}
 use Rattle.rv_stacks.proofs.Counting.{none_so_far, used_up}
 use Rattle.rv_stacks.proofs.run.follow_run.Goals as goal
@@ -17,7 +17,7 @@ steps-init c =
     let s = state_of c.args.machine in
     let walk = c.in_ok-stacks.stacks.walk in
     let none : n - n ≡ 0 = omega arith in
-    let first = subst (λ (a : ℕ). BeginsAt (function a) walk) c.pc.ensures c.in_ok-stacks.ensures.walk in record {
+    let first = subst (λ (a : ℕ). HasEnteredFirst (function a) walk) c.pc.ensures c.in_ok-stacks.ensures.walk in record {
       within = omega arith;
       counting = subst (λ (k : ℕ). IsCounting n k s s c.in_ok-counter.counter) (sym none) (c.in_ok-counter.ensures.counting n s);
       known = c.in_ok-stacks.ensures.known;

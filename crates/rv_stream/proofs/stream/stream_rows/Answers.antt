@@ -6,10 +6,10 @@ use Rattle.std.specs.Prelude.{is_ok, is_some}
 use Rattle.std.specs.Io.KnownBytes.{Appends}
 use Rattle.std.specs.List.{concat}
 use Rattle.rv_fleet.specs.declared_listener.Flow.TheVariants.{Stop}
-use Rattle.rv_expect.specs.Judgement.{fails, judging_of}
+use Rattle.rv_expect.specs.Judgement.{fails, judge_view}
 use Rattle.rv_fleet.specs.Batches.{batch_rows}
 use Rattle.rv_fleet.specs.declared_report.WriteError.{WriteError}
-use Rattle.rv_base.specs.Sinks.{AppendsBeginning}
+use Rattle.rv_base.specs.Sinks.{AppendsPrefix}
 use Rattle.rv_stream.specs.declared.reported_row.ReportedRow.{ReportedRow}
 use Rattle.rv_stream.specs.Limits.{rows_up_to, rows_within}
 use Rattle.rv_stream.specs.Seen.{HasSeenRows, HasSeenSomeRows}
@@ -40,7 +40,7 @@ returns-in-Ok-clause-rows g c =
     IsSent before (g.W.Sink.taken box.out) g.J.StreamSpec.failures (g.W.Sink.failed box.out) box.failed box.unsent.items
     (concat (texts_of_reported told))
     × (g.B.Observer.has_seen observer told
-    × ((judging_of kept.judge ≡ judging)
+    × ((judge_view kept.judge ≡ judging)
     × AreRowsUpToFailure most judging kept.left kept.refused kept.rows.items (rows_of_reported told))) in
     let stops : Type 0 = (is_some box.failed ≡ true)
     ⊎ (g.B.Observer.stops observer ⊎ ((kept.left ≡ Some 0) ⊎ (kept.refused ≡ true))) in
@@ -71,7 +71,7 @@ returns-in-Ok-clause-few g c =
     IsSent before (g.W.Sink.taken box.out) g.J.StreamSpec.failures (g.W.Sink.failed box.out) box.failed box.unsent.items
     (concat (texts_of_reported told))
     × (g.B.Observer.has_seen observer told
-    × ((judging_of kept.judge ≡ judging)
+    × ((judge_view kept.judge ≡ judging)
     × AreRowsUpToFailure most judging kept.left kept.refused kept.rows.items (rows_of_reported told))) in
     let stops : Type 0 = (is_some box.failed ≡ true)
     ⊎ (g.B.Observer.stops observer ⊎ ((kept.left ≡ Some 0) ⊎ (kept.refused ≡ true))) in
@@ -107,7 +107,7 @@ returns-in-Ok-clause-all g c =
     IsSent before (g.W.Sink.taken box.out) g.J.StreamSpec.failures (g.W.Sink.failed box.out) box.failed box.unsent.items
     (concat (texts_of_reported told))
     × (g.B.Observer.has_seen observer told
-    × ((judging_of kept.judge ≡ judging)
+    × ((judge_view kept.judge ≡ judging)
     × AreRowsUpToFailure most judging kept.left kept.refused kept.rows.items (rows_of_reported told))) in
     let stops : Type 0 = (is_some box.failed ≡ true)
     ⊎ (g.B.Observer.stops observer ⊎ ((kept.left ≡ Some 0) ⊎ (kept.refused ≡ true))) in
@@ -142,7 +142,7 @@ returns-in-Ok-clause-counted g c =
     IsSent before (g.W.Sink.taken box.out) g.J.StreamSpec.failures (g.W.Sink.failed box.out) box.failed box.unsent.items
     (concat (texts_of_reported told))
     × (g.B.Observer.has_seen observer told
-    × ((judging_of kept.judge ≡ judging)
+    × ((judge_view kept.judge ≡ judging)
     × AreRowsUpToFailure most judging kept.left kept.refused kept.rows.items (rows_of_reported told))) in
     let stops : Type 0 = (is_some box.failed ≡ true)
     ⊎ (g.B.Observer.stops observer ⊎ ((kept.left ≡ Some 0) ⊎ (kept.refused ≡ true))) in
@@ -176,7 +176,7 @@ returns-in-Ok-clause-part g c =
     IsSent before (g.W.Sink.taken box.out) g.J.StreamSpec.failures (g.W.Sink.failed box.out) box.failed box.unsent.items
     (concat (texts_of_reported told))
     × (g.B.Observer.has_seen observer told
-    × ((judging_of kept.judge ≡ judging)
+    × ((judge_view kept.judge ≡ judging)
     × AreRowsUpToFailure most judging kept.left kept.refused kept.rows.items (rows_of_reported told))) in
     let stops : Type 0 = (is_some box.failed ≡ true)
     ⊎ (g.B.Observer.stops observer ⊎ ((kept.left ≡ Some 0) ⊎ (kept.refused ≡ true))) in
@@ -185,12 +185,12 @@ returns-in-Ok-clause-part g c =
     λ i. rows_up_to (c.requires.ends.0 i) (fails (c.requires.ends.1 i)) (batch_rows batch) in
     let begun = has_begun line batch most judging kept.left kept.refused kept.rows.items received stops (λ told h. h.1.1.1)
     c.run_jobs-received.result.1 c.run_jobs-received.ensures in
-    let part = subst (AppendsBeginning before taken) (ap (joined_row_texts line places) same)
+    let part = subst (AppendsPrefix before taken) (ap (joined_row_texts line places) same)
     (begun_of_all received line places every begun before taken
     (c.finish-out.ensures.begun (concat (texts_of_reported begun.seen.reported)) begun.seen.seen.0)) in
     let start = sym c.requires.before.0 in
-    let part_from : AppendsBeginning (g.W.Sink.taken c.args.to.out) taken (joined_row_texts line places (rows_within c.args.limit.now (batch_rows batch))) =
-    subst (λ (b : Option (List ℕ)). AppendsBeginning b taken (joined_row_texts line places (rows_within c.args.limit.now (batch_rows batch)))) c.requires.before.0 part in
+    let part_from : AppendsPrefix (g.W.Sink.taken c.args.to.out) taken (joined_row_texts line places (rows_within c.args.limit.now (batch_rows batch))) =
+    subst (λ (b : Option (List ℕ)). AppendsPrefix b taken (joined_row_texts line places (rows_within c.args.limit.now (batch_rows batch)))) c.requires.before.0 part in
     on_error c.rows_of_run.result _ part_from
 
 pub returns-in-Err-clause-part : goal.returns-in-Err-clause-part
@@ -210,7 +210,7 @@ returns-in-Err-clause-part g c =
     IsSent before (g.W.Sink.taken box.out) g.J.StreamSpec.failures (g.W.Sink.failed box.out) box.failed box.unsent.items
     (concat (texts_of_reported told))
     × (g.B.Observer.has_seen observer told
-    × ((judging_of kept.judge ≡ judging)
+    × ((judge_view kept.judge ≡ judging)
     × AreRowsUpToFailure most judging kept.left kept.refused kept.rows.items (rows_of_reported told))) in
     let stops : Type 0 = (is_some box.failed ≡ true)
     ⊎ (g.B.Observer.stops observer ⊎ ((kept.left ≡ Some 0) ⊎ (kept.refused ≡ true))) in
@@ -219,12 +219,12 @@ returns-in-Err-clause-part g c =
     λ i. rows_up_to (c.requires.ends.0 i) (fails (c.requires.ends.1 i)) (batch_rows batch) in
     let begun = has_begun line batch most judging kept.left kept.refused kept.rows.items received stops (λ told h. h.1.1.1)
     c.run_jobs-received.result.1 c.run_jobs-received.ensures in
-    let part = subst (AppendsBeginning before taken) (ap (joined_row_texts line places) same)
+    let part = subst (AppendsPrefix before taken) (ap (joined_row_texts line places) same)
     (begun_of_all received line places every begun before taken
     (c.finish-out.ensures.begun (concat (texts_of_reported begun.seen.reported)) begun.seen.seen.0)) in
     let start = sym c.requires.before.0 in
-    let part_from : AppendsBeginning (g.W.Sink.taken c.args.to.out) taken (joined_row_texts line places (rows_within c.args.limit.now (batch_rows batch))) =
-    subst (λ (b : Option (List ℕ)). AppendsBeginning b taken (joined_row_texts line places (rows_within c.args.limit.now (batch_rows batch)))) c.requires.before.0 part in
+    let part_from : AppendsPrefix (g.W.Sink.taken c.args.to.out) taken (joined_row_texts line places (rows_within c.args.limit.now (batch_rows batch))) =
+    subst (λ (b : Option (List ℕ)). AppendsPrefix b taken (joined_row_texts line places (rows_within c.args.limit.now (batch_rows batch)))) c.requires.before.0 part in
     part_from
 
 pub returns-in-Ok-clause-seen : goal.returns-in-Ok-clause-seen
@@ -244,7 +244,7 @@ returns-in-Ok-clause-seen g c =
     IsSent before (g.W.Sink.taken box.out) g.J.StreamSpec.failures (g.W.Sink.failed box.out) box.failed box.unsent.items
     (concat (texts_of_reported told))
     × (g.B.Observer.has_seen observer told
-    × ((judging_of kept.judge ≡ judging)
+    × ((judge_view kept.judge ≡ judging)
     × AreRowsUpToFailure most judging kept.left kept.refused kept.rows.items (rows_of_reported told))) in
     let stops : Type 0 = (is_some box.failed ≡ true)
     ⊎ (g.B.Observer.stops observer ⊎ ((kept.left ≡ Some 0) ⊎ (kept.refused ≡ true))) in
@@ -278,7 +278,7 @@ returns-in-Ok-clause-seen_some g c =
     IsSent before (g.W.Sink.taken box.out) g.J.StreamSpec.failures (g.W.Sink.failed box.out) box.failed box.unsent.items
     (concat (texts_of_reported told))
     × (g.B.Observer.has_seen observer told
-    × ((judging_of kept.judge ≡ judging)
+    × ((judge_view kept.judge ≡ judging)
     × AreRowsUpToFailure most judging kept.left kept.refused kept.rows.items (rows_of_reported told))) in
     let stops : Type 0 = (is_some box.failed ≡ true)
     ⊎ (g.B.Observer.stops observer ⊎ ((kept.left ≡ Some 0) ⊎ (kept.refused ≡ true))) in
@@ -308,7 +308,7 @@ returns-in-Err-clause-seen_some g c =
     IsSent before (g.W.Sink.taken box.out) g.J.StreamSpec.failures (g.W.Sink.failed box.out) box.failed box.unsent.items
     (concat (texts_of_reported told))
     × (g.B.Observer.has_seen observer told
-    × ((judging_of kept.judge ≡ judging)
+    × ((judge_view kept.judge ≡ judging)
     × AreRowsUpToFailure most judging kept.left kept.refused kept.rows.items (rows_of_reported told))) in
     let stops : Type 0 = (is_some box.failed ≡ true)
     ⊎ (g.B.Observer.stops observer ⊎ ((kept.left ≡ Some 0) ⊎ (kept.refused ≡ true))) in

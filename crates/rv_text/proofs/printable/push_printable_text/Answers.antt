@@ -1,6 +1,6 @@
 use Rattle.std.proofs.Common.{◌≡◌, arith, append_assoc, append-nil, length}
 use Rattle.std.proofs.lemmas.Grind.{common_steps}
-use Rattle.rv_text.specs.Printable.{after_printable_front, printable_front, printable_from}
+use Rattle.rv_text.specs.Printable.{after_first_printable, first_printable, printable_from}
 use Rattle.rv_text.proofs.Pieces.{shown-empty, shown-front}
 use Rattle.rv_text.proofs.printable.push_printable_text.Goals as goal
 
@@ -12,7 +12,7 @@ loop-rest-preserved c =
       c.loop-rest.invariant,
       c.in_ok-rest.ensures.shown,
       c.in_ok-rest.ensures.behind,
-      append_assoc c.loop-rest.bytes.items (printable_front text) (printable_from 0 (after_printable_front text)),
+      append_assoc c.loop-rest.bytes.items (first_printable text) (printable_from 0 (after_first_printable text)),
     )
 
 pub returns : goal.returns

@@ -1,6 +1,6 @@
 use Rattle.std.proofs.Common.{◌≡◌, ◌-◌, arith, append_assoc, append-nil, length}
 use Rattle.std.proofs.lemmas.Grind.{common_steps}
-use Rattle.rv_text.specs.Printable.{after_printable_front, front_width, printable_front, printable_within}
+use Rattle.rv_text.specs.Printable.{after_first_printable, first_width, first_printable, printable_within}
 use Rattle.rv_text.proofs.Pieces.{printable_within-empty, printable_within-front, printable_within-full}
 use Rattle.rv_text.proofs.printable.push_printable_within.Goals as goal
 
@@ -20,8 +20,8 @@ loop-rest-preserved c =
       c.loop-rest.invariant,
       c.in_ok-rest.ensures.shown,
       c.in_ok-rest.ensures.behind,
-      append_assoc c.loop-rest.bytes.items (printable_front text)
-          (printable_within (room - front_width text) 0 (after_printable_front text)),
+      append_assoc c.loop-rest.bytes.items (first_printable text)
+          (printable_within (room - first_width text) 0 (after_first_printable text)),
     )
 
 pub returns : goal.returns

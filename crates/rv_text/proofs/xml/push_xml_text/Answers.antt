@@ -1,6 +1,6 @@
 use Rattle.std.proofs.Common.{◌≡◌, arith, append_assoc, append-nil, length, string_bytes}
 use Rattle.std.proofs.lemmas.Grind.{common_steps}
-use Rattle.rv_text.specs.Xml.{after_xml_front, xml_text_from, xml_front_text}
+use Rattle.rv_text.specs.Xml.{after_first_xml_text, xml_text_from, first_xml_text}
 use Rattle.rv_text.proofs.XmlTexts.{escaped-empty, escaped-front}
 use Rattle.rv_text.proofs.xml.push_xml_text.Goals as goal
 
@@ -13,8 +13,8 @@ loop-rest-preserved c =
       c.loop-rest.invariant,
       c.in_ok-rest.ensures.text,
       c.in_ok-rest.ensures.behind,
-      append_assoc (string_bytes c.loop-rest.text) (xml_front_text within bytes)
-          (xml_text_from within 0 (after_xml_front bytes)),
+      append_assoc (string_bytes c.loop-rest.text) (first_xml_text within bytes)
+          (xml_text_from within 0 (after_first_xml_text bytes)),
     )
 
 pub returns : goal.returns

@@ -3,7 +3,7 @@ use Rattle.std.proofs.Common.{get_or-set_other, get_or-set_same, below_more, len
 use Rattle.std.proofs.lemmas.Grind.{same_number_lists}
 use Rattle.rv_machine.specs.Machine.{state_of}
 use Rattle.rv_trace.specs.Trace.{registers_of}
-use Rattle.rv_trace.proofs.Showing.{register_at, registers_count}
+use Rattle.rv_trace.proofs.Showing.{parse_register, registers_count}
 use Rattle.rv_trace.proofs.trace.registers_of.Goals as goal
 
 pub loop-n-preserved : goal.loop-n-preserved
@@ -19,4 +19,4 @@ returns c =
     let s = state_of c.args.machine.now in
     same_number_lists c.loop-n.registers (registers_of s) (c.loop-n.invariant.whole ∙ sym (registers_count s))
     (λ k h. let whole = c.loop-n.invariant.whole in
-    c.loop-n.invariant.read k (omega arith) ∙ sym (register_at s k (omega arith)))
+    c.loop-n.invariant.read k (omega arith) ∙ sym (parse_register s k (omega arith)))

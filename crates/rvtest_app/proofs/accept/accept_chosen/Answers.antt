@@ -18,9 +18,9 @@ pub returns-clause-accepted : goal.returns-clause-accepted
 returns-clause-accepted g c =
     let known = g.D.Inputs.contents c.args.host.now.inputs.now in
     let outcomes = c.in_ok-outcomes.outcomes in
-    IfOk-map c.put_accepted.result _ _
+    IfOk-map c.write_accepted.result _ _
     (λ status put. record {
-      first = outputs_of g.F.Outputs.placed g.O.Sink.taken g.E.Sink.taken g.E.Sink.failed c.guarded_jobs.new.to;
+      first = outputs_of g.F.Outputs.placed g.O.Sink.taken g.E.Sink.taken g.E.Sink.failed c.checked_jobs.new.to;
       outside = c.in_ok-marked.ensures.outside;
       rows = c.in_ok-rows.rows.items;
       middle = outputs_of g.F.Outputs.placed g.O.Sink.taken g.E.Sink.taken g.E.Sink.failed c.run_selected.new.to;
@@ -35,14 +35,14 @@ returns-clause-accepted g c =
           c.in_ok-outcomes.ensures.unchanged put.of);
       put = put.put;
     })
-    c.put_accepted.ensures.put
+    c.write_accepted.ensures.put
 
 pub returns-clause-stopped : goal.returns-clause-stopped
 returns-clause-stopped g c =
     let outcomes = c.in_ok-outcomes.outcomes in
-    IfErr-map c.put_accepted.result _ _
+    IfErr-map c.write_accepted.result _ _
     (λ why is. inr (files_unput (g.D.Inputs.contents c.args.host.now.inputs.now) c.args.args.now c.args.list.now.jobs _
     outcomes.new.runs.items outcomes.claims.items outcomes.files.items why refl
     (rw c.as_slice-2.ensures.value at c.in_ok-outcomes.ensures.claims)
     c.in_ok-outcomes.ensures.files is))
-    c.put_accepted.ensures.stopped
+    c.write_accepted.ensures.stopped

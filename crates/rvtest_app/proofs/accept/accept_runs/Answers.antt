@@ -22,8 +22,8 @@ returns-in-Some-clause-accepted g c =
       notes = c.in_ok-list.list.notes.items;
       choice = rw c.in-Some.is at c.in_ok-list.ensures.chosen;
       middle = outputs_of g.F.Outputs.placed g.O.Sink.taken g.E.Sink.taken g.E.Sink.failed
-          (record c.args.to.now { errors = c.put_message.new.errors });
-      outputs_of = (refl, rw c.as_slice.ensures.value at c.put_message.ensures, refl);
+          (record c.args.to.now { errors = c.write_message.new.errors });
+      outputs_of = (refl, rw c.as_slice.ensures.value at c.write_message.ensures, refl);
       accepted = accepted;
     })
     (rw c.as_slice-in-Some.ensures.value at c.accept_chosen.ensures.accepted)
@@ -47,8 +47,8 @@ returns-clause-accepted g c = record {
   notes = c.in_ok-list.list.notes.items;
   choice = rw c.in-None.is at c.in_ok-list.ensures.chosen;
   middle = outputs_of g.F.Outputs.placed g.O.Sink.taken g.E.Sink.taken g.E.Sink.failed
-      (record c.args.to.now { errors = c.put_message.new.errors });
-  outputs_of = (refl, rw c.as_slice.ensures.value at c.put_message.ensures, refl);
+      (record c.args.to.now { errors = c.write_message.new.errors });
+  outputs_of = (refl, rw c.as_slice.ensures.value at c.write_message.ensures, refl);
   accepted = (refl, refl);
 }
 

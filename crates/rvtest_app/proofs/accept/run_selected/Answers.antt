@@ -27,5 +27,5 @@ returns-in-Ok-clause-rows g c =
         ) at c.in_ok-indexed_rows-in-Ok.ensures;
         noted = rw (c.as_slice-count.ensures.value, c.in_ok-places.ensures.value, c.as_slice.ensures.value) at c.in_ok-note.ensures;
       };
-      told = (refl, rw c.as_slice-3.ensures.value at c.put_message.ensures, refl);
+      told = (refl, rw c.as_slice-3.ensures.value at c.write_message.ensures, refl);
     }

@@ -1,6 +1,6 @@
 use Rattle.std.proofs.Common.{◌≡◌, ℕ, List, Err, subst}
 use Rattle.rv_command.specs.declared.stop.Stop.{Stop}
-use Rattle.rv_count_tables.specs.Read.{AnswersUnlessMemory, IsLeast}
+use Rattle.rv_count_tables.specs.Read.{IsOkOrOutOfMemory, IsFirstError}
 use Rattle.rv_count_tables.specs.Table.{IsTable}
 use Rattle.rv_count_tables.specs.Text.{table_text}
 use Rattle.rv_count_tables.specs.declared.read.ReadError.{ReadError}
@@ -8,8 +8,8 @@ use Rattle.rv_count_tables.specs.declared.table.CountTable.{CountTable}
 use Rattle.rvtest_app.specs.CountStops.{IsReadErrorStop, IsTableFaultStop}
 use Rattle.rvtest_app.proofs.counts.table_of_text.Goals as goal
 
-refused_table : (path text : List ℕ) (error : ReadError) (why : Stop) → IsLeast error text
-    → ((table : CountTable) → IsTable table → table_text table ≡ text → AnswersUnlessMemory table (Err error))
+refused_table : (path text : List ℕ) (error : ReadError) (why : Stop) → IsFirstError error text
+    → ((table : CountTable) → IsTable table → table_text table ≡ text → IsOkOrOutOfMemory table (Err error))
     → IsReadErrorStop path error why → IsTableFaultStop path text why
 refused_table path text error why least only is = record {
   told = (error, (least, is));

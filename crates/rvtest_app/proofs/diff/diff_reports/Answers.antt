@@ -14,10 +14,10 @@ returns-clause-put g c = record {
   diff = rw (c.as_slice-2.ensures.value, c.as_slice.ensures.value) c.in_ok-found.ensures.diff;
   middle = record {
     out = g.O.Sink.taken c.args.to.now.out;
-    errors = g.E.Sink.taken c.put_message.new.errors;
-    failures = g.E.Sink.failed c.put_message.new.errors;
+    errors = g.E.Sink.taken c.write_message.new.errors;
+    failures = g.E.Sink.failed c.write_message.new.errors;
     placed = g.F.Outputs.placed c.args.to.now.files;
   };
-  told = (refl, c.put_message.ensures, refl);
-  put = (c.in_ok-put_results.ensures.put, refl, refl, refl);
+  told = (refl, c.write_message.ensures, refl);
+  put = (c.in_ok-write_results.ensures.put, refl, refl, refl);
 }

@@ -1,15 +1,15 @@
 use Rattle.std.proofs.Common.{◌≡◌, ◌≤◌, ◌∙◌, ◌+◌, ◌-◌, ℕ, Bool, true, false, List, ap, arith, length, sym}
 use Rattle.std.proofs.lemmas.List.Sums.{count_by-le-length, length-filter}
 use Rattle.std.specs.Prelude.{if◌then◌else◌, not}
-use Rattle.rv_diff.specs.Diff.{is_alone_in, rows_in_both}
+use Rattle.rv_diff.specs.Diff.{is_missing_from, rows_in_both}
 use Rattle.rv_rows.specs.declared_row.Row.{Row}
 use Rattle.rv_rows.specs.declared_saved.SavedReport.{SavedReport}
-use Rattle.rvtest_app.specs.Reports.{compared_rows, leaves_out}
+use Rattle.rvtest_app.specs.Reports.{compared_rows, is_partial_of_whole}
 use Rattle.rvtest_app.proofs.diff.diff_saved_reports.Goals as goal
 
 beside_within : (others rows : List Row) → length (rows_in_both others rows) ≤ length rows
 beside_within others rows =
-    rw (length-filter (λ row. not (is_alone_in others row)) rows) (count_by-le-length (λ row. not (is_alone_in others row)) rows)
+    rw (length-filter (λ row. not (is_missing_from others row)) rows) (count_by-le-length (λ row. not (is_missing_from others row)) rows)
 
 either_within : (is_part : Bool) (part rows : List Row) → length part ≤ length rows
     → length (if is_part then part else rows) ≤ length rows
@@ -17,7 +17,7 @@ either_within true part rows within = within
 either_within false part rows within = omega arith
 
 compared_within : (other report : SavedReport) → length (compared_rows other report) ≤ length report.rows
-compared_within other report = either_within (leaves_out other.extent report.extent) _ report.rows
+compared_within other report = either_within (is_partial_of_whole other.extent report.extent) _ report.rows
     (beside_within other.rows report.rows)
 
 -- what is left out of two reports, by how many rows they have and how many of these are compared

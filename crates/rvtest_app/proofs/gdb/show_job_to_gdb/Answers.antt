@@ -8,12 +8,12 @@ use Rattle.rvtest_app.proofs.gdb.show_job_to_gdb.Goals as goal
 pub serve-requires-clause-requested : goal.serve-requires-clause-requested
 serve-requires-clause-requested g c =
     let opened = c.in_ok-opened.ensures.opened in λ lifetimes outlive.
-    ap (λ (s : Session). s.requested) c.set_memory.ensures
+    ap (λ (s : Session). s.requested) c.limit_memory.ensures
     ∙ ap (λ (s : Session). s.requested) (opened.of_list.of_job.over (single_job [] 0 [])).session_is
 
 pub returns-in-Ok-clause-answered : goal.returns-in-Ok-clause-answered
 returns-in-Ok-clause-answered g c =
-    let received = rw (c.in-Ok.is, c.set_memory.ensures) at c.serve.ensures.heard in record {
+    let received = rw (c.in-Ok.is, c.limit_memory.ensures) at c.serve.ensures.heard in record {
       spoken = c.if-is_terminal.false;
       end_text = job_end_text c.in_ok-opened.opened.job.plan c.in_ok-opened.opened.job.unread.items c.in_ok-opened.opened.job.place;
       first = c.in_ok-opened.opened.session;
@@ -43,7 +43,7 @@ returns-clause-stopped g c = inr (
   (
     c.in-Err.broken,
     (
-      c.broken_stop.ensures,
+      c.session_error_stop.ensures,
       (rw c.in-Err.is at c.serve.ensures.failed, rw c.in-Err.is at c.serve.ensures.unfailed),
     ),
   ),

@@ -6,8 +6,8 @@ use Rattle.rvtest_app.proofs.known_file.push_known_fault.Goals as goal
 four_told : (a b c d : List ℕ) → a ++ (b ++ (c ++ (d ++ []))) ≡ ((a ++ b) ++ c) ++ d
 four_told a b c d = simp (append_assoc, append-nil)
 
-pub returns-in-NoJob : goal.returns-in-NoJob
-returns-in-NoJob c =
-    rw c.in-NoJob.is
+pub returns-in-UnknownJob : goal.returns-in-UnknownJob
+returns-in-UnknownJob c =
+    rw c.in-UnknownJob.is
     (told _ _ _ _ _ (four_told (codes "no job named \"") (printable_value c.args.name.now) (codes "\" in ") (printable_text c.args.list.now))
-    (rw c.as_bytes.ensures.value at c.push_spans-in-NoJob.ensures))
+    (rw c.as_bytes.ensures.value at c.push_spans-in-UnknownJob.ensures))

@@ -9,8 +9,8 @@ returns-in_err-marks-clause-stopped g c =
     let stop = rw (c.failure_rule.ensures, c.as_slice.ensures.value) at c.in_err-marks.ensures.stop in
     rw (is.1, is.2) (inr (c.in_ok-jobs.jobs, (c.in_ok-jobs.ensures.jobs, stop)))
 
-pub marked_name_lines-requires : goal.marked_name_lines-requires
-marked_name_lines-requires g c =
+pub selected_name_lines-requires : goal.selected_name_lines-requires
+selected_name_lines-requires g c =
     let count = choice_count _ c.args.args.now _ c.as_slice.result.now c.in-Some.marks.items _
     (rw c.in-Some.is at c.in_ok-marks.ensures.chosen) in
     ap length c.as_slice-in-Some-2.ensures.value ∙ count

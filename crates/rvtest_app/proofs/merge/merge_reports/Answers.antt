@@ -3,9 +3,9 @@ use Rattle.std.proofs.lemmas.Result.{err_from_is_err_and}
 use Rattle.rvtest_app.proofs.Results.{OnErr-from}
 use Rattle.rvtest_app.proofs.merge.merge_reports.Goals as goal
 
-pub returns-in_err-put_merged-clause-stopped : goal.returns-in_err-put_merged-clause-stopped
-returns-in_err-put_merged-clause-stopped g c =
-    let error = err_from_is_err_and c.from_residual-in_err-put_merged.result c.from_residual-in_err-put_merged.ensures.1 in
+pub returns-in_err-write_merged-clause-stopped : goal.returns-in_err-write_merged-clause-stopped
+returns-in_err-write_merged-clause-stopped g c =
+    let error = err_from_is_err_and c.from_residual-in_err-write_merged.result c.from_residual-in_err-write_merged.ensures.1 in
     let parts = rw c.as_slice.ensures.value at c.in_ok-merged.ensures.parts in
     rw (error.1, error.2)
     (inr (inr (
@@ -13,14 +13,14 @@ returns-in_err-put_merged-clause-stopped g c =
       (
         c.in_ok-texts.ensures.read,
         inr
-            (c.in_ok-merged.merged.rows, (parts, c.in_err-put_merged.ensures.stopped)),
+            (c.in_ok-merged.merged.rows, (parts, c.in_err-write_merged.ensures.stopped)),
       ),
     )))
 
-pub returns-in_err-put_merged-clause-undone : goal.returns-in_err-put_merged-clause-undone
-returns-in_err-put_merged-clause-undone g c =
+pub returns-in_err-write_merged-clause-undone : goal.returns-in_err-write_merged-clause-undone
+returns-in_err-write_merged-clause-undone g c =
     let parts = rw c.as_slice.ensures.value at c.in_ok-merged.ensures.parts in
-    OnErr-from c.from_residual-in_err-put_merged.result _
+    OnErr-from c.from_residual-in_err-write_merged.result _
     (⊎_elim inl (λ placed. inr (record {
       texts = map (λ text. text.items) c.in_ok-texts.texts.items;
       read = c.in_ok-texts.ensures.read;
@@ -28,4 +28,4 @@ returns-in_err-put_merged-clause-undone g c =
       parts = parts;
       placed = placed;
     }))
-    c.in_err-put_merged.ensures.part)
+    c.in_err-write_merged.ensures.part)

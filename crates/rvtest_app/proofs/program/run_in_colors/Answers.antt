@@ -26,7 +26,7 @@ stop_of_whole (Err why) whole result Untouched Stops is_whole is done stopped = 
 
 pub returns-clause-stopped : goal.returns-clause-stopped
 returns-clause-stopped g c =
-    stop_of_whole c.run_subcommand-to.result.1 c.finish-out.result.1 c.whole_answer.result _ _
+    stop_of_whole c.run_subcommand-to.result.1 c.finish-out.result.1 c.outcome_if_written.result _ _
     (λ same. c.finish-out.ensures.told ∙ ap (λ s. is_cut_off s.state) same ∙ ap is_cut_off c.new-out.ensures.state
     ∙ begins_whole _)
-    c.whole_answer.ensures c.run_subcommand-to.ensures.untouched c.run_subcommand-to.ensures.stopped
+    c.outcome_if_written.ensures c.run_subcommand-to.ensures.untouched c.run_subcommand-to.ensures.stopped

@@ -2,7 +2,7 @@ use Rattle.std.proofs.Common.{inl, inr, map, refl, sym, IfErr}
 use Rattle.std.specs.Prelude.{IfOk}
 use Rattle.rvtest_app.specs.Answers.{IsAnswered}
 use Rattle.rvtest_app.specs.CommandOutputs.{outputs_of}
-use Rattle.rvtest_app.specs.CommandStops.{IsStopFor}
+use Rattle.rvtest_app.specs.CommandStops.{IsProgramStop}
 use Rattle.rvtest_app.proofs.Results.{IfOk-map}
 use Rattle.rvtest_app.proofs.StopLemmas.{IfErr-map}
 use Rattle.rvtest_app.proofs.WordsStops.{words_answered, words_stop}
@@ -33,8 +33,8 @@ answered g c =
           (let request = rw w.in-Ok-None.field-0-is at w.in-Ok-None.ensures.value in
           rw w.to-is (inr (inl (sym request, refl), refl, refl, refl)))
       | in-Err w ↦
-          rw w.to-is (words_answered known rest is_terminal is_colored words w.in-Err.error w.respond_to_words_error-answer.result before _
-          w.in-Err.ensures.kinds w.respond_to_words_error-answer.ensures.done w.respond_to_words_error-answer.ensures.helped (refl, refl, refl))
+          rw w.to-is (words_answered known rest is_terminal is_colored words w.in-Err.error w.respond_to_args_error-answer.result before _
+          w.in-Err.ensures.kinds w.respond_to_args_error-answer.ensures.done w.respond_to_args_error-answer.ensures.helped (refl, refl, refl))
     ] in
     rw c.in-Ok.is at all
 
@@ -49,7 +49,7 @@ returns-clause-ended g c =
     let known = g.D.Inputs.contents c.args.host.now.inputs.now in
     let is_terminal = c.args.terminals.is_out_terminal in
     let words = map g.T.AsStr.text c.args.words.now in
-    let stopped : IfErr c.match-read_words.to.1 (IsStopFor known is_terminal words) = elim c.match-read_words.branch [
+    let stopped : IfErr c.match-read_words.to.1 (IsProgramStop known is_terminal words) = elim c.match-read_words.branch [
       | in-Ok-Some w ↦
           (let request = rw w.in-Ok-Some.field-0-is at w.in-Ok-Some.ensures.value in
           rw w.to-is (IfErr-map w.run_in_colors.result.1 _ _ (λ why is. inl (w.in-Ok-Some.request, (sym request, is)))
@@ -57,7 +57,7 @@ returns-clause-ended g c =
       | in-Ok-None w ↦ rw w.to-is tt
       | in-Err w ↦
           rw w.to-is (words_stop known is_terminal words _ _ _ _ w.in-Err.ensures.kinds w.in-Err.ensures.misused
-          w.respond_to_words_error-answer.ensures.stopped)
+          w.respond_to_args_error-answer.ensures.stopped)
     ] in
     let before = outputs_of g.F.Outputs.placed g.O.Sink.taken g.E.Sink.taken g.E.Sink.failed c.match-read_words.to.0 in
     inr (

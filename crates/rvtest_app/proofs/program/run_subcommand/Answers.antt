@@ -20,11 +20,11 @@ returns-clause-stopped g c = elim c.match-request.branch [
   | in-Explain w ↦
       rw (w.answer-is, w.in-Explain.is)
       (put_or_found w.explain_named_job.result _ _ w.explain_named_job.ensures.stopped
-      w.put_findings-answer.ensures.stopped)
+      w.write_command_result-answer.ensures.stopped)
   | in-Check w ↦
       rw (w.answer-is, w.in-Check.is)
       (put_or_found w.check_list.result _ _ w.check_list.ensures.stopped
-      w.put_findings-answer-in-Check.ensures.stopped)
+      w.write_command_result-answer-in-Check.ensures.stopped)
   | in-List w ↦ rw (w.answer-is, w.in-List.is) w.list_chosen_jobs-answer.ensures.stopped
   | in-Console w ↦ rw (w.answer-is, w.in-Console.is) w.put_job_console-answer.ensures.stopped
   | in-Gdb w ↦
@@ -42,13 +42,13 @@ returns-clause-stopped g c = elim c.match-request.branch [
   | in-Help w ↦
       rw (w.answer-is, w.in-Help.is)
       (put_or_found w.topic_help.result _ _ w.topic_help.ensures.stopped
-      w.put_findings-answer-in-Help.ensures.stopped)
+      w.write_command_result-answer-in-Help.ensures.stopped)
 ]
 
 pub returns-clause-untouched : goal.returns-clause-untouched
 returns-clause-untouched g c = elim c.match-request.branch [
-  | in-Explain w ↦ rw (w.answer-is, w.in-Explain.is) (IfOk-from w.put_findings-answer.result _ (inl (inl refl)))
-  | in-Check w ↦ rw (w.answer-is, w.in-Check.is) (IfOk-from w.put_findings-answer-in-Check.result _ (inl (inl refl)))
+  | in-Explain w ↦ rw (w.answer-is, w.in-Explain.is) (IfOk-from w.write_command_result-answer.result _ (inl (inl refl)))
+  | in-Check w ↦ rw (w.answer-is, w.in-Check.is) (IfOk-from w.write_command_result-answer-in-Check.result _ (inl (inl refl)))
   | in-List w ↦ rw (w.answer-is, w.in-List.is) (IfOk-from w.list_chosen_jobs-answer.result _ (inl (inl refl)))
   | in-Console w ↦ rw (w.answer-is, w.in-Console.is) (IfOk-from w.put_job_console-answer.result _ (inl (inl refl)))
   | in-Gdb w ↦
@@ -75,5 +75,5 @@ returns-clause-untouched g c = elim c.match-request.branch [
       w.put_sum_of_tables-answer.ensures.put)
   | in-Cover w ↦ rw (w.answer-is, w.in-Cover.is) (IfOk-from w.cover_requested_jobs-answer.result _ (inl (inl refl)))
   | in-Profile w ↦ rw (w.answer-is, w.in-Profile.is) (IfOk-from w.profile_requested_jobs-answer.result _ (inl (inl refl)))
-  | in-Help w ↦ rw (w.answer-is, w.in-Help.is) (IfOk-from w.put_findings-answer-in-Help.result _ (inl (inl refl)))
+  | in-Help w ↦ rw (w.answer-is, w.in-Help.is) (IfOk-from w.write_command_result-answer-in-Help.result _ (inl (inl refl)))
 ]

@@ -1,22 +1,22 @@
 use Rattle.std.proofs.Common.{◌≡◌, ◌∙◌, ap, arith, length, map, sym, take}
 use Rattle.std.specs.Prelude.{insert}
-use Rattle.rvtest_app.specs.declared.rows_with_most_steps.TheConstants.{MOST_SHOWN}
+use Rattle.rvtest_app.specs.declared.rows_with_most_steps.TheConstants.{MAX_SHOWN}
 use Rattle.rv_diff.proofs.Public.{now}
 use Rattle.rvtest_app.proofs.StepRanks.{rank_in, ranked-insert, take-insert, take-insert_last, map-take}
 use Rattle.rvtest_app.proofs.rows_with_most_steps.insert_by_steps.Goals as goal
 
-pub returns-then-place-eq-MOST_SHOWN-clause-rows : goal.returns-then-place-eq-MOST_SHOWN-clause-rows
-returns-then-place-eq-MOST_SHOWN-clause-rows c =
+pub returns-then-place-eq-MAX_SHOWN-clause-rows : goal.returns-then-place-eq-MAX_SHOWN-clause-rows
+returns-then-place-eq-MAX_SHOWN-clause-rows c =
     let most = c.args.most.now.items in
     let row = c.args.row in
     let place = c.rank_by_steps-place.result in
     let at : place ≡ rank_in row.now.steps most =
     c.rank_by_steps-place.ensures.place ∙ ap (rank_in row.now.steps) c.as_slice.ensures.value in
-    let full : length most ≡ MOST_SHOWN = omega (arith, ap length c.as_slice.ensures.value) in
-    sym (ap (take MOST_SHOWN) (ranked-insert row most ∙ ap (λ p. map now (insert most p row)) (sym at))
-    ∙ map-take MOST_SHOWN (insert most place row)
-    ∙ ap (map now) (ap (λ p. take MOST_SHOWN (insert most p row)) c.if-place-eq-MOST_SHOWN.true
-    ∙ take-insert_last MOST_SHOWN row most full))
+    let full : length most ≡ MAX_SHOWN = omega (arith, ap length c.as_slice.ensures.value) in
+    sym (ap (take MAX_SHOWN) (ranked-insert row most ∙ ap (λ p. map now (insert most p row)) (sym at))
+    ∙ map-take MAX_SHOWN (insert most place row)
+    ∙ ap (map now) (ap (λ p. take MAX_SHOWN (insert most p row)) c.if-place-eq-MAX_SHOWN.true
+    ∙ take-insert_last MAX_SHOWN row most full))
 
 pub returns-clause-rows : goal.returns-clause-rows
 returns-clause-rows c =
@@ -28,5 +28,5 @@ returns-clause-rows c =
     ap (map now) (c.in_ok-insert.ensures.items
     ∙ ap (λ xs. insert xs place row) c.truncate.ensures.items
     ∙ sym (take-insert 9 place row most (omega (arith, ap length c.as_slice.ensures.value))))
-    ∙ sym (ap (take MOST_SHOWN) (ranked-insert row most ∙ ap (λ p. map now (insert most p row)) (sym at))
-    ∙ map-take MOST_SHOWN (insert most place row))
+    ∙ sym (ap (take MAX_SHOWN) (ranked-insert row most ∙ ap (λ p. map now (insert most p row)) (sym at))
+    ∙ map-take MAX_SHOWN (insert most place row))

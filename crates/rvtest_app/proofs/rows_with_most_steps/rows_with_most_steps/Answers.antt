@@ -1,5 +1,5 @@
 use Rattle.std.proofs.Common.{◌∙◌, ap, arith, drop, length, map, sym, take}
-use Rattle.rvtest_app.specs.declared.rows_with_most_steps.TheConstants.{MOST_SHOWN}
+use Rattle.rvtest_app.specs.declared.rows_with_most_steps.TheConstants.{MAX_SHOWN}
 use Rattle.rvtest_app.specs.ReportSummary.{rows_by_steps, inserted_by_steps}
 use Rattle.rv_diff.proofs.Public.{drop-row, now}
 use Rattle.rvtest_app.proofs.StepRanks.{rows_by_steps-more, rows_by_steps-none, take-ranked}
@@ -10,7 +10,7 @@ loop-left-init c =
     let rows = c.args.rows.now in
     record {
       rows = ap (map now) c.new-most.ensures.items
-          ∙ sym (ap (take MOST_SHOWN) (rows_by_steps-none rows (length rows) (omega arith)));
+          ∙ sym (ap (take MAX_SHOWN) (rows_by_steps-none rows (length rows) (omega arith)));
       few = omega (arith, ap length c.new-most.ensures.items);
       within = omega arith;
     }
@@ -23,9 +23,9 @@ loop-left-preserved c =
     let front = drop-row rows left row (omega arith) (omega arith) c.index-rows-left.is in
     record {
       rows = c.in_ok-insert_by_steps.ensures.rows
-          ∙ ap (λ most. take MOST_SHOWN (inserted_by_steps row most)) c.loop-left.invariant.rows
-          ∙ take-ranked MOST_SHOWN row (rows_by_steps (drop left rows))
-          ∙ sym (ap (take MOST_SHOWN) (rows_by_steps-more rows left row front));
+          ∙ ap (λ most. take MAX_SHOWN (inserted_by_steps row most)) c.loop-left.invariant.rows
+          ∙ take-ranked MAX_SHOWN row (rows_by_steps (drop left rows))
+          ∙ sym (ap (take MAX_SHOWN) (rows_by_steps-more rows left row front));
       few = c.in_ok-insert_by_steps.ensures.few;
       within = omega arith;
     }

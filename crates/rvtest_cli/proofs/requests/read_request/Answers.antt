@@ -1,14 +1,14 @@
 use Rattle.std.proofs.Common.{◌∙◌, [], ap, map, subst, sym}
 use Rattle.std.proofs.lemmas.Result.{IfOk-weaker}
 use Rattle.clap.specs.Words.{HasKind, app_of, fault_of, is_simple_and_free, kind_of}
-use Rattle.rvtest_cli.specs.RvtestWords.{FailsByMisuse, matched_misuse, misuse_kinds, plain_fault_kinds, plain_misuse, matched_request}
-use Rattle.rvtest_cli.specs.WordsErrors.{FailsByKinds}
-use Rattle.rvtest_cli.proofs.RvtestReading.{faults, here, kinds_of_misuse, no_misuse, none_told, of_memory, refused, told_of, told_where_failed}
+use Rattle.rvtest_cli.specs.RvtestArgs.{FailsByMisuse, matched_misuse, misuse_kinds, plain_error_kinds, plain_misuse, matched_request}
+use Rattle.rvtest_cli.specs.ArgsErrors.{FailsByKinds}
+use Rattle.rvtest_cli.proofs.RvtestReading.{faults, here, kinds_of_misuse, no_misuse, none_told, of_memory, refused, plan_text, told_where_failed}
 use Rattle.rvtest_cli.proofs.requests.read_request.Goals as goal
 
 pub returns-in_err-command-clause-kinds : goal.returns-in_err-command-clause-kinds
 returns-in_err-command-clause-kinds g c =
-    of_memory c.from_residual.result (plain_fault_kinds (map g.T.AsStr.text c.args.words.now)) c.from_residual.ensures.1
+    of_memory c.from_residual.result (plain_error_kinds (map g.T.AsStr.text c.args.words.now)) c.from_residual.ensures.1
 
 pub returns-in_err-command-clause-misused : goal.returns-in_err-command-clause-misused
 returns-in_err-command-clause-misused g c none =
@@ -17,16 +17,16 @@ returns-in_err-command-clause-misused g c none =
 pub returns-in-Err-clause-kinds : goal.returns-in-Err-clause-kinds
 returns-in-Err-clause-kinds g c =
     let words = map g.T.AsStr.text c.args.words.now in
-    told_of (plain_fault_kinds words) _ _
+    plan_text (plain_error_kinds words) _ _
     (refused (app_of c.in_ok-command.command) words c.in-Err.error c.in_ok-command.ensures
-    (c.in-Err.ensures.kinds (ap is_simple_and_free c.in_ok-command.ensures))) c.of_clap.ensures
+    (c.in-Err.ensures.kinds (ap is_simple_and_free c.in_ok-command.ensures))) c.from_clap.ensures
 
 pub returns-in-Err-clause-misused : goal.returns-in-Err-clause-misused
 returns-in-Err-clause-misused g c none =
     let words = map g.T.AsStr.text c.args.words.now in
-    none_told (plain_misuse words) _ (told_of [] (kind_of c.in-Err.error) _
+    none_told (plain_misuse words) _ (plan_text [] (kind_of c.in-Err.error) _
     (subst (λ kinds. HasKind kinds c.in-Err.error) (ap (λ app. fault_of app words) c.in_ok-command.ensures ∙ none)
-    (c.in-Err.ensures.kinds (ap is_simple_and_free c.in_ok-command.ensures))) c.of_clap.ensures)
+    (c.in-Err.ensures.kinds (ap is_simple_and_free c.in_ok-command.ensures))) c.from_clap.ensures)
 
 pub returns-in-Ok-clause-value : goal.returns-in-Ok-clause-value
 returns-in-Ok-clause-value g c =

@@ -1,9 +1,9 @@
 use Rattle.std.proofs.Common.{◌≡◌, ◌∙◌, ◌∷◌, [], ap, arith, codes, map, subst, sym, List, None, Some}
 use Rattle.std.proofs.lemmas.Bool.{ltb-false, ltb-true}
 use Rattle.clap.specs.Words.{Text, fault_of}
-use Rattle.rvtest_cli.specs.RvtestCommand.{test_app}
-use Rattle.rvtest_cli.specs.RvtestWords.{help_command_args, is_command_help, is_help}
-use Rattle.rvtest_cli.specs.WordsErrors.{FailsByKinds}
+use Rattle.rvtest_cli.specs.RvtestCommand.{rvtest_full_app}
+use Rattle.rvtest_cli.specs.RvtestArgs.{help_command_args, is_command_help, is_help}
+use Rattle.rvtest_cli.specs.ArgsErrors.{FailsByKinds}
 use Rattle.rvtest_cli.proofs.RvtestReading.{few_words, help_kinds, help_misused, help_of_three, help_of_two, help_value, help_within}
 use Rattle.rvtest_cli.proofs.RvtestReading.{many_words, other_of_three, other_of_two, plain_kinds, plain_misused, plain_value}
 use Rattle.rvtest_cli.proofs.requests.read_words.Given.{Over}
@@ -31,16 +31,16 @@ in_three g c =
     ∙ sym c.is_command_help.ensures ∙ c.if-is_command_help.true)
 
 two_kinds : (g : Over) (c : goal.After-command_help g)
-    → FailsByKinds (fault_of test_app (g.T.AsStr.text c.program-item.result ∷ codes "--help" ∷ [])) c.command_help.result
+    → FailsByKinds (fault_of rvtest_full_app (g.T.AsStr.text c.program-item.result ∷ codes "--help" ∷ [])) c.command_help.result
 two_kinds g c =
-    subst (λ (program : Text). FailsByKinds (fault_of test_app (program ∷ codes "--help" ∷ [])) c.command_help.result)
+    subst (λ (program : Text). FailsByKinds (fault_of rvtest_full_app (program ∷ codes "--help" ∷ [])) c.command_help.result)
     c.as_str-in-len2.ensures c.command_help.ensures.kinds
 
 three_kinds : (g : Over) (c : goal.After-command_help-in-len3 g)
-    → FailsByKinds (fault_of test_app (g.T.AsStr.text c.program-item-then-words-lt4.result
+    → FailsByKinds (fault_of rvtest_full_app (g.T.AsStr.text c.program-item-then-words-lt4.result
     ∷ g.T.AsStr.text c.topic-item.result ∷ codes "--help" ∷ [])) c.command_help-in-len3.result
 three_kinds g c =
-    subst (λ (help : List Text). FailsByKinds (fault_of test_app help) c.command_help-in-len3.result)
+    subst (λ (help : List Text). FailsByKinds (fault_of rvtest_full_app help) c.command_help-in-len3.result)
     (λ i. c.as_str-in-len3.ensures i ∷ c.as_str-in-len3-2.ensures i ∷ codes "--help" ∷ []) c.command_help-in-len3.ensures.kinds
 
 others : (g : Over) (c : goal.After-read_request g) → help_command_args (map g.T.AsStr.text c.args.words.now) ≡ None

@@ -8,8 +8,8 @@ returns-in_err-excluded-clause-stop g c =
     let is = err_from_is_err_and c.from_residual.result c.from_residual.ensures.1 in
     rw (is.1, is.2) (stop_of_no_exclusion _ _ _ _ _ c.in_err-excluded.ensures.refused)
 
-pub leave_out-requires : goal.leave_out-requires
-leave_out-requires g c = record {
+pub without_excluded-requires : goal.without_excluded-requires
+without_excluded-requires g c = record {
   counted = wanted_counts _ _ _ _ c.in_ok-marks.field-0.marks _ c.in_ok-marks.ensures.wanted;
 }
 

@@ -1,6 +1,6 @@
 use Rattle.std.proofs.Common.{◌∙◌, ℕ, List, inr, sym}
 use Rattle.rv_choice.proofs.Stops.{said_of_text}
-use Rattle.rv_choice.specs.ChoiceStops.{IsPatternStop, IsUnmatched}
+use Rattle.rv_choice.specs.ChoiceStops.{IsPatternStop, IsUnmatchedPattern}
 use Rattle.rv_choice.proofs.chooser.Chooser.requested_pattern.Goals as goal
 
 pub returns-else-branch-clause-refused : goal.returns-else-branch-clause-refused
@@ -9,7 +9,7 @@ returns-else-branch-clause-refused g c =
     λ text. IsPatternStop c.args.self.now.args.now.list.now text c.args.jobs.now c.unmatched_pattern_stop.result in
     let of = c.in_ok-pattern.ensures in
     let none = sym c.in_ok-is_found_in_job_names.ensures ∙ c.if-branch.false in
-    let unmatched : IsUnmatched c.in-Some.text.now c.args.jobs.now =
+    let unmatched : IsUnmatchedPattern c.in-Some.text.now c.args.jobs.now =
     (c.in_ok-pattern.pattern, of.source, of.read, none) in
     said_of_text Says c.args.self.now.args.now.pattern c.in-Some.text c.in-Some.is
     (inr (inr (unmatched, c.unmatched_pattern_stop.ensures)))

@@ -1,7 +1,7 @@
 use Rattle.std.proofs.Common.{ℕ, ◌∙◌, sym, ap, subst, arith, append-nil, List, ◌++◌, ◌≤◌}
 use Rattle.rv_claims.specs.declared.view.Entry.{Entry}
 use Rattle.rv_claims.specs.Draws.{times, Sitting, Within, numbers, IsIn}
-use Rattle.rv_claims.specs.Passes.{PassView, SharedDraw, NoneInBoth}
+use Rattle.rv_claims.specs.Passes.{PassView, CounterView, AreDisjoint}
 use Rattle.rv_claims.proofs.Keeps.{joins, notes, looks}
 use Rattle.rv_claims.proofs.Sums.{in_left, in_right}
 use Rattle.rv_claims.proofs.Passes.{overlap, noted_pass, apart}
@@ -10,7 +10,7 @@ use Rattle.rv_claims.proofs.claims.Claims.meet.Goals as goal
 pub load-requires : goal.load-requires
 load-requires c =
     let all = ap (λ (h : PassView). h.draw) (c.all.view_is ∙ c.join-all.ensures) ∙ sym c.self.view_is in
-    (ap (λ (d : SharedDraw). d.table) all, omega (arith, c.self.invariant.1), looks _ _ _ _)
+    (ap (λ (d : CounterView). d.table) all, omega (arith, c.self.invariant.1), looks _ _ _ _)
 
 pub unreachable-requires : goal.unreachable-requires
 unreachable-requires c =
@@ -24,14 +24,14 @@ unreachable-requires c =
 pub split_seat-note-requires : goal.split_seat-note-requires
 split_seat-note-requires c =
     let one = ap (λ (h : PassView). h.draw) c.first.view_is ∙ (c.requires.first ∙ sym c.self.view_is) in
-    (ap (λ (d : SharedDraw). d.table) one, omega (arith, c.self.invariant.1), notes _ _ _)
+    (ap (λ (d : CounterView). d.table) one, omega (arith, c.self.invariant.1), notes _ _ _)
 
 pub join_seat-requires : goal.join_seat-requires
 join_seat-requires c =
     let one = ap (λ (h : PassView). h.draw) c.first.view_is ∙ (c.requires.first ∙ sym c.self.view_is) in
     let two = ap (λ (h : PassView). h.draw) c.second.view_is ∙ (c.requires.second ∙ sym c.self.view_is) in (
-      ap (λ (d : SharedDraw). d.table) two,
-      c.split_seat-note.ensures.3 ∙ ap (λ (d : SharedDraw). d.table) one,
+      ap (λ (d : CounterView). d.table) two,
+      c.split_seat-note.ensures.3 ∙ ap (λ (d : CounterView). d.table) one,
       ap (λ (m : Sitting). m.1) c.split_seat-note.ensures.4,
       omega (arith, c.self.invariant.1),
       joins _ _ _ _ _,
@@ -40,7 +40,7 @@ join_seat-requires c =
 pub load-requires-2 : goal.load-requires-2
 load-requires-2 c =
     let two = ap (λ (h : PassView). h.draw) c.second.view_is ∙ (c.requires.second ∙ sym c.self.view_is) in
-    (c.join_seat.ensures.0 ∙ ap (λ (d : SharedDraw). d.table) two, omega (arith, c.self.invariant.1), looks _ _ _ _)
+    (c.join_seat.ensures.0 ∙ ap (λ (d : CounterView). d.table) two, omega (arith, c.self.invariant.1), looks _ _ _ _)
 
 pub invariant_of-first : goal.invariant_of-first
 invariant_of-first c = let me = c.split_seat-note.ensures.2 in
@@ -78,7 +78,7 @@ returns-clause-apart c =
     let t = returns-clause-history c in
     let first = ap (λ (h : PassView). h.draws) c.first.view_is in
     let second = ap (λ (h : PassView). h.draws) c.second.view_is in
-    subst (λ (h : PassView × PassView). NoneInBoth (numbers h.0.draws) (numbers h.1.draws))
+    subst (λ (h : PassView × PassView). AreDisjoint (numbers h.0.draws) (numbers h.1.draws))
     (λ i. (c.first.view_is i, c.second.view_is i))
     (apart c.first.inside.seat.me c.second.inside.seat.me _ _ _ _ c.first.invariant c.second.invariant
     c.if-first-second-ne0.false t.0 t.1 (subst (λ (ds : List Entry). Within ds t.0) (sym first) t.2)

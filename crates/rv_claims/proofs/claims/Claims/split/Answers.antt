@@ -1,6 +1,6 @@
 use Rattle.std.proofs.Common.{◌∙◌, sym, ap, arith}
 use Rattle.rv_claims.specs.Draws.{Sitting}
-use Rattle.rv_claims.specs.Passes.{PassView, SharedDraw}
+use Rattle.rv_claims.specs.Passes.{PassView, CounterView}
 use Rattle.rv_claims.proofs.Keeps.{frees}
 use Rattle.rv_claims.proofs.Passes.{noted_pass}
 use Rattle.rv_claims.proofs.claims.Claims.split.Goals as goal
@@ -8,7 +8,7 @@ use Rattle.rv_claims.proofs.claims.Claims.split.Goals as goal
 pub split_seat-seat-requires : goal.split_seat-seat-requires
 split_seat-seat-requires c =
     let one = ap (λ (h : PassView). h.draw) c.pass.view_is ∙ (c.requires ∙ sym c.self.view_is) in
-    (ap (λ (d : SharedDraw). d.table) one, omega (arith, c.self.invariant.1), frees _ _ _)
+    (ap (λ (d : CounterView). d.table) one, omega (arith, c.self.invariant.1), frees _ _ _)
 
 pub invariant_of-pass : goal.invariant_of-pass
 invariant_of-pass c = let me = c.split_seat-seat.ensures.2 in

@@ -1,12 +1,12 @@
 use Rattle.std.proofs.Common.{◌∙◌, sym, ap, refl, arith}
-use Rattle.rv_claims.specs.Passes.{SharedDraw}
+use Rattle.rv_claims.specs.Passes.{CounterView}
 use Rattle.rv_claims.proofs.Keeps.{sits}
 use Rattle.rv_claims.proofs.Passes.{sat_there, seated_pass}
 use Rattle.rv_claims.proofs.claims.Claims.take_seat.Goals as goal
 
 pub swap-requires : goal.swap-requires
 swap-requires c =
-    let table = ap (λ (d : SharedDraw). d.table) c.self.view_is in (
+    let table = ap (λ (d : CounterView). d.table) c.self.view_is in (
       c.loop-place.invariant.0 ∙ sym table,
       omega (arith, c.self.invariant.1),
       sits _ _ _ _ c.loop-place.place _ (omega arith) refl,

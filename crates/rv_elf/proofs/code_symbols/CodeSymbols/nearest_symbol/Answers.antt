@@ -4,7 +4,7 @@ use Rattle.std.specs.List.Sorted.{IsNonDecreasingBy}
 use Rattle.std.proofs.lemmas.List.Sorted.{IsPartitionPoint-from_clause, IsPartitionedBy-leb}
 use Rattle.rv_elf.specs.declared.code_symbols.CodeSymbol.{CodeSymbol}
 use Rattle.rv_elf.specs.declared.image.Segment.{Segment}
-use Rattle.rv_elf.specs.CodeSymbols.{AreNamed, FindSymbols}
+use Rattle.rv_elf.specs.CodeSymbols.{HaveNames, AgreeWithSymbolAt}
 use Rattle.rv_elf.specs.SymbolSearch.{are_in_one_segment}
 use Rattle.rv_elf.proofs.CodeRanks.{in_other_segment, in_this_segment, nothing_below}
 use Rattle.rv_elf.proofs.code_symbols.CodeSymbols.nearest_symbol.Goals as goal
@@ -19,7 +19,7 @@ returns-then-above-eq0 c =
     let above = c.partition_point-above.result in
     let same = sym c.as_slice-symbols.ensures.value in
     let rising = subst (λ (l : List CodeSymbol). IsNonDecreasingBy (λ s. s.value) l) same self.rising in
-    let finds = subst (λ (l : List CodeSymbol). FindSymbols self.image.now self.bytes.now self.strings.now l) same self.finds in
+    let finds = subst (λ (l : List CodeSymbol). AgreeWithSymbolAt self.image.now self.bytes.now self.strings.now l) same self.finds in
     let point = IsPartitionPoint-from_clause (λ s. leb s.value c.args.addr) xs above c.partition_point-above.ensures.partitioned
     (IsPartitionedBy-leb (λ s. s.value) xs c.args.addr rising) (λ a r q k. search rules) in
     nothing_below self.image.now self.bytes.now self.strings.now xs finds c.args.addr above none
@@ -32,7 +32,7 @@ returns-then-not-are_in_one_segment c =
     let above = c.partition_point-above.result in
     let same = sym c.as_slice-symbols.ensures.value in
     let rising = subst (λ (l : List CodeSymbol). IsNonDecreasingBy (λ s. s.value) l) same self.rising in
-    let finds = subst (λ (l : List CodeSymbol). FindSymbols self.image.now self.bytes.now self.strings.now l) same self.finds in
+    let finds = subst (λ (l : List CodeSymbol). AgreeWithSymbolAt self.image.now self.bytes.now self.strings.now l) same self.finds in
     let point = IsPartitionPoint-from_clause (λ s. leb s.value c.args.addr) xs above c.partition_point-above.ensures.partitioned
     (IsPartitionedBy-leb (λ s. s.value) xs c.args.addr rising) (λ a r q k. search rules) in
     let some : 0 < above = let other = c.if-above-eq0.false in omega (arith, other) in
@@ -49,8 +49,8 @@ returns c =
     let above = c.partition_point-above.result in
     let same = sym c.as_slice-symbols.ensures.value in
     let rising = subst (λ (l : List CodeSymbol). IsNonDecreasingBy (λ s. s.value) l) same self.rising in
-    let named = subst (λ (l : List CodeSymbol). AreNamed self.strings.now l) same self.named in
-    let finds = subst (λ (l : List CodeSymbol). FindSymbols self.image.now self.bytes.now self.strings.now l) same self.finds in
+    let named = subst (λ (l : List CodeSymbol). HaveNames self.strings.now l) same self.named in
+    let finds = subst (λ (l : List CodeSymbol). AgreeWithSymbolAt self.image.now self.bytes.now self.strings.now l) same self.finds in
     let point = IsPartitionPoint-from_clause (λ s. leb s.value c.args.addr) xs above c.partition_point-above.ensures.partitioned
     (IsPartitionedBy-leb (λ s. s.value) xs c.args.addr rising) (λ a r q k. search rules) in
     let some : 0 < above = let other = c.if-above-eq0.false in omega (arith, other) in

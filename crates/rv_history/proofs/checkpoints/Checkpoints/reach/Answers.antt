@@ -24,8 +24,8 @@ loop-next-preserved c =
 pub returns-clause-run : goal.returns-clause-run
 returns-clause-run c =
     let start = c.args.self.now in
-    let at = c.match-next_kept.at in
-    let there : IsAt start at = elim c.match-next_kept.branch [
+    let at = c.match-next_step_to_store.at in
+    let there : IsAt start at = elim c.match-next_step_to_store.branch [
       | in-Some+then-at-next w ↦ rw w.at-is (ran_to start (state_of w.go_to.new.self.machine) w.in-Some.next w.go_to.new.self.place
           w.go_to.result (w.go_to.ensures.ran start c.loop-next.invariant.there))
       | in_default w ↦ rw w.at-is c.loop-next.invariant.there

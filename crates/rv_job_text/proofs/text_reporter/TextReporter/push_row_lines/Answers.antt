@@ -1,5 +1,5 @@
 use Rattle.std.proofs.Common.{◌≡◌, ◌∙◌, ap, true, sym}
-use Rattle.rv_expect.specs.Judgement.{fails, is_failing, is_unknown_failure, judgement, judging_of}
+use Rattle.rv_expect.specs.Judgement.{fails, is_failing, is_unknown_failure, judgement, judge_view}
 use Rattle.rv_rows.specs.Verdict.{did_run}
 use Rattle.rv_job_text.specs.RowReporter.{shows_row, row_lines}
 use Rattle.rv_job_text.proofs.Chains.{ended}
@@ -8,7 +8,7 @@ use Rattle.rv_job_text.proofs.text_reporter.TextReporter.push_row_lines.Goals as
 pub returns : goal.returns
 unfolding row_lines
 returns c =
-    let judging = judging_of c.args.self.now.judge in
+    let judging = judge_view c.args.self.now.judge in
     let row = c.args.row.now in
     let shows = shows_row c.args.self.now.verbosity in
     let judged = c.judgement-judgement.ensures in

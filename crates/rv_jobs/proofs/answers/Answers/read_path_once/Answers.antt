@@ -6,7 +6,7 @@ use Rattle.std.specs.Str.{bytes_eq}
 use denote.Ref.{Bor}
 use Rattle.rv_jobs.specs.declared.answers.Answer.{Answer}
 use Rattle.rv_lists.specs.Names.{index_in}
-use Rattle.rv_jobs.specs.Plans.{paths_of, with_path, answers_with}
+use Rattle.rv_jobs.specs.Plans.{paths_of, with_path, results_with}
 use Rattle.rv_jobs.specs.AnswersInside.{paths_in}
 use Rattle.rv_lists.proofs.Public.{places_more, places_back}
 use Rattle.rv_jobs.proofs.Answering.{with_path-old, not_placed, paths-with, still_even, asked_paths, asked_place}
@@ -36,7 +36,7 @@ returns-in-Some-clause-place g c =
 
 pub returns-in-Some-clause-paths : goal.returns-in-Some-clause-paths
 returns-in-Some-clause-paths g c =
-    let xs = paths_of (answers_with (paths_in c.self.inside) c.self.inside.answers.items) in
+    let xs = paths_of (results_with (paths_in c.self.inside) c.self.inside.answers.items) in
     with_path-old xs c.args.path.now (ap is_some (returns-in-Some-clause-place g c))
     ∙ ap (λ (a : List Answer). with_path (paths_of a) c.args.path.now) c.self.view_is
 

@@ -1,7 +1,7 @@
 use Rattle.std.proofs.Common.{◌≡◌, ◌∙◌, sym, subst, None, List, length, ◌<◌}
 use Rattle.rv_lists.specs.declared.job.Job.{Job}
-use Rattle.rv_lists.specs.Jobs.{IsJob}
-use Rattle.rv_base.specs.Limits.{most_jobs}
+use Rattle.rv_lists.specs.Jobs.{IsValidJobAt}
+use Rattle.rv_base.specs.Limits.{max_jobs}
 use Rattle.rv_lists.specs.JobList.{names_of_jobs}
 use Rattle.rv_base.specs.Names.{index_in}
 use Rattle.rv_lists.proofs.JobPlaces.{jobs_more, names_more}
@@ -9,8 +9,8 @@ use Rattle.rv_lists.proofs.earlier_jobs.EarlierJobs.append_job.Goals as goal
 
 pub invariant_of-result : goal.invariant_of-result
 invariant_of-result c =
-    let good = subst (λ (js : List Job). IsJob (length js) c.args.job) (sym c.self.view_is) c.requires.good in
-    let room = subst (λ (js : List Job). length js < most_jobs) (sym c.self.view_is) c.requires.room in
+    let good = subst (λ (js : List Job). IsValidJobAt (length js) c.args.job) (sym c.self.view_is) c.requires.good in
+    let room = subst (λ (js : List Job). length js < max_jobs) (sym c.self.view_is) c.requires.room in
     let fresh = subst (λ (js : List Job). index_in (names_of_jobs js) c.args.job.name ≡ None) (sym c.self.view_is)
     c.requires.fresh in
     record {

@@ -2,7 +2,7 @@ use Rattle.std.proofs.Common.{◌≡◌, ◌≤◌, ◌∙◌, ap, map, subst, s
 use Rattle.std.proofs.lemmas.List.{append-nil, take_all}
 use Rattle.std.proofs.lemmas.List.Edits.{map_over_more}
 use Rattle.std.proofs.Math.ListN.{drop_of_length-le}
-use Rattle.rv_lists.specs.Jobs.{AreJobs, job_with_budget}
+use Rattle.rv_lists.specs.Jobs.{AreValidJobs, job_with_budget}
 use Rattle.rv_lists.proofs.JobPlaces.{jobs_changed}
 use Rattle.rv_lists.proofs.job.JobList.with_one_budget.Goals as goal
 
@@ -21,4 +21,4 @@ invariant_of-result c =
     ∙ rw (take_all c.loop-at.at c.args.self ended, drop_of_length-le c.args.self ended)
     (append-nil (map f c.args.self)) in
     rw all (jobs_changed f (λ k job is. record { script = is.script; named = is.named; earlier = is.earlier })
-    c.args.self (subst AreJobs c.self.view_is c.self.invariant))
+    c.args.self (subst AreValidJobs c.self.view_is c.self.invariant))

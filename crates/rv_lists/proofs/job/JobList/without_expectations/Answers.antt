@@ -2,12 +2,12 @@ use Rattle.std.proofs.Common.{◌≡◌, ◌≤◌, ◌∙◌, ap, map, subst, s
 use Rattle.std.proofs.lemmas.List.{append-nil, take_all}
 use Rattle.std.proofs.lemmas.List.Edits.{map_over_more}
 use Rattle.std.proofs.Math.ListN.{drop_of_length-le}
-use Rattle.rv_lists.specs.Jobs.{AreJobs, without_expectations}
+use Rattle.rv_lists.specs.Jobs.{AreValidJobs, without_expectations}
 use Rattle.rv_lists.proofs.JobPlaces.{jobs_changed}
 use Rattle.rv_lists.proofs.job.JobList.without_expectations.Goals as goal
 
 pub loop-at-preserved : goal.loop-at-preserved
-loop-at-preserved c = rw c.drop_expectations.ensures
+loop-at-preserved c = rw c.remove_expectations.ensures
     (map_over_more without_expectations c.args.self c.loop-at.items.items c.loop-at.at c.index_mut.result.now
     (omega (arith, c.loop-at-test.true, c.len-at-end.ensures, ap length c.self.view_is)) c.loop-at.invariant
     c.index_mut.ensures.value)
@@ -20,4 +20,4 @@ invariant_of-result c =
     ∙ rw (take_all c.loop-at.at c.args.self ended, drop_of_length-le c.args.self ended)
     (append-nil (map without_expectations c.args.self)) in
     rw all (jobs_changed without_expectations (λ k job is. record { script = is.script; named = is.named; earlier = tt })
-    c.args.self (subst AreJobs c.self.view_is c.self.invariant))
+    c.args.self (subst AreValidJobs c.self.view_is c.self.invariant))

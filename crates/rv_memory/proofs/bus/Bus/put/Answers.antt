@@ -2,11 +2,11 @@ use Rattle.std.proofs.Common.{◌≡◌, ◌∙◌, ap, sym, subst, arith, lengt
 use Rattle.rv_memory.specs.declared.map.Region.{Region}
 use Rattle.std.proofs.lemmas.List.{with_items_is}
 use Rattle.rv_memory.specs.Inside.Places.{IsStoredAt}
-use Rattle.rv_memory.specs.Inside.View.{memory_of, stored_of, written_at, marked_at}
+use Rattle.rv_memory.specs.Inside.View.{memory_of, stored_of, written_at, with_marks_at}
 use Rattle.rv_memory.specs.Bus.{Contents, size_of}
 use Rattle.rv_memory.specs.Inside.Bus.{contents_of}
 use Rattle.rv_memory.proofs.Views.{put-is}
-use Rattle.rv_memory.proofs.Accesses.{length-written_at, length-marked_at, older-marked_at}
+use Rattle.rv_memory.proofs.Accesses.{length-written_at, length-with_marks_at, older-with_marks_at}
 use Rattle.rv_memory.proofs.bus.Bus.put.Goals as goal
 
 abbrev with_both : Contents → List Region → ℕ → List ℕ → List ℕ → Contents
@@ -24,12 +24,12 @@ invariant_of-self c =
     ∙ ap (λ x. written_at x c.args.place.at c.args.width c.args.value) c.deref_mut.ensures.value in
     let marks = with_items_is s.marks c.mark.new.marks
     (omega (arith, c.mark.auto.marks, c.deref_mut-2.ensures.len)) ∙ c.mark.ensures
-    ∙ ap (λ x. marked_at x c.args.place.at c.args.width s.generation) c.deref_mut-2.ensures.value in
+    ∙ ap (λ x. with_marks_at x c.args.place.at c.args.width s.generation) c.deref_mut-2.ensures.value in
     record {
       map = c.self.invariant.map;
       bytes = ap length bytes ∙ length-written_at _ _ _ _ ∙ c.self.invariant.bytes;
-      marks = ap length marks ∙ length-marked_at _ _ _ _ ∙ c.self.invariant.marks;
-      older = rw marks (older-marked_at _ _ _ _ c.self.invariant.older);
+      marks = ap length marks ∙ length-with_marks_at _ _ _ _ ∙ c.self.invariant.marks;
+      older = rw marks (older-with_marks_at _ _ _ _ c.self.invariant.older);
       generation = c.self.invariant.generation;
       taken = c.self.invariant.taken;
       short = c.self.invariant.short;
@@ -50,7 +50,7 @@ returns c =
     ∙ ap (λ x. written_at x at w c.args.value) c.deref_mut.ensures.value in
     let marks = with_items_is s.marks c.mark.new.marks
     (omega (arith, c.mark.auto.marks, c.deref_mut-2.ensures.len)) ∙ c.mark.ensures
-    ∙ ap (λ x. marked_at x at w s.generation) c.deref_mut-2.ensures.value in
+    ∙ ap (λ x. with_marks_at x at w s.generation) c.deref_mut-2.ensures.value in
     let same = put-is s.map d s.bytes.items s.marks.items s.generation c.args.addr at c.args.value w
     c.args.place.writable place c.self.invariant.bytes c.self.invariant.marks in
     rw (← c.self.view_is) (joined d s.map s.generation bytes marks ∙ same)

@@ -1,6 +1,6 @@
 use Rattle.std.proofs.Common.{◌∙◌, [], ℕ, List, refl, subst, sym}
 use Rattle.std.proofs.lemmas.Result.{on_ok_weaker}
-use Rattle.rv_session.specs.Incoming.{IsPacketAnswered}
+use Rattle.rv_session.specs.Incoming.{IsPacketResponse}
 use Rattle.rv_session.proofs.Appending.{both_ok, named_otherwise, not_over, nothing_more, over, these_more}
 use Rattle.rv_session.proofs.session.Session.respond.Goals as goal
 
@@ -16,28 +16,28 @@ returns-in-Arrived c = nothing_more _ _
     (not_over c.args.self.now c.args.self.now c.args.received.now [] c.if-self.false (rw c.in-Arrived.is (refl, refl)))
 
 pub returns-in-Again : goal.returns-in-Again
-returns-in-Again c = on_ok_weaker c.send_again.result
+returns-in-Again c = on_ok_weaker c.resend.result
     (λ sent. these_more _ _ _ _ sent
     (not_over c.args.self.now c.args.self.now c.args.received.now _ c.if-self.false (rw c.in-Again.is (refl, refl))))
-    c.send_again.ensures
+    c.resend.ensures
 
 pub returns-in-TooLong : goal.returns-in-TooLong
-returns-in-TooLong c = both_ok _ _ _ c.refuse_long.result c.refuse_long.ensures.out c.refuse_long.ensures.next
+returns-in-TooLong c = both_ok _ _ _ c.reject_long_packet.result c.reject_long_packet.ensures.out c.reject_long_packet.ensures.next
     (λ sent kept. these_more _ _ _ _ sent
-    (not_over c.args.self.now c.refuse_long.new.self c.args.received.now _ c.if-self.false (rw c.in-TooLong.is (refl, kept))))
+    (not_over c.args.self.now c.reject_long_packet.new.self c.args.received.now _ c.if-self.false (rw c.in-TooLong.is (refl, kept))))
 
 pub returns-then-is_refused : goal.returns-then-is_refused
 returns-then-is_refused c =
     let again = sym c.is_refused.ensures ∙ c.if-is_refused.true in
-    on_ok_weaker c.ask_again.result
+    on_ok_weaker c.request_resend.result
     (λ sent. these_more _ _ _ _ sent (not_over c.args.self.now c.args.self.now c.args.received.now _
     c.if-self.false (rw c.in-Packet.is (rw again (refl, refl)))))
-    c.ask_again.ensures
+    c.request_resend.ensures
 
 pub returns-else-is_refused : goal.returns-else-is_refused
 returns-else-is_refused c =
     let right = sym c.is_refused.ensures ∙ c.if-is_refused.false in
-    let takes : List ℕ → List ℕ → Type 0 = λ body out. IsPacketAnswered c.args.self.now body out c.take_body.new.self in
+    let takes : List ℕ → List ℕ → Type 0 = λ body out. IsPacketResponse c.args.self.now body out c.take_body.new.self in
     on_ok_weaker c.take_body.result
     (named_otherwise _ _ (takes c.as_slice.result.now) _
     (λ out took. not_over c.args.self.now c.take_body.new.self c.args.received.now out c.if-self.false

@@ -12,10 +12,10 @@ returns-clause-worked g c =
       requested = c.in-Some.requested;
       asked_is = is;
       reply = c.in_ok-reply.reply;
-      after_reply = c.move_as.new.self;
+      after_reply = c.make_requested_move.new.self;
       moved = subst (λ (requested : Option Move). IsMoved (g.E.EndText.end_text c.args.end.now)
-          (g.I.Interrupt.was_raised c.move_as.new.interrupt) (record session { requested = requested }) c.in-Some.requested c.in_ok-reply.reply
-          c.move_as.new.self)
+          (g.I.Interrupt.was_raised c.make_requested_move.new.interrupt) (record session { requested = requested }) c.in-Some.requested c.in_ok-reply.reply
+          c.make_requested_move.new.self)
           c.take.ensures.after c.in_ok-reply.ensures;
       out_is = c.in_ok-send.ensures.out ∙ ap (λ (front : List ℕ). front ++ packets_of c.in_ok-reply.reply) c.new-out.ensures.items;
       next_is = c.in_ok-send.ensures.next;

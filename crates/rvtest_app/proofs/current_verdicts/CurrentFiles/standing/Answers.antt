@@ -3,7 +3,7 @@ use Rattle.rvtest_app.proofs.Results.{IfOk-map}
 use Rattle.rvtest_app.proofs.current_verdicts.CurrentFiles.standing.Goals as goal
 
 pub returns : goal.returns
-returns g c = IfOk-map c.verdict_over.result _ _
+returns g c = IfOk-map c.verdict_with_golden_files.result _ _
     (λ stands is. record {
       console = option_map (λ bytes. bytes.items) c.in_ok-console.console;
       signature = option_map (λ bytes. bytes.items) c.in_ok-signature.signature;
@@ -11,4 +11,4 @@ returns g c = IfOk-map c.verdict_over.result _ _
       signature_read = rw (c.path_to_read-2.ensures, c.signature_path.ensures) at c.in_ok-signature.ensures;
       is = rw (c.text_of.ensures, c.text_of-2.ensures) at is;
     })
-    c.verdict_over.ensures
+    c.verdict_with_golden_files.ensures

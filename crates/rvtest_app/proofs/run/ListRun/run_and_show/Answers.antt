@@ -1,5 +1,5 @@
 use Rattle.std.proofs.Common.{◌∙◌, ◌-◌, ℕ, List, IfSome, ap, length, subst, sym}
-use Rattle.rv_expect.specs.Judgement.{judging_of}
+use Rattle.rv_expect.specs.Judgement.{judge_view}
 use Rattle.rv_job_text.specs.RowReporter.{row_lines_at, reporter_of}
 use Rattle.rv_job_text.specs.TotalsLine.{run_totals_line}
 use Rattle.rv_junit.proofs.Public.{kept_known}
@@ -28,13 +28,13 @@ rows_if_written-ran-requires g c =
 
 pub returns-clause-rows : goal.returns-clause-rows
 returns-clause-rows g c =
-    ran_on c.put_totals_line-ran.result c.rows_if_written-ran.result _ c.put_totals_line-ran.ensures.rows
+    ran_on c.write_totals_line-ran.result c.rows_if_written-ran.result _ c.write_totals_line-ran.ensures.rows
     (ran_on c.rows_if_written-ran.result c.stream_rows-stream.result.2 _ c.rows_if_written-ran.ensures.rows
     (rw (c.new-batch.ensures.plan, c.new-batch.ensures.places) at c.stream_rows-stream.ensures.rows))
 
 pub returns-clause-few : goal.returns-clause-few
 returns-clause-few g c =
-    ran_on c.put_totals_line-ran.result c.rows_if_written-ran.result _ c.put_totals_line-ran.ensures.rows
+    ran_on c.write_totals_line-ran.result c.rows_if_written-ran.result _ c.write_totals_line-ran.ensures.rows
     (ran_on c.rows_if_written-ran.result c.stream_rows-stream.result.2 _ c.rows_if_written-ran.ensures.rows
     (rw c.new-batch.ensures.places at c.stream_rows-stream.ensures.few))
 
@@ -43,18 +43,18 @@ returns-clause-shown g c =
     let planned = c.args.planned.now in
     let plan = planned.reporter.now.plan.now in
     let places = planned.places.now in
-    let judging = judging_of planned.reporter.now.judge in
+    let judging = judge_view planned.reporter.now.judge in
     let taken = g.W.Sink.taken in
     let all = run_rows c.args.self.now.args.now.stop_after judging plan places in
     let texts = rw (c.new-batch.ensures.plan, c.new-batch.ensures.places, c.new-out.ensures.sink, c.new-counting.ensures)
     at c.stream_rows-stream.ensures.all in
-    let line = rw (c.new-batch.ensures.plan, c.new-batch.ensures.places) at c.put_totals_line-ran.ensures.line in
+    let line = rw (c.new-batch.ensures.plan, c.new-batch.ensures.places) at c.write_totals_line-ran.ensures.line in
     rw c.into_inner-stream.ensures
-    (shown_whole c.put_totals_line-ran.result (taken c.args.shown.stream) (taken c.stream_rows-stream.result.0.sink)
-    (taken c.put_totals_line-ran.new.out.sink) (joined_row_texts (row_lines_at (reporter_of planned.reporter.now)) places all)
+    (shown_whole c.write_totals_line-ran.result (taken c.args.shown.stream) (taken c.stream_rows-stream.result.0.sink)
+    (taken c.write_totals_line-ran.new.out.sink) (joined_row_texts (row_lines_at (reporter_of planned.reporter.now)) places all)
     (λ (rows : List Row). run_totals_line judging plan places rows (length places - length rows)) all
     (returns-clause-rows g c)
-    (done_on c.put_totals_line-ran.result c.rows_if_written-ran.result _ c.put_totals_line-ran.ensures.rows
+    (done_on c.write_totals_line-ran.result c.rows_if_written-ran.result _ c.write_totals_line-ran.ensures.rows
     (done_on c.rows_if_written-ran.result c.stream_rows-stream.result.2 _ c.rows_if_written-ran.ensures.rows texts))
     line)
 
@@ -62,21 +62,21 @@ pub returns-clause-counted : goal.returns-clause-counted
 returns-clause-counted g c =
     let counted = rw c.new-out.ensures.sink at c.stream_rows-stream.ensures.counted in
     rw c.into_inner-stream.ensures
-    (OnOk-both c.put_totals_line-ran.result _ _ _ (λ before after. after ∙ before)
-    (done_on c.put_totals_line-ran.result c.rows_if_written-ran.result _ c.put_totals_line-ran.ensures.rows
+    (OnOk-both c.write_totals_line-ran.result _ _ _ (λ before after. after ∙ before)
+    (done_on c.write_totals_line-ran.result c.rows_if_written-ran.result _ c.write_totals_line-ran.ensures.rows
     (done_on c.rows_if_written-ran.result c.stream_rows-stream.result.2 _ c.rows_if_written-ran.ensures.rows counted))
-    c.put_totals_line-ran.ensures.counted)
+    c.write_totals_line-ran.ensures.counted)
 
 pub returns-clause-report : goal.returns-clause-report
 returns-clause-report g c =
     let planned = c.args.planned.now in
     let places = planned.places.now in
-    let all = run_rows c.args.self.now.args.now.stop_after (judging_of planned.reporter.now.judge) planned.reporter.now.plan.now places in
+    let all = run_rows c.args.self.now.args.now.stop_after (judge_view planned.reporter.now.judge) planned.reporter.now.plan.now places in
     let line = report_row_text c.args.rows.now.is_streaming in
     let text = joined_row_texts line places all in
     let sender = c.stream_rows-stream.result.1.first in
     let seen = rw (c.new-batch.ensures.plan, c.new-batch.ensures.places) at c.stream_rows-stream.ensures.seen in
-    done_on c.put_totals_line-ran.result c.rows_if_written-ran.result _ c.put_totals_line-ran.ensures.rows
+    done_on c.write_totals_line-ran.result c.rows_if_written-ran.result _ c.write_totals_line-ran.ensures.rows
     (sent_on c.rows_if_written-ran.result c.stream_rows-stream.result.2 c.finish-sink.result.1 _ _
     c.rows_if_written-ran.ensures.rows c.rows_if_written-ran.ensures.sent seen
     (λ seen. OnOk-map c.finish-sink.result.1 _ _
@@ -93,21 +93,21 @@ returns-clause-sink g c = c.finish-sink.ensures.there ∙ sym c.requires.there
 
 pub returns-clause-report_failed : goal.returns-clause-report_failed
 returns-clause-report_failed g c =
-    report_of_failure c.put_totals_line-ran.result c.rows_if_written-ran.result c.finish-sink.result.1 _
-    c.put_totals_line-ran.ensures.report c.rows_if_written-ran.ensures.report (rw (sym c.requires.there) at c.finish-sink.ensures.failed)
+    report_of_failure c.write_totals_line-ran.result c.rows_if_written-ran.result c.finish-sink.result.1 _
+    c.write_totals_line-ran.ensures.report c.rows_if_written-ran.ensures.report (rw (sym c.requires.there) at c.finish-sink.ensures.failed)
 
 pub returns-clause-texts : goal.returns-clause-texts
 returns-clause-texts g c =
     let planned = c.args.planned.now in
     let places = planned.places.now in
-    let judging = judging_of planned.reporter.now.judge in
+    let judging = judge_view planned.reporter.now.judge in
     let all = run_rows c.args.self.now.args.now.stop_after judging planned.reporter.now.plan.now places in
     let kept = c.stream_rows-stream.result.1.second in
     let lines = failure_lines (reporter_of planned.reporter.now) in
     let seen = rw (c.new-batch.ensures.plan, c.new-batch.ensures.places, c.new-counting.ensures) at c.stream_rows-stream.ensures.seen in
     rw c.into_texts-texts.ensures.items
-    (known_on c.put_totals_line-ran.result c.rows_if_written-ran.result _ (λ rows. AreLinesOf lines places rows kept.texts.items) all
-    c.put_totals_line-ran.ensures.rows (returns-clause-rows g c)
+    (known_on c.write_totals_line-ran.result c.rows_if_written-ran.result _ (λ rows. AreLinesOf lines places rows kept.texts.items) all
+    c.write_totals_line-ran.ensures.rows (returns-clause-rows g c)
     (done_on c.rows_if_written-ran.result c.stream_rows-stream.result.2 _ c.rows_if_written-ran.ensures.rows seen)
     (λ seen. kept_known _ (row_lines_at (reporter_of planned.reporter.now)) lines judging kept.is_closed g.K.StreamSpec.keeps kept.texts.items
     places all seen c.into_texts-texts.ensures.needed

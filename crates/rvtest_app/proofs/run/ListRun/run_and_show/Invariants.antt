@@ -1,5 +1,5 @@
 use Rattle.std.proofs.Common.{[], false}
-use Rattle.rv_expect.specs.Judgement.{judging_of}
+use Rattle.rv_expect.specs.Judgement.{judge_view}
 use Rattle.rvtest_app.proofs.run.ListRun.run_and_show.Given as goal
 
 abbrev pub ghosts-stream_rows : goal.ghosts-stream_rows
@@ -9,6 +9,6 @@ ghosts-stream_rows g a = record {
   sends = false;
   keeps = false;
   most = a.limit.now.failures;
-  judging = judging_of a.limit.now.judge;
+  judging = judge_view a.limit.now.judge;
   line = λ _ _. [];
 }

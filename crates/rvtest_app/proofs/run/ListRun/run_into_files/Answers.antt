@@ -1,5 +1,5 @@
 use Rattle.std.proofs.Common.{◌∙◌, refl, sym}
-use Rattle.rv_expect.specs.Judgement.{judging_of}
+use Rattle.rv_expect.specs.Judgement.{judge_view}
 use Rattle.rvtest_app.proofs.RowSinks.{shown_on_errors, shown_on_out, sink_known, taken_of_run}
 use Rattle.rvtest_app.specs.CommandOutputs.{outputs_of}
 use Rattle.rvtest_app.specs.IntoReports.{uses_run_stdout}
@@ -8,37 +8,37 @@ use Rattle.rvtest_app.proofs.run.ListRun.run_into_files.Goals as goal
 
 pub run_and_show-errors-requires-clause-sink : goal.run_and_show-errors-requires-clause-sink
 run_and_show-errors-requires-clause-sink g c κs within =
-    sink_known g.F.File.Sink.taken g.F.File.Sink.failed c.take_sink-report.result.1
+    sink_known g.F.File.Sink.taken g.F.File.Sink.failed c.split_sink-report.result.1
 
 pub run_and_show-out-requires-clause-sink : goal.run_and_show-out-requires-clause-sink
 run_and_show-out-requires-clause-sink g c κs within =
-    sink_known g.F.File.Sink.taken g.F.File.Sink.failed c.take_sink-report.result.1
+    sink_known g.F.File.Sink.taken g.F.File.Sink.failed c.split_sink-report.result.1
 
 pub finish_run-requires-clause-taken : goal.finish_run-requires-clause-taken
 finish_run-requires-clause-taken g c κs within =
     let args = c.args.self.now.args.now in
     let planned = c.args.planned.now in
-    let all = run_rows args.stop_after (judging_of planned.reporter.now.judge) planned.reporter.now.plan.now planned.places.now in
+    let all = run_rows args.stop_after (judge_view planned.reporter.now.judge) planned.reporter.now.plan.now planned.places.now in
     let outlets = c.in-Ok.outlets in
     let run = c.run_and_show-errors in
     rw c.in-Ok.ensures.same
     (taken_of_run g.F.Outputs.pending_path g.F.File.Sink.taken g.F.File.Sink.failed (g.F.Outputs.placed c.args.to.files) args
-    c.args.frame.old c.is_none.result planned.places.now all run.result.2.ran c.take_sink-report.result.0 c.take_sink-report.result.1
-    run.result.1 outlets.report c.with_sink.result outlets.junit outlets.counts c.in-Ok.ensures.open c.take_sink-report.ensures.parts
+    c.args.frame.old c.is_none.result planned.places.now all run.result.2.ran c.split_sink-report.result.0 c.split_sink-report.result.1
+    run.result.1 outlets.report c.with_sink.result outlets.junit outlets.counts c.in-Ok.ensures.open c.split_sink-report.ensures.parts
     c.with_sink.ensures c.is_none.ensures run.ensures.rows run.ensures.report)
 
 pub finish_run-requires-else-uses_run_stdout-clause-taken : goal.finish_run-requires-else-uses_run_stdout-clause-taken
 finish_run-requires-else-uses_run_stdout-clause-taken g c κs within =
     let args = c.args.self.now.args.now in
     let planned = c.args.planned.now in
-    let all = run_rows args.stop_after (judging_of planned.reporter.now.judge) planned.reporter.now.plan.now planned.places.now in
+    let all = run_rows args.stop_after (judge_view planned.reporter.now.judge) planned.reporter.now.plan.now planned.places.now in
     let outlets = c.in-Ok.outlets in
     let run = c.run_and_show-out in
     rw c.in-Ok.ensures.same
     (taken_of_run g.F.Outputs.pending_path g.F.File.Sink.taken g.F.File.Sink.failed (g.F.Outputs.placed c.args.to.files) args
-    c.args.frame.old c.is_none.result planned.places.now all run.result.2.ran c.take_sink-report.result.0 c.take_sink-report.result.1
+    c.args.frame.old c.is_none.result planned.places.now all run.result.2.ran c.split_sink-report.result.0 c.split_sink-report.result.1
     run.result.1 outlets.report c.with_sink-else-uses_run_stdout.result outlets.junit outlets.counts c.in-Ok.ensures.open
-    c.take_sink-report.ensures.parts c.with_sink-else-uses_run_stdout.ensures c.is_none.ensures run.ensures.rows run.ensures.report)
+    c.split_sink-report.ensures.parts c.with_sink-else-uses_run_stdout.ensures c.is_none.ensures run.ensures.rows run.ensures.report)
 
 pub returns-then-uses_run_stdout-clause-outputs_of : goal.returns-then-uses_run_stdout-clause-outputs_of
 returns-then-uses_run_stdout-clause-outputs_of g c =

@@ -1,29 +1,29 @@
 use Rattle.std.proofs.Common.{None}
 use Rattle.std.specs.Prelude.{is_some}
-use Rattle.rv_expect.specs.Judgement.{judging_of}
-use Rattle.rvtest_app.specs.FailureLines.{keeps_failures}
+use Rattle.rv_expect.specs.Judgement.{judge_view}
+use Rattle.rvtest_app.specs.FailureLines.{stores_failure_texts}
 use Rattle.rvtest_app.specs.IntoReports.{report_row_text}
-use Rattle.rvtest_app.specs.RowSinks.{sink_failures, sink_taken}
+use Rattle.rvtest_app.specs.RowSinks.{sink_failures, sink_received}
 use Rattle.rvtest_app.proofs.run.ListRun.run_into_files.Given as goal
 
 abbrev pub ghosts-run_and_show : goal.ghosts-run_and_show
 ghosts-run_and_show g a = record {
-  before = sink_taken g.F.File.Sink.taken a.sink;
+  before = sink_received g.F.File.Sink.taken a.sink;
   failures = sink_failures g.F.File.Sink.failed a.sink;
   sends = is_some a.sink;
-  keeps = keeps_failures a.self.now.args.now a.planned.now.reporter.now.verbosity;
+  keeps = stores_failure_texts a.self.now.args.now a.planned.now.reporter.now.verbosity;
   most = None;
-  judging = judging_of a.planned.now.reporter.now.judge;
+  judging = judge_view a.planned.now.reporter.now.judge;
   line = report_row_text a.rows.now.is_streaming;
 }
 
 abbrev pub ghosts-run_and_show-2 : goal.ghosts-run_and_show-2
 ghosts-run_and_show-2 g a = record {
-  before = sink_taken g.F.File.Sink.taken a.sink;
+  before = sink_received g.F.File.Sink.taken a.sink;
   failures = sink_failures g.F.File.Sink.failed a.sink;
   sends = is_some a.sink;
-  keeps = keeps_failures a.self.now.args.now a.planned.now.reporter.now.verbosity;
+  keeps = stores_failure_texts a.self.now.args.now a.planned.now.reporter.now.verbosity;
   most = None;
-  judging = judging_of a.planned.now.reporter.now.judge;
+  judging = judge_view a.planned.now.reporter.now.judge;
   line = report_row_text a.rows.now.is_streaming;
 }

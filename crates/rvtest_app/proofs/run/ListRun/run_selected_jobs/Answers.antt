@@ -19,7 +19,7 @@ returns-clause-run g c =
       c.as_slice-count.ensures.value,
       c.in-Ok.ensures.value,
       c.as_slice.ensures.value,
-    ) at c.put_message.ensures in
+    ) at c.write_message.ensures in
     IfOk-beside c.run_into_files.result.1 _ _ _
     (λ status judged put. record {
       plan = c.in-Ok-gather_jobs_at.plan;
@@ -39,7 +39,7 @@ returns-clause-run g c =
       shown = refl;
       judged = judged;
       middle = outputs_of g.F.Outputs.placed g.O.Sink.taken g.E.Sink.taken g.E.Sink.failed
-          (record c.args.to { errors = c.put_message.new.errors });
+          (record c.args.to { errors = c.write_message.new.errors });
       noted = (refl, noted, refl);
       put = put;
     })

@@ -12,7 +12,7 @@ returns-in_err-requested-clause-stopped g c =
 
 pub returns-in-Some-clause-put : goal.returns-in-Some-clause-put
 returns-in-Some-clause-put g c =
-    IfOk-map c.put_of_selected.result _ _
+    IfOk-map c.write_selected.result _ _
     (λ status put. record {
       jobs = c.in_ok-requested.requested.jobs;
       marks = Some c.in-Some.marks.items;
@@ -21,20 +21,20 @@ returns-in-Some-clause-put g c =
       notes = c.in_ok-requested.requested.notes.items;
       args = rw c.in-Some.is at c.in_ok-requested.ensures.requested;
       middle = outputs_of g.F.Outputs.placed g.O.Sink.taken g.E.Sink.taken g.E.Sink.failed
-          (record c.args.to.now { errors = c.put_message.new.errors });
-      told = (refl, rw c.as_slice.ensures.value at c.put_message.ensures, refl);
+          (record c.args.to.now { errors = c.write_message.new.errors });
+      told = (refl, rw c.as_slice.ensures.value at c.write_message.ensures, refl);
       viewed = put.1;
       done = put.0;
     })
-    (rw c.as_slice-in-Some.ensures.value at c.put_of_selected.ensures.put)
+    (rw c.as_slice-in-Some.ensures.value at c.write_selected.ensures.put)
 
 pub returns-in-Some-clause-low : goal.returns-in-Some-clause-low
 returns-in-Some-clause-low g c =
-    IfOk-map c.put_of_selected.result _ _ (λ status put. omega (arith, put.0)) c.put_of_selected.ensures.put
+    IfOk-map c.write_selected.result _ _ (λ status put. omega (arith, put.0)) c.write_selected.ensures.put
 
 pub returns-in-Some-clause-stopped : goal.returns-in-Some-clause-stopped
 returns-in-Some-clause-stopped g c =
-    IfErr-map c.put_of_selected.result _ _
+    IfErr-map c.write_selected.result _ _
     (λ why is. inr (inr (record {
       jobs = c.in_ok-requested.requested.jobs;
       marks = c.in-Some.marks.items;
@@ -44,7 +44,7 @@ returns-in-Some-clause-stopped g c =
       args = rw c.in-Some.is at c.in_ok-requested.ensures.requested;
       unviewed = is;
     })))
-    (rw c.as_slice-in-Some.ensures.value at c.put_of_selected.ensures.stopped)
+    (rw c.as_slice-in-Some.ensures.value at c.write_selected.ensures.stopped)
 
 pub returns-clause-put : goal.returns-clause-put
 returns-clause-put g c = record {
@@ -55,8 +55,8 @@ returns-clause-put g c = record {
   notes = c.in_ok-requested.requested.notes.items;
   args = rw c.in-None.is at c.in_ok-requested.ensures.requested;
   middle = outputs_of g.F.Outputs.placed g.O.Sink.taken g.E.Sink.taken g.E.Sink.failed
-      (record c.args.to.now { errors = c.put_message.new.errors });
-  told = (refl, rw c.as_slice.ensures.value at c.put_message.ensures, refl);
+      (record c.args.to.now { errors = c.write_message.new.errors });
+  told = (refl, rw c.as_slice.ensures.value at c.write_message.ensures, refl);
   viewed = refl;
   done = refl;
 }

@@ -1,0 +1,12 @@
+use Rattle.std.proofs.Common.{◌≡◌, take}
+use Rattle.std.specs.Prelude.{option_map}
+use Rattle.regex.specs.Strings.{matcher_pattern}
+use Rattle.rv_choice.specs.Choice.{selection_by_criteria, pattern_of, optional_names}
+use Rattle.rv_choice.proofs.marks.selection_by_criteria.Given as goal
+
+abbrev pub invariant-loop-place : goal.invariant-loop-place
+invariant-loop-place l = record {
+  marks : l.marks.items ≡ selection_by_criteria (optional_names l.wanted.only) (pattern_of l.wanted.pattern)
+      (optional_names l.wanted.failed) (take l.place l.jobs);
+  matcher : option_map matcher_pattern l.matcher ≡ pattern_of l.wanted.pattern;
+}

@@ -1,0 +1,10 @@
+use Rattle.std.proofs.Common.{◌≡◌, ℕ, ◌+◌, ◌<◌}
+use Rattle.std.specs.Mem.Slots.{slots_items}
+use Rattle.std.specs.Int.{bit_at}
+use mathlib.Core.Option.{some}
+use lib.ListN.{get_elem?}
+use Rattle.rv_claims.proofs.claims.has_all_assigned_indices.Given as goal
+
+abbrev pub invariant-loop-place : goal.invariant-loop-place
+invariant-loop-place l = (p : ℕ) → p < l.place → get_elem? (slots_items l.closed.words) (p + 1) ≡ some 1
+    → bit_at l.bits p ≡ 1

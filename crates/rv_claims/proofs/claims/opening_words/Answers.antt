@@ -1,5 +1,0 @@
-use Rattle.std.proofs.Common.{refl}
-use Rattle.rv_claims.proofs.claims.opening_words.Goals as goal
-
-pub returns : goal.returns
-returns c = refl

@@ -1,0 +1,17 @@
+-- The index is that of the names.
+use Rattle.std.proofs.Common.{◌∙◌, ◌++◌, List, ℕ, ap, string_bytes}
+use Rattle.std.proofs.lemmas.List.{take_all}
+use Rattle.std.specs.List.{flat_map}
+use Rattle.rv_count_tables.specs.ParsedNodes.{line_by_index}
+use Rattle.rv_count_tables.proofs.SpotIndexes.{lines_are}
+use Rattle.rv_count_tables.proofs.text.push_nodes.Goals as goal
+use Rattle.rv_call_tree.specs.declared.spot.Spot.{Spot}
+
+pub returns : goal.returns
+returns c =
+    let spots = c.args.spots.now in
+    let index = c.in_ok-index.index in
+    let old = string_bytes c.args.text.now in
+    c.loop-spot.invariant
+    ∙ ap (λ (ss : List Spot). old ++ flat_map (line_by_index index) ss) (take_all c.loop-spot.spot-index spots c.loop-spot-test.false)
+    ∙ ap (λ (lines : List ℕ). old ++ lines) (lines_are index c.args.names.now spots c.in_ok-index.ensures)

@@ -1,5 +1,0 @@
-use Rattle.rv_diff.proofs.Laws.{agree_where_none}
-use Rattle.rv_diff.proofs.law.rows_agree_where_no_line_is_due.Goals as goal
-
-pub returns : goal.returns
-returns c = agree_where_none

@@ -1,7 +1,0 @@
-use Rattle.std.proofs.Common.{◌≡◌, ◌+◌, ◌*◌, map}
-use Rattle.std.specs.List.{range_with_len}
-use Rattle.rv_elf.specs.Image.{program_entry_at}
-use Rattle.rv_elf.proofs.program_headers.program_entries_at.Given as goal
-
-abbrev pub invariant-loop-k : goal.invariant-loop-k
-invariant-loop-k l = l.found.items ≡ map (λ j. program_entry_at l.file (l.offset + 32 * j)) (range_with_len 0 l.k)

@@ -1,6 +1,0 @@
-use Rattle.std.proofs.Common.{◌≡◌, ◌<◌, ℕ, false, get_or}
-use Rattle.rv_job_text.specs.ConsoleTail.{is_feed}
-use Rattle.rv_job_text.proofs.whole_lines.first_feed.Given as goal
-
-abbrev pub invariant-loop-place : goal.invariant-loop-place
-invariant-loop-place l = (k : ℕ) → k < l.place → is_feed (get_or l.text k 0) ≡ false

@@ -1,0 +1,6 @@
+use Rattle.std.proofs.Common.{◌≡◌, ℕ, length, None}
+use Rattle.std.specs.Prelude.{slice_index_or}
+use Rattle.rv_jobs.proofs.path_reading.empty_result_indices.Given as goal
+
+abbrev pub invariant-loop : goal.invariant-loop
+invariant-loop l = (length l.noted.items ≡ l.index) × ((k : ℕ) → slice_index_or l.noted.items k None ≡ None)

@@ -1,0 +1,30 @@
+use Rattle.std.proofs.Common.{◌∙◌, sym, arith}
+use Rattle.rv_report.proofs.FieldLoops.{rising_no, rising_on, rising_end}
+use Rattle.rv_report.proofs.saved.are_increasing.Goals.{then-number-before-via-then-number-before}
+use Rattle.rv_report.proofs.saved.are_increasing.Goals.{then-number-before-via-else-number-before+then-last-number}
+use Rattle.rv_report.proofs.saved.are_increasing.Goals as goal
+
+pub returns-then-number-before : goal.returns-then-number-before
+returns-then-number-before c =
+    let before = c.loop-number.before in
+    let i = c.loop-number.number-index in
+    elim c.then-number-before.branch [
+      | then-number-before-via-then-number-before w ↦
+          sym (rising_no before c.args.last c.args.numbers.now i (omega arith) (λ low high. omega arith))
+          ∙ c.loop-number.invariant
+      | then-number-before-via-else-number-before+then-last-number w ↦
+          sym (rising_no before c.args.last c.args.numbers.now i (omega arith) (λ low high. omega arith))
+          ∙ c.loop-number.invariant
+    ]
+
+pub loop-number-preserved : goal.loop-number-preserved
+loop-number-preserved c =
+    sym (rising_on c.loop-number.before c.args.last c.args.numbers.now c.loop-number.number-index (omega arith)
+    (omega arith)
+    (omega arith))
+    ∙ c.loop-number.invariant
+
+pub returns : goal.returns
+returns c =
+    sym (rising_end c.loop-number.before c.args.last c.args.numbers.now c.loop-number.number-index (omega arith))
+    ∙ c.loop-number.invariant

@@ -1,7 +1,0 @@
-use Rattle.std.proofs.Common.{◌≡◌, drop}
-use Rattle.rv_report.specs.Saved.{are_rising}
-use Rattle.rv_report.proofs.saved.are_rising.Given as goal
-
-abbrev pub invariant-loop-number : goal.invariant-loop-number
-invariant-loop-number l =
-    are_rising l.before l.last (drop l.number-index l.numbers) ≡ are_rising l.before-2 l.last l.numbers

@@ -1,5 +1,0 @@
-use Rattle.rv_session.proofs.Determined.{fed_one}
-use Rattle.rv_session.proofs.law.answers_are_determined.Goals as goal
-
-pub returns : goal.returns
-returns c = fed_one

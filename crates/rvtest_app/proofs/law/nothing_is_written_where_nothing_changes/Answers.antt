@@ -1,5 +1,0 @@
-use Rattle.rvtest_app.proofs.Unwritten.{nothing_written}
-use Rattle.rvtest_app.proofs.law.nothing_is_written_where_nothing_changes.Goals as goal
-
-pub returns : goal.returns
-returns c = nothing_written

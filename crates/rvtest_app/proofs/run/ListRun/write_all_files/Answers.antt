@@ -1,0 +1,121 @@
+use Rattle.std.proofs.Common.{◌≡◌, ◌∙◌, ℕ, List, [], ap, arith, inl, inr, length, subst, sym, take}
+use Rattle.std.proofs.lemmas.List.{length-take}
+use Rattle.std.proofs.lemmas.Result.{err_from_is_err_and}
+use Rattle.rv_command.specs.Texts.{optional_text}
+use Rattle.rv_job_text.specs.RowReporter.{reporter_of}
+use Rattle.rv_rows.specs.declared_row.Row.{Row}
+use Rattle.rvtest_app.proofs.CountedRuns.{part_of_counts, part_of_rows, placed_of_shown, run_put_where_told, unput_counts, untold}
+use Rattle.rvtest_app.proofs.PutTexts.{path_told}
+use Rattle.rvtest_app.proofs.Results.{OnErr-from}
+use Rattle.rvtest_app.proofs.RowSinks.{lines_of_first}
+use Rattle.rvtest_app.specs.CommandOutputs.{outputs_of, with_committed_if_reported}
+use Rattle.rvtest_app.specs.FailureLines.{failure_lines}
+use Rattle.rvtest_app.specs.IntoReports.{run_report_path, streamed_rows}
+use Rattle.rvtest_app.specs.Outlets.{HasReceived}
+use Rattle.rvtest_app.specs.Runs.{shown_indices}
+use Rattle.rvtest_app.proofs.run.ListRun.write_all_files.Goals as goal
+
+pub write_run_files-requires-clause-counted : goal.write_run_files-requires-clause-counted
+write_run_files-requires-clause-counted g c κs within =
+    omega (
+      arith,
+      c.requires.few,
+      ap length c.first_jobs-first.ensures.places,
+      ap length c.as_slice.ensures,
+      length-take (length c.as_slice.result.now) c.args.planned.now.places.now,
+    )
+
+pub write_run_files-requires-clause-texts : goal.write_run_files-requires-clause-texts
+write_run_files-requires-clause-texts g c κs within =
+    rw c.first_jobs-first.ensures.reporter
+    (lines_of_first (failure_lines (reporter_of c.args.planned.now.reporter.now)) c.args.planned.now.places.now
+    c.first_jobs-first.result.places.now c.args.rows c.args.texts.items
+    (c.first_jobs-first.ensures.places ∙ ap (λ (rows : List Row). take (length rows) c.args.planned.now.places.now) c.as_slice.ensures)
+    c.requires.texts)
+
+pub write_counts-requires-clause-open : goal.write_counts-requires-clause-open
+write_counts-requires-clause-open g c κs within =
+    let path = optional_text c.args.self.now.args.now.counts in (
+      path,
+      untold g.F.Outputs.pending_path g.F.File.Sink.taken g.F.File.Sink.failed (g.F.Outputs.placed c.args.to.now.files) path
+          c.args.outlets.counts [] c.requires.taken.counts,
+    )
+
+pub returns-in_ok-write_counts-in-Ok-clause-outputs_of : goal.returns-in_ok-write_counts-in-Ok-clause-outputs_of
+returns-in_ok-write_counts-in-Ok-clause-outputs_of g c = λ before shown.
+    let args = c.args.self.now.args.now in
+    let reporter = c.args.planned.now.reporter.now in
+    let places = c.args.planned.now.places.now in
+    let report_path = run_report_path args in
+    let junit_path = optional_text args.junit in
+    let firsts : c.first_jobs-first.result.places.now ≡ shown_indices places c.args.rows =
+    c.first_jobs-first.ensures.places ∙ ap (λ (rows : List Row). take (length rows) places) c.as_slice.ensures in
+    let told = c.first_jobs-first.ensures.reporter in
+    let files = c.in-Ok.ensures in
+    let start = outputs_of g.F.Outputs.placed g.O.Sink.taken g.E.Sink.taken g.E.Sink.failed c.args.to.now in
+    let after = outputs_of g.F.Outputs.placed g.O.Sink.taken g.E.Sink.taken g.E.Sink.failed c.write_run_files.new.to in
+    let report = subst (λ (ps : List ℕ). HasReceived g.F.Outputs.pending_path g.F.File.Sink.taken g.F.File.Sink.failed
+    (g.F.Outputs.placed c.args.to.now.files) report_path (streamed_rows c.args.frame.old ps c.args.rows) c.args.outlets.report)
+    (sym firsts) c.requires.taken.report in
+    let same = placed_of_shown _ _ before start shown in
+    record {
+      middle = with_committed_if_reported before.placed after;
+      put = run_put_where_told args (reporter_of reporter) places c.args.frame.shard c.args.frame.old c.args.rows before after
+          (record {
+            middle = start;
+            seen = shown;
+            out = rw (told, firsts) at (files.put report_path junit_path report c.requires.taken.junit);
+            quiet = (ap g.E.Sink.taken files.errors, ap g.E.Sink.failed files.errors);
+            placed = rw (told, firsts) at (files.placed report_path junit_path report c.requires.taken.junit);
+          });
+      counted = rw firsts at (c.in_ok-write_counts-in-Ok.ensures.counted (optional_text args.counts) before.placed
+          (rw same at c.requires.taken.counts));
+    }
+
+pub returns-in_err-write_counts-in-Ok-clause-part : goal.returns-in_err-write_counts-in-Ok-clause-part
+returns-in_err-write_counts-in-Ok-clause-part g c =
+    let args = c.args.self.now.args.now in
+    let places = c.args.planned.now.places.now in
+    let report_path = run_report_path args in
+    let junit_path = optional_text args.junit in
+    let firsts : c.first_jobs-first.result.places.now ≡ shown_indices places c.args.rows =
+    c.first_jobs-first.ensures.places ∙ ap (λ (rows : List Row). take (length rows) places) c.as_slice.ensures in
+    let report = subst (λ (ps : List ℕ). HasReceived g.F.Outputs.pending_path g.F.File.Sink.taken g.F.File.Sink.failed
+    (g.F.Outputs.placed c.args.to.now.files) report_path (streamed_rows c.args.frame.old ps c.args.rows) c.args.outlets.report)
+    (sym firsts) c.requires.taken.report in
+    let files = rw (c.first_jobs-first.ensures.reporter, firsts)
+    at (c.in-Ok.ensures.placed report_path junit_path report c.requires.taken.junit) in
+    OnErr-from c.from_residual.result _
+    (part_of_counts args (reporter_of c.args.planned.now.reporter.now) places c.args.frame.shard c.args.frame.old c.args.rows _ _ _
+    (c.in_err-write_counts-in-Ok.ensures.requested (optional_text args.counts) (g.F.Outputs.placed c.args.to.now.files) c.requires.taken.counts)
+    files c.in_err-write_counts-in-Ok.ensures.same)
+
+pub returns-in_err-write_counts-in-Ok-clause-stopped : goal.returns-in_err-write_counts-in-Ok-clause-stopped
+returns-in_err-write_counts-in-Ok-clause-stopped g c =
+    let is = err_from_is_err_and c.from_residual.result c.from_residual.ensures.1 in
+    let path = optional_text c.args.self.now.args.now.counts in
+    let told = path_told g.F.Outputs.pending_path g.F.File.Sink.taken g.F.File.Sink.failed _ path c.args.outlets.counts []
+    c.requires.taken.counts in
+    rw (is.1, is.2) (unput_counts c.args.self.now.args.now _ (rw told at c.in_err-write_counts-in-Ok.ensures.stopped))
+
+pub returns-in-Err-clause-part : goal.returns-in-Err-clause-part
+returns-in-Err-clause-part g c =
+    let args = c.args.self.now.args.now in
+    let firsts : c.first_jobs-first.result.places.now ≡ shown_indices c.args.planned.now.places.now c.args.rows =
+    c.first_jobs-first.ensures.places
+    ∙ ap (λ (rows : List Row). take (length rows) c.args.planned.now.places.now) c.as_slice.ensures in
+    rw c.abandon_outlet.ensures
+    (part_of_rows args (reporter_of c.args.planned.now.reporter.now) c.args.planned.now.places.now c.args.frame.shard c.args.frame.old
+    c.args.rows _ _
+    (rw (c.first_jobs-first.ensures.reporter, firsts) at (c.in-Err.ensures.part (optional_text args.junit) c.requires.taken.junit)))
+
+pub returns-in-Err-clause-stopped : goal.returns-in-Err-clause-stopped
+returns-in-Err-clause-stopped g c =
+    let args = c.args.self.now.args.now in
+    let report_path = run_report_path args in
+    let junit_path = optional_text args.junit in
+    let report = path_told g.F.Outputs.pending_path g.F.File.Sink.taken g.F.File.Sink.failed _ report_path c.args.outlets.report _
+    c.requires.taken.report in
+    let junit = path_told g.F.Outputs.pending_path g.F.File.Sink.taken g.F.File.Sink.failed _ junit_path c.args.outlets.junit []
+    c.requires.taken.junit in
+    inl (inr (rw (report, junit) at c.in-Err.ensures.stopped))

@@ -1,0 +1,52 @@
+use Rattle.std.proofs.Common.{◌∙◌, None, ap}
+use Rattle.rv_command.specs.Texts.{optional_text}
+use Rattle.rvtest_app.proofs.WriteStops.{output_of_put}
+use Rattle.rvtest_app.proofs.PutTexts.{out_told}
+use Rattle.rvtest_app.proofs.Results.{OnOk-both}
+use Rattle.rvtest_app.specs.CommandOutputs.{outputs_of}
+use Rattle.rvtest_app.proofs.show.write_summarized_report.Goals as goal
+
+pub returns-in-Ok-clause-put : goal.returns-in-Ok-clause-put
+returns-in-Ok-clause-put g c =
+    let path = g.F.Outputs.pending_path in
+    let taken = g.F.File.Sink.taken in
+    let failed = g.F.File.Sink.failed in
+    let outlets = c.in_ok-outlets.outlets in
+    let junit_path = optional_text c.args.args.junit in
+    let report_path = None in
+    let report = c.in_ok-outlets.ensures.report in
+    let junit = c.in_ok-outlets.ensures.junit in
+    let same = ap g.F.Outputs.placed c.in-Ok.ensures.files ∙ c.in_ok-outlets.ensures.same in
+    let seen = rw (
+      c.use_stdout.ensures,
+      out_told path taken failed _ _ outlets.report _ report,
+      out_told path taken failed _ _ outlets.junit _ junit,
+      c.as_slice.ensures.value,
+      c.in_ok-outlets.ensures.same,
+    ) at c.in-Ok.ensures.shown in
+    let out = rw (c.as_bytes.ensures.value, c.suite_name.ensures, c.report_judge.ensures)
+    at (c.write_whole_files.ensures.put report_path junit_path (rw same report) (rw same junit)) in
+    let placed = rw (c.as_bytes.ensures.value, c.suite_name.ensures, c.report_judge.ensures)
+    at (c.write_whole_files.ensures.placed report_path junit_path (rw same report) (rw same junit)) in
+    let errors = c.write_whole_files.ensures.errors in
+    OnOk-both c.write_whole_files.result _ _ _
+    (λ p q. record {
+      middle = outputs_of g.F.Outputs.placed g.O.Sink.taken g.E.Sink.taken g.E.Sink.failed c.write_shown.new.to;
+      seen = seen;
+      out = p;
+      quiet = (ap g.E.Sink.taken errors, ap g.E.Sink.failed errors);
+      placed = q;
+    })
+    out placed
+
+pub returns-in-Ok-clause-part : goal.returns-in-Ok-clause-part
+returns-in-Ok-clause-part g c =
+    let same = ap g.F.Outputs.placed c.in-Ok.ensures.files ∙ c.in_ok-outlets.ensures.same in
+    rw same at (rw (c.as_bytes.ensures.value, c.suite_name.ensures, c.report_judge.ensures)
+    at (c.write_whole_files.ensures.part (optional_text c.args.args.junit) (rw same c.in_ok-outlets.ensures.junit)))
+
+pub returns-in-Ok-clause-stopped : goal.returns-in-Ok-clause-stopped
+returns-in-Ok-clause-stopped g c =
+    output_of_put g.F.Outputs.pending_path g.F.File.Sink.taken g.F.File.Sink.failed _ None
+    (optional_text c.args.args.junit) _ _ c.write_whole_files.result c.in_ok-outlets.ensures.report
+    c.in_ok-outlets.ensures.junit c.write_whole_files.ensures.stopped

@@ -1,0 +1,52 @@
+use Rattle.std.proofs.Common.{◌∙◌, ap, inr, length, refl}
+use Rattle.std.proofs.lemmas.Result.{err_from_is_err_and}
+use Rattle.rvtest_app.specs.CommandOutputs.{outputs_of}
+use Rattle.rvtest_app.proofs.ViewAnswers.{all_small}
+use Rattle.rvtest_app.proofs.view.JobsView.write_selected.Goals as goal
+
+pub view_of_jobs-requires-clause-small : goal.view_of_jobs-requires-clause-small
+view_of_jobs-requires-clause-small g c = λ _ _. all_small _ c.in_ok-plan.plan.answers c.in_ok-plan.ensures.kept
+
+pub returns-in_err-text-clause-stopped : goal.returns-in_err-text-clause-stopped
+returns-in_err-text-clause-stopped g c =
+    let found = c.in_ok-plan.ensures in
+    let is = err_from_is_err_and c.from_residual-in_err-text.result c.from_residual-in_err-text.ensures.1 in
+    rw (is.1, is.2)
+    (inr (inr (record {
+      plan = c.in_ok-plan.plan;
+      unread = c.unreadable_paths.result.now;
+      planned = record {
+        listed = found.jobs;
+        paths = rw (c.as_slice-places.ensures.value, c.in_ok-marked.ensures.value) at found.paths;
+        kept = rw (c.new-store.ensures.inputs, c.new-store.ensures.folder) at found.kept;
+        noted = ap length c.unreadable_paths.ensures ∙ rw c.new-store.ensures.nothing at found.faults;
+      };
+      unshown = rw (c.as_slice-places.ensures.value, c.in_ok-marked.ensures.value) at c.in_err-text.ensures.stopped;
+    })))
+
+pub returns-clause-put : goal.returns-clause-put
+returns-clause-put g c =
+    let found = c.in_ok-plan.ensures in (
+      refl,
+      record {
+        plan = c.in_ok-plan.plan;
+        unread = c.unreadable_paths.result.now;
+        planned = record {
+          listed = found.jobs;
+          paths = rw (c.as_slice-places.ensures.value, c.in_ok-marked.ensures.value) at found.paths;
+          kept = rw (c.new-store.ensures.inputs, c.new-store.ensures.folder) at found.kept;
+          noted = ap length c.unreadable_paths.ensures ∙ rw c.new-store.ensures.nothing at found.faults;
+        };
+        middle = outputs_of g.F.Outputs.placed g.O.Sink.taken g.E.Sink.taken g.E.Sink.failed
+            (record c.args.to.now { errors = c.write_message.new.errors });
+        told = (
+          refl,
+          rw (c.as_slice.ensures.value, c.in_ok-note.ensures, c.as_slice-places.ensures.value, c.in_ok-marked.ensures.value)
+              at c.write_message.ensures,
+          refl,
+        );
+        text = c.in_ok-text.text.items;
+        of_plan = rw (c.as_slice-places.ensures.value, c.in_ok-marked.ensures.value) at c.in_ok-text.ensures.shown;
+        put = (rw c.as_slice-2.ensures.value at c.in_ok-write_results.ensures.put, refl, refl, refl);
+      },
+    )

@@ -1,0 +1,30 @@
+//! The inputs of a command, to be compared with the files that it writes.
+
+ghost use Rattle.std.specs.Prelude.{◌≡◌, length};
+
+use rv_files::Text;
+use std::path::PathBuf;
+
+/// The path of a file that a command reads, and how messages call the file.
+#[derive(Drop)]
+pub(crate) struct InputPath<'a> {
+    pub(crate) path: PathBuf,
+    pub(crate) role: InputRole<'a>,
+}
+
+/// How messages call a file that a command reads.
+#[derive(Clone, Copy)]
+pub(crate) enum InputRole<'a> {
+    /// A file that the arguments name: `the job list`, `the file of --known`.
+    Word(&'a str),
+    /// The file that the key `key` of the job `job` names.
+    JobFile { key: &'a str, job: &'a str },
+}
+
+/// The files that a command reads, with the identity that the system gives each file.
+#[derive(Drop)]
+pub(crate) struct InputFiles<'a> {
+    pub(crate) paths: Vec<InputPath<'a>>,
+    pub(crate) identities: Vec<Text>,
+    ghost counted: { length identities.items ≡ length paths.items },
+}

@@ -1,0 +1,71 @@
+//! What gdb is shown of a job at the end of its run.
+
+ghost use Rattle.std.specs.Prelude.{◌≡◌, ◌<◌, IfOk, is_ok, length, slice_index_or, true};
+ghost use Rattle.rv_gdb.specs.Places.{IsReached};
+ghost use Rattle.rv_rows.specs.declared_job.Job.{Job as AJob};
+ghost use Rattle.rv_rows.specs.Machine.{state_of};
+ghost use Rattle.rv_rows.specs.Rows.{row_of, start_in};
+ghost use Rattle.rvtest_app.specs.Debugging.{job_start_state};
+
+use rv_expect::{Judge, Rule};
+use rv_files::UnreadablePath;
+use rv_gdb::EndText;
+use rv_job_text::{TextReporter, Verbosity};
+use rv_rows::{Machine, Plan, Row, row_at, row_from};
+use std::alloc::{AllocError, Global};
+
+/// The job at an index of a plan, which is not refused, and the paths that could not be read.
+#[derive(Drop)]
+pub(crate) struct PlannedJob {
+    pub(crate) plan: Plan,
+    pub(crate) unread: Vec<UnreadablePath>,
+    pub(crate) place: usize,
+    ghost within: { place < length plan.jobs },
+    ghost runs: { (d : AJob) → is_ok (start_in plan.answers (slice_index_or plan.jobs place d)) ≡ true },
+}
+
+impl EndText for PlannedJob {
+    ghost use Rattle.rvtest_app.specs.Debugging.{job_end_text};
+
+    ghost start = { λ job. job_start_state job.plan job.place };
+
+    ghost end_text = { λ job. job_end_text job.plan job.unread.items job.place };
+
+    // Appends the text that `run` prints about the job, given its machine after `place` steps of the run.
+    #[tactic(auto, unfolding(crate::specs::Debugging::job_end_text))]
+    fn push_end_text(
+        &self,
+        alloc: Global,
+        place: u32,
+        machine: &Machine,
+        text: &mut Vec<u8>,
+    ) -> Result<(), AllocError> {
+        let row = row_after_steps(alloc, self, place, machine)?;
+        let reporter = TextReporter {
+            plan: &self.plan,
+            unread: self.unread.as_slice(),
+            judge: Judge::by_rule(Rule::Strict),
+            verbosity: Verbosity::All,
+            last: None,
+        };
+        reporter.push_outcome(alloc, self.place, &row, text)
+    }
+}
+
+// Returns the row of the job, given its machine after `steps` steps of the run.
+fn row_after_steps(
+    alloc: Global,
+    job: &PlannedJob,
+    steps: u32,
+    machine: &Machine,
+) -> Result<Row, AllocError>
+    requires { IsReached (job_start_state job.now.plan job.now.place) steps (state_of machine.now) }
+    ensures { IfOk result (λ row. (d : AJob) → row
+        ≡ row_of job.now.plan (slice_index_or job.now.plan.jobs job.now.place d)) }
+{
+    // No session runs past the job's budget; the machine would be of no use there.
+    if job.plan.job(job.place).budget < steps {
+        return row_at(alloc, &job.plan, job.place);
+    }
+    row_from(alloc, &job.plan, job.place, steps, machine.copied(alloc)?)
+}

@@ -1,0 +1,36 @@
+-- The errors of arguments that make no request, and their texts.
+use Rattle.std.specs.Prelude.{◌≡◌, ◌++◌, Result, MatchResult, [], codes, string_bytes}
+use Rattle.clap.specs.Kinds.{IsAmong}
+use Rattle.clap.specs.Words.{Kinds, Text}
+use Rattle.clap.specs.declared.error.kind.ErrorKind.{ErrorKind}
+use Rattle.clap.specs.declared.error.kind.ErrorKind.TheVariants as kind
+use Rattle.rvtest_cli.specs.declared.args_error.ArgsError.{ArgsError}
+use Rattle.rvtest_cli.specs.declared.args_error.ArgsError.TheVariants as error
+
+-- the error says that memory ran out, or its kind is one of `kinds`
+abbrev pub IsErrorOfKinds : Kinds → ArgsError → Type 0
+IsErrorOfKinds kinds error.OutOfMemory = Unit {0}
+IsErrorOfKinds kinds (error.Told fault text) = IsAmong fault kinds
+
+-- if the result is no error, `kinds` is empty; if it is an error, memory ran out, or its kind is one of `kinds`
+abbrev pub FailsByKinds : {T : Type 0} → Kinds → Result T ArgsError → Type 0
+FailsByKinds kinds result = MatchResult result (λ _. kinds ≡ []) (IsErrorOfKinds kinds)
+
+-- the error says that memory ran out, or its kind is `error_kind`, which is then not `OutOfMemory`
+abbrev pub IsErrorOfKind : ErrorKind → ArgsError → Type 0
+IsErrorOfKind error_kind error.OutOfMemory = Unit {0}
+IsErrorOfKind error_kind (error.Told fault text) = (fault ≡ error_kind) × (error_kind ≡ kind.OutOfMemory → ⊥)
+
+-- the text of an error: the message `what`, the usage of a command, and the hint to try `--help`
+abbrev pub usage_error_text : Text → Text → Text
+usage_error_text what usage =
+    codes "error: " ++ (what ++ (codes "\n\n" ++ (usage ++ codes "\n\nFor more information, try '--help'.\n")))
+
+-- `text` is the text of an error with the message `what` and some usage
+abbrev pub IsUsageText : Text → Text → Type 0
+IsUsageText what text = (usage : Text) × (text ≡ usage_error_text what usage)
+
+-- the error says that memory ran out, or it has the kind `error_kind` and a text with the message `what` and some usage
+abbrev pub IsUsageError : ErrorKind → Text → ArgsError → Type 0
+IsUsageError error_kind what error.OutOfMemory = Unit {0}
+IsUsageError error_kind what (error.Told fault text) = (fault ≡ error_kind) × IsUsageText what (string_bytes text)

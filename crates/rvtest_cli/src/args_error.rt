@@ -1,0 +1,98 @@
+//! Why arguments make no request.
+
+ghost use Rattle.std.specs.Prelude.{◌≡◌, IfOk, string_bytes};
+ghost use Rattle.clap.specs.Words.{kind_of};
+ghost use Rattle.rvtest_cli.specs.ArgsErrors.{IsErrorOfKind, IsUsageError, IsUsageText, usage_error_text};
+
+use crate::tips::{FirstWord, error_text};
+use clap::error::ErrorKind;
+use clap::{Command, Error};
+use std::alloc::{AllocError, Global};
+
+/// Why the arguments make no request: they have an error, or they request the help or the version.
+#[derive(Drop)]
+pub enum ArgsError {
+    /// Memory ran out.
+    OutOfMemory,
+    /// An error of this kind, or the help or the version, with the text to show.
+    Told(ErrorKind, String),
+}
+
+impl ArgsError {
+    /// Returns the error for an error of `clap`, with the text of `clap` and better tips. No contract of `clap` describes its texts.
+    pub(crate) fn from_clap(alloc: Global, error: &Error, first: FirstWord) -> ArgsError
+        ensures { IsErrorOfKind (kind_of error.now) result }
+    {
+        match error.kind() {
+            ErrorKind::OutOfMemory => ArgsError::OutOfMemory,
+            kind => match error_text(alloc, error, first) {
+                Ok(text) => ArgsError::Told(kind, text),
+                Err(error) => ArgsError::from(error),
+            },
+        }
+    }
+}
+
+impl From<AllocError> for ArgsError {
+    ghost use Rattle.rvtest_cli.specs.declared.args_error.ArgsError.TheVariants.{OutOfMemory};
+
+    ghost from_gives = { λ _ error. error ≡ OutOfMemory };
+
+    // Returns `OutOfMemory`.
+    fn from(_: AllocError) -> ArgsError {
+        ArgsError::OutOfMemory
+    }
+}
+
+/// Returns an error that `clap` does not find, with a text in the form that `clap` uses: `error: ` and `what`, the usage of the command,
+/// and the hint to try `--help`. `what` does not end with a line feed.
+pub fn usage_error(
+    alloc: Global,
+    command: Result<Command<'_>, AllocError>,
+    kind: ErrorKind,
+    what: &str,
+) -> ArgsError
+    ensures { IsUsageError kind what.now result }
+{
+    match text_with_usage(alloc, command, what) {
+        Ok(text) => ArgsError::Told(kind, text),
+        Err(error) => ArgsError::from(error),
+    }
+}
+
+// Returns the text of an error: the message `what`, the usage of the command, and the hint to try `--help`.
+fn text_with_usage(
+    alloc: Global,
+    command: Result<Command<'_>, AllocError>,
+    what: &str,
+) -> Result<String, AllocError>
+    ensures { IfOk result (λ text. IsUsageText what.now (string_bytes text)) }
+{
+    let usage = usage_of(command)?;
+    usage_error_text(alloc, what, usage.as_str())
+}
+
+// Returns the text of an error: the message `what`, the usage of a command, and the hint to try `--help`.
+fn usage_error_text(alloc: Global, what: &str, usage: &str) -> Result<String, AllocError>
+    ensures { IfOk result (λ text. string_bytes text ≡ usage_error_text what.now usage.now) }
+{
+    let mut text = String::from_str(alloc, "error: ")?;
+    text.push_str(what)?;
+    text.push_str("\n\n")?;
+    text.push_str(usage)?;
+    text.push_str("\n\nFor more information, try '--help'.\n")?;
+    Ok(text)
+}
+
+// Returns the usage of the command, as `clap` writes it.
+fn usage_of(command: Result<Command<'_>, AllocError>) -> Result<String, AllocError> {
+    match command {
+        Ok(mut command) => {
+            let usage = command.render_usage();
+            // Dropping each of its fields at the end of the block would take twice the time to prove.
+            drop(command);
+            usage
+        }
+        Err(error) => Err(error),
+    }
+}
