@@ -143,7 +143,11 @@ fn push_golden_text(
 }
 
 // Returns the console of a run, or `None` if it is not accepted.
-fn console_if_accepted(alloc: Global, is_accepted: bool, row: &Row) -> Result<Option<Bytes>, AllocError>
+fn console_if_accepted(
+    alloc: Global,
+    is_accepted: bool,
+    row: &Row,
+) -> Result<Option<Bytes>, AllocError>
     ensures { IfOk result (λ text. text ≡ text_if is_accepted row.now.console) }
 {
     if !is_accepted {
@@ -154,7 +158,11 @@ fn console_if_accepted(alloc: Global, is_accepted: bool, row: &Row) -> Result<Op
 }
 
 // Returns the lines of the signature of a run, or `None` if it is not accepted.
-fn signature_if_accepted(alloc: Global, is_accepted: bool, row: &Row) -> Result<Option<Bytes>, AllocError>
+fn signature_if_accepted(
+    alloc: Global,
+    is_accepted: bool,
+    row: &Row,
+) -> Result<Option<Bytes>, AllocError>
     ensures { IfOk result (λ text. text ≡ text_if is_accepted (lines_of_signature row.now.signature)) }
 {
     if !is_accepted {

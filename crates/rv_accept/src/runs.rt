@@ -185,7 +185,9 @@ fn chosen_skip_reason(
 {
     match standing {
         CurrentVerdict::Passes => None,
-        CurrentVerdict::Fails if has_replaceable_expectation(job) => skip_reason(acceptance, job, row),
+        CurrentVerdict::Fails if has_replaceable_expectation(job) => skip_reason(
+            acceptance, job, row,
+        ),
         CurrentVerdict::Fails => Some(SkipReason::End),
         CurrentVerdict::Differs => Some(differing_skip_reason(acceptance, job, row.ending)),
     }

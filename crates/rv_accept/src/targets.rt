@@ -46,7 +46,9 @@ fn add_target(
 ) -> Result<(), AllocError>
     ensures { OnOk result (targets.new.items ≡ with_target runs.now claims.now targets.old.items claim.now) }
 {
-    if is_accepted_entry(runs.get(claim.job)) && !is_target(claim.path.as_str(), targets.as_slice()) {
+    if is_accepted_entry(runs.get(claim.job))
+        && !is_target(claim.path.as_str(), targets.as_slice())
+    {
         targets.push(target_of(alloc, claim, claims)?)?;
     }
     Ok(())

@@ -6,7 +6,7 @@ ghost use Rattle.rv_rows.specs.Spans.{span_text};
 ghost use Rattle.rv_accept_text.specs.ChangedTexts.{byte_change, byte_difference, digits_at, text_change, values_from, values_of_both, word_change, word_change_at};
 
 use rv_job_text::push_console_lines;
-use rv_rows::{WORD_LINE_LEN, Span, is_utf8, push_spans, push_text, tail_from};
+use rv_rows::{Span, WORD_LINE_LEN, is_utf8, push_spans, push_text, tail_from};
 use std::alloc::AllocError;
 
 /// Appends the differences between the old and the new text: by lines if both are UTF-8, and otherwise by bytes. `source` names the old

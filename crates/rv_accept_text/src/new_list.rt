@@ -275,7 +275,12 @@ fn uneditable_reasons(
 }
 
 // Returns the reason to skip a job, which names the first changed value that cannot be edited, or `None` if there is none.
-fn uneditable_reason(at: usize, job: &Job, run: &JobRun, places: &EditableValues) -> Option<SkipReason> {
+fn uneditable_reason(
+    at: usize,
+    job: &Job,
+    run: &JobRun,
+    places: &EditableValues,
+) -> Option<SkipReason> {
     for key in ValueKey::ALL {
         if is_value_changed(key, job, &run.row) && !is_editable(at, key, places.spans.as_slice()) {
             return Some(if places.is_made {

@@ -12,7 +12,7 @@ mod subtree;
 mod sum;
 
 pub use index::CallTreeIndex;
-pub use law::{trees_with_equal_counts_are_equal, own_steps_sum_to_all};
+pub use law::{own_steps_sum_to_all, trees_with_equal_counts_are_equal};
 pub use profile::{FunctionSteps, functions_of};
 pub use spot::{Spot, Spots};
 pub use sum::{CallTreeSumError, sum_of_call_trees};

@@ -14,7 +14,7 @@ mod transfer;
 
 pub use action::{StackAction, action_of, action_of_code};
 pub use calls_line::push_calls_text;
-pub use frames::{Frame, Frames, MAX_FRAMES, remaining_frames, apply_transfer};
+pub use frames::{Frame, Frames, MAX_FRAMES, apply_transfer, remaining_frames};
 pub use law::frames_are_few;
 pub use run::{Calls, calls_at_end, calls_of_run};
 pub use transfer::{Transfer, next_transfer, transfer_by};

@@ -16,13 +16,13 @@ ghost use Rattle.rv_command.specs.Messages.{truncation_note};
 ghost use Rattle.rv_command.specs.Stops.{IsRequestedUnreadStop, IsStop};
 
 use crate::bad_value::{bad_value_stop, bad_value_text};
-use crate::failed_jobs::{failed_job_names, failed_job_notes, count_jobs_without_row};
-use crate::marks::{Criteria, selection_by_criteria, first_unknown_name, remaining_selection};
+use crate::failed_jobs::{count_jobs_without_row, failed_job_names, failed_job_notes};
+use crate::marks::{Criteria, first_unknown_name, remaining_selection, selection_by_criteria};
 use crate::unknown_name::unknown_name_stop;
 use regex::Regex;
 use rv_command::{
-    ChoosingCommand, Inputs, RequestedReport, RunArgs, Span, Stop, truncation_note,
-    read_requested_report, text_of_spans,
+    ChoosingCommand, Inputs, RequestedReport, RunArgs, Span, Stop, read_requested_report,
+    text_of_spans, truncation_note,
 };
 use rv_expect::{Job, Row, Rule};
 use std::alloc::{AllocError, Global};

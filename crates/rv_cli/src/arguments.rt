@@ -9,7 +9,12 @@ use clap::{Arg, value_parser};
 use std::alloc::Global;
 
 /// Returns the required positional argument `name`; the help shows it with this value name and description.
-pub fn positional_argument<'a>(alloc: Global, name: &'a str, value: &'a str, help: &'a str) -> Arg<'a>
+pub fn positional_argument<'a>(
+    alloc: Global,
+    name: &'a str,
+    value: &'a str,
+    help: &'a str,
+) -> Arg<'a>
     ensures rule { (rule_of result ≡ positional_rule name.entry.now) × (result.global ≡ false) }
     // The help shows it with this value name and this text.
     ensures shown { IsShownAs value.entry help.entry result }

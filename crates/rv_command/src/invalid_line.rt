@@ -38,7 +38,11 @@ pub fn invalid_line_message<'a>(
 }
 
 // Returns the message that the text at the path is a job list, not the expected kind.
-fn job_list_message<'a>(alloc: Global, kind: ResultKind, path: &'a str) -> Result<Vec<u8>, AllocError>
+fn job_list_message<'a>(
+    alloc: Global,
+    kind: ResultKind,
+    path: &'a str,
+) -> Result<Vec<u8>, AllocError>
     ensures { IfOk result (λ told. told.items ≡ job_list_message kind path.now) }
 {
     text_of_spans(

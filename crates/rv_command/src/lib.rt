@@ -4,22 +4,23 @@
 #![tactic(auto)]
 
 mod files;
+mod invalid_line;
 mod list;
 mod messages;
-mod invalid_line;
 mod requested_report;
 mod saved_report;
 mod status;
 mod stop;
 
 pub use files::{file_error_stop, read_file, read_result_file};
+pub use invalid_line::{ResultKind, invalid_line_message};
 pub use list::{all_faults_text, list_faults_text, parse_list, read_list_text};
 pub use messages::{
-    path_message, path_number_message, put_end_message, write_message, write_results, write_stop_message,
+    path_message, path_number_message, put_end_message, write_message, write_results,
+    write_stop_message,
 };
-pub use invalid_line::{ResultKind, invalid_line_message};
 pub use requested_report::{
-    RequestedReport, truncation_note, parse_requested_report, read_requested_report,
+    RequestedReport, parse_requested_report, read_requested_report, truncation_note,
 };
 pub use saved_report::{parse_report, read_report_file};
 pub use status::{BROKEN_PIPE, DONE, FAILED, REFUSED, SOME_FAIL};

@@ -102,7 +102,10 @@ pub fn write_stop_message<E: Sink>(errors: &mut E, stop: Stop) -> u8
         }
         Stop::OutOfMemory => write_failure_message(errors, "rvtest: out of memory\n"),
         Stop::NoWorker => write_failure_message(errors, "rvtest: no thread could be started\n"),
-        Stop::WriteFailed => write_failure_message(errors, "rvtest: standard output: write failed\n"),
+        Stop::WriteFailed => write_failure_message(
+            errors,
+            "rvtest: standard output: write failed\n",
+        ),
     }
 }
 

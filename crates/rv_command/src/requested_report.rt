@@ -72,7 +72,11 @@ fn parse_partial_report(alloc: Global, path: &str, text: &[u8]) -> Result<Partia
 }
 
 /// Returns the note about a truncated report: how many complete rows it has. It is empty for a complete report.
-pub fn truncation_note(alloc: Global, path: &str, read: &PartialReport) -> Result<Vec<u8>, AllocError>
+pub fn truncation_note(
+    alloc: Global,
+    path: &str,
+    read: &PartialReport,
+) -> Result<Vec<u8>, AllocError>
     ensures { IfOk result (λ note. note.items ≡ truncation_note path.now read.now) }
 {
     if !read.is_cut_off {

@@ -6,8 +6,8 @@ ghost use Rattle.rv_command.specs.Stops.{IsLineStop, IsReportFaultStop, IsReport
 ghost use Rattle.rv_command.specs.Texts.{IsReportAt, IsReportText};
 
 use crate::files::read_result_file;
-use crate::messages::path_message;
 use crate::invalid_line::{ResultKind, invalid_line_message};
+use crate::messages::path_message;
 use crate::stop::Stop;
 use rv_files::Inputs;
 use rv_rows::{ReadError, SavedReport, read_report};

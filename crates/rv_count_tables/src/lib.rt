@@ -27,9 +27,9 @@ mod tests;
 mod text;
 
 pub use law::{
-    empty_table_adds_nothing, lists_with_equal_counts_are_equal, tables_with_equal_counts_are_equal,
-    tables_with_equal_texts_are_equal, sums_of_counts_associate, sums_of_counts_commute,
-    sums_of_tables_commute_and_associate,
+    empty_table_adds_nothing, lists_with_equal_counts_are_equal, sums_of_counts_associate,
+    sums_of_counts_commute, sums_of_tables_commute_and_associate,
+    tables_with_equal_counts_are_equal, tables_with_equal_texts_are_equal,
 };
 pub use lookup::{counts_at, index_of_address, was_executed_within};
 pub use names::{add_name, name_of};
@@ -42,8 +42,8 @@ pub use text::table_text;
 
 // From the crates below: what this interface names, and what its callers need with it.
 pub use rv_call_tree::{
-    Bytes, FunctionSteps, Spot, CallTreeIndex, Spots, Text, trees_with_equal_counts_are_equal,
-    own_steps_sum_to_all,
+    Bytes, CallTreeIndex, FunctionSteps, Spot, Spots, Text, own_steps_sum_to_all,
+    trees_with_equal_counts_are_equal,
 };
 pub use rv_text::{
     Span, printable_text_is_utf8_without_controls, push_number, push_printable_text, push_spans,

@@ -27,11 +27,12 @@ pub use count::count_run;
 pub use count_work::JobsTable;
 pub use counter::{Counter, Stepped};
 pub use law::{
-    counts_have_even_addresses, counts_sum_to_the_steps, jobs_have_one_table,
-    jobs_have_one_table_over_the_same_files, ending_says_whether_the_last_step_is_executed, completed_steps_are_executed,
-    tables_of_parts_sum_to_that_of_the_list, tables_of_shards_sum_to_that_of_all,
+    completed_steps_are_executed, counts_have_even_addresses, counts_sum_to_the_steps,
+    ending_says_whether_the_last_step_is_executed, jobs_have_one_table,
+    jobs_have_one_table_over_the_same_files, tables_of_parts_sum_to_that_of_the_list,
+    tables_of_shards_sum_to_that_of_all,
 };
-pub use step::{is_executed_at_end, is_branch};
+pub use step::{is_branch, is_executed_at_end};
 pub use table_of_jobs::{digest_of, empty_table, images_of_one, shown_text};
 pub use table_sum::{HasProgramHeaders, TableSum};
 

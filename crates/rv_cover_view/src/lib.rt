@@ -33,4 +33,6 @@ pub use image_file::ImageFile;
 pub use images_text::cover_text;
 pub use job_images::images_of_jobs;
 pub use law::functions_never_run_have_not_begun;
-pub use text::{push_cover_header, push_image_line, push_never_run_line, push_right_aligned, push_spaces};
+pub use text::{
+    push_cover_header, push_image_line, push_never_run_line, push_right_aligned, push_spaces,
+};

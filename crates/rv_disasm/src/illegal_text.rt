@@ -38,7 +38,11 @@ pub fn push_illegal16(bytes: &mut Vec<u8>, half: u16) -> Result<(), AllocError>
 
 // Appends the description of an instruction that a job's set lacks, `MNEMONIC (EXTENSION: not in this job's "isa")`, given its form and its
 // extension.
-fn push_missing_extension(bytes: &mut Vec<u8>, form: Form, extension: &str) -> Result<(), AllocError>
+fn push_missing_extension(
+    bytes: &mut Vec<u8>,
+    form: Form,
+    extension: &str,
+) -> Result<(), AllocError>
     ensures { OnOk result (bytes.new.items
         ≡ bytes.old.items ++ missing_extension_text form.0.now extension.now) }
 {

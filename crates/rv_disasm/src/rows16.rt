@@ -5,8 +5,8 @@ ghost use Rattle.rv_isa.specs.Halfwords.{immediate_ci};
 ghost use Rattle.rv_disasm.specs.Forms.{form16, form_view};
 
 use crate::form::{
-    Form, IMMEDIATE, LOAD, Operand, Operands, REGISTER_IMMEDIATE, STORE, ZERO_BRANCH,
-    TWO_REGISTERS, UPPER_IMMEDIATE,
+    Form, IMMEDIATE, LOAD, Operand, Operands, REGISTER_IMMEDIATE, STORE, TWO_REGISTERS,
+    UPPER_IMMEDIATE, ZERO_BRANCH,
 };
 use rv_isa::field;
 

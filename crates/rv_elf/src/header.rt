@@ -86,5 +86,6 @@ fn has_bad_program_table(file: &[u8]) -> bool
         || 0 < count
             && (half_field(file, E_PHENTSIZE) != PROGRAM_HEADER_SIZE
                 || file.len()
-                    < word_field(file, E_PHOFF) as usize + PROGRAM_HEADER_SIZE as usize * count as usize)
+                    < word_field(file, E_PHOFF) as usize
+                        + PROGRAM_HEADER_SIZE as usize * count as usize)
 }

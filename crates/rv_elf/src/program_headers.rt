@@ -28,7 +28,10 @@ const PT_INTERP: u32 = 3;
 
 /// Returns the program headers of the file's table, in order.
 #[tactic(auto, unfolding(crate::specs::Image::program_header_table))]
-pub(crate) fn program_header_table(alloc: Global, file: &[u8]) -> Result<Vec<ProgramHeader>, AllocError>
+pub(crate) fn program_header_table(
+    alloc: Global,
+    file: &[u8],
+) -> Result<Vec<ProgramHeader>, AllocError>
     requires { HasProgramHeaders file.now }
     ensures { IfOk result (λ v. v.items ≡ program_header_table file.now) }
 {

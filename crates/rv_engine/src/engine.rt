@@ -6,7 +6,7 @@ ghost use Rattle.rv_engine.specs.declared.engine.RunError.TheVariants.{OutOfMemo
 
 use crate::crew::Crew;
 use crate::in_order::{
-    End, DeliveryState, RunSpec, Undelivered, deliver_chunk, empty_pending, take_pending,
+    DeliveryState, End, RunSpec, Undelivered, deliver_chunk, empty_pending, take_pending,
 };
 use crate::listener::{Flow, Listener};
 use crate::piece::{chunk_count, compute_chunk};

@@ -5,7 +5,7 @@ ghost use Rattle.rv_expect.specs.Reference.{difference_from_reference, read_refe
 ghost use Rattle.rv_expect.specs.Reference.{word_of_line, signature_words_or_empty};
 
 use crate::difference::{Difference, SignatureDifference, first_word_difference};
-use rv_rows::{WORD_LINE_LEN, Text, Words, word_line};
+use rv_rows::{Text, WORD_LINE_LEN, Words, word_line};
 use std::alloc::{AllocError, Global};
 
 /// The text of an expected signature, as it was read.

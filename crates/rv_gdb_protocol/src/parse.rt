@@ -56,7 +56,9 @@ fn write_registers(alloc: Global, args: &[u8]) -> Result<Request, AllocError>
     ensures { IfOk result (λ request. request ≡ write_registers args.now) }
 {
     match bytes_of(alloc, args)? {
-        Some(bytes) => { Ok(all_registers_write(bytes).unwrap_or(Request::Refused(Refusal::Malformed))) }
+        Some(bytes) => {
+            Ok(all_registers_write(bytes).unwrap_or(Request::Refused(Refusal::Malformed)))
+        }
         None => Ok(Request::Refused(Refusal::Malformed)),
     }
 }

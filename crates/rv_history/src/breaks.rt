@@ -75,7 +75,10 @@ pub(crate) fn search_breakpoints<I: Interrupt>(
     let begin = at.place;
     let mut last = None;
     'places: while at.place < end {
-        if is_slice_end(at.place) && is_at_least_a_slice(at.place - begin) && interrupt.is_raised() {
+        if is_slice_end(at.place)
+            && is_at_least_a_slice(at.place - begin)
+            && interrupt.is_raised()
+        {
             return Ok(None);
         }
         let slice = slice_end(at.place, end);

@@ -241,7 +241,11 @@ impl Checkpoints {
 
 // Returns two empty lists of states for a machine with this bus, with as much room as the memory limit allows: the first for multiples of
 // the interval, the second for states before the ends of backward moves, seeks and moves to watchpoints.
-fn empty_checkpoint_lists(alloc: Global, bus: &Bus, megabytes: u32) -> (CheckpointList, CheckpointList)
+fn empty_checkpoint_lists(
+    alloc: Global,
+    bus: &Bus,
+    megabytes: u32,
+) -> (CheckpointList, CheckpointList)
     ensures { (result.0 ≡ []) × (result.1 ≡ []) }
 {
     let room = (megabytes as usize)

@@ -226,7 +226,11 @@ impl History {
 
     /// Returns the first watchpoint that the next step triggers, or `None` if it triggers none. The next step must complete within the
     /// budget.
-    pub fn watch_hit_by_next_step(&self, alloc: Global, stops: &Stops) -> Result<Option<WatchHit>, AllocError>
+    pub fn watch_hit_by_next_step(
+        &self,
+        alloc: Global,
+        stops: &Stops,
+    ) -> Result<Option<WatchHit>, AllocError>
         ensures { self.now.place < last_step self.now.budget self.now.start → IfOk result
             (λ found. found ≡ first_triggered stops.now (state_after self.now.place self.now.start)
             (state_after (self.now.place + 1) self.now.start)) }

@@ -30,7 +30,7 @@ pub use counts::Count;
 pub use found::Found;
 pub use history::History;
 pub use interrupt::Interrupt;
-pub use law::{moves_are_determined, console_only_grows};
+pub use law::{console_only_grows, moves_are_determined};
 pub use start::Start;
 pub use stops::{Stops, Watch, WatchHit};
 

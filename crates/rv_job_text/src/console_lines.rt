@@ -5,8 +5,8 @@ ghost use Rattle.rv_text.specs.Spans.{span_text};
 ghost use Rattle.rv_job_text.specs.ConsoleLines.{console_lines, differing_line_count, differing_lines, equal_line_count, equal_lines};
 ghost use Rattle.rv_job_text.specs.ConsoleLines.{larger, lines_around, lines_heading, diff_lines, complete_lines};
 
-use crate::shown_line::push_diff_line;
 use crate::complete_lines::{split_whole_line, whole_line_count};
+use crate::shown_line::push_diff_line;
 use rv_text::{Span, push_spans};
 use std::alloc::AllocError;
 

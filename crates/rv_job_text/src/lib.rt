@@ -10,6 +10,7 @@
 #![tactic(auto)]
 
 mod budget_use_line;
+mod complete_lines;
 mod console_lines;
 mod console_tail;
 mod difference_text;
@@ -33,7 +34,6 @@ mod totals_line;
 mod unmet_line;
 mod unread_files;
 mod verbosity;
-mod complete_lines;
 
 pub use console_lines::push_console_lines;
 pub use console_tail::{MAX_TAIL_BYTES, TAIL_LINES, push_console_tail};

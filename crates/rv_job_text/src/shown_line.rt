@@ -34,7 +34,11 @@ pub(crate) fn push_diff_line(
 }
 
 // Appends a note if a line has no line feed, or else nothing. `feed` is the index of its first line feed, or its length.
-fn push_missing_newline_note(bytes: &mut Vec<u8>, whole: &[u8], feed: usize) -> Result<(), AllocError>
+fn push_missing_newline_note(
+    bytes: &mut Vec<u8>,
+    whole: &[u8],
+    feed: usize,
+) -> Result<(), AllocError>
     requires { feed ≡ position_or_len is_line_feed whole.now }
     ensures { OnOk result (bytes.new.items ≡ bytes.old.items ++ missing_newline_note whole.now) }
 {

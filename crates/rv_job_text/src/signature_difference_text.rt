@@ -5,7 +5,7 @@ ghost use Rattle.rv_text.specs.Spans.{span_text};
 ghost use Rattle.rv_job_text.specs.UnmetLines.{missing_signature_text, bad_reference_line_text, reference_digits_at, word_location_text, reference_difference_text};
 ghost use Rattle.rv_job_text.specs.UnmetLines.{signature_difference_text, signatures_difference_text, signature_word_digits, word_difference_text};
 
-use crate::difference_text::{bytes_or_empty, push_prefixed_name, push_count_difference};
+use crate::difference_text::{bytes_or_empty, push_count_difference, push_prefixed_name};
 use rv_expect::{Comparison, Difference, SignatureDifference, signature_words_or_empty};
 use rv_rows::{WORD_LINE_LEN, Words};
 use rv_text::{Span, push_spans, push_text};
@@ -142,7 +142,11 @@ fn push_word_difference<'a>(
 
 // Appends the index of a word, and its address if the address of the first word is known.
 #[tactic(auto, unfolding(crate::specs::UnmetLines::word_location_text))]
-fn push_word_location(bytes: &mut Vec<u8>, first: Option<u32>, place: usize) -> Result<(), AllocError>
+fn push_word_location(
+    bytes: &mut Vec<u8>,
+    first: Option<u32>,
+    place: usize,
+) -> Result<(), AllocError>
     ensures { OnOk result (bytes.new.items ≡ bytes.old.items ++ word_location_text first place) }
 {
     let number = Span::Number(place as u64);

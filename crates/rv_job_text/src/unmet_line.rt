@@ -6,7 +6,7 @@ ghost use Rattle.rv_job_text.specs.UnmetLines.{expected_end_text, row_end_text, 
 ghost use Rattle.rv_job_text.specs.UnmetLines.{unmet_line, unmet_line_with, unmet_lines, unmet_expectation_text, unmet_margin};
 
 use crate::console_lines::push_console_lines;
-use crate::difference_text::{push_bytes_difference, push_prefixed_name, push_console_difference};
+use crate::difference_text::{push_bytes_difference, push_console_difference, push_prefixed_name};
 use crate::expected_text::{ExpectedText, expected_by_lines};
 use crate::signature_difference_text::{push_signature_difference, push_signatures_difference};
 use rv_expect::{Comparison, SameAsDifference, Unmet};

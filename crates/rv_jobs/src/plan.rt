@@ -12,7 +12,9 @@ ghost use Rattle.rv_jobs.specs.Plans.{AgreeWithContents, unreadable_count, after
 
 use crate::answers::Answers;
 use crate::kept::Kept;
-use crate::path_reading::{Found, empty_result_indices, console_path, reference_path, result_indices};
+use crate::path_reading::{
+    Found, console_path, empty_result_indices, reference_path, result_indices,
+};
 use rv_lists::{Job, JobList, Store};
 use std::alloc::{AllocError, Global};
 use std::marker::Model;

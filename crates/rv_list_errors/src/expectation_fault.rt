@@ -90,7 +90,9 @@ fn console_explanation(text: Option<&str>, path: Option<&str>, end: Option<&str>
 {
     match (text, path) {
         (Some(_), Some(_)) => Explanation::Text(BOTH_CONSOLES),
-        (Some(text), None) if MAX_CONSOLE_LEN < text.len() => Explanation::Expected(&EXPECT_CONSOLE),
+        (Some(text), None) if MAX_CONSOLE_LEN < text.len() => Explanation::Expected(
+            &EXPECT_CONSOLE,
+        ),
         (None, Some(path)) if is_invalid_path(path) => Explanation::Expected(&EXPECT_CONSOLE_FILE),
         _ => end_text_explanation(end),
     }

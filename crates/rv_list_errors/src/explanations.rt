@@ -12,7 +12,9 @@ ghost use Rattle.rv_list_errors.specs.Explanation.{AppendsTextThat, first_fault_
 use crate::message::Message;
 use crate::values::{push_key_and_value, text_at_key};
 use rv_lists::FaultKind;
-use rv_lists::limits::{MAX_BUDGET, MAX_CONSOLE_LEN, MOST_NAME, MAX_PATH_LEN, MAX_SCRIPT_LEN, MAX_SYMBOL_LEN};
+use rv_lists::limits::{
+    MAX_BUDGET, MAX_CONSOLE_LEN, MAX_PATH_LEN, MAX_SCRIPT_LEN, MAX_SYMBOL_LEN, MOST_NAME,
+};
 use toml::Table;
 
 /// The explanation of a bad value: what is expected of the value of one key, or a text about two keys.

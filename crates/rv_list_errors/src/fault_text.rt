@@ -65,7 +65,11 @@ pub(crate) fn list_fault_message(
 
 // Appends the text between the path and the explanation of an error of the job with this number, as `push_location_in_list` does, or nothing
 // if the list is not TOML.
-fn push_fault_location(message: &mut Vec<u8>, look: &FaultView<'_>, job: u32) -> Result<(), AllocError>
+fn push_fault_location(
+    message: &mut Vec<u8>,
+    look: &FaultView<'_>,
+    job: u32,
+) -> Result<(), AllocError>
     ensures { OnOk result (message.new.items ≡ message.old.items ++ location_in_view look.now job) }
 {
     match look {

@@ -3,7 +3,7 @@
 ghost use Rattle.std.specs.Prelude.{◌<◌, IfOk, length};
 
 use crate::job_fault::push_job_fault;
-use crate::key_faults::{FaultyJob, CheckedKeys, REQUIRED_KEYS, push_absent_key};
+use crate::key_faults::{CheckedKeys, FaultyJob, REQUIRED_KEYS, push_absent_key};
 use crate::list::List;
 use crate::message::Message;
 use crate::names::Suggestion;

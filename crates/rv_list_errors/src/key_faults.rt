@@ -8,7 +8,7 @@ use crate::explanations::{
     INPUT_HEX, LOAD, MISALIGNED, NAME, PAIRS, SIGNATURE, WITHOUT_SIGNATURE, push_explanation,
 };
 use crate::job_fault::{BOTH_INPUTS, are_hex_digit_pairs, isa_explanation, push_duplicate_name};
-use crate::keys::{push_unknown_key_of_job, push_unknown_region_key, has_region_with_unknown_key};
+use crate::keys::{has_region_with_unknown_key, push_unknown_key_of_job, push_unknown_region_key};
 use crate::kinds::{is_of_toml_kind, push_value_of_wrong_type};
 use crate::list::List;
 use crate::message::Message;
@@ -139,7 +139,9 @@ impl<'a> FaultyJob<'a> {
             Kind::Text => self.text_fault(key, value.as_str().unwrap_or(""), met),
             Kind::Number => wanted(number_fault(key, value.as_integer().unwrap_or(0))),
             Kind::Texts => wanted(signature_fault(elements_at_key(self.table, key))),
-            Kind::Regions if has_region_with_unknown_key(self.table) => Some(KeyFault::UnknownInRegion),
+            Kind::Regions if has_region_with_unknown_key(self.table) => Some(
+                KeyFault::UnknownInRegion,
+            ),
             Kind::Regions if form_memory_map(elements_at_key(self.table, key)) => None,
             Kind::Regions => Some(KeyFault::NoMap),
         }

@@ -11,7 +11,7 @@ ghost use Rattle.rv_list_errors.specs.JobFaults.{is_of_kind, has_wrong_type_at, 
 ghost use Rattle.rv_list_errors.specs.Lines.{BeginsWith};
 ghost use Rattle.rv_list_errors.specs.Explanation.{AppendsTextThat, region_number_text};
 
-use crate::explanations::{Explanation, push_explanation, accepted_texts};
+use crate::explanations::{Explanation, accepted_texts, push_explanation};
 use crate::message::Message;
 use crate::regions::push_region_number;
 use crate::values::{elements_at_key, push_expected_value, value_at_key};

@@ -185,9 +185,7 @@ fn push_region_size_fault(message: &mut Message, regions: &[Region])
 fn index_of_badly_sized_region(regions: &[Region]) -> Option<usize>
     ensures { IfSome result (λ place. place < length regions.now) }
 {
-    regions
-        .iter()
-        .position(|region| region.size < 4 || region_end(region) > ADDRESS_COUNT)
+    regions.iter().position(|region| region.size < 4 || region_end(region) > ADDRESS_COUNT)
 }
 
 // The number of addresses.

@@ -3,7 +3,7 @@
 ghost use Rattle.std.specs.Prelude.{◌≡◌};
 ghost use Rattle.rv_profile.specs.Profile.{profile_of, profiled};
 
-use rv_count_tables::{FunctionName, FunctionSteps, CallTreeIndex};
+use rv_count_tables::{CallTreeIndex, FunctionName, FunctionSteps};
 
 /// The counts of a function with its name.
 #[derive(Clone, Copy)]

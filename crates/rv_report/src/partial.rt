@@ -63,7 +63,11 @@ fn read_complete_rows(alloc: Global, bytes: &[u8]) -> Result<SavedReport, AllocE
 }
 
 // Returns the number of rows of a report that are complete in the bytes.
-fn complete_row_count(alloc: Global, report: &SavedReport, bytes: &[u8]) -> Result<usize, AllocError>
+fn complete_row_count(
+    alloc: Global,
+    report: &SavedReport,
+    bytes: &[u8],
+) -> Result<usize, AllocError>
     requires { HasDistinctJobs report.now }
     ensures within { IfOk result (λ count. count ≤ length report.now.rows) }
     ensures there { IfOk result (λ count. BeginsWith bytes.now (first_rows_text count report.now)) }

@@ -96,7 +96,12 @@ fn complete_run_of_file(
 }
 
 // Completes a run within a budget, of which `steps` steps have been executed, and returns the ended run.
-fn complete_run(machine: Machine, steps: u32, budget: u32, range: Option<SignatureRange>) -> EndedRun
+fn complete_run(
+    machine: Machine,
+    steps: u32,
+    budget: u32,
+    range: Option<SignatureRange>,
+) -> EndedRun
     requires within { steps ≤ budget }
     requires range { IfSome range
         (λ range. signature_check range.begin range.end (state_of machine).bus.regions ≡ accepted) }

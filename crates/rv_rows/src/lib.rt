@@ -8,16 +8,17 @@
 #![tactic(auto)]
 
 mod attempt;
+mod complete_run;
 mod flat;
 mod law;
 mod outcome;
 mod plan_rows;
 mod recent_outcomes;
 mod reporter;
-mod complete_run;
 mod spare_bus;
 mod verdict;
 
+pub use complete_run::row_from;
 pub use flat::flat_row;
 pub use law::{narrower_sets_only_refuse, parts_have_the_rows_of_the_whole};
 pub use outcome::{Loadable, Outcome, SignatureRange};
@@ -27,7 +28,6 @@ pub use plan_rows::{
 };
 pub use recent_outcomes::Recent;
 pub use reporter::RowReporter;
-pub use complete_run::row_from;
 pub use spare_bus::Spare;
 pub use verdict::{
     are_alike_endings, are_same_outcomes, are_same_signatures, did_run, has_expectations,
@@ -45,8 +45,9 @@ pub use rv_jobs::{
 };
 pub use rv_machine::{FaultKind, Isa, Machine, Region};
 pub use rv_report::{
-    Bytes, Extent, WORD_LINE_LEN, Numbers, PartialReport, ReadError, Refusal, Report, Row, RowEnd, Rows,
-    SavedReport, Sequence, Shard, Sink, SinkFailed, Span, Text, Verdict, Words, WriteError,
-    is_name, is_utf8, push_extent_line, push_number, push_row, push_spans, push_text, put_all,
-    read_partial_report, read_report, tail_from, word_line, write_report, write_saved_report,
+    Bytes, Extent, Numbers, PartialReport, ReadError, Refusal, Report, Row, RowEnd, Rows,
+    SavedReport, Sequence, Shard, Sink, SinkFailed, Span, Text, Verdict, WORD_LINE_LEN, Words,
+    WriteError, is_name, is_utf8, push_extent_line, push_number, push_row, push_spans, push_text,
+    put_all, read_partial_report, read_report, tail_from, word_line, write_report,
+    write_saved_report,
 };

@@ -22,7 +22,7 @@ mod writing;
 
 pub use end_text::EndText;
 pub use law::{
-    replies_are_determined, ends_are_reported, console_is_sent_once, reads_can_be_split,
+    console_is_sent_once, ends_are_reported, reads_can_be_split, replies_are_determined,
 };
 pub use program::Program;
 pub use reply::Reply;

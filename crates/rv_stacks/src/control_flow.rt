@@ -9,7 +9,7 @@ ghost use Rattle.rv_stacks.specs.Stacks.{function_at};
 
 use crate::functions::{CachedFunction, look_up};
 use crate::walk::Walk;
-use rv_calls::{Frame, Transfer, remaining_frames, apply_transfer};
+use rv_calls::{Frame, Transfer, apply_transfer, remaining_frames};
 use rv_counting::CodeSymbols;
 use std::alloc::AllocError;
 

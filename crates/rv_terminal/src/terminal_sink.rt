@@ -69,7 +69,8 @@ impl<'a, 'k, R: Wait, S: Sink + Drop, W: Write + Drop> Sink for TerminalSink<'a,
         let mut line = progress.lock_line(self.rt);
         let tally = progress.tally_so_far(self.rt);
         // A failure of the terminal to accept the line is ignored.
-        self.write_around_line(progress, &mut line, bytes, tally).put
+        self.write_around_line(progress, &mut line, bytes, tally)
+            .put
     }
 
     // Returns the number of failed writes of the sink.

@@ -23,7 +23,11 @@ pub fn push_number(bytes: &mut Vec<u8>, number: u64) -> Result<(), AllocError>
 
 /// Appends a number and a noun, which is given in the singular: `1 step`, but `2 steps`.
 #[tactic(auto, unfolding(crate::specs::Words::count_text))]
-pub fn push_file_reply_prefix(bytes: &mut Vec<u8>, number: u64, noun: &str) -> Result<(), AllocError>
+pub fn push_file_reply_prefix(
+    bytes: &mut Vec<u8>,
+    number: u64,
+    noun: &str,
+) -> Result<(), AllocError>
     ensures { OnOk result (bytes.new.items ≡ bytes.old.items ++ count_text number noun.now) }
 {
     push_number(bytes, number)?;

@@ -20,7 +20,8 @@ pub use list::{read_list, run_jobs};
 pub use program::run_words;
 pub use report_output::send_report;
 pub use status::{
-    BAD_ARGUMENTS, DONE, FAILED, SOME_FAIL, write_failure_line, reject_unreadable_args, reject_arguments,
+    BAD_ARGUMENTS, DONE, FAILED, SOME_FAIL, reject_arguments, reject_unreadable_args,
+    write_failure_line,
 };
 
 // From the crates below: what this interface names, and what its callers need with it.

@@ -19,7 +19,9 @@ use crate::elf_image::{ImageRun, ScriptError, is_bad_path, read_script, run_imag
 use crate::error::{Failure, ListError};
 use crate::flat_image::run_raw;
 use crate::list::{read_list, run_jobs};
-use crate::status::{BAD_ARGUMENTS, DONE, FAILED, write_failure_line, reject_list, reject_arguments};
+use crate::status::{
+    BAD_ARGUMENTS, DONE, FAILED, reject_arguments, reject_list, write_failure_line,
+};
 use clap::Error;
 use clap::error::ErrorKind;
 use rv_cli::rvfleet::{Request, read_words};

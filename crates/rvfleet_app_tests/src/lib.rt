@@ -3,6 +3,8 @@
 #![tactic(auto)]
 
 #[cfg(test)]
+mod argument_tests;
+#[cfg(test)]
 mod cases;
 #[cfg(test)]
 mod expectation_tests;
@@ -34,5 +36,3 @@ mod stream_tests;
 mod testing;
 #[cfg(test)]
 mod verdict_tests;
-#[cfg(test)]
-mod argument_tests;

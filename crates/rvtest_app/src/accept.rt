@@ -40,7 +40,7 @@ use rv_accept::{
 };
 use rv_accept_text::{AcceptSummary, GoldenFile, ListFile, NewList, Writing, accept_values};
 use rv_choice::{Choice, Chooser};
-use rv_command::{DONE, SOME_FAIL, Stop, parse_list, write_message, write_results, read_list_text};
+use rv_command::{DONE, SOME_FAIL, Stop, parse_list, read_list_text, write_message, write_results};
 use rv_files::{Inputs, Outputs, RecordingStore, Sink};
 use rv_rows::{Job, JobList, Row, selected_indices};
 use rv_stream::{Batch, RunError, run_batch};
@@ -363,7 +363,11 @@ fn write_accepted<'x, R, D: Inputs, F: Outputs + Drop, O: Sink + Drop, E: Sink +
 }
 
 // Writes the lines about jobs and golden files to standard output.
-fn write_lines<O: Sink>(alloc: Global, accepting: &AcceptSummary<'_>, out: &mut O) -> Result<(), Stop>
+fn write_lines<O: Sink>(
+    alloc: Global,
+    accepting: &AcceptSummary<'_>,
+    out: &mut O,
+) -> Result<(), Stop>
     ensures put { OnOk result (Appends (O.taken out.old) (O.taken out.new) (accept_lines accepting.now)) }
     ensures stopped { IfErr result (λ why. (why ≡ Stop.OutOfMemory) ⊎ (why ≡ Stop.WriteFailed)) }
 {

@@ -8,10 +8,10 @@ ghost use Rattle.rvtest_app.specs.Overwrites.{AreAcceptFilesNoInputs, AreFilesOf
 ghost use Rattle.rvtest_app.specs.Overwrites.{IsUnread, golden_paths_of_job, golden_paths_of_selected, inputs_of_accept, job_output_text};
 ghost use Rattle.rvtest_app.specs.Overwrites.{is_golden_input, outside_prefix, outside_message, outside_path, outside_text, quoted_text, input_paths, output_role_text};
 
-use crate::overwrites::{
-    is_among, identified_files, overwrite_stop, inputs_of_args, reject_file_overwrite,
-};
 use crate::input_file::{InputFiles, InputPath, InputRole};
+use crate::overwrites::{
+    identified_files, inputs_of_args, is_among, overwrite_stop, reject_file_overwrite,
+};
 use crate::run_inputs::{failed_report_path, push_golden_paths, push_image_path};
 use rv_command::{Stop, file_error_stop};
 use rv_files::{Outputs, Text};

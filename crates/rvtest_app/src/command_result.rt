@@ -16,7 +16,10 @@ pub(crate) struct Found {
 }
 
 /// Writes the output of a command to standard output, and returns its exit status.
-pub(crate) fn write_command_result<O: Sink>(out: &mut O, found: Result<Found, Stop>) -> Result<u8, Stop>
+pub(crate) fn write_command_result<O: Sink>(
+    out: &mut O,
+    found: Result<Found, Stop>,
+) -> Result<u8, Stop>
     ensures put { IfOk result (λ status. MatchResult found (λ found. (status ≡ found.status)
         × Appends (O.taken out.old) (O.taken out.new) found.text.items) (λ stop. ⊥)) }
     ensures counted { OnOk result (O.failed out.new ≡ O.failed out.old) }

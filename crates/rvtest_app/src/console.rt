@@ -17,7 +17,7 @@ ghost use Rattle.rvtest_app.specs.CommandOutputs.{outputs_of};
 use crate::destinations::Destinations;
 use crate::named_job::{NamedJob, find_named_job};
 use crate::rules::passing_status;
-use rv_command::{Stop, write_message, write_results, read_list_text};
+use rv_command::{Stop, read_list_text, write_message, write_results};
 use rv_expect::{Judge, Rule, has_passed};
 use rv_files::{Inputs, Outputs, RecordingStore, Sink, UnreadablePath};
 use rv_job_text::{TextReporter, Verbosity};

@@ -16,7 +16,7 @@ use crate::counts_note::sum_note;
 use crate::destinations::Destinations;
 use crate::overwrites::{identified_files, inputs_of_args, reject_option_overwrite};
 use crate::written_text::write_text;
-use rv_command::{DONE, Stop, path_message, path_number_message, write_message, read_result_file};
+use rv_command::{DONE, Stop, path_message, path_number_message, read_result_file, write_message};
 use rv_count_tables::{
     CountTable, Images, ReadError, SumError, read_table, sum_of_tables, table_text,
 };

@@ -14,8 +14,8 @@ ghost use Rattle.rv_diff.specs.Diff.{diff_text, difference_counts};
 use crate::command_result::Found;
 use crate::destinations::Destinations;
 use rv_command::{
-    DONE, RequestedReport, SOME_FAIL, Stop, truncation_note, parse_requested_report, write_message,
-    write_results, read_result_file,
+    DONE, RequestedReport, SOME_FAIL, Stop, parse_requested_report, read_result_file,
+    truncation_note, write_message, write_results,
 };
 use rv_diff::{Compare, Compared, Differing, push_diff, rows_in_both};
 use rv_files::{Inputs, Outputs, Sink};

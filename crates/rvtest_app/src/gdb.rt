@@ -18,8 +18,8 @@ ghost use Rattle.rvtest_app.specs.CommandOutputs.{outputs_of};
 
 use crate::destinations::Destinations;
 use crate::host::Host;
-use crate::planned_job::PlannedJob;
 use crate::named_job::{NamedJob, find_named_job};
+use crate::planned_job::PlannedJob;
 use rv_command::{DONE, Stop, file_error_stop, path_message, read_list_text};
 use rv_expect::{Judge, Rule};
 use rv_files::{

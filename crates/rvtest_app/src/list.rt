@@ -11,7 +11,7 @@ ghost use Rattle.rvtest_app.specs.CommandOutputs.{outputs_of};
 use crate::destinations::Destinations;
 use crate::rules::failure_rule;
 use rv_choice::{Choice, Chooser};
-use rv_command::{DONE, Stop, parse_list, write_message, write_results, read_list_text};
+use rv_command::{DONE, Stop, parse_list, read_list_text, write_message, write_results};
 use rv_files::{Inputs, Outputs, Sink};
 use rv_job_text::push_text;
 use rv_rows::{Job, selected_indices};

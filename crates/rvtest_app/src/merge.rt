@@ -26,7 +26,7 @@ use crate::overwrites::{identified_files, inputs_of_args, reject_option_overwrit
 use crate::rules::{report_judge, rows_status};
 use crate::whole_files::write_whole_files;
 use rv_command::{
-    ResultKind, Stop, path_message, path_number_message, read_result_file, invalid_line_message,
+    ResultKind, Stop, invalid_line_message, path_message, path_number_message, read_result_file,
 };
 use rv_files::{Inputs, Outputs, Sink};
 use rv_job_text::{Span, push_totals_line, text_of_spans};

@@ -8,8 +8,8 @@ ghost use Rattle.rv_files.specs.UnreadPaths.{resolved_path};
 ghost use Rattle.rvtest_app.specs.Overwrites.{AreFilesOf, IsNoInputIfFile, IsOptionOverwriteStop, IsOverwriteStop, IsOverwriteReported, IsUnread, is_among, job_input_text, overwrite_prefix, overwrite_message, input_path_text, input_paths, input_role_text};
 ghost use Rattle.rvtest_app.specs.Outlets.{is_stdout};
 
-use crate::outlets::is_stdout;
 use crate::input_file::{InputFiles, InputPath, InputRole};
+use crate::outlets::is_stdout;
 use rv_command::{Stop, file_error_stop};
 use rv_files::{Outputs, Text, resolved_path};
 use rv_job_text::{Span, push_spans, push_text, text_of_spans};
@@ -134,7 +134,11 @@ fn overwrite_message<'a>(
 }
 
 // Returns the first half of the message: that `option`, with this path, would overwrite a file.
-fn overwrite_prefix<'a>(alloc: Global, option: &'a str, path: &'a str) -> Result<Vec<u8>, AllocError>
+fn overwrite_prefix<'a>(
+    alloc: Global,
+    option: &'a str,
+    path: &'a str,
+) -> Result<Vec<u8>, AllocError>
     ensures { IfOk result (λ text. text.items ≡ overwrite_prefix option.entry.now path.entry.now) }
 {
     text_of_spans(

@@ -6,8 +6,8 @@ ghost use Rattle.rv_files.specs.UnreadPaths.{resolved_path};
 ghost use Rattle.rv_rows.specs.Jobs.{console_path};
 ghost use Rattle.rvtest_app.specs.Overwrites.{AreReportsPreserved, AreRunFilesNoInputs, IsRunOverwriteStop, failed_report_path, golden_paths_of_job, inputs_of_run, paths_of_job, input_paths, report_paths_of_run};
 
-use crate::overwrites::{identified_files, push_input, reject_option_overwrite};
 use crate::input_file::{InputPath, InputRole};
+use crate::overwrites::{identified_files, push_input, reject_option_overwrite};
 use rv_command::Stop;
 use rv_files::Outputs;
 use rv_rows::Job;
@@ -169,7 +169,10 @@ pub(crate) fn failed_report_path<'a>(
 }
 
 // Returns the paths of the reports that a run reads, of `--failed` and of `--into`.
-fn report_paths_of_run<'a>(alloc: Global, args: &RunArgs<'_>) -> Result<Vec<InputPath<'a>>, AllocError>
+fn report_paths_of_run<'a>(
+    alloc: Global,
+    args: &RunArgs<'_>,
+) -> Result<Vec<InputPath<'a>>, AllocError>
     ensures { IfOk result (λ read. input_paths read.items ≡ report_paths_of_run args.now) }
 {
     let mut read = failed_report_path(alloc, args)?;

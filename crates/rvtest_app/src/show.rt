@@ -23,7 +23,7 @@ use crate::overwrites::{identified_files, inputs_of_args, reject_option_overwrit
 use crate::report_summary::push_summary;
 use crate::rules::{report_judge, rows_status};
 use crate::whole_files::write_whole_files;
-use rv_command::{RequestedReport, Stop, truncation_note, write_message, read_requested_report};
+use rv_command::{RequestedReport, Stop, read_requested_report, truncation_note, write_message};
 use rv_expect::Judge;
 use rv_files::{Inputs, Outputs, Sink};
 use rv_junit::Suite;

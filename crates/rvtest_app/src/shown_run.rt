@@ -18,7 +18,7 @@ use crate::crew::requested_crew;
 use crate::planned_run::PlannedRun;
 use crate::report_row_reporter::ReportRowReporter;
 use crate::run::ListRun;
-use crate::run_output::{ShowError, write_totals_line, rows_if_written};
+use crate::run_output::{ShowError, rows_if_written, write_totals_line};
 use crate::terminals::Terminals;
 use rv_files::{Inputs, Sink};
 use rv_job_text::{TextReporter, Verbosity};

@@ -4,11 +4,11 @@ ghost use Rattle.std.specs.Prelude.{None};
 ghost use Rattle.clap.specs.Words.{found_of, rows_of};
 ghost use Rattle.rvtest_cli.specs.RvtestArgs.{IsRequestRead, accept_request, choice_misuse};
 
+use crate::args_error::ArgsError;
 use crate::command::accept_command;
 use crate::refusals::choice_misuse;
 use crate::requests::Request;
 use crate::run::{RunArgs, run_args};
-use crate::args_error::ArgsError;
 use clap::ArgMatches;
 use rv_cli::limits::MAX_GROUP;
 use rv_cli::values::{is_flag_set, number_value, text_value};

@@ -4,8 +4,8 @@ ghost use Rattle.std.specs.Prelude.{None, Some};
 ghost use Rattle.clap.specs.Words.{found_of, rows_of};
 ghost use Rattle.rvtest_cli.specs.RvtestArgs.{IsRequestRead, counts_request};
 
-use crate::requests::Request;
 use crate::args_error::ArgsError;
+use crate::requests::Request;
 use clap::ArgMatches;
 use rv_cli::values::{argument_values, text_value};
 use std::alloc::Global;

@@ -4,11 +4,11 @@ ghost use Rattle.std.specs.Prelude.{◌≡◌, None};
 ghost use Rattle.clap.specs.Words.{found_of, rows_of};
 ghost use Rattle.rvtest_cli.specs.RvtestArgs.{IsRequestRead, cover_misuse, cover_request};
 
+use crate::args_error::ArgsError;
 use crate::command::cover_command;
 use crate::refusals::{Misuse, choice_misuse};
 use crate::requests::Request;
 use crate::run::{RunArgs, is_choice_given, run_args};
-use crate::args_error::ArgsError;
 use clap::ArgMatches;
 use rv_cli::limits::MAX_GROUP;
 use rv_cli::values::{is_flag_set, is_option_given, number_value, text_value};

@@ -4,10 +4,10 @@ ghost use Rattle.std.specs.Prelude.{◌≡◌};
 ghost use Rattle.clap.specs.Words.{found_of, rows_of};
 ghost use Rattle.rvtest_cli.specs.RvtestArgs.{IsRequestFor, IsRequestRead, diff_misuse, diff_request};
 
+use crate::args_error::ArgsError;
 use crate::command::diff_command;
 use crate::refusals::{Misuse, color_misuse};
 use crate::requests::Request;
-use crate::args_error::ArgsError;
 use clap::ArgMatches;
 use rv_cli::values::{is_flag_set, is_option_given, number_value, text_value};
 use std::alloc::Global;

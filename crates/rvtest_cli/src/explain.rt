@@ -3,10 +3,10 @@
 ghost use Rattle.clap.specs.Words.{found_of, rows_of};
 ghost use Rattle.rvtest_cli.specs.RvtestArgs.{IsRequestFor, IsRequestRead, color_misuse, explain_request};
 
+use crate::args_error::ArgsError;
 use crate::command::explain_command;
 use crate::refusals::color_misuse;
 use crate::requests::Request;
-use crate::args_error::ArgsError;
 use clap::ArgMatches;
 use rv_cli::limits::MAX_BUDGET;
 use rv_cli::values::{number_value, text_value};

@@ -5,6 +5,7 @@
 #![tactic(auto)]
 
 mod accept;
+mod args_error;
 mod arguments;
 mod check;
 mod command;
@@ -25,9 +26,9 @@ mod run;
 mod show;
 mod table;
 mod tips;
-mod args_error;
 
 pub use accept::AcceptArgs;
+pub use args_error::{ArgsError, usage_error};
 pub use check::CheckArgs;
 pub use command::{ChoosingCommand, merge_command};
 pub use console::ConsoleArgs;
@@ -42,4 +43,3 @@ pub use profile::ProfileArgs;
 pub use requests::{Request, read_words};
 pub use run::RunArgs;
 pub use show::ShowArgs;
-pub use args_error::{ArgsError, usage_error};

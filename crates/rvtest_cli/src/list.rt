@@ -4,11 +4,11 @@ ghost use Rattle.std.specs.Prelude.{None};
 ghost use Rattle.clap.specs.Words.{found_of, rows_of};
 ghost use Rattle.rvtest_cli.specs.RvtestArgs.{IsRequestRead, choice_misuse, list_request};
 
+use crate::args_error::ArgsError;
 use crate::command::list_command;
 use crate::refusals::choice_misuse;
 use crate::requests::Request;
 use crate::run::run_args;
-use crate::args_error::ArgsError;
 use clap::ArgMatches;
 use rv_cli::values::text_value;
 use std::alloc::Global;

@@ -4,10 +4,10 @@ ghost use Rattle.std.specs.Prelude.{None, Some};
 ghost use Rattle.clap.specs.Words.{found_of, rows_of};
 ghost use Rattle.rvtest_cli.specs.RvtestArgs.{IsRequestRead, merge_request, files_misuse};
 
+use crate::args_error::ArgsError;
 use crate::command::merge_command;
 use crate::refusals::files_misuse;
 use crate::requests::Request;
-use crate::args_error::ArgsError;
 use clap::ArgMatches;
 use rv_cli::values::{argument_values, is_flag_set, text_value};
 use std::alloc::Global;

@@ -6,12 +6,12 @@ ghost use Rattle.rv_cli.specs.Limits.{max_group};
 ghost use Rattle.rvtest_cli.specs.RvtestArgs.{AreRunArgsInRange, IsRequestRead, is_name_combined_with_choice, chosen_names, named_run_options};
 ghost use Rattle.rvtest_cli.specs.RvtestArgs.{profile_misuse, profile_request, run_options_of_args};
 
+use crate::args_error::ArgsError;
 use crate::command::profile_command;
 use crate::cover::cover_misuse;
 use crate::refusals::Misuse;
 use crate::requests::Request;
 use crate::run::{RunArgs, is_choice_given, run_args};
-use crate::args_error::ArgsError;
 use clap::ArgMatches;
 use rv_cli::limits::MAX_GROUP;
 use rv_cli::values::{argument_values, is_flag_set, is_option_given, number_value, text_value};

@@ -9,6 +9,7 @@ ghost use Rattle.rvtest_cli.specs.RvtestArgs.{subcommand_request, args_error_kin
 ghost use Rattle.rvtest_cli.specs.ArgsErrors.{FailsByKinds};
 
 use crate::accept::{AcceptArgs, accept_request};
+use crate::args_error::ArgsError;
 use crate::check::{CheckArgs, check_request};
 use crate::command::rvtest_command;
 use crate::console::{ConsoleArgs, console_request};
@@ -24,7 +25,6 @@ use crate::profile::{ProfileArgs, profile_request};
 use crate::run::{RunArgs, rvtest_run_request};
 use crate::show::{ShowArgs, show_request};
 use crate::tips::FirstWord;
-use crate::args_error::ArgsError;
 use clap::ArgMatches;
 use std::alloc::Global;
 use std::convert::AsStr;

@@ -6,13 +6,13 @@ ghost use Rattle.rv_cli.specs.Limits.{max_group};
 ghost use Rattle.rvtest_cli.specs.RvtestArgs.{AreRunArgsInRange, IsRequestRead, are_counts_overwriting, are_rows_saved, are_rows_written_twice, are_stacks_alone, is_choice_given, is_failed_report_overwritten, is_report_given, is_into_stdout, run_options_of_args};
 ghost use Rattle.rvtest_cli.specs.RvtestArgs.{run_misuse, rvtest_run_request, run_words};
 
+use crate::args_error::ArgsError;
 use crate::command::run_command;
 use crate::refusals::{
     Misuse, files_misuse, is_color_unknown, is_failed_path, is_into_path, is_junit_path,
     is_partial_alone, is_report_path,
 };
 use crate::requests::Request;
-use crate::args_error::ArgsError;
 use clap::ArgMatches;
 use rv_cli::limits::{MAX_BUDGET, MAX_GROUP, MAX_JOBS, MAX_WORKERS};
 use rv_cli::values::{argument_values, is_flag_set, is_option_given, number_value, text_value};

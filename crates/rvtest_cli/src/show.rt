@@ -3,10 +3,10 @@
 ghost use Rattle.clap.specs.Words.{found_of, rows_of};
 ghost use Rattle.rvtest_cli.specs.RvtestArgs.{IsRequestFor, IsRequestRead, show_misuse, show_request};
 
+use crate::args_error::ArgsError;
 use crate::command::show_command;
 use crate::refusals::show_misuse;
 use crate::requests::Request;
-use crate::args_error::ArgsError;
 use clap::ArgMatches;
 use rv_cli::values::{is_flag_set, text_value};
 use std::alloc::Global;
