@@ -72,7 +72,7 @@ pub fn accept_values(
     let places = editable_values(alloc, text)?;
     let whys = uneditable_reasons(alloc, jobs, runs.as_slice(), &places)?;
     let runs = skipped_runs(alloc, whys.as_slice(), runs)?;
-    let Changes { edits, values } = changes_at(alloc, text, jobs, runs.as_slice(), &places)?;
+    let Changes { edits, values } = changes_of_runs(alloc, text, jobs, runs.as_slice(), &places)?;
     if edits.is_empty() && are_intended_jobs(jobs, runs.as_slice(), jobs) {
         return Ok(NewList {
             text: None,
@@ -301,7 +301,7 @@ fn is_editable(at: usize, key: ValueKey, spans: &[ValueSpan]) -> bool {
 }
 
 // Returns the values that change, in text order, and the edits that change them.
-fn changes_at(
+fn changes_of_runs(
     alloc: Global,
     text: &[u8],
     jobs: &[Job],

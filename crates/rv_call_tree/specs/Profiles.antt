@@ -3,7 +3,7 @@ use Rattle.std.specs.Prelude.{◌≡◌, ◌==◌, ◌+◌, ℕ, Bool, if◌then
 use Rattle.std.specs.List.{list_any}
 use Rattle.rv_call_tree.specs.declared.profile.FunctionSteps.{FunctionSteps}
 use Rattle.rv_call_tree.specs.declared.spot.Spot.{Spot}
-use Rattle.rv_call_tree.specs.Trees.{sum_over_nodes, one_if, own_steps_of, path_after, steps_if}
+use Rattle.rv_call_tree.specs.Trees.{sum_over_nodes, address_if, own_steps_of, path_after, steps_if}
 
 -- whether a path has the function
 abbrev pub has_function : ℕ → List ℕ → Bool
@@ -31,7 +31,7 @@ pub record AreStepsOf (function : ℕ) (spots : List Spot) (found : FunctionStep
 -- how often a function occurs in a list
 abbrev pub times : ℕ → List ℕ → ℕ
 times function [] = 0
-times function (f ∷ fs) = one_if (f == function) + times function fs
+times function (f ∷ fs) = address_if (f == function) + times function fs
 
 -- whether the path of at least one node ends in the function
 abbrev pub ends_some_path : ℕ → List Spot → Bool
@@ -39,7 +39,7 @@ ends_some_path function spots = list_any (λ s. s.function == function) spots
 
 -- the list has exactly the functions in which the nodes' paths end, each once
 pub record AreFunctionsOf (spots : List Spot) (functions : List ℕ) : Type 0 where
-  pub once : (function : ℕ) → times function functions ≡ one_if (ends_some_path function spots)
+  pub once : (function : ℕ) → times function functions ≡ address_if (ends_some_path function spots)
 
 -- the list with the function appended, or unchanged if it already has the function
 abbrev pub with_function : ℕ → List ℕ → List ℕ

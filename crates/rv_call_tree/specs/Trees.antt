@@ -23,8 +23,8 @@ path_after_first count spots = last_path [] (take count spots)
 -- ---- the counts
 
 -- 1 if the condition is true, else 0
-abbrev pub one_if : Bool → ℕ
-one_if test = if test then 1 else 0
+abbrev pub address_if : Bool → ℕ
+address_if test = if test then 1 else 0
 
 -- the sum of `count` over the nodes with the path `path`; `front` is the path of the node before these nodes
 abbrev pub sum_over_path : (Spot → ℕ) → List ℕ → List ℕ → List Spot → ℕ

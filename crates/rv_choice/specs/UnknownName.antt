@@ -32,12 +32,12 @@ names_from place count [] = []
 names_from place count (job ∷ jobs) = (text_before_name place count ++ job.name) ++ names_from (place + 1) count jobs
 
 -- how many of `count` names are not among the first 20; empty if there are no more than 20
-abbrev pub names_left : ℕ → List ℕ
-names_left count = if nat_lt 20 count then codes " and " ++ decimal (count - 20) ++ codes " more" else []
+abbrev pub more_names_text : ℕ → List ℕ
+more_names_text count = if nat_lt 20 count then codes " and " ++ decimal (count - 20) ++ codes " more" else []
 
 -- the names of the first 20 jobs, and how many more jobs there are
 abbrev pub shown_names : List Job → List ℕ
-shown_names jobs = names_from 0 (length jobs) (take 20 jobs) ++ codes "\"" ++ names_left (length jobs)
+shown_names jobs = names_from 0 (length jobs) (take 20 jobs) ++ codes "\"" ++ more_names_text (length jobs)
 
 -- the job at index `place` is the one whose name is nearest, and its name is near enough to be suggested
 abbrev pub IsSuggestedJob : List Job → List ℕ → ℕ → Type 0

@@ -1,7 +1,7 @@
 //! A name that no job of a list has.
 
 ghost use Rattle.std.specs.Prelude.{◌≡◌, ◌++◌, ◌<◌, ◌≤◌, ℕ, IfOk, List, OnOk, codes, length};
-ghost use Rattle.rv_choice.specs.UnknownName.{IsNameHint, IsUnknownNameStop, names_from, names_left, no_such_job, shown_names};
+ghost use Rattle.rv_choice.specs.UnknownName.{IsNameHint, IsUnknownNameStop, names_from, more_names_text, no_such_job, shown_names};
 ghost use Rattle.rv_choice.specs.UnknownName.{IsUnknownNameMessage, text_before_name};
 
 use rv_command::{Span, Stop, near_job, push_spans, push_text, text_of_spans};
@@ -133,7 +133,7 @@ fn text_before_name(place: usize, count: usize) -> &'static str
 
 // Appends how many of `count` names are not shown, or nothing if all are shown.
 fn push_more_names(message: &mut Vec<u8>, count: usize) -> Result<(), AllocError>
-    ensures { OnOk result (message.new.items ≡ message.old.items ++ names_left count) }
+    ensures { OnOk result (message.new.items ≡ message.old.items ++ more_names_text count) }
 {
     if count <= MAX_SHOWN {
         return Ok(());

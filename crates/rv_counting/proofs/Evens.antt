@@ -10,7 +10,7 @@ use Rattle.rv_trace.specs.Run.{after_fetch, step_of}
 use Rattle.rv_trace.specs.State.{State}
 use Rattle.rv_count_tables.specs.declared.table.AddressCounts.{AddressCounts}
 use Rattle.rv_count_tables.specs.Table.{executed_at, AreValidCounts, IsCounted}
-use Rattle.rv_counting.specs.Coverage.{fetch_at, is_executed, one_if, behind, executed_in_run, IsConsistentCount, AreCountsOf, AreSortedCounts}
+use Rattle.rv_counting.specs.Coverage.{fetch_at, is_executed, address_if, behind, executed_in_run, IsConsistentCount, AreCountsOf, AreSortedCounts}
 
 -- ---- a step
 
@@ -40,8 +40,8 @@ other_address pc at even odd = elim (eqb_tells pc at) [
   | inr h ↦ h.0
 ]
 
-never_once : (b c : Bool) → c ≡ false → one_if (b && c) ≡ 0
-never_once true c h = ap one_if h
+never_once : (b c : Bool) → c ≡ false → address_if (b && c) ≡ 0
+never_once true c h = ap address_if h
 never_once false c h = refl
 
 none_behind : (r : Result State Ending) (rest : State → ℕ) → ok_is IsEven r → ((t : State) → IsEven t → rest t ≡ 0)
@@ -57,7 +57,7 @@ none_at_odd (suc n) at s even odd =
     let rest = none_behind (step_of s) (λ t. executed_in_run at n t) (step_even s even) (λ t e. none_at_odd n at t e odd) in
     omega (arith, here, rest)
 
-at_most_once : (b : Bool) → one_if b ≤ 1
+at_most_once : (b : Bool) → address_if b ≤ 1
 at_most_once true = omega arith
 at_most_once false = omega arith
 

@@ -15,7 +15,7 @@ use Rattle.rv_trace.specs.Outcome.{start_of}
 use Rattle.rv_trace.specs.Rows.{content_if_read, start_in}
 use Rattle.rv_trace.specs.Wholes.{HaveSameResults}
 use Rattle.rv_count_tables.specs.Printable.{printable_text}
-use Rattle.rv_counting.specs.Coverage.{one_if}
+use Rattle.rv_counting.specs.Coverage.{address_if}
 use Rattle.rv_counting.specs.JobTables.{has_digest, start_over, executed_from, taken_from, executed_by, taken_by, runs_by, first_path, IsTableOfJobs}
 
 same_sum : (f g : Job → ℕ) (P : Job → Type 0) (js : List Job) → ((j : Job) → P j → f j ≡ g j) → All P js
@@ -57,6 +57,6 @@ module _ (some others : List Answer) where
     paths = λ digest. h.paths digest ∙ same_first digest jobs all;
     runs = h.runs
         ∙ same_sum (runs_by some) (runs_by others) (HaveSameResults some others) jobs
-        (λ j k. ap (λ (r : Result State Refusal). one_if (is_ok r)) (same_start j k)) all;
+        (λ j k. ap (λ (r : Result State Refusal). address_if (is_ok r)) (same_start j k)) all;
     stacks = h.stacks;
   }

@@ -28,7 +28,7 @@ use Rattle.rv_counting.proofs.Starts.{no_bytes}
 use Rattle.rv_counting.specs.declared.runs_counter.RunsCounter.{RunsCounter}
 use Rattle.rv_counting.specs.BatchRanges.{HaveOneImage}
 use Rattle.rv_counting.specs.Counters.{counts_of}
-use Rattle.rv_counting.specs.Coverage.{one_if}
+use Rattle.rv_counting.specs.Coverage.{address_if}
 use Rattle.rv_counting.specs.JobTables.{has_digest, start_over, executed_from, taken_from, executed_by, taken_by, path_by, runs_by, first_path, jobs_at, table_of_runs, IsTableOfFew, IsTableOfJobs, IsTableOfRange}
 use Rattle.rv_counting.specs.RunCounts.{executed_of, taken_of, HasCountedJobs}
 use Rattle.rv_counting.specs.Tallies.{IsSorted}
@@ -37,7 +37,7 @@ none_if_not_ok : (r : Result State Refusal) → is_ok r ≡ false → result_ok 
 none_if_not_ok (Ok s) h = cc
 none_if_not_ok (Err why) h = refl
 
-not_ok_if_no_run : (r : Result State Refusal) → one_if (is_ok r) ≡ 0 → is_ok r ≡ false
+not_ok_if_no_run : (r : Result State Refusal) → address_if (is_ok r) ≡ 0 → is_ok r ≡ false
 not_ok_if_no_run (Ok s) h = absurd (omega (arith, h))
 not_ok_if_no_run (Err why) h = refl
 
@@ -124,7 +124,7 @@ module _ (answers : List Answer) where
 
     -- the path of the first job that runs
     first_is_path : (b : Bool) (r : Result State Refusal) (rest : Option (List ℕ)) (n : ℕ)
-        → ((n ≡ 0 → rest ≡ None) × (0 < n → rest ≡ cond b (Some shown) None)) → 0 < one_if (is_ok r) + n
+        → ((n ≡ 0 → rest ≡ None) × (0 < n → rest ≡ cond b (Some shown) None)) → 0 < address_if (is_ok r) + n
         → min_text_of (option_map (λ (s : State). shown) (cond b (result_ok r) None)) rest ≡ cond b (Some shown) None
     first_is_path true (Ok s) rest zero h some = ap (min_text_of (Some shown)) (h.0 refl)
     first_is_path true (Ok s) rest (suc n) h some =
@@ -228,7 +228,7 @@ module _ (plan : Planned) (places : List ℕ) where
     no_run : image_bytes plan.answers (job 0) ≡ None → (k : ℕ) → k < length places → runs_by plan.answers (job k) ≡ 0
     no_run none k lt =
         let start = start_in plan.answers (job k) in
-        ap one_if (not_ok_if_none start (none_if_no_ok start (λ s is. no_bytes (job k) s plan.answers (same_bytes k lt ∙ none) is)))
+        ap address_if (not_ok_if_none start (none_if_no_ok start (λ s is. no_bytes (job k) s plan.answers (same_bytes k lt ∙ none) is)))
 
     pub no_image_ran : (t : CountTable) → t ≡ no_counts → image_bytes plan.answers (job 0) ≡ None → IsTableOfRange plan places t
     no_image_ran t is none = nothing_ran t is (none_of_each (jobs_at plan places) (each_of _ places (no_run none)))

@@ -19,8 +19,8 @@ use Rattle.rv_counting.proofs.Evens.{few_begin, none_at_odd}
 use Rattle.rv_counting.proofs.OfJobs.{none_if_no_ok}
 use Rattle.rv_counting.proofs.Starts.{start_even}
 use Rattle.rv_counting.specs.declared.runs_counter.RunsCounter.{RunsCounter}
-use Rattle.rv_counting.specs.Counters.{counts_of, HasCountedOn}
-use Rattle.rv_counting.specs.Coverage.{one_if}
+use Rattle.rv_counting.specs.Counters.{counts_of, HasCountedFrom}
+use Rattle.rv_counting.specs.Coverage.{address_if}
 use Rattle.rv_counting.specs.JobTables.{executed_from, taken_from, jobs_at, runs_by}
 use Rattle.rv_counting.specs.RunCounts.{executed_of, taken_of, AddsJob, AddsRun, CanCountRuns, HasCountedJobs}
 
@@ -53,7 +53,7 @@ ran_job answers job s old new start adds =
 
 module _ (budget g : ℕ) (s : State) (base : List AddressCounts) (old new : RunsCounter) (fits : budget < 2 ^ 32) (h : CanCountRuns old)
     (same : base ≡ counts_of old.counter) (early : g ≡ old.counter.codes.generation)
-    (counted : HasCountedOn base g budget s new.counter) (one : new.runs ≡ old.runs + 1) where
+    (counted : HasCountedFrom base g budget s new.counter) (one : new.runs ≡ old.runs + 1) where
   begun_more : (at : ℕ) → executed_at at (counts_of new.counter) ≡ executed_at at (counts_of old.counter) + executed_from at budget (Some s)
   begun_more at = counted.sums.begun at ∙ ap (λ cs. executed_at at cs + executed_from at budget (Some s)) same
 
@@ -77,7 +77,7 @@ module _ (budget g : ℕ) (s : State) (base : List AddressCounts) (old new : Run
 
 -- ---- the runs of jobs
 
-ok_is_some : (r : Result State Refusal) → one_if (is_some (result_ok r)) ≡ one_if (is_ok r)
+ok_is_some : (r : Result State Refusal) → address_if (is_some (result_ok r)) ≡ address_if (is_ok r)
 ok_is_some (Ok s) = refl
 ok_is_some (Err why) = refl
 
@@ -114,7 +114,7 @@ module _ (plan : Planned) (places : List ℕ) where
       (one_job_more plan.answers (jobs_at plan (take k places)) (job_at plan place no_job) old new h (adds no_job)))
 
 -- there are no more runs than jobs
-at_most_one : (r : Result State Refusal) → one_if (is_ok r) ≤ 1
+at_most_one : (r : Result State Refusal) → address_if (is_ok r) ≤ 1
 at_most_one (Ok s) = omega arith
 at_most_one (Err why) = omega arith
 

@@ -17,7 +17,7 @@ use Rattle.rv_trace.specs.State.{State}
 use Rattle.rv_trace.specs.Rows.{start_in}
 use Rattle.rv_count_tables.specs.Printable.{printable_text}
 use Rattle.rv_trace.specs.Trace.{image_bytes}
-use Rattle.rv_counting.specs.Coverage.{one_if, executed_in_run, taken_in_run}
+use Rattle.rv_counting.specs.Coverage.{address_if, executed_in_run, taken_in_run}
 
 -- whether there are bytes and this is their SHA-256 digest
 abbrev pub has_digest : List ℕ → Option (List ℕ) → Bool
@@ -53,7 +53,7 @@ path_by answers digest job = option_map (λ s. printable_text job.image) (start_
 
 -- 1 for a job that runs, 0 for a refused one
 abbrev pub runs_by : List Answer → Job → ℕ
-runs_by answers job = one_if (is_ok (start_in answers job))
+runs_by answers job = address_if (is_ok (start_in answers job))
 
 -- the first path in byte order by which the jobs that run the image with this digest name it, or `None` if none runs it
 abbrev pub first_path : List Answer → List ℕ → List Job → Option (List ℕ)

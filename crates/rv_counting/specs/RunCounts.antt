@@ -10,7 +10,7 @@ use Rattle.rv_trace.specs.Rows.{start_in}
 use Rattle.rv_counting.specs.declared.runs_counter.RunsCounter.{RunsCounter}
 use Rattle.rv_counting.specs.Blocks.{HasAllEntries}
 use Rattle.rv_counting.specs.Counters.{counts_of}
-use Rattle.rv_counting.specs.Coverage.{one_if, AreConsistentCounts}
+use Rattle.rv_counting.specs.Coverage.{address_if, AreConsistentCounts}
 use Rattle.rv_counting.specs.JobTables.{executed_from, taken_from, runs_by}
 use Rattle.rv_counting.specs.Tallies.{IsIndexed}
 
@@ -25,7 +25,7 @@ pub record CanCountRuns (c : RunsCounter) : Type 0 where
 -- a run that begins in this state, if there is one, was counted in addition to the others
 pub record AddsRun (budget : ℕ) (start : Option State) (old new : RunsCounter) : Type 0 where
   pub ready : CanCountRuns new
-  pub runs : new.runs ≡ old.runs + one_if (is_some start)
+  pub runs : new.runs ≡ old.runs + address_if (is_some start)
   pub begun : (at : ℕ) → executed_at at (counts_of new.counter) ≡ executed_at at (counts_of old.counter) + executed_from at budget start
   pub taken : (at : ℕ) → taken_at at (counts_of new.counter) ≡ taken_at at (counts_of old.counter) + taken_from at budget start
 

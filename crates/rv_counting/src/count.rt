@@ -4,7 +4,7 @@ ghost use Rattle.std.specs.Prelude.{◌^◌, ◌<◌, ℕ, IfOk, OnOk};
 ghost use Rattle.rv_count_tables.specs.Table.{executed_at};
 ghost use Rattle.rv_trace.specs.Machine.{state_of};
 ghost use Rattle.rv_counting.specs.Blocks.{IsValidCache};
-ghost use Rattle.rv_counting.specs.Counters.{counts_of, HasCountedOn};
+ghost use Rattle.rv_counting.specs.Counters.{counts_of, HasCountedFrom};
 ghost use Rattle.rv_counting.specs.Coverage.{AreCountsOf, AreConsistentCounts};
 ghost use Rattle.rv_counting.specs.Tallies.{IsIndexed};
 
@@ -35,7 +35,7 @@ pub(crate) fn follow_run(
     requires indexed { IsIndexed counter.old.tally }
     requires right { IsValidCache counter.old.codes (state_of machine) }
     requires generations { counter.old.codes.generation < 2 ^ 61 }
-    ensures { OnOk result (HasCountedOn (counts_of counter.old) counter.old.codes.generation budget (state_of machine) counter.new) }
+    ensures { OnOk result (HasCountedFrom (counts_of counter.old) counter.old.codes.generation budget (state_of machine) counter.new) }
 {
     let mut machine = machine;
     let mut left = budget;

@@ -15,7 +15,7 @@ ghost use Rattle.rv_trace.specs.declared_ending.Ending.{Ending};
 ghost use Rattle.rv_trace.specs.Run.{run_of, step_of};
 ghost use Rattle.rv_trace.specs.State.{State};
 ghost use Rattle.rv_trace.specs.Wholes.{HaveSameResults};
-ghost use Rattle.rv_counting.specs.Coverage.{fetch_at, is_executed, one_if, is_executed_at_end, executed_total, AreCountsOf};
+ghost use Rattle.rv_counting.specs.Coverage.{fetch_at, is_executed, address_if, is_executed_at_end, executed_total, AreCountsOf};
 ghost use Rattle.rv_counting.specs.JobTables.{AreTablesOfParts, AreTablesOfShards, IsTableOfJobs, IsTableOfJobsAt, SumsTo};
 
 /// Proves that a step which completes executes an instruction.
@@ -32,7 +32,7 @@ pub fn ending_says_whether_the_last_step_is_executed()
 /// than a fault of the fetch.
 pub fn counts_sum_to_the_steps()
     ensures { (n : ℕ) (s : State) (cs : List AddressCounts) → AreCountsOf n s cs
-        → executed_total cs ≡ (run_of n s).steps + one_if (is_executed_at_end (run_of n s).ending) }
+        → executed_total cs ≡ (run_of n s).steps + address_if (is_executed_at_end (run_of n s).ending) }
 {}
 
 /// Proves that the counts of a run that begins at an even address are valid in a table: each address is even.

@@ -89,7 +89,7 @@ fn check_received(alloc: Global, line: &str) -> Result<(), Fail> {
 
 // Packets are received as they were sent, however their bytes are divided into pieces; invalid input is recognised.
 #[test]
-fn packets_are_heard(rt: HostRuntime) -> Result<(), Fail> {
+fn packets_are_received(rt: HostRuntime) -> Result<(), Fail> {
     has_lines(HEARD, 13)?;
     for line in HEARD.lines() {
         check_received(rt.alloc(), line)?;

@@ -64,16 +64,16 @@ abbrev pub max_line_characters : ℕ
 max_line_characters = 160
 
 -- the maximum number of bytes of a long line that are shown before its first difference
-abbrev pub bytes_before_difference : ℕ
-bytes_before_difference = 32
+abbrev pub max_bytes_before_difference : ℕ
+max_bytes_before_difference = 32
 
 -- the offset from which a line with a difference at the offset `place` is shown: 0, or, if the line is long, an offset shortly before the
 -- difference
 abbrev pub shown_offset : ℕ → List ℕ → ℕ
 shown_offset place text =
     if characters_len max_line_characters text == length text then 0
-    else (place - bytes_before_difference
-    + position_or_len begins_character (drop (place - bytes_before_difference) text))
+    else (place - max_bytes_before_difference
+    + position_or_len begins_character (drop (place - max_bytes_before_difference) text))
 
 -- a line without its first `begin` bytes, after two dots unless `begin` is 0, up to the maximum number of characters
 abbrev pub text_shown_from : ℕ → List ℕ → List ℕ

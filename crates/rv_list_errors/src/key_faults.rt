@@ -9,7 +9,7 @@ use crate::explanations::{
 };
 use crate::job_fault::{BOTH_INPUTS, are_hex_digit_pairs, isa_explanation, push_duplicate_name};
 use crate::keys::{has_region_with_unknown_key, push_unknown_key_of_job, push_unknown_region_key};
-use crate::kinds::{is_of_toml_kind, push_value_of_wrong_type};
+use crate::kinds::{is_value_of_type, push_value_of_wrong_type};
 use crate::list::List;
 use crate::message::Message;
 use crate::names::{Suggestion, push_unknown_same_as};
@@ -118,7 +118,7 @@ impl<'a> FaultyJob<'a> {
         };
         let kind = JOB_KEYS[place].1;
         match value_at_key(self.table, key) {
-            Some(value) if is_of_toml_kind(kind, value) => self.value_fault(kind, key, value, met),
+            Some(value) if is_value_of_type(kind, value) => self.value_fault(kind, key, value, met),
             _ if key == "region" && has_region_with_unknown_key(self.table) => {
                 Some(KeyFault::UnknownInRegion)
             }

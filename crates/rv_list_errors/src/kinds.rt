@@ -55,13 +55,13 @@ fn is_value_of_other_kind(table: &Table, key: &str, kind: Kind) -> bool
     ensures { result ≡ not (is_absent_or (is_of_kind kind) key.now (table_view table.now)) }
 {
     match value_at_key(table, key) {
-        Some(value) => !is_of_toml_kind(kind, value),
+        Some(value) => !is_value_of_type(kind, value),
         None => false,
     }
 }
 
 /// Whether a value has this type.
-pub(crate) fn is_of_toml_kind(kind: Kind, value: &Value) -> bool
+pub(crate) fn is_value_of_type(kind: Kind, value: &Value) -> bool
     ensures { result ≡ is_of_kind kind (view value.now) }
 {
     match kind {

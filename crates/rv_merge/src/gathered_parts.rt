@@ -24,7 +24,7 @@ pub(crate) struct Gathered {
 }
 
 /// Returns the state before the first text is added: it has the run of this shard, and no row.
-pub(crate) fn no_parts_of_run(alloc: Global, shard: &Shard) -> Result<Gathered, AllocError>
+pub(crate) fn initial_state(alloc: Global, shard: &Shard) -> Result<Gathered, AllocError>
     ensures first { IfOk result (λ g. g.first ≡ shard.now) }
     ensures sources { IfOk result (λ g. g.sources.items ≡ replicate shard.now.shards None) }
     ensures slots { IfOk result (λ g. g.slots.items ≡ replicate shard.now.jobs None) }

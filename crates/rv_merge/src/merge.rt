@@ -9,7 +9,7 @@ ghost use Rattle.rv_merge.specs.GatheredParts.{HaveSources, IsMergeStateAfter, I
 ghost use Rattle.rv_merge.specs.GatheredParts.{ExplainsIncomplete, rows_from_slots};
 
 use crate::error::{Flaw, MergeError};
-use crate::gathered_parts::{Gathered, add_part, no_parts_of_run};
+use crate::gathered_parts::{Gathered, add_part, initial_state};
 use crate::names::first_repeated_name;
 use crate::part::part_at;
 use rv_rows::{Row, Rows};
@@ -39,7 +39,7 @@ fn gather_parts(alloc: Global, texts: &[&[u8]]) -> Result<Gathered, MergeError>
     ensures err { IfErr result (HasMergeError (bytes_of_texts texts.now)) }
 {
     let part = part_at(alloc, texts, 0)?;
-    let mut gathered = no_parts_of_run(alloc, &part.shard)?;
+    let mut gathered = initial_state(alloc, &part.shard)?;
     add_part(&mut gathered, texts, 0, part)?;
     for at in 1..texts.len() {
         let part = part_at(alloc, texts, at)?;

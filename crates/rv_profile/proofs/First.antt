@@ -3,7 +3,7 @@ use Rattle.std.proofs.Common.{◌≡◌, ◌∙◌, ◌==◌, ◌-◌, ◌<◌, 
 use Rattle.std.proofs.lemmas.Bool.Decides.{nat_tests}
 use Rattle.std.proofs.lemmas.List.{get_or-map, length-map, take-map}
 use Rattle.std.proofs.lemmas.List.Elements.{All-take}
-use Rattle.rv_profile.specs.Profile.{AreWithin, IsWithin, Profiled, profile_of, profiles_of}
+use Rattle.rv_profile.specs.Profile.{AreWithin, IsWithin, Profiled, function_counts_of, profiles_of}
 use Rattle.rv_profile.specs.Text.{column_header, columns_of, first_of, function_lines, functions_text, more_line}
 use Rattle.rv_profile.specs.declared.columns.Columns.{Columns}
 use Rattle.rv_profile.specs.declared.function.FunctionProfile.{FunctionProfile}
@@ -11,7 +11,7 @@ use Rattle.rv_profile.specs.declared.sums.Sums.{Sums}
 
 pub first_profiles : (top : Option ℕ) (fs : List FunctionProfile) → first_of top (profiles_of fs) ≡ profiles_of (first_of top fs)
 first_profiles None fs = refl
-first_profiles (Some count) fs = take-map profile_of count fs
+first_profiles (Some count) fs = take-map function_counts_of count fs
 
 first_few : (top : Option ℕ) (steps : ℕ) (ps : List Profiled) → AreWithin steps ps → AreWithin steps (first_of top ps)
 first_few None steps ps within = within
@@ -22,10 +22,10 @@ pub first_within : (top : Option ℕ) (steps : ℕ) (fs : List FunctionProfile) 
 first_within top steps fs within = subst (AreWithin steps) (first_profiles top fs) (first_few top steps (profiles_of fs) within)
 
 pub within_there : (steps : ℕ) (fs : List FunctionProfile) (k : ℕ) (d : FunctionProfile) → AreWithin steps (profiles_of fs)
-    → k < length fs → IsWithin steps (profile_of (get_or fs k d))
+    → k < length fs → IsWithin steps (function_counts_of (get_or fs k d))
 within_there steps fs k d within lt =
-    let long = length-map fs profile_of in
-    subst (IsWithin steps) (get_or-map profile_of fs k d (profile_of d) lt) (within k (profile_of d) (omega (arith, long, lt)))
+    let long = length-map fs function_counts_of in
+    subst (IsWithin steps) (get_or-map function_counts_of fs k d (function_counts_of d) lt) (within k (function_counts_of d) (omega (arith, long, lt)))
 
 -- the lines of functions, of which there are some
 pub functions_shown : (top : Option ℕ) (sums : Sums) (fs : List FunctionProfile) → 0 < length fs
@@ -37,7 +37,7 @@ functions_shown top sums (f ∷ fs) some =
     ap (λ (ps : List Profiled). column_header (columns_of sums) ++ function_lines (columns_of sums) sums.steps ps
     ++ more_line (length (profiles_of (f ∷ fs)) - length ps)) (first_profiles top (f ∷ fs))
     ∙ (λ i. column_header (columns_of sums) ++ function_lines (columns_of sums) sums.steps (profiles_of (first_of top (f ∷ fs)))
-    ++ more_line (length-map (f ∷ fs) profile_of i - length-map (first_of top (f ∷ fs)) profile_of i))
+    ++ more_line (length-map (f ∷ fs) function_counts_of i - length-map (first_of top (f ∷ fs)) function_counts_of i))
 
 pub none_shown : (top : Option ℕ) (sums : Sums) (fs : List FunctionProfile) → length fs ≡ 0 → functions_text top sums (profiles_of fs) ≡ []
 none_shown top sums [] none = refl

@@ -12,7 +12,7 @@ use Rattle.rv_count_tables.specs.Table.{functions_increase_from}
 use Rattle.rv_count_tables.specs.declared.table.FunctionName.{FunctionName}
 use Rattle.rv_count_tables.specs.Trees.{all_steps}
 use Rattle.rv_count_tables.specs.declared_spot.Spot.{Spot}
-use Rattle.rv_profile.specs.Profile.{AreWithin, IsProfileOf, Profiled, goes_before, profile_of, profiled, profiles_of}
+use Rattle.rv_profile.specs.Profile.{AreWithin, IsProfileOf, Profiled, goes_before, function_counts_of, profiled, profiles_of}
 use Rattle.rv_profile.specs.declared.function.FunctionProfile.{FunctionProfile}
 use Rattle.rv_profile.proofs.Parts.{profile_within}
 
@@ -54,7 +54,7 @@ addresses : (spots : List Spot) (names : List FunctionName) (xs : List FunctionP
 addresses spots names xs is =
     sym (map-map (λ (p : Profiled). p.function) (profiled spots) names)
     ∙ ap (map (λ (p : Profiled). p.function)) (sym is)
-    ∙ map-map (λ (p : Profiled). p.function) profile_of xs
+    ∙ map-map (λ (p : Profiled). p.function) function_counts_of xs
 
 -- ---- by own steps
 
@@ -74,9 +74,9 @@ module _ (xs ys : List FunctionProfile) (steps : ℕ) (few : steps < 2 ^ 64) (wi
     (stable : IsStableByKey key_of nat_cmp xs ys) where
   own_few : (k : ℕ) (d : FunctionProfile) → k < length ys → (get_or ys k d).steps.own ≤ steps
   own_few k d lt =
-      let long = length-map ys profile_of in
-      subst (λ (p : Profiled). p.own ≤ steps) (get_or-map profile_of ys k d (profile_of d) lt)
-      (within k (profile_of d) (omega (arith, long, lt))).0
+      let long = length-map ys function_counts_of in
+      subst (λ (p : Profiled). p.own ≤ steps) (get_or-map function_counts_of ys k d (function_counts_of d) lt)
+      (within k (function_counts_of d) (omega (arith, long, lt))).0
 
   key_rises : (k : ℕ) (d : FunctionProfile) → k + 1 < length ys → key_of (get_or ys k d) ≤ key_of (get_or ys (k + 1) d)
   key_rises k d lt = not_less_back (key_of (get_or ys (k + 1) d)) (key_of (get_or ys k d)) (sorted k d (omega arith) lt)
@@ -85,7 +85,7 @@ module _ (xs ys : List FunctionProfile) (steps : ℕ) (few : steps < 2 ^ 64) (wi
       not_less_back a b is = grind (arith, nat_tests)
 
   two_in_order : (k : ℕ) (d : FunctionProfile) → k + 1 < length ys
-      → goes_before (profile_of (get_or ys (k + 1) d)) (profile_of (get_or ys k d)) ≡ false
+      → goes_before (function_counts_of (get_or ys (k + 1) d)) (function_counts_of (get_or ys k d)) ≡ false
   two_in_order k d lt =
       let keys = key_rises k d lt in
       let first = own_few k d (omega (arith, lt)) in
@@ -96,9 +96,9 @@ module _ (xs ys : List FunctionProfile) (steps : ℕ) (few : steps < 2 ^ 64) (wi
 
   in_order : (d : FunctionProfile) → IsSortedBy goes_before (profiles_of ys)
   in_order d k e from lt =
-      let long = length-map ys profile_of in
+      let long = length-map ys function_counts_of in
       let lt' : k + 1 < length ys = omega (arith, long, lt) in
-      (λ i. goes_before (get_or-map profile_of ys (k + 1) d e lt' i) (get_or-map profile_of ys k d e (omega (arith, lt')) i))
+      (λ i. goes_before (get_or-map function_counts_of ys (k + 1) d e lt' i) (get_or-map function_counts_of ys k d e (omega (arith, lt')) i))
       ∙ two_in_order k d lt'
 
 none_in_order : IsSortedBy goes_before (profiles_of [])
@@ -110,7 +110,7 @@ pub by_own_steps : (spots : List Spot) (names : List FunctionName) (xs ys : List
     → IsSortedByKey key_of nat_cmp ys → IsStableByKey key_of nat_cmp xs ys → IsProfileOf spots names (profiles_of ys)
 by_own_steps spots names xs ys few rise is same sorted stable =
     let each : IsPermutation (map (profiled spots) names) (profiles_of ys) =
-    subst (λ (ps : List Profiled). IsPermutation ps (profiles_of ys)) is (IsPermutation-map profile_of xs ys same) in
+    subst (λ (ps : List Profiled). IsPermutation ps (profiles_of ys)) is (IsPermutation-map function_counts_of xs ys same) in
     let before = by_address 0 xs (subst (RiseFrom 0) (addresses spots names xs is) (names_above 0 names rise)) in
     record { each = each; order = ordered ys (profile_within spots names (profiles_of ys) each) before sorted stable }
   where

@@ -53,8 +53,8 @@ AreWithin steps ps = All (IsWithin steps) ps
 -- ---- profiles as the code has them
 
 -- the counts of a function, converted from the Rust value to the record that contracts use
-abbrev pub profile_of : FunctionProfile → Profiled
-profile_of function = record {
+abbrev pub function_counts_of : FunctionProfile → Profiled
+function_counts_of function = record {
   name = function.name.now;
   function = function.function;
   own = function.steps.own;
@@ -64,4 +64,4 @@ profile_of function = record {
 
 -- the counts of functions, converted from the Rust values to the records that contracts use, in order
 abbrev pub profiles_of : List FunctionProfile → List Profiled
-profiles_of functions = map profile_of functions
+profiles_of functions = map function_counts_of functions

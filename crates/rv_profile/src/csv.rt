@@ -2,7 +2,7 @@
 
 ghost use Rattle.std.specs.Prelude.{◌≡◌, ◌++◌, OnOk};
 ghost use Rattle.rv_profile.specs.Csv.{csv_header, csv_numbers, csv_row, csv_rows};
-ghost use Rattle.rv_profile.specs.Profile.{profile_of, profiles_of};
+ghost use Rattle.rv_profile.specs.Profile.{function_counts_of, profiles_of};
 
 use crate::function::FunctionProfile;
 use rv_count_tables::{Span, push_spans, push_text};
@@ -38,7 +38,7 @@ fn push_csv_row(
     path: &[u8],
     function: &FunctionProfile<'_>,
 ) -> Result<(), AllocError>
-    ensures { OnOk result (bytes.new.items ≡ bytes.old.items ++ csv_row path.now (profile_of function.now)) }
+    ensures { OnOk result (bytes.new.items ≡ bytes.old.items ++ csv_row path.now (function_counts_of function.now)) }
 {
     push_csv_field(bytes, path)?;
     push_text(bytes, ",")?;
@@ -49,7 +49,7 @@ fn push_csv_row(
 // Appends the rest of a CSV row after the function's name: its address and its counts, each after a comma, and a line feed.
 #[tactic(auto, unfolding(crate::specs::Csv::csv_numbers))]
 fn push_csv_numbers(bytes: &mut Vec<u8>, function: &FunctionProfile<'_>) -> Result<(), AllocError>
-    ensures { OnOk result (bytes.new.items ≡ bytes.old.items ++ csv_numbers (profile_of function.now)) }
+    ensures { OnOk result (bytes.new.items ≡ bytes.old.items ++ csv_numbers (function_counts_of function.now)) }
 {
     push_spans(
         bytes,

@@ -1,7 +1,7 @@
 //! The profile table of an image.
 
 ghost use Rattle.std.specs.Prelude.{◌≡◌, ◌≤◌, ◌++◌, OnOk};
-ghost use Rattle.rv_profile.specs.Profile.{IsWithin, profile_of};
+ghost use Rattle.rv_profile.specs.Profile.{IsWithin, function_counts_of};
 ghost use Rattle.rv_profile.specs.Text.{column_header, function_line, functions_word, hundredths, more_line, percent, right_aligned_word, share, share_header, steps_line, steps_word};
 
 use crate::columns::Columns;
@@ -75,8 +75,8 @@ pub(crate) fn push_function_line(
     steps: u64,
     function: &FunctionProfile<'_>,
 ) -> Result<(), AllocError>
-    requires { IsWithin steps (profile_of function.now) }
-    ensures { OnOk result (bytes.new.items ≡ bytes.old.items ++ function_line columns steps (profile_of function.now)) }
+    requires { IsWithin steps (function_counts_of function.now) }
+    ensures { OnOk result (bytes.new.items ≡ bytes.old.items ++ function_line columns steps (function_counts_of function.now)) }
 {
     let counted = function.steps;
     push_share(alloc, bytes, columns.own, counted.own, steps)?;

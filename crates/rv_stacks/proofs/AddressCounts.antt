@@ -5,7 +5,7 @@ use Rattle.std.proofs.lemmas.Bool.Decides.{nat_tests}
 use Rattle.std.specs.Prelude.{nat_le}
 use Rattle.rv_count_tables.specs.declared.table.AddressCounts.{AddressCounts}
 use Rattle.rv_count_tables.specs.Table.{executed_at, increase_from}
-use Rattle.rv_counting.specs.Coverage.{behind, executed_in_run, fetch_at, is_executed, one_if, AreCountsOf}
+use Rattle.rv_counting.specs.Coverage.{behind, executed_in_run, fetch_at, is_executed, address_if, AreCountsOf}
 use Rattle.rv_counting.specs.declared_ending.Ending.{Ending}
 use Rattle.rv_counting.specs.Run.{step_of}
 use Rattle.rv_counting.specs.State.{State}
@@ -113,28 +113,28 @@ module _ (function : ℕ → ℕ) (f : ℕ) where
     | inr apart ↦ apart
   ]
 
-  if_once : (b : Bool) → cond b (one_if true) 0 ≡ one_if b
+  if_once : (b : Bool) → cond b (address_if true) 0 ≡ address_if b
   if_once true = refl
   if_once false = refl
 
   -- an address that has a count stands once among the addresses
   once_there : (a lowest : ℕ) (cs : List AddressCounts) → increase_from lowest cs ≡ true → 0 < executed_at a cs
-      → over (λ b. one_if (a == b)) cs ≡ one_if (function a == f)
+      → over (λ b. address_if (a == b)) cs ≡ address_if (function a == f)
   once_there a lowest [] h some = absurd (omega (arith, some))
   once_there a lowest (c ∷ cs) h some =
       let p = low lowest c cs h in
       elim (cases_eq c.address a) [
         | inl same ↦
-            let one = ap (λ (b : ℕ). cond (function b == f) (one_if (a == b)) 0) same
-            ∙ ap (λ (t : Bool). cond (function a == f) (one_if t) 0) (equal a) in
-            let none = none_from (λ b. one_if (a == b)) (c.address + 1) cs p.1
-            (λ b above. ap one_if (unequal a b (omega (arith, above, same)))) in
+            let one = ap (λ (b : ℕ). cond (function b == f) (address_if (a == b)) 0) same
+            ∙ ap (λ (t : Bool). cond (function a == f) (address_if t) 0) (equal a) in
+            let none = none_from (λ b. address_if (a == b)) (c.address + 1) cs p.1
+            (λ b above. ap address_if (unequal a b (omega (arith, above, same)))) in
             let once = if_once (function a == f) in
             omega (arith, one, none, once)
         | inr other ↦
             let apart : (a == c.address) ≡ false = apart_test a c.address (λ e. other (sym e)) in
             let apart_too : (c.address == a) ≡ false = apart_test c.address a other in
-            let none = ap (λ (t : Bool). cond (function c.address == f) (one_if t) 0) apart
+            let none = ap (λ (t : Bool). cond (function c.address == f) (address_if t) 0) apart
             ∙ nothing_if (function c.address == f) in
             let gone = ap (λ (t : Bool). cond t c.begun 0) apart_too in
             let rest = once_there a (c.address + 1) cs p.1 (omega (arith, some, gone)) in
@@ -144,7 +144,7 @@ module _ (function : ℕ → ℕ) (f : ℕ) where
   -- an instruction that begins or not
   one_begun : (begun : Bool) (pc : ℕ) (cs : List AddressCounts) → increase_from 0 cs ≡ true
       → (begun ≡ true → 0 < executed_at pc cs)
-      → over (λ a. one_if (begun && (pc == a))) cs ≡ one_if (begun && (function pc == f))
+      → over (λ a. address_if (begun && (pc == a))) cs ≡ address_if (begun && (function pc == f))
   one_begun true pc cs h some = once_there pc 0 cs h (some refl)
   one_begun false pc cs h some = over_none cs
 
@@ -156,12 +156,12 @@ module _ (function : ℕ → ℕ) (f : ℕ) where
   behind_more address n r t is = ap (λ (q : Result State Ending). behind q (λ u. executed_in_run address n u)) is
 
   first_begun : (address n : ℕ) (s : State) → executed_in_run address (suc n) s
-      ≡ one_if (is_executed (fetch_at s) && (s.pc == address)) + behind (step_of s) (λ t. executed_in_run address n t)
+      ≡ address_if (is_executed (fetch_at s) && (s.pc == address)) + behind (step_of s) (λ t. executed_in_run address n t)
   unfolding executed_in_run
   first_begun address n s = refl
 
   first_in_function : (n : ℕ) (s : State) → executed_in_function function f (suc n) s
-      ≡ one_if (is_executed (fetch_at s) && (function s.pc == f)) + behind (step_of s) (λ t. executed_in_function function f n t)
+      ≡ address_if (is_executed (fetch_at s) && (function s.pc == f)) + behind (step_of s) (λ t. executed_in_function function f n t)
   unfolding executed_in_function
   first_in_function n s = refl
 
@@ -188,10 +188,10 @@ module _ (function : ℕ → ℕ) (f : ℕ) where
       ∙ over_none cs ∙ sym (none_in_function s)
   over_run cs h (suc n) s some =
       let split = over_same (λ a. executed_in_run a (suc n) s)
-      (λ a. one_if (is_executed (fetch_at s) && (s.pc == a)) + behind (step_of s) (λ t. executed_in_run a n t)) (λ a. first_begun a n s) cs
-      ∙ over_sum (λ a. one_if (is_executed (fetch_at s) && (s.pc == a))) (λ a. behind (step_of s) (λ t. executed_in_run a n t)) cs in
+      (λ a. address_if (is_executed (fetch_at s) && (s.pc == a)) + behind (step_of s) (λ t. executed_in_run a n t)) (λ a. first_begun a n s) cs
+      ∙ over_sum (λ a. address_if (is_executed (fetch_at s) && (s.pc == a))) (λ a. behind (step_of s) (λ t. executed_in_run a n t)) cs in
       let here = one_begun (is_executed (fetch_at s)) s.pc cs h (λ begun.
-      let one = ap (λ (b : Bool). one_if (b && (s.pc == s.pc))) begun ∙ ap one_if (equal s.pc) in
+      let one = ap (λ (b : Bool). address_if (b && (s.pc == s.pc))) begun ∙ ap address_if (equal s.pc) in
       let first = first_begun s.pc n s in
       some s.pc (omega (arith, one, first))) in
       let rest = over_behind cs n (step_of s) (λ t there. over_run cs h n t there) (λ a there.

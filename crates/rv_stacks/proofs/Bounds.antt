@@ -5,7 +5,7 @@ use Rattle.rv_calls.specs.declared.frames.Frame.{Frame}
 use Rattle.rv_calls.specs.declared.transfer.Transfer.{Transfer}
 use Rattle.rv_calls.specs.Calls.{transfer_of}
 use Rattle.rv_calls.specs.Stack.{after_transfer}
-use Rattle.rv_counting.specs.Coverage.{behind, executed_in_run, fetch_at, is_executed, one_if}
+use Rattle.rv_counting.specs.Coverage.{behind, executed_in_run, fetch_at, is_executed, address_if}
 use Rattle.rv_counting.specs.JobTables.{executed_from}
 use Rattle.rv_counting.specs.declared_ending.Ending.{Ending}
 use Rattle.rv_counting.specs.Run.{step_of}
@@ -13,7 +13,7 @@ use Rattle.rv_counting.specs.State.{State}
 use Rattle.rv_stacks.specs.Stacks.{calls_by, arrivals_in, calls_to, jumps_to, path_at, steps_in}
 use Rattle.rv_stacks.specs.StackTables.{calls_from, steps_from}
 
-pub once_at_most : (b : Bool) → one_if b ≤ 1
+pub once_at_most : (b : Bool) → address_if b ≤ 1
 once_at_most true = omega arith
 once_at_most false = omega arith
 

@@ -5,7 +5,7 @@ use Rattle.std.specs.Str.{bytes_eq}
 use Rattle.rv_calls.specs.declared.frames.Frame.{Frame}
 use Rattle.rv_calls.specs.Calls.{transfer_of}
 use Rattle.rv_calls.specs.Stack.{after_transfer}
-use Rattle.rv_counting.specs.Coverage.{behind, executed_steps, completes, fetch_at, is_executed, one_if, IsStateAfter}
+use Rattle.rv_counting.specs.Coverage.{behind, executed_steps, completes, fetch_at, is_executed, address_if, IsStateAfter}
 use Rattle.rv_counting.specs.declared_ending.Ending.{Ending}
 use Rattle.rv_counting.specs.Run.{step_of}
 use Rattle.rv_counting.specs.State.{State}
@@ -20,12 +20,12 @@ use Rattle.rv_stacks.specs.StackSteps.{AreNodesOf, HasEnteredFirst, SoFar, Stack
 -- ---- one step ahead
 
 pub all_next : (n i : ℕ) (s : State) → i < n → executed_steps (n - i) s
-    ≡ one_if (is_executed (fetch_at s)) + behind (step_of s) (λ t. executed_steps (n - (i + 1)) t)
+    ≡ address_if (is_executed (fetch_at s)) + behind (step_of s) (λ t. executed_steps (n - (i + 1)) t)
 unfolding executed_steps
 all_next n i s h = let e : n - i ≡ suc (n - (i + 1)) = omega arith in ap (λ (m : ℕ). executed_steps m s) e
 
 pub own_next : (function : ℕ → ℕ) (f n i : ℕ) (s : State) → i < n → executed_in_function function f (n - i) s
-    ≡ one_if (is_executed (fetch_at s) && (function s.pc == f)) + behind (step_of s) (λ t. executed_in_function function f (n - (i + 1)) t)
+    ≡ address_if (is_executed (fetch_at s) && (function s.pc == f)) + behind (step_of s) (λ t. executed_in_function function f (n - (i + 1)) t)
 unfolding executed_in_function
 own_next function f n i s h =
     let e : n - i ≡ suc (n - (i + 1)) = omega arith in ap (λ (m : ℕ). executed_in_function function f m s) e
@@ -36,7 +36,7 @@ no_own function f n i s h = let e : n - i ≡ 0 = omega arith in ap (λ (m : ℕ
 
 pub steps_next : (function : ℕ → ℕ) (path : List ℕ) (n i : ℕ) (frames : List Frame) (s : State) → i < n
     → steps_in function path (n - i) frames s
-    ≡ one_if (is_executed (fetch_at s) && bytes_eq (path_at function frames s.pc) path)
+    ≡ address_if (is_executed (fetch_at s) && bytes_eq (path_at function frames s.pc) path)
     + behind (step_of s) (λ t. steps_in function path (n - (i + 1)) (after_transfer frames (transfer_of s t)) t)
 unfolding steps_in
 steps_next function path n i frames s h =
@@ -75,7 +75,7 @@ behind_ended : (r : Result State Ending) (rest : State → ℕ) → false ≡ co
 behind_ended (Ok u) rest h = absurd (false≢true h)
 behind_ended (Err e) rest h = refl
 
-at_most_once : (t : Bool) → one_if t ≤ 1
+at_most_once : (t : Bool) → address_if t ≤ 1
 at_most_once true = omega arith
 at_most_once false = omega arith
 

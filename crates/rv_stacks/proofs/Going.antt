@@ -4,7 +4,7 @@ use Rattle.std.proofs.lemmas.Bool.{cases_Bool}
 use Rattle.std.proofs.lemmas.Bool.Decides.{nat_tests}
 use Rattle.std.proofs.lemmas.List.{get_or_default, take_more}
 use Rattle.std.specs.Str.{bytes_eq}
-use Rattle.rv_counting.specs.Coverage.{one_if}
+use Rattle.rv_counting.specs.Coverage.{address_if}
 use Rattle.rv_stacks.specs.declared.walk.Walk.{Walk}
 use Rattle.rv_stacks.specs.Nodes.{all_calls, all_steps, calls_at, own_steps_of, steps_at}
 use Rattle.rv_stacks.specs.Walks.{Arrives, Returns}
@@ -38,7 +38,7 @@ module _ (old new : Walk) (depth function x : ℕ) (within : depth < length old.
         path = path;
         arrivals = λ at.
             let moved = ap (calls_at at) back.nodes in
-            let none = ap (λ (b : Bool). one_if (not b && bytes_eq (take depth old.path.items ++ function ∷ []) at)) test in
+            let none = ap (λ (b : Bool). address_if (not b && bytes_eq (take depth old.path.items ++ function ∷ []) at)) test in
             omega (arith, moved, none);
         steps = λ at. ap (steps_at at) back.nodes;
         own = λ f. ap (own_steps_of f) back.nodes;
@@ -55,7 +55,7 @@ module _ (old new : Walk) (depth function x : ℕ) (within : depth < length old.
         path = arrives.path;
         arrivals = λ at.
             let more = arrives.arrivals at in
-            let once = ap (λ (b : Bool). one_if (not b && bytes_eq (take depth old.path.items ++ function ∷ []) at)) test in
+            let once = ap (λ (b : Bool). address_if (not b && bytes_eq (take depth old.path.items ++ function ∷ []) at)) test in
             omega (arith, more, once);
         steps = arrives.steps;
         own = arrives.own;

@@ -10,7 +10,7 @@ use Rattle.rv_count_tables.specs.declared.table.FunctionName.{FunctionName}
 use Rattle.rv_count_tables.specs.Sum.{no_counts}
 use Rattle.rv_count_tables.specs.Table.{executed_at, name_at, taken_at, min_text_of, IsTable}
 use Rattle.rv_counting.proofs.Public.{no_counts_is_table, none_if_no_ok, not_ok_if_none, not_over, over, picked_begun, picked_path, picked_taken}
-use Rattle.rv_counting.specs.Coverage.{one_if, AreCountsOf}
+use Rattle.rv_counting.specs.Coverage.{address_if, AreCountsOf}
 use Rattle.rv_counting.specs.JobTables.{executed_from, taken_from}
 use Rattle.rv_counting.specs.declared_image.Image.{Image}
 use Rattle.rv_counting.specs.declared_answers.Answer.{Answer}
@@ -63,7 +63,7 @@ module _ (answers : List Answer) (job : Job) where
             let e = ap (steps_from (function_of_job answers job) path job.budget) (not_over answers job digest none) in
             omega (arith, e);
         names = λ digest f. (λ path ends some. absurd (let e = no_arrivals digest path in omega (arith, e, some)), tt);
-        runs = (let e = ap one_if (not_ok_if_none (start_in answers job) none) in omega (arith, e));
+        runs = (let e = ap address_if (not_ok_if_none (start_in answers job) none) in omega (arith, e));
         budgets = (λ s start. absurd (no_start s start), tt);
       }
 
@@ -124,7 +124,7 @@ module _ (answers : List Answer) (job : Job) where
         arrivals = λ digest path. let e = arrivals_are digest path in omega (arith, e);
         steps = λ digest path. let e = steps_are digest path in omega (arith, e);
         names = λ digest f. (it_is_named digest f, tt);
-        runs = (let e = ap (λ (r : Result State Refusal). one_if (is_ok r)) start in omega (arith, e));
+        runs = (let e = ap (λ (r : Result State Refusal). address_if (is_ok r)) start in omega (arith, e));
         budgets = (small, tt);
       }
 

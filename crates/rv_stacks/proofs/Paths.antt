@@ -9,7 +9,7 @@ use Rattle.rv_calls.specs.declared.action.StackAction.TheVariants as action
 use Rattle.rv_calls.specs.declared.frames.Frame.{Frame}
 use Rattle.rv_calls.specs.declared.transfer.Transfer.{Transfer}
 use Rattle.rv_calls.specs.Stack.{after_transfer, depth_below, remaining_depth, depth_up_to_return, frame_of, is_pushed, popped}
-use Rattle.rv_counting.specs.Coverage.{one_if}
+use Rattle.rv_counting.specs.Coverage.{address_if}
 use Rattle.rv_stacks.specs.declared.walk.Walk.{Walk}
 use Rattle.rv_stacks.specs.Walks.{Arrives}
 use Rattle.rv_stacks.specs.Stacks.{back_at, calls_to, continues_at, jumps_to, path_at}
@@ -110,13 +110,13 @@ module _ (function : ℕ → ℕ) (frames : List Frame) (t : Transfer) where
           arrivals = λ at_path.
               let a = on.arrivals at_path in
               let b = arrives.arrivals at_path in
-              let jump : one_if (not (get_or old.path.items left 0 == caller)
-              && bytes_eq (take left old.path.items ++ caller ∷ []) at_path) ≡ one_if (jumps_to function at_path frames t) =
-              λ i. one_if (not (back i == next i) && bytes_eq (went i) at_path) in
-              let call : one_if (bytes_eq (take (left + 1) mid.path.items ++ called ∷ []) at_path)
-              ≡ one_if (calls_to function at_path frames t) =
-              ap (λ (p : List ℕ). one_if (bytes_eq p at_path)) behind
-              ∙ ap (λ (b : Bool). one_if (b && bytes_eq (path_at function (after_transfer frames t) t.to) at_path)) (sym calls) in
+              let jump : address_if (not (get_or old.path.items left 0 == caller)
+              && bytes_eq (take left old.path.items ++ caller ∷ []) at_path) ≡ address_if (jumps_to function at_path frames t) =
+              λ i. address_if (not (back i == next i) && bytes_eq (went i) at_path) in
+              let call : address_if (bytes_eq (take (left + 1) mid.path.items ++ called ∷ []) at_path)
+              ≡ address_if (calls_to function at_path frames t) =
+              ap (λ (p : List ℕ). address_if (bytes_eq p at_path)) behind
+              ∙ ap (λ (b : Bool). address_if (b && bytes_eq (path_at function (after_transfer frames t) t.to) at_path)) (sym calls) in
               omega (arith, a, b, jump, call);
           steps = λ at_path. arrives.steps at_path ∙ on.steps at_path;
           own = λ f. arrives.own f ∙ on.own f;
@@ -150,11 +150,11 @@ module _ (function : ℕ → ℕ) (frames : List Frame) (t : Transfer) where
           };
           arrivals = λ at_path.
               let a = on.arrivals at_path in
-              let jump : one_if (not (get_or old.path.items left 0 == function_to)
-              && bytes_eq (take left old.path.items ++ function_to ∷ []) at_path) ≡ one_if (jumps_to function at_path frames t) =
-              λ i. one_if (not (back i == next i) && bytes_eq (went i) at_path) in
-              let call : one_if (calls_to function at_path frames t) ≡ 0 =
-              ap (λ (b : Bool). one_if (b && bytes_eq (path_at function (after_transfer frames t) t.to) at_path)) jumps in
+              let jump : address_if (not (get_or old.path.items left 0 == function_to)
+              && bytes_eq (take left old.path.items ++ function_to ∷ []) at_path) ≡ address_if (jumps_to function at_path frames t) =
+              λ i. address_if (not (back i == next i) && bytes_eq (went i) at_path) in
+              let call : address_if (calls_to function at_path frames t) ≡ 0 =
+              ap (λ (b : Bool). address_if (b && bytes_eq (path_at function (after_transfer frames t) t.to) at_path)) jumps in
               omega (arith, a, jump, call);
           steps = on.steps;
           own = on.own;

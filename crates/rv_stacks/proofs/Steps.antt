@@ -7,7 +7,7 @@ use Rattle.rv_calls.specs.declared.frames.Frame.{Frame}
 use Rattle.rv_calls.specs.declared.transfer.Transfer.{Transfer}
 use Rattle.rv_calls.specs.Calls.{transfer_of}
 use Rattle.rv_calls.specs.Stack.{after_transfer}
-use Rattle.rv_counting.specs.Coverage.{completes, fetch_at, is_executed, one_if, IsStateAfter}
+use Rattle.rv_counting.specs.Coverage.{completes, fetch_at, is_executed, address_if, IsStateAfter}
 use Rattle.rv_counting.specs.declared_ending.Ending.{Ending}
 use Rattle.rv_counting.specs.Run.{Ran, run_after_step, run_of, step_of}
 use Rattle.rv_counting.specs.State.{State}
@@ -88,11 +88,11 @@ ended_step function s t frames after begun old new at over is same counts = reco
   state = stays (step_of s) s t over same;
   goes = counts.arrivals;
   steps = λ path. counts.steps path
-      ∙ (λ i. steps_at path old.nodes.items + one_if (is i && bytes_eq (at.path i) path));
+      ∙ (λ i. steps_at path old.nodes.items + address_if (is i && bytes_eq (at.path i) path));
   own = λ f. counts.own f
-      ∙ (λ i. own_steps_of f old.nodes.items + one_if (is i && (ap (ends_with f) at.path ∙ ends_at function frames s.pc f) i));
+      ∙ (λ i. own_steps_of f old.nodes.items + address_if (is i && (ap (ends_with f) at.path ∙ ends_at function frames s.pc f) i));
   few = (let a = counts.all_calls in omega (arith, a));
-  all_steps = counts.all_steps ∙ ap (λ (b : Bool). all_steps old.nodes.items + one_if b) is;
+  all_steps = counts.all_steps ∙ ap (λ (b : Bool). all_steps old.nodes.items + address_if b) is;
 }
 
 -- ---- one that completes
@@ -115,9 +115,9 @@ whole_step function s t tr frames after old mid new at steps is begun counts fra
             ∙ ap (λ (n : ℕ). n + calls_by function path frames (transfer_of s t)) (counts.arrivals path),
       );
       steps = λ path. goes.steps path ∙ counts.steps path
-          ∙ (λ i. steps_at path old.nodes.items + one_if (sym begun i && bytes_eq (at.path i) path));
+          ∙ (λ i. steps_at path old.nodes.items + address_if (sym begun i && bytes_eq (at.path i) path));
       own = λ f. goes.own f ∙ counts.own f
-          ∙ (λ i. own_steps_of f old.nodes.items + one_if (sym begun i && (ap (ends_with f) at.path ∙ ends_at function frames s.pc f) i));
+          ∙ (λ i. own_steps_of f old.nodes.items + address_if (sym begun i && (ap (ends_with f) at.path ∙ ends_at function frames s.pc f) i));
       few = (let a = goes.few in let b = counts.all_calls in omega (arith, a, b));
-      all_steps = goes.all_steps ∙ counts.all_steps ∙ ap (λ (b : Bool). all_steps old.nodes.items + one_if b) (sym begun);
+      all_steps = goes.all_steps ∙ counts.all_steps ∙ ap (λ (b : Bool). all_steps old.nodes.items + address_if b) (sym begun);
     }

@@ -13,7 +13,7 @@ use Rattle.rv_count_tables.specs.declared.table.FunctionName.{FunctionName}
 use Rattle.rv_count_tables.specs.declared.table.ImageCounts.{ImageCounts}
 use Rattle.rv_count_tables.specs.Sum.{HaveNoSum, IsSumOfTables}
 use Rattle.rv_count_tables.specs.Table.{executed_in, taken_in, next_path, truncated_name, arrivals_in, steps_in, has_name, name_of, AreValidNames, AreNamesOf, IsTable}
-use Rattle.rv_counting.specs.Coverage.{one_if}
+use Rattle.rv_counting.specs.Coverage.{address_if}
 use Rattle.rv_counting.specs.JobTables.{first_path, jobs_at, start_over, IsTableOfJobsAt}
 use Rattle.rv_counting.specs.declared_image.Image.{Image}
 use Rattle.rv_counting.specs.SymbolSearch.{symbol_at}
@@ -104,7 +104,7 @@ name_of_job answers job = name_in_image (image_in answers job) (image_bytes answ
 abbrev pub calls_from : (ℕ → ℕ) → List ℕ → ℕ → Option State → ℕ
 calls_from function path n None = 0
 calls_from function path n (Some s) =
-    one_if (bytes_eq (function s.pc ∷ []) path) + run.arrivals_in function path n [] s
+    address_if (bytes_eq (function s.pc ∷ []) path) + run.arrivals_in function path n [] s
 
 -- how many instructions a run of at most `n` steps from this state executes on a path; 0 without a state
 abbrev pub steps_from : (ℕ → ℕ) → List ℕ → ℕ → Option State → ℕ

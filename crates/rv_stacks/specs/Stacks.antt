@@ -6,7 +6,7 @@ use Rattle.rv_calls.specs.declared.transfer.Transfer.{Transfer}
 use Rattle.rv_calls.specs.Calls.{transfer_of}
 use Rattle.rv_calls.specs.Stack.{after_transfer, frame_of, is_pushed, popped}
 use Rattle.rv_count_tables.specs.declared.table.AddressCounts.{AddressCounts}
-use Rattle.rv_counting.specs.Coverage.{behind, executed_steps, fetch_at, is_executed, one_if, AreCountsOf}
+use Rattle.rv_counting.specs.Coverage.{behind, executed_steps, fetch_at, is_executed, address_if, AreCountsOf}
 use Rattle.rv_counting.specs.declared_image.Image.{Image}
 use Rattle.rv_counting.specs.SymbolSearch.{symbol_at}
 use Rattle.rv_counting.specs.Run.{step_of}
@@ -65,7 +65,7 @@ calls_to function path frames t = is_pushed (popped frames t) t
 
 -- how often a transfer enters a path, at most twice: by continuing in another function, and by a call
 abbrev pub calls_by : (ℕ → ℕ) → List ℕ → List Frame → Transfer → ℕ
-calls_by function path frames t = one_if (jumps_to function path frames t) + one_if (calls_to function path frames t)
+calls_by function path frames t = address_if (jumps_to function path frames t) + address_if (calls_to function path frames t)
 
 -- ---- a run
 
@@ -73,7 +73,7 @@ calls_by function path frames t = one_if (jumps_to function path frames t) + one
 unfoldable pub steps_in : (ℕ → ℕ) → List ℕ → ℕ → List Frame → State → ℕ
 steps_in function path zero frames s = 0
 steps_in function path (suc n) frames s =
-    one_if (is_executed (fetch_at s) && bytes_eq (path_at function frames s.pc) path)
+    address_if (is_executed (fetch_at s) && bytes_eq (path_at function frames s.pc) path)
     + behind (step_of s) (λ t. steps_in function path n (after_transfer frames (transfer_of s t)) t)
 
 -- how often a run of at most `n` steps from the state `s`, which begins with these frames, enters a path
@@ -87,7 +87,7 @@ arrivals_in function path (suc n) frames s = behind (step_of s)
 unfoldable pub executed_in_function : (ℕ → ℕ) → ℕ → ℕ → State → ℕ
 executed_in_function function f zero s = 0
 executed_in_function function f (suc n) s =
-    one_if (is_executed (fetch_at s) && (function s.pc == f)) + behind (step_of s) (λ t. executed_in_function function f n t)
+    address_if (is_executed (fetch_at s) && (function s.pc == f)) + behind (step_of s) (λ t. executed_in_function function f n t)
 
 -- `spots` are the call-tree nodes of the run of at most `n` steps from the state `s`, which begins without frames, and so by entering its
 -- first function
@@ -96,7 +96,7 @@ pub record AreStacksOf (function : ℕ → ℕ) (n : ℕ) (s : State) (spots : L
   pub some : HasCalls spots
   pub steps : (path : List ℕ) → steps_at path spots ≡ steps_in function path n [] s
   pub arrivals : (path : List ℕ) → calls_at path spots
-      ≡ one_if (bytes_eq (function s.pc ∷ []) path) + arrivals_in function path n [] s
+      ≡ address_if (bytes_eq (function s.pc ∷ []) path) + arrivals_in function path n [] s
   pub own : (f : ℕ) → own_steps_of f spots ≡ executed_in_function function f n s
   pub all : all_steps spots ≡ executed_steps n s
 

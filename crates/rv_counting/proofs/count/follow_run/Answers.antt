@@ -1,7 +1,7 @@
 -- From block to block.
 use Rattle.std.proofs.Common.{◌≡◌, ◌+◌, ◌-◌, sym, subst, arith}
 use Rattle.rv_trace.specs.Machine.{state_of}
-use Rattle.rv_counting.specs.Counters.{counts_of, IsCountingOn}
+use Rattle.rv_counting.specs.Counters.{counts_of, IsCountingFrom}
 use Rattle.rv_counting.proofs.Counted.{none_so_far}
 use Rattle.rv_counting.proofs.Counters.{counted_all_on, equal_tests, ready_on, unequal_tests}
 use Rattle.rv_counting.proofs.count.follow_run.Goals as goal
@@ -13,7 +13,7 @@ steps-init c =
     let s = state_of c.args.machine in
     let none : n - n ≡ 0 = omega arith in record {
       within = omega arith;
-      counting = subst (λ k. IsCountingOn (counts_of old) old.codes.generation n k s s old) (sym none) (
+      counting = subst (λ k. IsCountingFrom (counts_of old) old.codes.generation n k s s old) (sym none) (
           record {
             so_far = none_so_far (counts_of old) n s c.requires.tallied;
             indexed = c.requires.indexed;
@@ -55,7 +55,7 @@ steps-preserved-then-block-eq0 c =
     let some = c.steps-test.true in
     let sum : n - left + 1 ≡ n - (left - 1) = omega (arith, w, some) in record {
       within = omega (arith, w);
-      counting = subst (λ k. IsCountingOn (counts_of old) g n k start (state_of c.step_uncached.new.machine) c.step_uncached.new.self) sum
+      counting = subst (λ k. IsCountingFrom (counts_of old) g n k start (state_of c.step_uncached.new.machine) c.step_uncached.new.self) sum
           (c.in_ok-step_uncached.ensures.counted.goes_on c.if-not-branch.false (counts_of old) g n (n - left) start (omega (arith, w, some))
           c.steps.invariant.counting);
     }
@@ -72,7 +72,7 @@ steps-preserved c =
     let few = c.find_block-block.ensures.few in
     let sum : n - left + k ≡ n - (left - k) = omega (arith, w, few) in record {
       within = omega (arith, w);
-      counting = subst (λ k. IsCountingOn (counts_of old) g n k start (state_of c.run_block.new.machine) c.run_block.new.self) sum
+      counting = subst (λ k. IsCountingFrom (counts_of old) g n k start (state_of c.run_block.new.machine) c.run_block.new.self) sum
           (c.in_ok-run_block.ensures.counted.goes_on (equal_tests _ _ c.if-branch-block.false) (counts_of old) g n (n - left) start
           (omega (arith, w, few)) c.steps.invariant.counting);
     }
