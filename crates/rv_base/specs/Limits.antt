@@ -10,8 +10,8 @@ abbrev pub max_jobs : ℕ
 max_jobs = 4096
 
 -- the maximum length of a job's name, in bytes
-abbrev pub most_name : ℕ
-most_name = 64
+abbrev pub max_name_len : ℕ
+max_name_len = 64
 
 -- the maximum length of a signature symbol's name, in bytes
 abbrev pub max_symbol_len : ℕ
@@ -42,5 +42,5 @@ abbrev pub max_group : ℕ
 max_group = 4096
 
 -- the maximum size of a file that is read, in bytes
-abbrev pub most_bytes : ℕ
-most_bytes = 16777216
+abbrev pub max_file_size : ℕ
+max_file_size = 16777216

@@ -4,7 +4,7 @@
 pub const MAX_JOBS: usize = 4_096;
 
 /// The maximum length of a job's name, in bytes.
-pub const MOST_NAME: usize = 64;
+pub const MAX_NAME_LEN: usize = 64;
 
 /// The maximum length of a path, in bytes.
 pub const MAX_PATH_LEN: usize = 4_096;
@@ -28,4 +28,4 @@ pub const MAX_WORKERS: u32 = 64;
 pub const MAX_GROUP: u32 = 4_096;
 
 /// The maximum size of a file that is read, in bytes.
-pub const MOST_BYTES: usize = 0x100_0000;
+pub const MAX_FILE_SIZE: usize = 0x100_0000;

@@ -4,14 +4,14 @@ ghost use Rattle.std.specs.Prelude.{◌≡◌};
 ghost use Rattle.std.specs.List.{list_all};
 ghost use Rattle.rv_base.specs.Names.{is_name, is_name_byte};
 
-use crate::limits::MOST_NAME;
+use crate::limits::MAX_NAME_LEN;
 
 /// Whether `text` is a valid name for a job or a run: 1 to 64 ASCII letters, digits, `.`, `_` and `-`.
 #[tactic(auto, unfolding(crate::specs::Names::is_name))]
 pub fn is_name(text: &[u8]) -> bool
     ensures { result ≡ is_name text.now }
 {
-    1 <= text.len() && text.len() <= MOST_NAME && has_name_bytes(text)
+    1 <= text.len() && text.len() <= MAX_NAME_LEN && has_name_bytes(text)
 }
 
 // Whether each byte may be in a name.

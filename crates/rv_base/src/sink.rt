@@ -12,32 +12,32 @@ pub struct SinkFailed;
 /// A destination for bytes, which counts its failures.
 pub trait Sink {
     // The bytes accepted so far, if the sink reveals them.
-    ghost taken: { Self → Option (List ℕ) };
+    ghost accepted: { Self → Option (List ℕ) };
 
     // The number of failures, saturating at `u64::MAX`.
-    ghost failed: { Self → ℕ };
+    ghost failure_count: { Self → ℕ };
 
     /// Accepts one or more bytes from the front of `bytes` and returns how many, or fails and accepts none.
     fn put(&mut self, bytes: &[u8]) -> Result<usize, SinkFailed>
         requires { 0 < length bytes.now }
         ensures within { IfOk result (λ count. (1 ≤ count) × (count ≤ length bytes.now)) }
         ensures taken { IfOk result
-            (λ count. Appends (taken self.old) (taken self.new) (take count bytes.now)) }
-        ensures counted { IfOk result (λ _. failed self.new ≡ failed self.old) }
-        ensures kept { IfErr result (λ _. Keeps (taken self.old) (taken self.new)) }
-        ensures failure { IfErr result (λ _. failed self.new ≡ one_more (failed self.old)) };
+            (λ count. Appends (accepted self.old) (accepted self.new) (take count bytes.now)) }
+        ensures counted { IfOk result (λ _. failure_count self.new ≡ failure_count self.old) }
+        ensures kept { IfErr result (λ _. Keeps (accepted self.old) (accepted self.new)) }
+        ensures failure { IfErr result (λ _. failure_count self.new ≡ one_more (failure_count self.old)) };
 
     /// Returns the number of failed writes.
     fn failures(&self) -> u64
-        ensures { result ≡ failed self.now };
+        ensures { result ≡ failure_count self.now };
 }
 
 /// Writes all of `bytes` to a sink. If a write fails, the bytes of the earlier writes have been accepted, and no further write is tried.
 pub fn put_all<W: Sink>(out: &mut W, bytes: &[u8]) -> Result<(), SinkFailed>
-    ensures appended { OnOk result (Appends (W.taken out.old) (W.taken out.new) bytes.now) }
-    ensures counted { OnOk result (W.failed out.new ≡ W.failed out.old) }
-    ensures part { OnErr result (AppendsPrefix (W.taken out.old) (W.taken out.new) bytes.now) }
-    ensures failure { OnErr result (W.failed out.new ≡ one_more (W.failed out.old)) }
+    ensures appended { OnOk result (Appends (W.accepted out.old) (W.accepted out.new) bytes.now) }
+    ensures counted { OnOk result (W.failure_count out.new ≡ W.failure_count out.old) }
+    ensures part { OnErr result (AppendsPrefix (W.accepted out.old) (W.accepted out.new) bytes.now) }
+    ensures failure { OnErr result (W.failure_count out.new ≡ one_more (W.failure_count out.old)) }
 {
     let mut at = 0;
     while at < bytes.len() {

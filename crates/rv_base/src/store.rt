@@ -3,7 +3,7 @@
 ghost use Rattle.std.specs.Prelude.{◌≡◌, ◌≤◌, ◌<◌, ℕ, Option, Some, MatchResult, IfErr, IfOk, IfSome};
 ghost use Rattle.std.specs.Prelude.{IsSomeAnd, length};
 ghost use Rattle.rv_base.specs.Files.{FileContents, faults_after};
-ghost use Rattle.rv_base.specs.Limits.{most_bytes};
+ghost use Rattle.rv_base.specs.Limits.{max_file_size};
 
 use std::alloc::Global;
 
@@ -24,20 +24,20 @@ pub trait Store {
     ghost contents: { Self → Option FileContents };
 
     // The number of unreadable files so far, saturating at `u64::MAX`.
-    ghost faulted: { Self → ℕ };
+    ghost fault_count: { Self → ℕ };
 
     /// Returns the bytes of the file at a path, of which there are at most 16,777,216.
     fn read(&mut self, alloc: Global, path: &str) -> Result<Vec<u8>, ReadError>
         ensures same { contents self.new ≡ contents self.old }
-        ensures within { IfOk result (λ bytes. length bytes.items ≤ most_bytes) }
+        ensures within { IfOk result (λ bytes. length bytes.items ≤ max_file_size) }
         ensures known { IfOk result (λ bytes. IfSome (contents self.old)
             (λ files. files path.now ≡ Some bytes.items)) }
         ensures long { IfErr result (λ error. error ≡ ReadError.TooLong → IfSome (contents self.old)
-            (λ files. IsSomeAnd (files path.now) (λ bytes. most_bytes < length bytes))) }
-        ensures counted { MatchResult result (λ _. faulted self.new ≡ faulted self.old)
-            (λ error. faulted self.new ≡ faults_after error (faulted self.old)) };
+            (λ files. IsSomeAnd (files path.now) (λ bytes. max_file_size < length bytes))) }
+        ensures counted { MatchResult result (λ _. fault_count self.new ≡ fault_count self.old)
+            (λ error. fault_count self.new ≡ faults_after error (fault_count self.old)) };
 
     /// Returns how many reads found a file unreadable.
     fn faults(&self) -> u64
-        ensures { result ≡ faulted self.now };
+        ensures { result ≡ fault_count self.now };
 }

@@ -4,7 +4,7 @@ use Rattle.std.specs.declared.alloc.AllocError.{AllocError}
 use Rattle.std.specs.declared.alloc.Global.{Global}
 use Rattle.std.specs.declared.io.ErrorKind.{ErrorKind}
 use Rattle.rv_files.specs.Files.{FileContents}
-use Rattle.rv_files.specs.Limits.{most_bytes}
+use Rattle.rv_files.specs.Limits.{max_file_size}
 use Rattle.rvtest_cli.specs.ArgsErrors.{IsUsageText}
 use Rattle.rvtest_cli.specs.declared.args_error.ArgsError.{ArgsError}
 use Rattle.rvtest_cli.specs.declared.args_error.ArgsError.TheVariants as error
@@ -116,7 +116,7 @@ IsFileErrorStop path (file.Failed reason) stop = IsSystemStop path reason stop
 -- why a command stopped: memory ran out, or the file at the path could not be read or is longer than a list may be
 abbrev pub IsListUnreadStop : Option FileContents → List ℕ → Stop → Type 0
 IsListUnreadStop known path stop = IsUnreadStop known path stop
-    ⊎ (IsTooLongAt known path most_bytes
+    ⊎ (IsTooLongAt known path max_file_size
     × IsStop 3 (path_message path (codes "the file is larger than 16777216 bytes")) stop)
 
 -- memory ran out, or the text at the path is an invalid list, and the stop reports its first error

@@ -1,7 +1,7 @@
 //! The job list that a command is given.
 
 ghost use Rattle.std.specs.Prelude.{◌≡◌, ◌≤◌, [], Err, IfErr, IfOk, Ok, length};
-ghost use Rattle.rv_files.specs.Limits.{most_bytes};
+ghost use Rattle.rv_files.specs.Limits.{max_file_size};
 ghost use Rattle.rv_command.specs.Stops.{IsListFaultStop, IsListUnreadStop};
 ghost use Rattle.rv_command.specs.Texts.{IsTextAt};
 ghost use Rattle.rv_list_errors.specs.FaultHeads.{fault_head};
@@ -13,7 +13,7 @@ use crate::files::read_file_up_to;
 use crate::messages::path_message;
 use crate::stop::Stop;
 use rv_files::Inputs;
-use rv_files::limits::MOST_BYTES;
+use rv_files::limits::MAX_FILE_SIZE;
 use rv_list_errors::{push_all_faults, push_faults};
 use rv_rows::{JobError, JobList, What, read_jobs};
 use std::alloc::{AllocError, Global};
@@ -21,10 +21,10 @@ use std::alloc::{AllocError, Global};
 /// Reads the text of a job list or of a file of known failures. Returns an error if it is too long.
 pub fn read_list_text<D: Inputs>(inputs: &D, alloc: Global, path: &str) -> Result<Vec<u8>, Stop>
     ensures read { IfOk result (λ text. IsTextAt (D.contents inputs.now) path.now text.items) }
-    ensures within { IfOk result (λ text. length text.items ≤ most_bytes) }
+    ensures within { IfOk result (λ text. length text.items ≤ max_file_size) }
     ensures unread { IfErr result (IsListUnreadStop (D.contents inputs.now) path.now) }
 {
-    match read_file_up_to(inputs, alloc, path, MOST_BYTES)? {
+    match read_file_up_to(inputs, alloc, path, MAX_FILE_SIZE)? {
         Some(text) => Ok(text),
         None => {
             let what = "the file is larger than 16777216 bytes";

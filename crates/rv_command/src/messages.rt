@@ -54,19 +54,19 @@ pub fn path_number_message<'a>(
 
 /// Writes a message to standard error. A failed write has no other effect.
 pub fn write_message<E: Sink>(errors: &mut E, text: &[u8])
-    ensures { IsMessageWritten (E.taken errors.old) (E.taken errors.new)
-        (E.failed errors.old) (E.failed errors.new) text.now }
+    ensures { IsMessageWritten (E.accepted errors.old) (E.accepted errors.new)
+        (E.failure_count errors.old) (E.failure_count errors.new) text.now }
 {
     let _ = put_all(errors, text);
 }
 
 /// Writes results to standard output. If a write fails, returns `WriteFailed`, and only a prefix of the results is written.
 pub fn write_results<O: Sink>(out: &mut O, text: &[u8]) -> Result<(), Stop>
-    ensures put { OnOk result (Appends (O.taken out.old) (O.taken out.new) text.now) }
-    ensures counted { OnOk result (O.failed out.new ≡ O.failed out.old) }
-    ensures part { OnErr result (AppendsPrefix (O.taken out.old) (O.taken out.new) text.now) }
+    ensures put { OnOk result (Appends (O.accepted out.old) (O.accepted out.new) text.now) }
+    ensures counted { OnOk result (O.failure_count out.new ≡ O.failure_count out.old) }
+    ensures part { OnErr result (AppendsPrefix (O.accepted out.old) (O.accepted out.new) text.now) }
     ensures failed { IfErr result (λ stop.
-        (stop ≡ Stop.WriteFailed) × (O.failed out.new ≡ one_more (O.failed out.old))) }
+        (stop ≡ Stop.WriteFailed) × (O.failure_count out.new ≡ one_more (O.failure_count out.old))) }
 {
     match put_all(out, text) {
         Ok(()) => Ok(()),
@@ -78,8 +78,8 @@ pub fn write_results<O: Sink>(out: &mut O, text: &[u8]) -> Result<(), Stop>
 /// reported, and the status is 141, as if the signal `SIGPIPE` had ended the program.
 pub fn put_end_message<E: Sink>(errors: &mut E, stop: Stop, is_out_closed: bool) -> u8
     ensures status { result ≡ end_status is_out_closed stop }
-    ensures told { IsMessageWritten (E.taken errors.old) (E.taken errors.new)
-        (E.failed errors.old) (E.failed errors.new) (end_message is_out_closed stop) }
+    ensures told { IsMessageWritten (E.accepted errors.old) (E.accepted errors.new)
+        (E.failure_count errors.old) (E.failure_count errors.new) (end_message is_out_closed stop) }
     ensures low { is_out_closed ≡ false → result ≤ 3 }
 {
     match stop {
@@ -91,8 +91,8 @@ pub fn put_end_message<E: Sink>(errors: &mut E, stop: Stop, is_out_closed: bool)
 /// Reports why a command stopped early, and returns the exit status: 2 or 3.
 pub fn write_stop_message<E: Sink>(errors: &mut E, stop: Stop) -> u8
     ensures status { result ≡ stop_status stop }
-    ensures told { IsMessageWritten (E.taken errors.old) (E.taken errors.new)
-        (E.failed errors.old) (E.failed errors.new) (stop_message stop) }
+    ensures told { IsMessageWritten (E.accepted errors.old) (E.accepted errors.new)
+        (E.failure_count errors.old) (E.failure_count errors.new) (stop_message stop) }
     ensures low { result ≤ 3 }
 {
     match stop {
@@ -122,8 +122,8 @@ fn message_status(lines: Lines) -> u8
 /// Writes a message about a system failure to standard error, and returns the exit status 3.
 pub fn write_failure_message<E: Sink>(errors: &mut E, text: &str) -> u8
     ensures status { result ≡ FAILED }
-    ensures told { IsMessageWritten (E.taken errors.old) (E.taken errors.new)
-        (E.failed errors.old) (E.failed errors.new) text.now }
+    ensures told { IsMessageWritten (E.accepted errors.old) (E.accepted errors.new)
+        (E.failure_count errors.old) (E.failure_count errors.new) text.now }
 {
     write_message(errors, text.as_bytes());
     FAILED

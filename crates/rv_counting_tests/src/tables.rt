@@ -21,7 +21,7 @@ struct Files {
 impl Store for Files {
     ghost contents = { λ _. None };
 
-    ghost faulted = { λ s. s.faults };
+    ghost fault_count = { λ s. s.faults };
 
     // Returns the bytes of the file at a path, or an error for a path without a file.
     fn read(&mut self, alloc: Global, path: &str) -> Result<Vec<u8>, ReadError> {

@@ -5,7 +5,7 @@ use Rattle.std.specs.Option.{option_map_or}
 use Rattle.std.specs.Str.{bytes_eq}
 use Rattle.std.proofs.lemmas.List.{map-append, take_all, take_more}
 use Rattle.std.proofs.lemmas.List.Sums.{fold-append}
-use Rattle.rv_count_tables.specs.Limits.{most_bytes}
+use Rattle.rv_count_tables.specs.Limits.{max_file_size}
 use Rattle.rv_counting.specs.JobTables.{jobs_at}
 use Rattle.rv_elf.specs.declared.image.Image.{Image}
 use Rattle.rv_counting.specs.Jobs.{single_job}
@@ -81,8 +81,8 @@ added_new files slice new file there same is absent pushed =
 
 -- its file is not larger than those of the plan
 pub small_here : (answers : List Answer) (job : Job) (bytes : List ℕ) → AreSmall answers → Some bytes ≡ image_bytes answers job
-    → length bytes ≤ most_bytes
-small_here answers job bytes small is = subst (λ (o : Option (List ℕ)). IfSome o (λ read. length read ≤ most_bytes)) (sym is) (small job)
+    → length bytes ≤ max_file_size
+small_here answers job bytes small is = subst (λ (o : Option (List ℕ)). IfSome o (λ read. length read ≤ max_file_size)) (sym is) (small job)
 
 pub on_ok : {X Y : Type 0} (r : Result X Y) (P Q : Type 0) → (P → Q) → OnOk r P → OnOk r Q
 on_ok (Ok x) P Q f p = f p

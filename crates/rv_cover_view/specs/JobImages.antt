@@ -3,7 +3,7 @@ use Rattle.std.specs.Prelude.{◌≤◌, ◌++◌, ℕ, if◌then◌else◌, Lis
 use Rattle.std.specs.List.{fold, list_any}
 use Rattle.std.specs.Option.{option_map_or}
 use Rattle.std.specs.Str.{bytes_eq}
-use Rattle.rv_count_tables.specs.Limits.{most_bytes}
+use Rattle.rv_count_tables.specs.Limits.{max_file_size}
 use Rattle.rv_elf.specs.declared.image.Image.{Image}
 use Rattle.rv_counting.specs.declared_answers.Answer.{Answer}
 use Rattle.rv_counting.specs.declared_job.Job.{Job}
@@ -37,7 +37,7 @@ images_of answers jobs = fold (with_image_of answers) [] jobs
 
 -- no image file is larger than a file that is read may be
 abbrev pub AreSmall : List Answer → Type 0
-AreSmall answers = (job : Job) → IfSome (image_bytes answers job) (λ bytes. length bytes ≤ most_bytes)
+AreSmall answers = (job : Job) → IfSome (image_bytes answers job) (λ bytes. length bytes ≤ max_file_size)
 
 -- ---- images as the code has them
 

@@ -1,7 +1,7 @@
 //! A job's image, with its file.
 
 ghost use Rattle.std.specs.Prelude.{◌≡◌, ◌≤◌, Ok, length};
-ghost use Rattle.rv_count_tables.specs.Limits.{most_bytes};
+ghost use Rattle.rv_count_tables.specs.Limits.{max_file_size};
 ghost use Rattle.rv_elf.specs.Image.{image_of};
 
 use rv_counting::Isa;
@@ -17,5 +17,5 @@ pub struct ImageFile<'a> {
     /// The instruction set that the image was read for.
     pub isa: Isa,
     ghost read: { image_of isa bytes.now ≡ Ok image },
-    ghost small: { length bytes.now ≤ most_bytes },
+    ghost small: { length bytes.now ≤ max_file_size },
 }

@@ -39,12 +39,12 @@ abbrev pub is_sized_function : List ℕ → Symbol → Bool
 is_sized_function strings s = is_function s && (has_section s && (nat_lt 0 s.size && has_usable_name strings s))
 
 -- the maximum length at which the name of a function is shown, in bytes
-abbrev pub most_name : ℕ
-most_name = 1024
+abbrev pub max_function_name_len : ℕ
+max_function_name_len = 1024
 
--- the name at the start of these bytes: the bytes before the first zero byte, but at most `most_name`
+-- the name at the start of these bytes: the bytes before the first zero byte, but at most `max_function_name_len`
 abbrev pub truncated_name : List ℕ → List ℕ
-truncated_name bytes = unwrap_or (text_before_zero (take most_name bytes)) (take most_name bytes)
+truncated_name bytes = unwrap_or (text_before_zero (take max_function_name_len bytes)) (take max_function_name_len bytes)
 
 -- a function: its name, its address and its code
 abbrev pub Named : Type 0

@@ -22,7 +22,7 @@ pub struct Function<'a> {
 }
 
 // The maximum number of bytes shown of a name, so that long names do not cost time for each function.
-const MOST_NAME: usize = 1_024;
+const MAX_FUNCTION_NAME_LEN: usize = 1_024;
 
 /// Returns the functions of the file's first symbol table, in table order (System V ABI, "Symbol Table"): the functions with a size whose
 /// bytes are in the file part of an executable segment. Symbols that [`symbol_at`](crate::symbol_at) ignores are left out. There are none
@@ -130,7 +130,7 @@ impl Symbol {
     }
 }
 
-// Returns the name at the start of these bytes: the bytes before the first zero byte, but at most `MOST_NAME`.
+// Returns the name at the start of these bytes: the bytes before the first zero byte, but at most `MAX_FUNCTION_NAME_LEN`.
 fn truncated_name(bytes: &[u8]) -> &[u8]
     ensures { result.now ≡ truncated_name bytes.now }
 {
@@ -141,9 +141,9 @@ fn truncated_name(bytes: &[u8]) -> &[u8]
     }
 }
 
-// Returns the first `MOST_NAME` bytes, or all if there are fewer.
+// Returns the first `MAX_FUNCTION_NAME_LEN` bytes, or all if there are fewer.
 fn first_bytes(bytes: &[u8]) -> &[u8]
-    ensures { result.now ≡ take MOST_NAME bytes.now }
+    ensures { result.now ≡ take MAX_FUNCTION_NAME_LEN bytes.now }
 {
-    &bytes[..MOST_NAME.min(bytes.len())]
+    &bytes[..MAX_FUNCTION_NAME_LEN.min(bytes.len())]
 }

@@ -33,7 +33,7 @@ pub(crate) const SYMBOL_SIZE: usize = 16;
 pub(crate) const SHN_UNDEF: u16 = 0;
 
 /// The maximum size of a signature in bytes, 65,536 words.
-const MOST_BYTES: u32 = 0x4_0000;
+const MAX_SIGNATURE_SIZE: u32 = 0x4_0000;
 
 /// Returns the value of the first defined symbol of this name in the file's first symbol table, or the first error of the file's sections
 /// that applies: [`ImageError::SectionTable`], [`ImageError::NoSymbols`], [`ImageError::SymbolTable`], [`ImageError::StringTable`], or, for
@@ -70,7 +70,7 @@ fn is_bad_signature_range(begin: u32, end: u32, map: &Map) -> bool
     end < begin
         || begin % 4 != 0
         || end % 4 != 0
-        || begin < end && (!map.in_one(begin, end - begin) || MOST_BYTES < end - begin)
+        || begin < end && (!map.in_one(begin, end - begin) || MAX_SIGNATURE_SIZE < end - begin)
 }
 
 /// Returns the bytes of the file's first symbol table and of its string table, or the first error of these tables that applies.

@@ -20,9 +20,9 @@ pub struct FileSink<W: Drop> {
 }
 
 impl<W: Write + Drop> Sink for FileSink<W> {
-    ghost taken = { λ _. None };
+    ghost accepted = { λ _. None };
 
-    ghost failed = { λ sink. sink.stream.failures };
+    ghost failure_count = { λ sink. sink.stream.failures };
 
     // Writes bytes to the file, and returns how many were written, which is at least one.
     fn put(&mut self, bytes: &[u8]) -> Result<usize, SinkFailed>

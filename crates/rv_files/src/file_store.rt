@@ -2,11 +2,11 @@
 
 ghost use Rattle.std.specs.Prelude.{◌≡◌, ◌≤◌, ◌<◌, None, IfErr, IfOk, IfSome, MatchResult, length};
 ghost use Rattle.rv_base.specs.Files.{faults_after};
-ghost use Rattle.rv_base.specs.Limits.{most_bytes};
+ghost use Rattle.rv_base.specs.Limits.{max_file_size};
 ghost use Rattle.rv_base.specs.Counts.{one_more};
 
 use crate::input::{InputError, read_at_most};
-use rv_base::limits::MOST_BYTES;
+use rv_base::limits::MAX_FILE_SIZE;
 use rv_base::{ReadError, Store};
 use std::alloc::{AllocError, Global};
 use std::fs;
@@ -82,9 +82,9 @@ impl<'a, R: Files> FileStore<'a, R> {
     fn read_counting_faults(&mut self, alloc: Global, path: &str) -> Result<Vec<u8>, ReadError>
         ensures opened { IfOk result (λ bytes. (file : R.File)
             × IfSome (R.File.remaining file) (λ known. bytes.items ≡ known)) }
-        ensures within { IfOk result (λ bytes. length bytes.items ≤ most_bytes) }
+        ensures within { IfOk result (λ bytes. length bytes.items ≤ max_file_size) }
         ensures long { IfErr result (λ error. error ≡ ReadError.TooLong → (file : R.File)
-            × IfSome (R.File.remaining file) (λ known. most_bytes < length known)) }
+            × IfSome (R.File.remaining file) (λ known. max_file_size < length known)) }
         ensures counted { MatchResult result (λ _. self.new.faults ≡ self.old.faults)
             (λ error. self.new.faults ≡ faults_after error self.old.faults) }
     {
@@ -107,7 +107,7 @@ impl<'a, R: Files> FileStore<'a, R> {
 impl<'a, R: Files> Store for FileStore<'a, R> {
     ghost contents = { λ _. None };
 
-    ghost faulted = { λ store. store.faults };
+    ghost fault_count = { λ store. store.faults };
 
     // Reads the file at a path, and counts it if it is unreadable.
     fn read(&mut self, alloc: Global, path: &str) -> Result<Vec<u8>, ReadError> {
@@ -128,9 +128,9 @@ pub(crate) fn read_file<R: Files>(
 ) -> Result<Vec<u8>, ReadWholeError>
     ensures opened { IfOk result (λ bytes. (file : R.File)
         × IfSome (R.File.remaining file) (λ known. bytes.items ≡ known)) }
-    ensures within { IfOk result (λ bytes. length bytes.items ≤ most_bytes) }
+    ensures within { IfOk result (λ bytes. length bytes.items ≤ max_file_size) }
     ensures long { IfErr result (λ error. error ≡ ReadWholeError.TooLong → (file : R.File)
-        × IfSome (R.File.remaining file) (λ known. most_bytes < length known)) }
+        × IfSome (R.File.remaining file) (λ known. max_file_size < length known)) }
 {
     match fs::open(files, path) {
         Ok(mut file) => read_whole(alloc, &mut file),
@@ -142,13 +142,13 @@ pub(crate) fn read_file<R: Files>(
 pub fn read_whole<R: Read>(alloc: Global, file: &mut R) -> Result<Vec<u8>, ReadWholeError>
     ensures whole { IfOk result (λ bytes. IfSome (R.remaining file.old)
         (λ known. bytes.items ≡ known)) }
-    ensures within { IfOk result (λ bytes. length bytes.items ≤ most_bytes) }
+    ensures within { IfOk result (λ bytes. length bytes.items ≤ max_file_size) }
     ensures long { IfErr result
         (λ error. error ≡ ReadWholeError.TooLong → IfSome (R.remaining file.old)
-        (λ known. most_bytes < length known)) }
+        (λ known. max_file_size < length known)) }
 {
-    let bytes = read_at_most(alloc, file, MOST_BYTES + 1)?;
-    if bytes.len() > MOST_BYTES {
+    let bytes = read_at_most(alloc, file, MAX_FILE_SIZE + 1)?;
+    if bytes.len() > MAX_FILE_SIZE {
         return Err(ReadWholeError::TooLong);
     }
     Ok(bytes)

@@ -63,9 +63,9 @@ pub struct MemorySink {
 }
 
 impl Sink for MemorySink {
-    ghost taken = { λ sink. Some sink.bytes.items };
+    ghost accepted = { λ sink. Some sink.bytes.items };
 
-    ghost failed = { λ sink. sink.failures };
+    ghost failure_count = { λ sink. sink.failures };
 
     // Appends all bytes to the file in memory, or none if an allocation fails.
     fn put(&mut self, bytes: &[u8]) -> Result<usize, SinkFailed> {

@@ -47,18 +47,18 @@ pub trait Outputs {
     fn create(&mut self, alloc: Global, path: &str) -> Result<(Self::Place, Self::File), FileError>
         ensures same { placed self.new ≡ placed self.old }
         ensures path { IfOk result (λ made. pending_path made.0 ≡ path.now) }
-        ensures empty { IfOk result (λ made. IfSome (Self.File.taken made.1) (λ bytes. bytes ≡ [])) }
+        ensures empty { IfOk result (λ made. IfSome (Self.File.accepted made.1) (λ bytes. bytes ≡ [])) }
 
         // If the placed files are known, the bytes that this file accepts are known, too.
-        ensures told { IfOk result (λ made. IfSome (placed self.old) (λ _. Self.File.taken made.1 ≡ Some [])) }
-        ensures unfailed { IfOk result (λ made. Self.File.failed made.1 ≡ 0) };
+        ensures told { IfOk result (λ made. IfSome (placed self.old) (λ _. Self.File.accepted made.1 ≡ Some [])) }
+        ensures unfailed { IfOk result (λ made. Self.File.failure_count made.1 ≡ 0) };
 
     /// Syncs a file's bytes to disk.
     fn sync(&mut self, file: Self::File) -> Result<Self::Synced, FileError>
         // Every write succeeded.
-        requires { Self.File.failed file ≡ 0 }
+        requires { Self.File.failure_count file ≡ 0 }
         ensures same { placed self.new ≡ placed self.old }
-        ensures synced { IfOk result (λ synced. synced_bytes synced ≡ Self.File.taken file) }
+        ensures synced { IfOk result (λ synced. synced_bytes synced ≡ Self.File.accepted file) }
         ensures another_error { IfErr result (λ error. error ≢ FileError.SameFile) };
 
     /// Places a file at its path.

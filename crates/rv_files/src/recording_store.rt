@@ -3,13 +3,13 @@
 ghost use Rattle.std.specs.Prelude.{◌≡◌, ◌≤◌, ◌<◌, ◌++◌, ◌∷◌, [], Some, length};
 ghost use Rattle.std.specs.Prelude.{IfErr, IfOk, IfSome, IsSomeAnd, MatchResult, OnErr, OnOk};
 ghost use Rattle.std.specs.Option.{option_copied};
-ghost use Rattle.rv_base.specs.Limits.{most_bytes};
+ghost use Rattle.rv_base.specs.Limits.{max_file_size};
 ghost use Rattle.rv_files.specs.UnreadPaths.{HasNoContentsIfUnreadable, contents_below, unreadable_path, unreadable_paths_after};
 
 use crate::file_store::ReadWholeError;
 use crate::inputs::{Inputs, read_whole_up_to};
 use crate::roots::resolved_path;
-use rv_base::limits::MOST_BYTES;
+use rv_base::limits::MAX_FILE_SIZE;
 use rv_base::{ReadError, Store, Text};
 use std::alloc::{AllocError, Global};
 use std::io::ErrorKind;
@@ -66,10 +66,10 @@ impl<'a, D: Inputs> RecordingStore<'a, D> {
         ensures known { IfOk result (λ bytes.
             IfSome (contents_below (option_copied self.old.folder) (D.contents self.old.inputs.now))
             (λ files. files path.now ≡ Some bytes.items)) }
-        ensures within { IfOk result (λ bytes. length bytes.items ≤ most_bytes) }
+        ensures within { IfOk result (λ bytes. length bytes.items ≤ max_file_size) }
         ensures long { IfErr result (λ error. error ≡ ReadWholeError.TooLong →
             IfSome (contents_below (option_copied self.old.folder) (D.contents self.old.inputs.now))
-            (λ files. IsSomeAnd (files path.now) (λ bytes. most_bytes < length bytes))) }
+            (λ files. IsSomeAnd (files path.now) (λ bytes. max_file_size < length bytes))) }
         ensures missing { IfErr result (HasNoContentsIfUnreadable
             (contents_below (option_copied self.old.folder) (D.contents self.old.inputs.now)) path.now) }
         ensures noted { MatchResult result (λ _. self.new.unread.items ≡ self.old.unread.items)
@@ -88,15 +88,15 @@ impl<'a, D: Inputs> RecordingStore<'a, D> {
         ensures known { IfOk result (λ bytes.
             IfSome (contents_below (option_copied self.now.folder) (D.contents self.now.inputs.now))
             (λ files. files path.now ≡ Some bytes.items)) }
-        ensures within { IfOk result (λ bytes. length bytes.items ≤ most_bytes) }
+        ensures within { IfOk result (λ bytes. length bytes.items ≤ max_file_size) }
         ensures long { IfErr result (λ error. error ≡ ReadWholeError.TooLong →
             IfSome (contents_below (option_copied self.now.folder) (D.contents self.now.inputs.now))
-            (λ files. IsSomeAnd (files path.now) (λ bytes. most_bytes < length bytes))) }
+            (λ files. IsSomeAnd (files path.now) (λ bytes. max_file_size < length bytes))) }
         ensures missing { IfErr result (HasNoContentsIfUnreadable
             (contents_below (option_copied self.now.folder) (D.contents self.now.inputs.now)) path.now) }
     {
         let place = resolved_path(alloc, self.folder, path)?;
-        match read_whole_up_to(self.inputs, alloc, place.as_str(), MOST_BYTES)? {
+        match read_whole_up_to(self.inputs, alloc, place.as_str(), MAX_FILE_SIZE)? {
             Some(bytes) => Ok(bytes),
             None => Err(ReadWholeError::TooLong),
         }
@@ -123,7 +123,7 @@ impl<'a, D: Inputs> RecordingStore<'a, D> {
 impl<'a, D: Inputs> Store for RecordingStore<'a, D> {
     ghost contents = { λ store. contents_below (option_copied store.folder) (D.contents store.inputs.now) };
 
-    ghost faulted = { λ store. length store.unread.items };
+    ghost fault_count = { λ store. length store.unread.items };
 
     // Reads the file at a path, and records the path if it is unreadable.
     fn read(&mut self, alloc: Global, path: &str) -> Result<Vec<u8>, ReadError> {

@@ -51,9 +51,9 @@ impl<W: Write + Drop> StreamSink<W> {
 }
 
 impl<W: Write + Drop> Sink for StreamSink<W> {
-    ghost taken = { λ _. None };
+    ghost accepted = { λ _. None };
 
-    ghost failed = { λ sink. sink.failures };
+    ghost failure_count = { λ sink. sink.failures };
 
     // Writes bytes to the stream and flushes it. Returns how many were written, which is at least one.
     fn put(&mut self, bytes: &[u8]) -> Result<usize, SinkFailed>

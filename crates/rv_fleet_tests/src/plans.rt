@@ -34,7 +34,7 @@ fn length_of(path: &str) -> usize
 impl Store for Files {
     ghost contents = { λ _. None };
 
-    ghost faulted = { λ s. s.faults };
+    ghost fault_count = { λ s. s.faults };
 
     // Records the path, and returns the bytes of the file at it, or an error for a path without a file.
     fn read(&mut self, alloc: Global, path: &str) -> Result<Vec<u8>, ReadError> {

@@ -35,7 +35,7 @@ struct Samples;
 impl Store for Samples {
     ghost contents = { λ _. None };
 
-    ghost faulted = { λ _. 0 };
+    ghost fault_count = { λ _. 0 };
 
     // Returns the sample image at a path.
     fn read(&mut self, alloc: Global, path: &str) -> Result<Vec<u8>, ReadError> {

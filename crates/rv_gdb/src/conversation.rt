@@ -63,11 +63,11 @@ pub fn serve<R: Threads, E: EndText, I: Read + Send, O: Sink>(
     requires requested { session.old.requested ≡ None }
     requires of_run { E.start context.now.end.now ≡ session.old.history.start }
     ensures heard { OnOk result (IsServed (E.end_text context.now.end.now) session.old (I.remaining input.old)
-        (I.remaining input.new) (O.taken out.old) (O.taken out.new) session.new) }
+        (I.remaining input.new) (O.accepted out.old) (O.accepted out.new) session.new) }
     ensures ended { OnOk result (IsEnded session.new (I.remaining input.new)) }
-    ensures failed { IfErr result (λ broken. broken ≡ SessionError.ReplyWriteFailed → O.failed out.new ≡ one_more (O.failed out.old)) }
-    ensures unfailed { IfErr result (λ broken. broken ≢ SessionError.ReplyWriteFailed → O.failed out.new ≡ O.failed out.old) }
-    ensures counted { OnOk result (O.failed out.new ≡ O.failed out.old) }
+    ensures failed { IfErr result (λ broken. broken ≡ SessionError.ReplyWriteFailed → O.failure_count out.new ≡ one_more (O.failure_count out.old)) }
+    ensures unfailed { IfErr result (λ broken. broken ≢ SessionError.ReplyWriteFailed → O.failure_count out.new ≡ O.failure_count out.old) }
+    ensures counted { OnOk result (O.failure_count out.new ≡ O.failure_count out.old) }
 {
     if session.is_over() {
         return Ok(());
@@ -97,12 +97,12 @@ fn respond_to_chunk<R: Threads, E: EndText, I: Read + Send, O: Sink>(
     requires requested { session.old.requested ≡ None }
     requires of_run { E.start context.now.end.now ≡ session.old.history.start }
     ensures answered { IfOk result (λ next. IsChunkHandled (E.end_text context.now.end.now) session.old chunk.now
-        (I.remaining input.old) (I.remaining input.new) (O.taken out.old) (O.taken out.new)
+        (I.remaining input.old) (I.remaining input.new) (O.accepted out.old) (O.accepted out.new)
         (option_map (λ bytes. bytes.items) next) session.new) }
     ensures run { OnOk result (IsSameRun session.old session.new) }
-    ensures failed { IfErr result (λ broken. broken ≡ SessionError.ReplyWriteFailed → O.failed out.new ≡ one_more (O.failed out.old)) }
-    ensures unfailed { IfErr result (λ broken. broken ≢ SessionError.ReplyWriteFailed → O.failed out.new ≡ O.failed out.old) }
-    ensures counted { OnOk result (O.failed out.new ≡ O.failed out.old) }
+    ensures failed { IfErr result (λ broken. broken ≡ SessionError.ReplyWriteFailed → O.failure_count out.new ≡ one_more (O.failure_count out.old)) }
+    ensures unfailed { IfErr result (λ broken. broken ≢ SessionError.ReplyWriteFailed → O.failure_count out.new ≡ O.failure_count out.old) }
+    ensures counted { OnOk result (O.failure_count out.new ≡ O.failure_count out.old) }
 {
     for index in 0..chunk.len() {
         if answer_byte(context, session, chunk, index, out)? {
@@ -128,12 +128,12 @@ fn answer_byte<R, E: EndText, O: Sink>(
     requires requested { session.old.requested ≡ None }
     requires of_run { E.start context.now.end.now ≡ session.old.history.start }
     ensures answered { IfOk result (λ waits. IsByteHandled (E.end_text context.now.end.now) session.old chunk.now index waits
-        (O.taken out.old) (O.taken out.new) session.new) }
+        (O.accepted out.old) (O.accepted out.new) session.new) }
     ensures not_over { OnOk result (IsOpenIfRequested session.new) }
     ensures run { OnOk result (IsSameRun session.old session.new) }
-    ensures failed { IfErr result (λ broken. broken ≡ SessionError.ReplyWriteFailed → O.failed out.new ≡ one_more (O.failed out.old)) }
-    ensures unfailed { IfErr result (λ broken. broken ≢ SessionError.ReplyWriteFailed → O.failed out.new ≡ O.failed out.old) }
-    ensures counted { OnOk result (O.failed out.new ≡ O.failed out.old) }
+    ensures failed { IfErr result (λ broken. broken ≡ SessionError.ReplyWriteFailed → O.failure_count out.new ≡ one_more (O.failure_count out.old)) }
+    ensures unfailed { IfErr result (λ broken. broken ≢ SessionError.ReplyWriteFailed → O.failure_count out.new ≡ O.failure_count out.old) }
+    ensures counted { OnOk result (O.failure_count out.new ≡ O.failure_count out.old) }
 {
     write_byte_reply(context.alloc, session, chunk[index], out)?;
     if !session.is_move_requested() {
@@ -155,12 +155,12 @@ fn write_move_reply_before<R, E: EndText, O: Sink>(
 ) -> Result<(), SessionError>
     requires requested { is_some session.old.requested ≡ true }
     requires of_run { E.start context.now.end.now ≡ session.old.history.start }
-    ensures moved { OnOk result (IsMoveReplyWritten (E.end_text context.now.end.now) (behind == 3) session.old (O.taken out.old)
-        (O.taken out.new) session.new) }
+    ensures moved { OnOk result (IsMoveReplyWritten (E.end_text context.now.end.now) (behind == 3) session.old (O.accepted out.old)
+        (O.accepted out.new) session.new) }
     ensures run { OnOk result (IsSameRun session.old session.new) }
-    ensures failed { IfErr result (λ broken. broken ≡ SessionError.ReplyWriteFailed → O.failed out.new ≡ one_more (O.failed out.old)) }
-    ensures unfailed { IfErr result (λ broken. broken ≢ SessionError.ReplyWriteFailed → O.failed out.new ≡ O.failed out.old) }
-    ensures counted { OnOk result (O.failed out.new ≡ O.failed out.old) }
+    ensures failed { IfErr result (λ broken. broken ≡ SessionError.ReplyWriteFailed → O.failure_count out.new ≡ one_more (O.failure_count out.old)) }
+    ensures unfailed { IfErr result (λ broken. broken ≢ SessionError.ReplyWriteFailed → O.failure_count out.new ≡ O.failure_count out.old) }
+    ensures counted { OnOk result (O.failure_count out.new ≡ O.failure_count out.old) }
 {
     if behind == CTRL_C {
         write_move_reply(context, session, &mut Raised, out)
@@ -177,12 +177,12 @@ fn write_byte_reply<O: Sink>(
     out: &mut O,
 ) -> Result<(), SessionError>
     requires { session.old.requested ≡ None }
-    ensures answered { OnOk result (IsByteReplyWritten session.old byte (O.taken out.old) (O.taken out.new) session.new) }
+    ensures answered { OnOk result (IsByteReplyWritten session.old byte (O.accepted out.old) (O.accepted out.new) session.new) }
     ensures not_over { OnOk result (IsOpenIfRequested session.new) }
     ensures run { OnOk result (IsSameRun session.old session.new) }
-    ensures failed { IfErr result (λ broken. broken ≡ SessionError.ReplyWriteFailed → O.failed out.new ≡ one_more (O.failed out.old)) }
-    ensures unfailed { IfErr result (λ broken. broken ≢ SessionError.ReplyWriteFailed → O.failed out.new ≡ O.failed out.old) }
-    ensures counted { OnOk result (O.failed out.new ≡ O.failed out.old) }
+    ensures failed { IfErr result (λ broken. broken ≡ SessionError.ReplyWriteFailed → O.failure_count out.new ≡ one_more (O.failure_count out.old)) }
+    ensures unfailed { IfErr result (λ broken. broken ≢ SessionError.ReplyWriteFailed → O.failure_count out.new ≡ O.failure_count out.old) }
+    ensures counted { OnOk result (O.failure_count out.new ≡ O.failure_count out.old) }
 {
     let told = session.receive(alloc, byte)?;
     write_reply_bytes(out, told.as_slice())
@@ -198,11 +198,11 @@ fn write_move_reply<R, E: EndText, J: Interrupt, O: Sink>(
     requires requested { is_some session.old.requested ≡ true }
     requires of_run { E.start context.now.end.now ≡ session.old.history.start }
     ensures moved { OnOk result (IsMoveReplyWritten (E.end_text context.now.end.now) (J.was_raised interrupt.new) session.old
-        (O.taken out.old) (O.taken out.new) session.new) }
+        (O.accepted out.old) (O.accepted out.new) session.new) }
     ensures run { OnOk result (IsSameRun session.old session.new) }
-    ensures failed { IfErr result (λ broken. broken ≡ SessionError.ReplyWriteFailed → O.failed out.new ≡ one_more (O.failed out.old)) }
-    ensures unfailed { IfErr result (λ broken. broken ≢ SessionError.ReplyWriteFailed → O.failed out.new ≡ O.failed out.old) }
-    ensures counted { OnOk result (O.failed out.new ≡ O.failed out.old) }
+    ensures failed { IfErr result (λ broken. broken ≡ SessionError.ReplyWriteFailed → O.failure_count out.new ≡ one_more (O.failure_count out.old)) }
+    ensures unfailed { IfErr result (λ broken. broken ≢ SessionError.ReplyWriteFailed → O.failure_count out.new ≡ O.failure_count out.old) }
+    ensures counted { OnOk result (O.failure_count out.new ≡ O.failure_count out.old) }
 {
     match session.work(context.alloc, context.end, interrupt) {
         Ok(told) => write_reply_bytes(out, told.as_slice()),
@@ -216,10 +216,10 @@ fn write_move_reply<R, E: EndText, J: Interrupt, O: Sink>(
 
 // Writes the bytes of a reply, or returns `ReplyWriteFailed` if a write fails.
 fn write_reply_bytes<O: Sink>(out: &mut O, told: &[u8]) -> Result<(), SessionError>
-    ensures put { OnOk result (Appends (O.taken out.old) (O.taken out.new) told.now) }
-    ensures failed { IfErr result (λ broken. broken ≡ SessionError.ReplyWriteFailed → O.failed out.new ≡ one_more (O.failed out.old)) }
-    ensures unfailed { IfErr result (λ broken. broken ≢ SessionError.ReplyWriteFailed → O.failed out.new ≡ O.failed out.old) }
-    ensures counted { OnOk result (O.failed out.new ≡ O.failed out.old) }
+    ensures put { OnOk result (Appends (O.accepted out.old) (O.accepted out.new) told.now) }
+    ensures failed { IfErr result (λ broken. broken ≡ SessionError.ReplyWriteFailed → O.failure_count out.new ≡ one_more (O.failure_count out.old)) }
+    ensures unfailed { IfErr result (λ broken. broken ≢ SessionError.ReplyWriteFailed → O.failure_count out.new ≡ O.failure_count out.old) }
+    ensures counted { OnOk result (O.failure_count out.new ≡ O.failure_count out.old) }
 {
     match put_all(out, told) {
         Ok(()) => Ok(()),
@@ -238,11 +238,11 @@ fn move_while_reading<R: Threads, E: EndText, I: Read + Send, O: Sink>(
     requires of_run { E.start context.now.end.now ≡ session.old.history.start }
     ensures read { IfOk result (λ chunk. IsChunkRead (I.remaining input.old) (I.remaining input.new) chunk.items) }
     ensures moved { IfOk result (λ chunk. IsMoveReplyWritten (E.end_text context.now.end.now) (is_interrupted chunk.items true)
-        session.old (O.taken out.old) (O.taken out.new) session.new) }
+        session.old (O.accepted out.old) (O.accepted out.new) session.new) }
     ensures run { OnOk result (IsSameRun session.old session.new) }
-    ensures failed { IfErr result (λ broken. broken ≡ SessionError.ReplyWriteFailed → O.failed out.new ≡ one_more (O.failed out.old)) }
-    ensures unfailed { IfErr result (λ broken. broken ≢ SessionError.ReplyWriteFailed → O.failed out.new ≡ O.failed out.old) }
-    ensures counted { OnOk result (O.failed out.new ≡ O.failed out.old) }
+    ensures failed { IfErr result (λ broken. broken ≡ SessionError.ReplyWriteFailed → O.failure_count out.new ≡ one_more (O.failure_count out.old)) }
+    ensures unfailed { IfErr result (λ broken. broken ≢ SessionError.ReplyWriteFailed → O.failure_count out.new ≡ O.failure_count out.old) }
+    ensures counted { OnOk result (O.failure_count out.new ≡ O.failure_count out.old) }
 {
     let raised = AtomicBool::new(false);
     move_while_reading_into(context, session, input, out, &raised)
@@ -261,11 +261,11 @@ fn move_while_reading_into<R: Threads, E: EndText, I: Read + Send, O: Sink>(
     requires of_run { E.start context.now.end.now ≡ session.old.history.start }
     ensures read { IfOk result (λ chunk. IsChunkRead (I.remaining input.old) (I.remaining input.new) chunk.items) }
     ensures moved { IfOk result (λ chunk. IsMoveReplyWritten (E.end_text context.now.end.now) (is_interrupted chunk.items true)
-        session.old (O.taken out.old) (O.taken out.new) session.new) }
+        session.old (O.accepted out.old) (O.accepted out.new) session.new) }
     ensures run { OnOk result (IsSameRun session.old session.new) }
-    ensures failed { IfErr result (λ broken. broken ≡ SessionError.ReplyWriteFailed → O.failed out.new ≡ one_more (O.failed out.old)) }
-    ensures unfailed { IfErr result (λ broken. broken ≢ SessionError.ReplyWriteFailed → O.failed out.new ≡ O.failed out.old) }
-    ensures counted { OnOk result (O.failed out.new ≡ O.failed out.old) }
+    ensures failed { IfErr result (λ broken. broken ≡ SessionError.ReplyWriteFailed → O.failure_count out.new ≡ one_more (O.failure_count out.old)) }
+    ensures unfailed { IfErr result (λ broken. broken ≢ SessionError.ReplyWriteFailed → O.failure_count out.new ≡ O.failure_count out.old) }
+    ensures counted { OnOk result (O.failure_count out.new ≡ O.failure_count out.old) }
 {
     let alloc = context.alloc;
     let mut coming = SharedInterrupt {

@@ -5,7 +5,7 @@ use Rattle.std.specs.List.{find}
 use Rattle.std.specs.Str.{bytes_eq}
 use Rattle.rv_files.specs.IoErrors.{io_error_text}
 use Rattle.rv_files.specs.declared.recording_store.UnreadablePath.{UnreadablePath}
-use Rattle.rv_files.specs.Limits.{most_bytes}
+use Rattle.rv_files.specs.Limits.{max_file_size}
 
 -- the first entry for this path in the list of files that could not be read, or `None` if there is none
 abbrev pub unread_note : List UnreadablePath → List ℕ → Option UnreadablePath
@@ -23,4 +23,4 @@ unread_file_text unread path = path ++ codes ": " ++ unread_note_text (unread_no
 -- the text that the file at this path is too large, with the limit
 unfoldable pub too_long_file_text : List ℕ → List ℕ
 too_long_file_text path =
-    path ++ codes ": the file is larger than " ++ decimal most_bytes ++ codes " bytes"
+    path ++ codes ": the file is larger than " ++ decimal max_file_size ++ codes " bytes"

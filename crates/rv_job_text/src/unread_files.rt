@@ -3,7 +3,7 @@
 ghost use Rattle.std.specs.Prelude.{◌≡◌, IfOk, option_map};
 ghost use Rattle.rv_job_text.specs.UnreadFiles.{too_long_file_text, unread_note, unread_note_text, unread_file_text};
 
-use rv_files::limits::MOST_BYTES;
+use rv_files::limits::MAX_FILE_SIZE;
 use rv_files::{UnreadablePath, io_error_text};
 use rv_text::{Span, text_of_spans};
 use std::alloc::{AllocError, Global};
@@ -34,7 +34,7 @@ pub fn too_long_file_text(alloc: Global, path: &str) -> Result<Vec<u8>, AllocErr
         &[
             Span::Text(path),
             Span::Text(": the file is larger than "),
-            Span::Number(MOST_BYTES as u64),
+            Span::Number(MAX_FILE_SIZE as u64),
             Span::Text(" bytes"),
         ],
     )

@@ -3,7 +3,7 @@ use Rattle.std.specs.Prelude.{◌≡◌, ◌≤◌, ◌<◌, ℕ, Bool, true, fa
 use Rattle.std.specs.Prelude.{IsSomeAnd, length, if◌then◌else◌}
 use Rattle.rv_lists.specs.Counts.{one_more}
 use Rattle.rv_lists.specs.Files.{FileContents}
-use Rattle.rv_lists.specs.Limits.{most_bytes}
+use Rattle.rv_lists.specs.Limits.{max_file_size}
 use Rattle.rv_jobs.specs.declared.kept.Kept.{Kept}
 use Rattle.rv_jobs.specs.declared.kept.Kept.TheVariants.{Content, TooLong, Unreadable}
 
@@ -19,7 +19,7 @@ faults_after_read kept n = if is_unreadable kept then one_more n else n
 -- the result of reading a path agrees with the contents of the files, if these are known
 abbrev pub AgreesWithContents : Option FileContents → List ℕ → Kept → Type 0
 AgreesWithContents known path (Content bytes) =
-    (length bytes ≤ most_bytes) × IfSome known (λ files. files path ≡ Some bytes)
+    (length bytes ≤ max_file_size) × IfSome known (λ files. files path ≡ Some bytes)
 AgreesWithContents known path TooLong =
-    IfSome known (λ files. IsSomeAnd (files path) (λ bytes. most_bytes < length bytes))
+    IfSome known (λ files. IsSomeAnd (files path) (λ bytes. max_file_size < length bytes))
 AgreesWithContents known path Unreadable = Unit {0}

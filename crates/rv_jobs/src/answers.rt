@@ -67,8 +67,8 @@ impl<'a> Answers<'a> {
         ensures place { IfOk result (λ a. index_in (paths_of a.0) path.now ≡ Some a.1) }
         ensures kept { AgreeWithContents (S.contents store.old) self.entry
             → IfOk result (λ a. AgreeWithContents (S.contents store.old) a.0) }
-        ensures faults { (n : ℕ) → S.faulted store.old ≡ after_increments n (unreadable_count self.entry)
-            → IfOk result (λ a. S.faulted store.new ≡ after_increments n (unreadable_count a.0)) }
+        ensures faults { (n : ℕ) → S.fault_count store.old ≡ after_increments n (unreadable_count self.entry)
+            → IfOk result (λ a. S.fault_count store.new ≡ after_increments n (unreadable_count a.0)) }
     {
         let Answers {
             mut answers,

@@ -25,8 +25,8 @@ pub(crate) fn read_path<S: Store>(
 ) -> Result<Kept, AllocError>
     ensures same { S.contents store.new ≡ S.contents store.old }
     ensures kept { IfOk result (AgreesWithContents (S.contents store.old) path.now) }
-    ensures counted { IfOk result (λ kept. S.faulted store.new
-        ≡ faults_after_read kept (S.faulted store.old)) }
+    ensures counted { IfOk result (λ kept. S.fault_count store.new
+        ≡ faults_after_read kept (S.fault_count store.old)) }
 {
     match store.read(alloc, path) {
         Ok(bytes) => Ok(Kept::Content(Bytes::new(bytes))),

@@ -62,8 +62,8 @@ impl<'a> Answers<'a> {
         ensures noted { IfOk result (λ a. AreRecorded (paths_of a) jobs.now noted.new.items) }
         ensures kept { AgreeWithContents (S.contents store.old) self.entry
             → IfOk result (AgreeWithContents (S.contents store.old)) }
-        ensures faults { (n : ℕ) → S.faulted store.old ≡ after_increments n (unreadable_count self.entry)
-            → IfOk result (λ a. S.faulted store.new ≡ after_increments n (unreadable_count a)) }
+        ensures faults { (n : ℕ) → S.fault_count store.old ≡ after_increments n (unreadable_count self.entry)
+            → IfOk result (λ a. S.fault_count store.new ≡ after_increments n (unreadable_count a)) }
     {
         let own = self.read_paths_at_index(alloc, store, jobs, place, noted)?;
         match jobs[place].same_as {
@@ -89,8 +89,8 @@ impl<'a> Answers<'a> {
         ensures noted { IfOk result (λ a. AreRecorded (paths_of a) jobs.now noted.new.items) }
         ensures kept { AgreeWithContents (S.contents store.old) self.entry
             → IfOk result (AgreeWithContents (S.contents store.old)) }
-        ensures faults { (n : ℕ) → S.faulted store.old ≡ after_increments n (unreadable_count self.entry)
-            → IfOk result (λ a. S.faulted store.new ≡ after_increments n (unreadable_count a)) }
+        ensures faults { (n : ℕ) → S.fault_count store.old ≡ after_increments n (unreadable_count self.entry)
+            → IfOk result (λ a. S.fault_count store.new ≡ after_increments n (unreadable_count a)) }
     {
         if noted[place].is_some() {
             return Ok(self);
@@ -113,8 +113,8 @@ fn read_paths_of_job<'a, S: Store>(
     ensures places { IfOk result (λ a. AreResultIndices (paths_of a.0) job.now a.1) }
     ensures kept { AgreeWithContents (S.contents store.old) asked.entry
         → IfOk result (λ a. AgreeWithContents (S.contents store.old) a.0) }
-    ensures faults { (n : ℕ) → S.faulted store.old ≡ after_increments n (unreadable_count asked.entry)
-        → IfOk result (λ a. S.faulted store.new ≡ after_increments n (unreadable_count a.0)) }
+    ensures faults { (n : ℕ) → S.fault_count store.old ≡ after_increments n (unreadable_count asked.entry)
+        → IfOk result (λ a. S.fault_count store.new ≡ after_increments n (unreadable_count a.0)) }
 {
     let (first, image) = asked.read_path_once(alloc, store, job.image.as_str())?;
     let (second, reference) = read_path_if_any(alloc, store, first, reference_path(job))?;
@@ -161,8 +161,8 @@ fn read_path_if_any<'a, S: Store>(
         (option_map (λ p. p.now) path.entry) ≡ option_map (λ k. Some k) a.1) }
     ensures kept { AgreeWithContents (S.contents store.old) asked.entry
         → IfOk result (λ a. AgreeWithContents (S.contents store.old) a.0) }
-    ensures faults { (n : ℕ) → S.faulted store.old ≡ after_increments n (unreadable_count asked.entry)
-        → IfOk result (λ a. S.faulted store.new ≡ after_increments n (unreadable_count a.0)) }
+    ensures faults { (n : ℕ) → S.fault_count store.old ≡ after_increments n (unreadable_count asked.entry)
+        → IfOk result (λ a. S.fault_count store.new ≡ after_increments n (unreadable_count a.0)) }
 {
     match path {
         Some(path) => {

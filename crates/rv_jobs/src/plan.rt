@@ -51,8 +51,8 @@ pub fn gather<S: Store>(alloc: Global, jobs: JobList, store: &mut S) -> Result<P
     ensures jobs { IfOk result (λ p. p.jobs ≡ jobs) }
     ensures paths { IfOk result (λ p. paths_of p.answers ≡ paths_used jobs) }
     ensures kept { IfOk result (λ p. AgreeWithContents (S.contents store.old) p.answers) }
-    ensures faults { IfOk result (λ p. S.faulted store.new
-        ≡ after_increments (S.faulted store.old) (unreadable_count p.answers)) }
+    ensures faults { IfOk result (λ p. S.fault_count store.new
+        ≡ after_increments (S.fault_count store.old) (unreadable_count p.answers)) }
 {
     let places = all_indices(alloc, &jobs)?;
     gather_jobs(alloc, jobs, places, store)
@@ -72,8 +72,8 @@ pub fn gather_jobs<S: Store>(
     ensures paths { IfOk result (λ p. paths_of p.answers
         ≡ paths_used (jobs_needed_for jobs places.items)) }
     ensures kept { IfOk result (λ p. AgreeWithContents (S.contents store.old) p.answers) }
-    ensures faults { IfOk result (λ p. S.faulted store.new
-        ≡ after_increments (S.faulted store.old) (unreadable_count p.answers)) }
+    ensures faults { IfOk result (λ p. S.fault_count store.new
+        ≡ after_increments (S.fault_count store.old) (unreadable_count p.answers)) }
 {
     let none = Answers::new(alloc, places.len())?;
     let mut asked = none;

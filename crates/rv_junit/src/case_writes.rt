@@ -86,18 +86,18 @@ pub(crate) fn write_cases<T: RowReporter, W: Sink>(
     out: &mut W,
 ) -> Result<(), WriteError>
     requires known { AreLinesOf (T.line cases.now.reporter.now) cases.now.places.now cases.now.rows.now cases.now.texts.now }
-    ensures under_way { OnOk result (IsPartlyWritten (W.taken out.old) (W.taken out.new) text.new.items
+    ensures under_way { OnOk result (IsPartlyWritten (W.accepted out.old) (W.accepted out.new) text.new.items
         (text.old.items ++ joined_row_texts (case_text suite.now.name.now (judge_view suite.now.judge) (T.line cases.now.reporter.now))
         cases.now.places.now cases.now.rows.now)) }
-    ensures counted { OnOk result (W.failed out.new ≡ W.failed out.old) }
-    ensures part { OnErr result (AppendsPrefix (W.taken out.old) (W.taken out.new)
+    ensures counted { OnOk result (W.failure_count out.new ≡ W.failure_count out.old) }
+    ensures part { OnErr result (AppendsPrefix (W.accepted out.old) (W.accepted out.new)
         (text.old.items ++ joined_row_texts (case_text suite.now.name.now (judge_view suite.now.judge) (T.line cases.now.reporter.now))
         cases.now.places.now cases.now.rows.now)) }
     ensures failed { IfErr result (λ error. error ≡ WriteError.Failed
-        → W.failed out.new ≡ one_more (W.failed out.old)) }
+        → W.failure_count out.new ≡ one_more (W.failure_count out.old)) }
     // If an allocation failed, no write did.
     ensures refused { IfErr result (λ error. error ≡ WriteError.OutOfMemory
-        → W.failed out.new ≡ W.failed out.old) }
+        → W.failure_count out.new ≡ W.failure_count out.old) }
 {
     for i in 0..cases.rows.len() {
         cases.push_case(alloc, suite, i, text)?;
@@ -108,13 +108,13 @@ pub(crate) fn write_cases<T: RowReporter, W: Sink>(
 
 // Writes the buffered text if it is long enough for a large write.
 fn write_if_large<W: Sink>(text: &mut Vec<u8>, out: &mut W) -> Result<(), WriteError>
-    ensures under_way { OnOk result (IsPartlyWritten (W.taken out.old) (W.taken out.new)
+    ensures under_way { OnOk result (IsPartlyWritten (W.accepted out.old) (W.accepted out.new)
         text.new.items text.old.items) }
-    ensures counted { OnOk result (W.failed out.new ≡ W.failed out.old) }
+    ensures counted { OnOk result (W.failure_count out.new ≡ W.failure_count out.old) }
     ensures part { OnErr result
-        (AppendsPrefix (W.taken out.old) (W.taken out.new) text.old.items) }
+        (AppendsPrefix (W.accepted out.old) (W.accepted out.new) text.old.items) }
     ensures failed { IfErr result
-        (λ error. (error ≡ WriteError.Failed) × (W.failed out.new ≡ one_more (W.failed out.old))) }
+        (λ error. (error ≡ WriteError.Failed) × (W.failure_count out.new ≡ one_more (W.failure_count out.old))) }
 {
     if text.len() < ENOUGH {
         return Ok(());

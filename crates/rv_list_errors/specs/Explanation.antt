@@ -6,7 +6,7 @@ use Rattle.std.specs.List.{find, starts_with}
 use Rattle.toml.specs.Data.{Data, Members, no_members, member, as_str}
 use Rattle.toml.specs.Text.{IsValueText}
 use Rattle.rv_lists.specs.Keys.{is_job_key, is_list_key, is_region_key}
-use Rattle.rv_lists.specs.Limits.{max_budget, max_jobs, most_name, max_path_len, max_symbol_len}
+use Rattle.rv_lists.specs.Limits.{max_budget, max_jobs, max_name_len, max_path_len, max_symbol_len}
 use Rattle.rv_lists.specs.declared.error.What.{What}
 use Rattle.rv_lists.specs.declared.error.What.TheVariants as what
 use Rattle.rv_lists.specs.MachineFaults.{fault_kinds, fault_name}
@@ -137,7 +137,7 @@ explained_text (told.Expected wanted) = wanted.now.before.now ++ (inserted_text 
 -- the text that says what is expected of the bad value, given the error, or `None` if it depends on more than the error
 abbrev pub expected_of_error : What → Option (List ℕ)
 expected_of_error what.Name =
-    Some (codes "expected 1 to " ++ (decimal most_name ++ codes " ASCII letters, digits, \".\", \"_\" or \"-\""))
+    Some (codes "expected 1 to " ++ (decimal max_name_len ++ codes " ASCII letters, digits, \".\", \"_\" or \"-\""))
 expected_of_error what.Image = Some (codes "expected a path of 1 to " ++ (decimal max_path_len ++ codes " bytes"))
 expected_of_error what.Budget = Some (codes "expected an integer from 1 to " ++ (decimal max_budget ++ codes ""))
 expected_of_error what.Load = Some (codes "expected \"physical\" or \"virtual\"")

@@ -3,7 +3,7 @@ use Rattle.std.specs.Prelude.{◌≡◌, ◌+◌, ◌-◌, ◌^◌, ◌<◌, ◌
 use Rattle.std.specs.Prelude.{codes, if◌then◌else◌, length, nat_eq, nat_le, nat_lt, slice_index_or, take, unwrap_or}
 use Rattle.std.specs.Fmt.{decimal}
 use Rattle.std.specs.Str.{chars}
-use Rattle.rv_lists.specs.Limits.{most_name}
+use Rattle.rv_lists.specs.Limits.{max_name_len}
 use Rattle.rv_text.specs.Printable.{printable_value}
 use Rattle.strsim.specs.Edits.{levenshtein_row}
 use Rattle.rv_list_errors.specs.NearestJob.{IsNear}
@@ -29,7 +29,7 @@ farthest = 2 ^ 64 - 1
 unfoldable pub name_distance : List ℕ → Option (List ℕ) → ℕ
 name_distance text None = farthest
 name_distance text (Some name) =
-    if nat_le (length name) most_name && nat_le (length text) most_name then text_distance text name else farthest
+    if nat_le (length name) max_name_len && nat_le (length text) max_name_len then text_distance text name else farthest
 
 -- the distance of a text from the name at an index
 abbrev pub distance_at : List (Option (List ℕ)) → List ℕ → ℕ → ℕ

@@ -3,7 +3,7 @@ use Rattle.std.specs.Prelude.{◌*◌, ◌≤◌, ◌<◌, ℕ, List, [], length
 use Rattle.std.specs.Str.{chars}
 use Rattle.rv_lists.specs.declared.job.Job.{Job}
 use Rattle.rv_lists.specs.Jobs.{single_job}
-use Rattle.rv_lists.specs.Limits.{most_name}
+use Rattle.rv_lists.specs.Limits.{max_name_len}
 use Rattle.strsim.specs.Edits.{levenshtein_row}
 
 -- the name of the job at an index
@@ -30,4 +30,4 @@ IsNear distance name = 3 * distance ≤ length name
 -- the text is no longer than a name may be, and at most a third of the characters differ from the name of the job at the index `place`
 abbrev pub IsNearJob : List Job → List ℕ → ℕ → Type 0
 IsNearJob jobs text place =
-    (length text ≤ most_name) × IsNear (job_name_distance text jobs place) (job_name jobs place)
+    (length text ≤ max_name_len) × IsNear (job_name_distance text jobs place) (job_name jobs place)

@@ -13,7 +13,7 @@ use crate::message::Message;
 use crate::values::{push_key_and_value, text_at_key};
 use rv_lists::FaultKind;
 use rv_lists::limits::{
-    MAX_BUDGET, MAX_CONSOLE_LEN, MAX_PATH_LEN, MAX_SCRIPT_LEN, MAX_SYMBOL_LEN, MOST_NAME,
+    MAX_BUDGET, MAX_CONSOLE_LEN, MAX_PATH_LEN, MAX_SCRIPT_LEN, MAX_SYMBOL_LEN, MAX_NAME_LEN,
 };
 use toml::Table;
 
@@ -55,7 +55,7 @@ enum Bytes {
 pub(crate) const NAME: Expected = Expected {
     key: "name",
     before: "expected 1 to ",
-    rest: Rest::Most(MOST_NAME as u64),
+    rest: Rest::Most(MAX_NAME_LEN as u64),
     behind: " ASCII letters, digits, \".\", \"_\" or \"-\"",
     bytes: Bytes::Untold,
 };

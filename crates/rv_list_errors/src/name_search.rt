@@ -4,7 +4,7 @@ ghost use Rattle.std.specs.Prelude.{◌≡◌, ◌↔◌, ◌<◌, ℕ, IfOk, Is
 ghost use Rattle.rv_list_errors.specs.NearestJob.{IsNear, IsNearJob, IsJobNameSuggestion, job_name, job_name_distance};
 
 use rv_lists::Job;
-use rv_lists::limits::MOST_NAME;
+use rv_lists::limits::MAX_NAME_LEN;
 use std::alloc::{AllocError, Global};
 use strsim::levenshtein;
 
@@ -15,7 +15,7 @@ pub fn near_job(alloc: Global, jobs: &[Job], text: &str) -> Result<Option<usize>
         ((place : ℕ) → IsJobNameSuggestion jobs.now text.now place → IsNearJob jobs.now text.now place → ⊥)
         (λ place. IsJobNameSuggestion jobs.now text.now place × IsNearJob jobs.now text.now place)) }
 {
-    if text.len() > MOST_NAME {
+    if text.len() > MAX_NAME_LEN {
         return Ok(None);
     }
     match nearest_job(alloc, jobs, text)? {

@@ -15,7 +15,7 @@ use crate::list::List;
 use crate::message::Message;
 use crate::name_search::is_near;
 use crate::values::{push_key_and_value, text_at_key};
-use rv_lists::limits::MOST_NAME;
+use rv_lists::limits::MAX_NAME_LEN;
 use toml::Table;
 
 /// Appends a key for a name and its value, then `wanted`, which says what is expected, and then the number of the first job with this name,
@@ -238,7 +238,7 @@ fn name_distance(message: &mut Message, name: Option<&str>, text: &str) -> usize
     ensures unwritten { message.new.bytes ≡ message.old.bytes }
 {
     match name {
-        Some(name) if name.len() <= MOST_NAME && text.len() <= MOST_NAME => {
+        Some(name) if name.len() <= MAX_NAME_LEN && text.len() <= MAX_NAME_LEN => {
             message.edit_distance(text, name)
         }
         _ => usize::MAX,

@@ -60,12 +60,12 @@ const ENOUGH: usize = 32_768;
 /// Writes the text of the report of a whole list to a sink. If it fails, a prefix of the text has been written.
 pub fn write_report<W: Sink>(alloc: Global, report: &Report, out: &mut W) -> Result<(), WriteError>
     ensures appended { OnOk result
-        (Appends (W.taken out.old) (W.taken out.new) (report_text report.now.rows)) }
-    ensures counted { OnOk result (W.failed out.new ≡ W.failed out.old) }
+        (Appends (W.accepted out.old) (W.accepted out.new) (report_text report.now.rows)) }
+    ensures counted { OnOk result (W.failure_count out.new ≡ W.failure_count out.old) }
     ensures part { OnErr result
-        (AppendsPrefix (W.taken out.old) (W.taken out.new) (report_text report.now.rows)) }
+        (AppendsPrefix (W.accepted out.old) (W.accepted out.new) (report_text report.now.rows)) }
     ensures failed { IfErr result (λ error. error ≡ WriteError.Failed
-        → HasIncreased (W.failed out.old) (W.failed out.new)) }
+        → HasIncreased (W.failure_count out.old) (W.failure_count out.new)) }
 {
     let rows = report.rows.as_slice();
     let mut text = String::new(alloc);
@@ -84,13 +84,13 @@ fn put_rows<W: Sink>(
 ) -> Result<(), WriteError>
     requires { string_bytes text.old ≡ [] }
     ensures under_way { OnOk result
-        (IsPartlyWritten (W.taken out.old) (W.taken out.new)
+        (IsPartlyWritten (W.accepted out.old) (W.accepted out.new)
         (string_bytes text.new) (rows_text 0 rows.now)) }
-    ensures counted { OnOk result (W.failed out.new ≡ W.failed out.old) }
+    ensures counted { OnOk result (W.failure_count out.new ≡ W.failure_count out.old) }
     ensures part { OnErr result
-        (AppendsPrefix (W.taken out.old) (W.taken out.new) (rows_text 0 rows.now)) }
+        (AppendsPrefix (W.accepted out.old) (W.accepted out.new) (rows_text 0 rows.now)) }
     ensures failed { IfErr result
-        (λ error. error ≡ WriteError.Failed → W.failed out.new ≡ one_more (W.failed out.old)) }
+        (λ error. error ≡ WriteError.Failed → W.failure_count out.new ≡ one_more (W.failure_count out.old)) }
 {
     for (place, row) in rows.iter().enumerate() {
         push_row(alloc, text, place, row)?;
@@ -102,13 +102,13 @@ fn put_rows<W: Sink>(
 /// Writes the buffered text and clears the buffer, if there is enough for a large write.
 pub(crate) fn write_text_if_large<W: Sink>(text: &mut String, out: &mut W) -> Result<(), WriteError>
     ensures under_way { OnOk result
-        (IsPartlyWritten (W.taken out.old) (W.taken out.new)
+        (IsPartlyWritten (W.accepted out.old) (W.accepted out.new)
         (string_bytes text.new) (string_bytes text.old)) }
-    ensures counted { OnOk result (W.failed out.new ≡ W.failed out.old) }
+    ensures counted { OnOk result (W.failure_count out.new ≡ W.failure_count out.old) }
     ensures part { OnErr result
-        (AppendsPrefix (W.taken out.old) (W.taken out.new) (string_bytes text.old)) }
+        (AppendsPrefix (W.accepted out.old) (W.accepted out.new) (string_bytes text.old)) }
     ensures failed { IfErr result
-        (λ error. (error ≡ WriteError.Failed) × (W.failed out.new ≡ one_more (W.failed out.old))) }
+        (λ error. (error ≡ WriteError.Failed) × (W.failure_count out.new ≡ one_more (W.failure_count out.old))) }
 {
     if text.len() < ENOUGH {
         return Ok(());
@@ -119,13 +119,13 @@ pub(crate) fn write_text_if_large<W: Sink>(text: &mut String, out: &mut W) -> Re
 /// Writes the buffered text and clears the buffer.
 pub(crate) fn flush_text<W: Sink>(text: &mut String, out: &mut W) -> Result<(), WriteError>
     ensures appended { OnOk result
-        (Appends (W.taken out.old) (W.taken out.new) (string_bytes text.old)) }
+        (Appends (W.accepted out.old) (W.accepted out.new) (string_bytes text.old)) }
     ensures anew { OnOk result (string_bytes text.new ≡ []) }
-    ensures counted { OnOk result (W.failed out.new ≡ W.failed out.old) }
+    ensures counted { OnOk result (W.failure_count out.new ≡ W.failure_count out.old) }
     ensures part { OnErr result
-        (AppendsPrefix (W.taken out.old) (W.taken out.new) (string_bytes text.old)) }
+        (AppendsPrefix (W.accepted out.old) (W.accepted out.new) (string_bytes text.old)) }
     ensures failed { IfErr result
-        (λ error. (error ≡ WriteError.Failed) × (W.failed out.new ≡ one_more (W.failed out.old))) }
+        (λ error. (error ≡ WriteError.Failed) × (W.failure_count out.new ≡ one_more (W.failure_count out.old))) }
 {
     put_all(out, text.as_bytes())?;
     text.clear();

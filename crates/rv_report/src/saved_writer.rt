@@ -25,12 +25,12 @@ pub fn write_saved_report<W: Sink>(
     requires counted { length report.now.numbers ≡ length report.now.rows }
     requires rising { are_increasing 0 max_jobs report.now.numbers ≡ true }
     ensures appended { OnOk result
-        (Appends (W.taken out.old) (W.taken out.new) (saved_text report.now)) }
-    ensures counted { OnOk result (W.failed out.new ≡ W.failed out.old) }
+        (Appends (W.accepted out.old) (W.accepted out.new) (saved_text report.now)) }
+    ensures counted { OnOk result (W.failure_count out.new ≡ W.failure_count out.old) }
     ensures part { OnErr result
-        (AppendsPrefix (W.taken out.old) (W.taken out.new) (saved_text report.now)) }
+        (AppendsPrefix (W.accepted out.old) (W.accepted out.new) (saved_text report.now)) }
     ensures failed { IfErr result (λ error. error ≡ WriteError.Failed
-        → HasIncreased (W.failed out.old) (W.failed out.new)) }
+        → HasIncreased (W.failure_count out.old) (W.failure_count out.new)) }
 {
     let rows = report.rows.as_slice();
     let mut text = String::new(alloc);
@@ -52,13 +52,13 @@ fn write_numbered_rows<W: Sink>(
     requires rising { are_increasing 0 max_jobs numbers.now ≡ true }
     requires empty { string_bytes text.old ≡ [] }
     ensures under_way { OnOk result
-        (IsPartlyWritten (W.taken out.old) (W.taken out.new)
+        (IsPartlyWritten (W.accepted out.old) (W.accepted out.new)
         (string_bytes text.new) (numbered_text numbers.now rows.now)) }
-    ensures counted { OnOk result (W.failed out.new ≡ W.failed out.old) }
-    ensures part { OnErr result (AppendsPrefix (W.taken out.old) (W.taken out.new)
+    ensures counted { OnOk result (W.failure_count out.new ≡ W.failure_count out.old) }
+    ensures part { OnErr result (AppendsPrefix (W.accepted out.old) (W.accepted out.new)
         (numbered_text numbers.now rows.now)) }
     ensures failed { IfErr result
-        (λ error. error ≡ WriteError.Failed → W.failed out.new ≡ one_more (W.failed out.old)) }
+        (λ error. error ≡ WriteError.Failed → W.failure_count out.new ≡ one_more (W.failure_count out.old)) }
 {
     for (at, row) in rows.iter().enumerate() {
         push_row(alloc, text, numbers[at] as usize - 1, row)?;

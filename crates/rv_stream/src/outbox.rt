@@ -27,9 +27,9 @@ pub(crate) struct Outbox<J: StreamSpec, W: Sink + Drop> {
 impl<J: StreamSpec, W: Sink + Drop> Outbox<J, W> {
     /// Creates an outbox with an empty buffer.
     pub(crate) fn new(alloc: Global, out: W) -> Outbox<J, W>
-        requires before { J.before ≡ W.taken out }
-        requires failures { J.failures ≡ W.failed out }
-        ensures sent { IsSent J.before (W.taken result.out) J.failures (W.failed result.out) result.failed result.unsent.items [] }
+        requires before { J.before ≡ W.accepted out }
+        requires failures { J.failures ≡ W.failure_count out }
+        ensures sent { IsSent J.before (W.accepted result.out) J.failures (W.failure_count result.out) result.failed result.unsent.items [] }
         ensures goes { result.failed ≡ None }
     {
         Outbox {
@@ -49,8 +49,8 @@ impl<J: StreamSpec, W: Sink + Drop> Outbox<J, W> {
     ) -> Flow
         requires { self.old.failed ≡ None }
         ensures sent { (text : List ℕ)
-            → IsSent J.before (W.taken self.old.out) J.failures (W.failed self.old.out) self.old.failed self.old.unsent.items text
-            → IsSent J.before (W.taken self.new.out) J.failures (W.failed self.new.out) self.new.failed self.new.unsent.items
+            → IsSent J.before (W.accepted self.old.out) J.failures (W.failure_count self.old.out) self.old.failed self.old.unsent.items text
+            → IsSent J.before (W.accepted self.new.out) J.failures (W.failure_count self.new.out) self.new.failed self.new.unsent.items
             (text ++ T.line reporter.now made.now.index made.now.row) }
         ensures goes { result ≡ Continue → self.new.failed ≡ None }
         ensures stops { result ≡ Stop → is_some self.new.failed ≡ true }
@@ -69,8 +69,8 @@ impl<J: StreamSpec, W: Sink + Drop> Outbox<J, W> {
     pub(crate) fn send(&mut self) -> Flow
         requires { self.old.failed ≡ None }
         ensures sent { (text : List ℕ)
-            → IsSent J.before (W.taken self.old.out) J.failures (W.failed self.old.out) self.old.failed self.old.unsent.items text
-            → IsSent J.before (W.taken self.new.out) J.failures (W.failed self.new.out) self.new.failed self.new.unsent.items text }
+            → IsSent J.before (W.accepted self.old.out) J.failures (W.failure_count self.old.out) self.old.failed self.old.unsent.items text
+            → IsSent J.before (W.accepted self.new.out) J.failures (W.failure_count self.new.out) self.new.failed self.new.unsent.items text }
         ensures goes { result ≡ Continue → self.new.failed ≡ None }
         ensures stops { result ≡ Stop → is_some self.new.failed ≡ true }
     {
@@ -88,14 +88,14 @@ impl<J: StreamSpec, W: Sink + Drop> Outbox<J, W> {
 
     /// Writes the buffered text, and returns the sink and whether it has received the whole text; after an error it has received a prefix.
     pub(crate) fn finish(self) -> (W, Result<(), WriteError>)
-        ensures all { (text : List ℕ) → IsSent J.before (W.taken self.out) J.failures (W.failed self.out) self.failed self.unsent.items text
-            → OnOk result.1 (Appends J.before (W.taken result.0) text
-            × (W.failed result.0 ≡ J.failures)) }
-        ensures part { (text : List ℕ) → IsSent J.before (W.taken self.out) J.failures (W.failed self.out) self.failed self.unsent.items text
-            → OnErr result.1 (AppendsPrefix J.before (W.taken result.0) text) }
+        ensures all { (text : List ℕ) → IsSent J.before (W.accepted self.out) J.failures (W.failure_count self.out) self.failed self.unsent.items text
+            → OnOk result.1 (Appends J.before (W.accepted result.0) text
+            × (W.failure_count result.0 ≡ J.failures)) }
+        ensures part { (text : List ℕ) → IsSent J.before (W.accepted self.out) J.failures (W.failure_count self.out) self.failed self.unsent.items text
+            → OnErr result.1 (AppendsPrefix J.before (W.accepted result.0) text) }
         ensures goes { OnOk result.1 (self.failed ≡ None) }
-        ensures begun { (text : List ℕ) → IsSent J.before (W.taken self.out) J.failures (W.failed self.out) self.failed self.unsent.items text
-            → AppendsPrefix J.before (W.taken result.0) text }
+        ensures begun { (text : List ℕ) → IsSent J.before (W.accepted self.out) J.failures (W.failure_count self.out) self.failed self.unsent.items text
+            → AppendsPrefix J.before (W.accepted result.0) text }
     {
         let Outbox {
             out,

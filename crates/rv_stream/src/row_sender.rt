@@ -27,9 +27,9 @@ impl<'t, J: StreamSpec, T: RowReporter, W: Sink + Drop> RowSender<'t, J, T, W> {
     /// Creates a sender that has seen no rows.
     pub fn new(alloc: Global, reporter: &'t T, out: Option<W>) -> RowSender<'t, J, T, W>
         requires there { is_some out ≡ J.sends }
-        requires before { IfSome out (λ out. (J.before ≡ W.taken out) × (J.failures ≡ W.failed out)) }
+        requires before { IfSome out (λ out. (J.before ≡ W.accepted out) × (J.failures ≡ W.failure_count out)) }
         requires line { T.line reporter.now ≡ J.line }
-        ensures sent { IfSome result.outbox (λ box. IsSent J.before (W.taken box.out) J.failures (W.failed box.out) box.failed box.unsent.items []) }
+        ensures sent { IfSome result.outbox (λ box. IsSent J.before (W.accepted box.out) J.failures (W.failure_count box.out) box.failed box.unsent.items []) }
         ensures goes { IfSome result.outbox (λ box. box.failed ≡ None) }
     {
         let outbox = match out {
@@ -48,11 +48,11 @@ impl<'t, J: StreamSpec, T: RowReporter, W: Sink + Drop> RowSender<'t, J, T, W> {
     pub fn finish(self) -> (Option<W>, Result<(), WriteError>)
         ensures there { is_some result.0 ≡ J.sends }
         ensures all { (text : List ℕ)
-            → IfSome self.entry.outbox (λ box. IsSent J.before (W.taken box.out) J.failures (W.failed box.out) box.failed box.unsent.items text)
-            → OnOk result.1 (IfSome result.0 (λ out. Appends J.before (W.taken out) text × (W.failed out ≡ J.failures))) }
+            → IfSome self.entry.outbox (λ box. IsSent J.before (W.accepted box.out) J.failures (W.failure_count box.out) box.failed box.unsent.items text)
+            → OnOk result.1 (IfSome result.0 (λ out. Appends J.before (W.accepted out) text × (W.failure_count out ≡ J.failures))) }
         ensures part { (text : List ℕ)
-            → IfSome self.entry.outbox (λ box. IsSent J.before (W.taken box.out) J.failures (W.failed box.out) box.failed box.unsent.items text)
-            → OnErr result.1 (IfSome result.0 (λ out. AppendsPrefix J.before (W.taken out) text)) }
+            → IfSome self.entry.outbox (λ box. IsSent J.before (W.accepted box.out) J.failures (W.failure_count box.out) box.failed box.unsent.items text)
+            → OnErr result.1 (IfSome result.0 (λ out. AppendsPrefix J.before (W.accepted out) text)) }
         ensures goes { OnOk result.1 (IfSome self.entry.outbox (λ box. box.failed ≡ None)) }
         ensures failed { OnErr result.1 (J.sends ≡ true) }
     {
@@ -73,7 +73,7 @@ impl<J: StreamSpec, T: RowReporter, W: Sink + Drop> Observer<ReportedRow>
     ghost use Rattle.rv_stream.specs.Seen.{text_by_index};
     ghost use Rattle.rv_stream.specs.Texts.{IsSent};
 
-    ghost has_seen = { λ s reported. IfSome s.outbox (λ box. IsSent J.before (W.taken box.out) J.failures (W.failed box.out)
+    ghost has_seen = { λ s reported. IfSome s.outbox (λ box. IsSent J.before (W.accepted box.out) J.failures (W.failure_count box.out)
         box.failed box.unsent.items (text_by_index J.line reported)) };
 
     ghost stops = { λ s. IsSomeAnd s.outbox (λ box. is_some box.failed ≡ true) };

@@ -48,16 +48,16 @@ pub fn stream_rows<
     to: ReporterOutput<'_, T, W>,
     observer: B,
 ) -> (W, B, Result<Rows, StreamError>)
-    requires before { (J.before ≡ W.taken to.out) × (J.failures ≡ W.failed to.out) }
+    requires before { (J.before ≡ W.accepted to.out) × (J.failures ≡ W.failure_count to.out) }
     requires ends { (J.most ≡ limit.now.failures) × (J.judging ≡ judge_view limit.now.judge) }
     requires seen { B.has_seen observer [] }
     requires goes { B.stops observer → ⊥ }
     ensures rows { IfOk result.2 (λ rows. rows ≡ rows_within limit.now (batch_rows batch.now)) }
     ensures few { IfOk result.2 (λ rows. length rows ≤ length batch.now.places.now) }
-    ensures all { OnOk result.2 (Appends (W.taken to.entry.out) (W.taken result.0) (joined_row_texts (T.line to.entry.reporter.now)
+    ensures all { OnOk result.2 (Appends (W.accepted to.entry.out) (W.accepted result.0) (joined_row_texts (T.line to.entry.reporter.now)
         batch.now.places.now (rows_within limit.now (batch_rows batch.now)))) }
-    ensures counted { OnOk result.2 (W.failed result.0 ≡ W.failed to.entry.out) }
-    ensures part { OnErr result.2 (AppendsPrefix (W.taken to.entry.out) (W.taken result.0)
+    ensures counted { OnOk result.2 (W.failure_count result.0 ≡ W.failure_count to.entry.out) }
+    ensures part { OnErr result.2 (AppendsPrefix (W.accepted to.entry.out) (W.accepted result.0)
         (joined_row_texts (T.line to.entry.reporter.now) batch.now.places.now (rows_within limit.now (batch_rows batch.now)))) }
     ensures seen { OnOk result.2 (HasSeenRows (B.has_seen result.1) (T.line to.entry.reporter.now) batch.now.places.now
         (rows_within limit.now (batch_rows batch.now))) }

@@ -44,17 +44,17 @@ impl<J: Results, S: Sink + Drop> Model for ColorSink<J, S> {
 
     ghost view = { λ s. record { sink = s.sink; failures = s.failures; state = s.state } };
 
-    ghost invariant = { λ s. IsOutputState J.colors J.before (S.taken s.sink) s.state
-        × IsCounted s.state s.failures (S.failed s.sink) };
+    ghost invariant = { λ s. IsOutputState J.colors J.before (S.accepted s.sink) s.state
+        × IsCounted s.state s.failures (S.failure_count s.sink) };
 }
 
 impl<J: Results, S: Sink + Drop> ColorSink<J, S> {
     /// Creates a sink over another sink, at the start of a line.
     pub fn new(sink: S, colors: Colors) -> ColorSink<J, S>
         requires colors { colors ≡ J.colors }
-        requires before { S.taken sink ≡ J.before }
-        ensures taken { results_of J.colors J.before (S.taken result.sink) ≡ S.taken sink }
-        ensures failures { result.failures ≡ S.failed sink }
+        requires before { S.accepted sink ≡ J.before }
+        ensures taken { results_of J.colors J.before (S.accepted result.sink) ≡ S.accepted sink }
+        ensures failures { result.failures ≡ S.failure_count sink }
         ensures state { result.state ≡ first_state colors }
     {
         let failures = sink.failures();
@@ -71,10 +71,10 @@ impl<J: Results, S: Sink + Drop> ColorSink<J, S> {
     pub fn finish(self) -> (S, Result<(), SinkFailed>)
         ensures sink { result.0 ≡ self.sink }
         ensures told { is_err result.1 ≡ is_cut_off self.state }
-        ensures failed { IfErr result.1 (λ _. 1 ≤ S.failed self.sink) }
-        ensures whole { OnOk result.1 (IsColoredAs J.colors J.before (results_of J.colors J.before (S.taken self.sink))
-            (S.taken self.sink)) }
-        ensures part { IsPartlyColoredAs J.colors J.before (results_of J.colors J.before (S.taken self.sink)) (S.taken self.sink) }
+        ensures failed { IfErr result.1 (λ _. 1 ≤ S.failure_count self.sink) }
+        ensures whole { OnOk result.1 (IsColoredAs J.colors J.before (results_of J.colors J.before (S.accepted self.sink))
+            (S.accepted self.sink)) }
+        ensures part { IsPartlyColoredAs J.colors J.before (results_of J.colors J.before (S.accepted self.sink)) (S.accepted self.sink) }
     {
         let ColorSink {
             sink,
@@ -94,9 +94,9 @@ impl<J: Results, S: Sink + Drop> ColorSink<J, S> {
 impl<J: Results, S: Sink + Drop> Sink for ColorSink<J, S> {
     ghost use Rattle.rv_terminal.specs.ColorSinks.{results_of};
 
-    ghost taken = { λ s. results_of J.colors J.before (S.taken s.sink) };
+    ghost accepted = { λ s. results_of J.colors J.before (S.accepted s.sink) };
 
-    ghost failed = { λ s. s.failures };
+    ghost failure_count = { λ s. s.failures };
 
     // Writes leading bytes of `bytes`, in their colours if colours are on, and returns how many; an error if the write failed.
     fn put(&mut self, bytes: &[u8]) -> Result<usize, SinkFailed> {

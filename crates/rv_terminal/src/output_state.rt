@@ -51,8 +51,8 @@ pub(crate) fn write_in_state<S: Sink>(
 ) -> (usize, OutputState)
     requires { 0 < length bytes.now }
     ensures within { result.0 ≤ length bytes.now }
-    ensures put { IsWrittenInState state result.1 (take result.0 bytes.now) (S.taken sink.old) (S.taken sink.new) }
-    ensures counted { S.failed sink.new ≡ sink_failures state result.1 result.0 (S.failed sink.old) }
+    ensures put { IsWrittenInState state result.1 (take result.0 bytes.now) (S.accepted sink.old) (S.accepted sink.new) }
+    ensures counted { S.failure_count sink.new ≡ sink_failures state result.1 result.0 (S.failure_count sink.old) }
 {
     match state {
         OutputState::Plain => match sink.put(bytes) {
@@ -69,8 +69,8 @@ pub(crate) fn write_in_state<S: Sink>(
 fn write_colored<S: Sink>(sink: &mut S, place: Place, bytes: &[u8]) -> (usize, OutputState)
     requires { 0 < length bytes.now }
     ensures within { result.0 ≤ length bytes.now }
-    ensures put { IsWrittenFrom place result.1 (take result.0 bytes.now) (S.taken sink.old) (S.taken sink.new) }
-    ensures counted { S.failed sink.new ≡ sink_failures (state.Colored place) result.1 result.0 (S.failed sink.old) }
+    ensures put { IsWrittenFrom place result.1 (take result.0 bytes.now) (S.accepted sink.old) (S.accepted sink.new) }
+    ensures counted { S.failure_count sink.new ≡ sink_failures (state.Colored place) result.1 result.0 (S.failure_count sink.old) }
 {
     let mut at = 0;
     let mut here = place;
@@ -91,11 +91,11 @@ fn write_colored<S: Sink>(sink: &mut S, place: Place, bytes: &[u8]) -> (usize, O
 fn write_span<S: Sink>(sink: &mut S, place: Place, bytes: &[u8]) -> Result<usize, SinkFailed>
     requires { 0 < length bytes.now }
     ensures within { IfOk result (λ count. (1 ≤ count) × (count ≤ length bytes.now)) }
-    ensures colored { IfOk result (λ count. Appends (S.taken sink.old) (S.taken sink.new) (colored place (take count bytes.now))) }
-    ensures part { IfErr result (λ _. AppendsPrefix (S.taken sink.old) (S.taken sink.new)
+    ensures colored { IfOk result (λ count. Appends (S.accepted sink.old) (S.accepted sink.new) (colored place (take count bytes.now))) }
+    ensures part { IfErr result (λ _. AppendsPrefix (S.accepted sink.old) (S.accepted sink.new)
         (mark_text (mark_before place (slice_index bytes.now 0)))) }
-    ensures counted { IfOk result (λ _. S.failed sink.new ≡ S.failed sink.old) }
-    ensures failure { IfErr result (λ _. S.failed sink.new ≡ one_more (S.failed sink.old)) }
+    ensures counted { IfOk result (λ _. S.failure_count sink.new ≡ S.failure_count sink.old) }
+    ensures failure { IfErr result (λ _. S.failure_count sink.new ≡ one_more (S.failure_count sink.old)) }
 {
     let mark = place.mark_before(bytes[0]);
     put_all(sink, mark.text().as_bytes())?;

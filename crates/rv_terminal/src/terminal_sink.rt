@@ -56,9 +56,9 @@ impl<'a, 'k, R: Wait, S: Sink + Drop, W: Write + Drop> TerminalSink<'a, 'k, R, S
 }
 
 impl<'a, 'k, R: Wait, S: Sink + Drop, W: Write + Drop> Sink for TerminalSink<'a, 'k, R, S, W> {
-    ghost taken = { λ terminal. S.taken terminal.sink };
+    ghost accepted = { λ terminal. S.accepted terminal.sink };
 
-    ghost failed = { λ terminal. S.failed terminal.sink };
+    ghost failure_count = { λ terminal. S.failure_count terminal.sink };
 
     // Writes leading bytes of `bytes` to the sink, and returns how many; the progress line is removed during the write if it is on the same
     // terminal.
@@ -91,10 +91,10 @@ impl<'a, 'k, R: Wait, S: Sink + Drop, W: Write + Drop> TerminalSink<'a, 'k, R, S
         requires { 0 < length bytes.now }
         ensures within { IfOk result.put (λ count. (1 ≤ count) × (count ≤ length bytes.now)) }
         ensures taken { IfOk result.put
-            (λ count. Appends (S.taken self.old.sink) (S.taken self.new.sink) (take count bytes.now)) }
-        ensures counted { IfOk result.put (λ _. S.failed self.new.sink ≡ S.failed self.old.sink) }
-        ensures kept { IfErr result.put (λ _. Keeps (S.taken self.old.sink) (S.taken self.new.sink)) }
-        ensures failure { IfErr result.put (λ _. S.failed self.new.sink ≡ one_more (S.failed self.old.sink)) }
+            (λ count. Appends (S.accepted self.old.sink) (S.accepted self.new.sink) (take count bytes.now)) }
+        ensures counted { IfOk result.put (λ _. S.failure_count self.new.sink ≡ S.failure_count self.old.sink) }
+        ensures kept { IfErr result.put (λ _. Keeps (S.accepted self.old.sink) (S.accepted self.new.sink)) }
+        ensures failure { IfErr result.put (λ _. S.failure_count self.new.sink ≡ one_more (S.failure_count self.old.sink)) }
         ensures held { MatchResult result.put
             (λ count. line.new.is_held ≡ is_mid_line line.old.is_held (last_byte (take count bytes.now)))
             (λ _. line.new.is_held ≡ line.old.is_held) }
@@ -126,10 +126,10 @@ fn write_beside_line<S: Sink, W: Write + Drop>(
 ) -> BesideLineResult
     requires { 0 < length bytes.now }
     ensures within { IfOk result.put (λ count. (1 ≤ count) × (count ≤ length bytes.now)) }
-    ensures taken { IfOk result.put (λ count. Appends (S.taken sink.old) (S.taken sink.new) (take count bytes.now)) }
-    ensures counted { IfOk result.put (λ _. S.failed sink.new ≡ S.failed sink.old) }
-    ensures kept { IfErr result.put (λ _. Keeps (S.taken sink.old) (S.taken sink.new)) }
-    ensures failure { IfErr result.put (λ _. S.failed sink.new ≡ one_more (S.failed sink.old)) }
+    ensures taken { IfOk result.put (λ count. Appends (S.accepted sink.old) (S.accepted sink.new) (take count bytes.now)) }
+    ensures counted { IfOk result.put (λ _. S.failure_count sink.new ≡ S.failure_count sink.old) }
+    ensures kept { IfErr result.put (λ _. Keeps (S.accepted sink.old) (S.accepted sink.new)) }
+    ensures failure { IfErr result.put (λ _. S.failure_count sink.new ≡ one_more (S.failure_count sink.old)) }
     ensures held { MatchResult result.put
         (λ count. line.new.is_held ≡ is_mid_line line.old.is_held (last_byte (take count bytes.now)))
         (λ _. line.new.is_held ≡ line.old.is_held) }
@@ -164,10 +164,10 @@ fn write_and_record<S: Sink, W: Write + Drop>(
     requires away { line.old.is_shown ≡ false }
     requires some { 0 < length bytes.now }
     ensures within { IfOk result (λ count. (1 ≤ count) × (count ≤ length bytes.now)) }
-    ensures taken { IfOk result (λ count. Appends (S.taken sink.old) (S.taken sink.new) (take count bytes.now)) }
-    ensures counted { IfOk result (λ _. S.failed sink.new ≡ S.failed sink.old) }
-    ensures kept { IfErr result (λ _. Keeps (S.taken sink.old) (S.taken sink.new)) }
-    ensures failure { IfErr result (λ _. S.failed sink.new ≡ one_more (S.failed sink.old)) }
+    ensures taken { IfOk result (λ count. Appends (S.accepted sink.old) (S.accepted sink.new) (take count bytes.now)) }
+    ensures counted { IfOk result (λ _. S.failure_count sink.new ≡ S.failure_count sink.old) }
+    ensures kept { IfErr result (λ _. Keeps (S.accepted sink.old) (S.accepted sink.new)) }
+    ensures failure { IfErr result (λ _. S.failure_count sink.new ≡ one_more (S.failure_count sink.old)) }
     ensures shown { line.new.is_shown ≡ line.old.is_shown }
     ensures out { line.new.out ≡ line.old.out }
     ensures held { MatchResult result

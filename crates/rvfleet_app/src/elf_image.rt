@@ -76,19 +76,19 @@ pub fn run_image<S: Store, O: Sink>(
     out: &mut O,
 ) -> Result<u8, Failure>
     ensures reported { IfOk result (λ status. (rows : List ARow)
-        × (AreJobRows (stored_contents (S.contents store.old) (S.faulted store.old) (S.faulted store.new))
+        × (AreJobRows (stored_contents (S.contents store.old) (S.fault_count store.old) (S.fault_count store.new))
         (single_image_jobs run.entry.path.now run.entry.budget run.entry.script.items) rows
-        × IsReportSent (O.taken out.old) (O.taken out.new) status rows)) }
+        × IsReportSent (O.accepted out.old) (O.accepted out.new) status rows)) }
     ensures range { IfOk result (λ status. status ≤ 1) }
-    ensures counted { OnOk result (O.failed out.new ≡ O.failed out.old) }
+    ensures counted { OnOk result (O.failure_count out.new ≡ O.failure_count out.old) }
     ensures why { IfErr result (λ failure. is_write_failure failure ≡ true) }
-    ensures part { OnErr result (Keeps (O.taken out.old) (O.taken out.new)
+    ensures part { OnErr result (Keeps (O.accepted out.old) (O.accepted out.new)
         ⊎ ((rows : List ARow)
-        × (AreJobRows (stored_contents (S.contents store.old) (S.faulted store.old) (S.faulted store.new))
+        × (AreJobRows (stored_contents (S.contents store.old) (S.fault_count store.old) (S.fault_count store.new))
         (single_image_jobs run.entry.path.now run.entry.budget run.entry.script.items) rows
-        × IsReportPrefixWritten (O.taken out.old) (O.taken out.new) rows))) }
+        × IsReportPrefixWritten (O.accepted out.old) (O.accepted out.new) rows))) }
     ensures failed { IfErr result
-        (λ error. error ≡ Failure.WriteFailed → HasIncreased (O.failed out.old) (O.failed out.new)) }
+        (λ error. error ≡ Failure.WriteFailed → HasIncreased (O.failure_count out.old) (O.failure_count out.new)) }
     ensures same { S.contents store.new ≡ S.contents store.old }
 {
     let ImageRun {

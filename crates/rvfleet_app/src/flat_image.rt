@@ -28,17 +28,17 @@ pub fn run_raw<R: Read, O: Sink>(
 ) -> Result<(), RunError>
     ensures appended { OnOk result ((rows : List ARow)
         × (AreRawRows (R.remaining input.old) budget rows
-        × Appends (O.taken out.old) (O.taken out.new) (report_text rows))) }
+        × Appends (O.accepted out.old) (O.accepted out.new) (report_text rows))) }
     ensures left { OnOk result
         (ConsumesFirstBytes max_read (R.remaining input.old) (R.remaining input.new)) }
-    ensures counted { OnOk result (O.failed out.new ≡ O.failed out.old) }
+    ensures counted { OnOk result (O.failure_count out.new ≡ O.failure_count out.old) }
     ensures unread { IfErr result
-        (λ error. error ≡ RunError.ReadFailed → Keeps (O.taken out.old) (O.taken out.new)) }
-    ensures part { OnErr result (Keeps (O.taken out.old) (O.taken out.new)
+        (λ error. error ≡ RunError.ReadFailed → Keeps (O.accepted out.old) (O.accepted out.new)) }
+    ensures part { OnErr result (Keeps (O.accepted out.old) (O.accepted out.new)
         ⊎ ((rows : List ARow) × (AreRawRows (R.remaining input.old) budget rows
-        × IsReportPrefixWritten (O.taken out.old) (O.taken out.new) rows))) }
+        × IsReportPrefixWritten (O.accepted out.old) (O.accepted out.new) rows))) }
     ensures failed { IfErr result
-        (λ error. error ≡ RunError.WriteFailed → HasIncreased (O.failed out.old) (O.failed out.new)) }
+        (λ error. error ≡ RunError.WriteFailed → HasIncreased (O.failure_count out.old) (O.failure_count out.new)) }
 {
     let bytes = read_flat_image(alloc, input)?;
     let report = flat_report(alloc, bytes.as_slice(), budget)?;

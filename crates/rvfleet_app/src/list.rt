@@ -20,7 +20,7 @@ use std::thread::Threads;
 pub fn read_list<S: Store>(alloc: Global, store: &mut S, path: &str) -> Result<JobList, ListError>
     ensures same { S.contents store.new ≡ S.contents store.old }
     ensures listed { IfOk result (IsPossibleList (S.contents store.old) path.now) }
-    ensures unfaulted { OnOk result (S.faulted store.new ≡ S.faulted store.old) }
+    ensures unfaulted { OnOk result (S.fault_count store.new ≡ S.fault_count store.old) }
     ensures refused { IfErr result (IsListFault (S.contents store.old) path.now) }
     ensures why { IfErr result IsListFailure }
 {
@@ -67,19 +67,19 @@ pub fn run_jobs<R: Threads + Wait, S: Store, O: Sink, G: Gate>(
     gate: &G,
 ) -> Result<u8, Failure>
     ensures reported { IfOk result (λ status. (rows : List ARow)
-        × (AreJobRows (stored_contents (S.contents store.old) (S.faulted store.old) (S.faulted store.new))
+        × (AreJobRows (stored_contents (S.contents store.old) (S.fault_count store.old) (S.fault_count store.new))
         jobs rows
-        × IsReportSent (O.taken out.old) (O.taken out.new) status rows)) }
+        × IsReportSent (O.accepted out.old) (O.accepted out.new) status rows)) }
     ensures range { IfOk result (λ status. status ≤ 1) }
-    ensures counted { OnOk result (O.failed out.new ≡ O.failed out.old) }
+    ensures counted { OnOk result (O.failure_count out.new ≡ O.failure_count out.old) }
     ensures why { IfErr result (λ failure. is_list_failure failure ≡ true) }
-    ensures part { OnErr result (Keeps (O.taken out.old) (O.taken out.new)
+    ensures part { OnErr result (Keeps (O.accepted out.old) (O.accepted out.new)
         ⊎ ((rows : List ARow)
-        × (AreJobRows (stored_contents (S.contents store.old) (S.faulted store.old) (S.faulted store.new))
+        × (AreJobRows (stored_contents (S.contents store.old) (S.fault_count store.old) (S.fault_count store.new))
         jobs rows
-        × IsReportPrefixWritten (O.taken out.old) (O.taken out.new) rows))) }
+        × IsReportPrefixWritten (O.accepted out.old) (O.accepted out.new) rows))) }
     ensures failed { IfErr result
-        (λ error. error ≡ Failure.WriteFailed → HasIncreased (O.failed out.old) (O.failed out.new)) }
+        (λ error. error ≡ Failure.WriteFailed → HasIncreased (O.failure_count out.old) (O.failure_count out.new)) }
     ensures same { S.contents store.new ≡ S.contents store.old }
 {
     let alloc = crew.alloc;

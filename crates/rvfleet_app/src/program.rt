@@ -54,21 +54,21 @@ pub fn run_words<'a, R: Threads + Wait, T: AsStr, S: Store, I: Read, O: Sink, E:
     // as the status says.
     ensures answers { IsToBeHandled (map T.text words.entry.now)
         → Answers (request_of (map T.text words.entry.now)) (I.remaining input.old)
-        (stored_contents (S.contents store.old) (S.faulted store.old) (S.faulted store.new))
-        (O.taken out.old) (O.taken out.new) result }
+        (stored_contents (S.contents store.old) (S.fault_count store.old) (S.fault_count store.new))
+        (O.accepted out.old) (O.accepted out.new) result }
     // No write to `out` failed if the status is 0 or 1.
-    ensures counted { result ≡ 0 ⊎ result ≡ 1 → O.failed out.new ≡ O.failed out.old }
+    ensures counted { result ≡ 0 ⊎ result ≡ 1 → O.failure_count out.new ≡ O.failure_count out.old }
     // A line on `errors` says why the status is 2 or 3, for any arguments; otherwise nothing is written there.
     ensures told { ReportsReason (request_without_errors (map T.text words.entry.now)) (S.contents store.old)
-        (E.taken errors.old) (E.taken errors.new)
-        (E.failed errors.old) (E.failed errors.new) result }
+        (E.accepted errors.old) (E.accepted errors.new)
+        (E.failure_count errors.old) (E.failure_count errors.new) result }
     // Status 0 or 1 means that the arguments make a request or request help.
     ensures helped { result ≡ 0 ⊎ result ≡ 1
         → is_some (request_without_errors (map T.text words.entry.now)) ≡ true
         ⊎ RequestsHelp (map T.text words.entry.now) }
     // No file is read for arguments that request none.
     ensures unread { reads_store (request_without_errors (map T.text words.entry.now)) ≡ false
-        → S.faulted store.new ≡ S.faulted store.old }
+        → S.fault_count store.new ≡ S.fault_count store.old }
     // Arguments that do not request the input leave it unchanged.
     ensures untaken { reads_input (request_without_errors (map T.text words.entry.now)) ≡ false
         → I.remaining input.new ≡ I.remaining input.old }
@@ -121,14 +121,14 @@ impl<'a, R: Threads + Wait, G: Gate> Host<'a, R, G> {
     ) -> u8
         requires { IsRequestInRange asked }
         ensures answers { Answers (Some (request asked.entry)) (I.remaining input.old)
-            (stored_contents (S.contents store.old) (S.faulted store.old) (S.faulted store.new))
-            (O.taken out.old) (O.taken out.new) result }
+            (stored_contents (S.contents store.old) (S.fault_count store.old) (S.fault_count store.new))
+            (O.accepted out.old) (O.accepted out.new) result }
         ensures told { ReportsReason (Some (request asked.entry)) (S.contents store.old)
-            (E.taken errors.old) (E.taken errors.new)
-            (E.failed errors.old) (E.failed errors.new) result }
-        ensures counted { result ≡ 0 ⊎ result ≡ 1 → O.failed out.new ≡ O.failed out.old }
+            (E.accepted errors.old) (E.accepted errors.new)
+            (E.failure_count errors.old) (E.failure_count errors.new) result }
+        ensures counted { result ≡ 0 ⊎ result ≡ 1 → O.failure_count out.new ≡ O.failure_count out.old }
         ensures unread { reads_store (Some (request asked.entry)) ≡ false
-            → S.faulted store.new ≡ S.faulted store.old }
+            → S.fault_count store.new ≡ S.fault_count store.old }
         ensures untaken { reads_input (Some (request asked.entry)) ≡ false
             → I.remaining input.new ≡ I.remaining input.old }
         ensures range { result ≤ 3 }
@@ -175,13 +175,13 @@ impl<'a, R: Threads + Wait, G: Gate> Host<'a, R, G> {
         requires group { (1 ≤ asked.now.group) × (asked.now.group ≤ max_group) }
         ensures answers { Answers
             (Some (run asked.now.path.now asked.now.workers asked.now.group)) None
-            (stored_contents (S.contents store.old) (S.faulted store.old) (S.faulted store.new))
-            (O.taken out.old) (O.taken out.new) result }
+            (stored_contents (S.contents store.old) (S.fault_count store.old) (S.fault_count store.new))
+            (O.accepted out.old) (O.accepted out.new) result }
         ensures told { ReportsReason
             (Some (run asked.now.path.now asked.now.workers asked.now.group))
-            (S.contents store.old) (E.taken errors.old) (E.taken errors.new)
-            (E.failed errors.old) (E.failed errors.new) result }
-        ensures counted { result ≡ 0 ⊎ result ≡ 1 → O.failed out.new ≡ O.failed out.old }
+            (S.contents store.old) (E.accepted errors.old) (E.accepted errors.new)
+            (E.failure_count errors.old) (E.failure_count errors.new) result }
+        ensures counted { result ≡ 0 ⊎ result ≡ 1 → O.failure_count out.new ≡ O.failure_count out.old }
         ensures range { result ≤ 3 }
     {
         if is_bad_path(asked.path) {
@@ -211,15 +211,15 @@ fn respond_to_raw<I: Read, O: Sink, E: Sink>(
 ) -> u8
     ensures reported { result ≡ DONE
         → (rows : List Row) × (AreRawRows (I.remaining input.old) budget rows
-        × IsReportSent (O.taken out.old) (O.taken out.new) DONE rows) }
-    ensures counted { result ≡ DONE → O.failed out.new ≡ O.failed out.old }
-    ensures part { result ≡ FAILED → Keeps (O.taken out.old) (O.taken out.new)
+        × IsReportSent (O.accepted out.old) (O.accepted out.new) DONE rows) }
+    ensures counted { result ≡ DONE → O.failure_count out.new ≡ O.failure_count out.old }
+    ensures part { result ≡ FAILED → Keeps (O.accepted out.old) (O.accepted out.new)
         ⊎ ((rows : List Row) × (AreRawRows (I.remaining input.old) budget rows
-        × IsReportPrefixWritten (O.taken out.old) (O.taken out.new) rows)) }
-    ensures quiet { result ≡ DONE → IsQuiet (E.taken errors.old) (E.taken errors.new)
-        (E.failed errors.old) (E.failed errors.new) }
+        × IsReportPrefixWritten (O.accepted out.old) (O.accepted out.new) rows)) }
+    ensures quiet { result ≡ DONE → IsQuiet (E.accepted errors.old) (E.accepted errors.new)
+        (E.failure_count errors.old) (E.failure_count errors.new) }
     ensures told { result ≡ FAILED → ReportsFailure (Some (raw budget))
-        (E.taken errors.old) (E.taken errors.new) (E.failed errors.old) (E.failed errors.new) }
+        (E.accepted errors.old) (E.accepted errors.new) (E.failure_count errors.old) (E.failure_count errors.new) }
     ensures range { result ≡ DONE ⊎ result ≡ FAILED }
 {
     match run_raw(alloc, input, out, budget) {
@@ -240,14 +240,14 @@ fn respond_to_image<S: Store, O: Sink, E: Sink>(
     ensures answers { Answers
         (Some (one asked.now.path.now asked.now.budget
         (option_map (λ text. text.now) asked.now.digits))) None
-        (stored_contents (S.contents store.old) (S.faulted store.old) (S.faulted store.new))
-        (O.taken out.old) (O.taken out.new) result }
+        (stored_contents (S.contents store.old) (S.fault_count store.old) (S.fault_count store.new))
+        (O.accepted out.old) (O.accepted out.new) result }
     ensures told { ReportsReason
         (Some (one asked.now.path.now asked.now.budget
         (option_map (λ text. text.now) asked.now.digits)))
-        (S.contents store.old) (E.taken errors.old) (E.taken errors.new)
-        (E.failed errors.old) (E.failed errors.new) result }
-    ensures counted { result ≡ 0 ⊎ result ≡ 1 → O.failed out.new ≡ O.failed out.old }
+        (S.contents store.old) (E.accepted errors.old) (E.accepted errors.new)
+        (E.failure_count errors.old) (E.failure_count errors.new) result }
+    ensures counted { result ≡ 0 ⊎ result ≡ 1 → O.failure_count out.new ≡ O.failure_count out.old }
     ensures range { result ≤ 3 }
 {
     if is_bad_path(asked.path) {
@@ -278,16 +278,16 @@ fn respond_to_clap_error<O: Sink, E: Sink>(
     errors: &mut E,
 ) -> u8
     ensures memory { kind_of error.now ≡ ErrorKind.OutOfMemory → (result ≡ FAILED)
-        × Keeps (O.taken out.old) (O.taken out.new) }
+        × Keeps (O.accepted out.old) (O.accepted out.new) }
     ensures helped { result ≡ DONE → kind_of error.now ≡ ErrorKind.DisplayHelp }
-    ensures counted { result ≡ DONE → O.failed out.new ≡ O.failed out.old }
-    ensures quiet { result ≡ DONE → IsQuiet (E.taken errors.old) (E.taken errors.new)
-        (E.failed errors.old) (E.failed errors.new) }
+    ensures counted { result ≡ DONE → O.failure_count out.new ≡ O.failure_count out.old }
+    ensures quiet { result ≡ DONE → IsQuiet (E.accepted errors.old) (E.accepted errors.new)
+        (E.failure_count errors.old) (E.failure_count errors.new) }
     ensures refused { result ≡ BAD_ARGUMENTS
-        → IsLineWritten (E.taken errors.old) (E.taken errors.new)
-        (E.failed errors.old) (E.failed errors.new) bad_arguments_line }
-    ensures told { result ≡ FAILED → ReportsFailure None (E.taken errors.old) (E.taken errors.new)
-        (E.failed errors.old) (E.failed errors.new) }
+        → IsLineWritten (E.accepted errors.old) (E.accepted errors.new)
+        (E.failure_count errors.old) (E.failure_count errors.new) bad_arguments_line }
+    ensures told { result ≡ FAILED → ReportsFailure None (E.accepted errors.old) (E.accepted errors.new)
+        (E.failure_count errors.old) (E.failure_count errors.new) }
     ensures range { result ≡ DONE ⊎ result ≡ BAD_ARGUMENTS ⊎ result ≡ FAILED }
 {
     match error.kind() {
@@ -299,11 +299,11 @@ fn respond_to_clap_error<O: Sink, E: Sink>(
 
 // Writes the help to `out`, and returns the exit status: 0, or 3 if memory ran out or the write failed.
 fn write_help<O: Sink, E: Sink>(alloc: Global, help: &Error, out: &mut O, errors: &mut E) -> u8
-    ensures counted { result ≡ DONE → O.failed out.new ≡ O.failed out.old }
-    ensures quiet { result ≡ DONE → IsQuiet (E.taken errors.old) (E.taken errors.new)
-        (E.failed errors.old) (E.failed errors.new) }
-    ensures told { result ≡ FAILED → ReportsFailure None (E.taken errors.old) (E.taken errors.new)
-        (E.failed errors.old) (E.failed errors.new) }
+    ensures counted { result ≡ DONE → O.failure_count out.new ≡ O.failure_count out.old }
+    ensures quiet { result ≡ DONE → IsQuiet (E.accepted errors.old) (E.accepted errors.new)
+        (E.failure_count errors.old) (E.failure_count errors.new) }
+    ensures told { result ≡ FAILED → ReportsFailure None (E.accepted errors.old) (E.accepted errors.new)
+        (E.failure_count errors.old) (E.failure_count errors.new) }
     ensures range { result ≡ DONE ⊎ result ≡ FAILED }
 {
     let Ok(help) = help.to_string(alloc) else {

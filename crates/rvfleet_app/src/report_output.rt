@@ -15,13 +15,13 @@ use std::alloc::Global;
 #[tactic(auto, using(crate::proofs::Failing::send_why))]
 pub fn send_report<O: Sink>(alloc: Global, report: &Report, out: &mut O) -> Result<u8, Failure>
     ensures reported { IfOk result
-        (λ status. IsReportSent (O.taken out.old) (O.taken out.new) status report.now.rows) }
+        (λ status. IsReportSent (O.accepted out.old) (O.accepted out.new) status report.now.rows) }
     ensures range { IfOk result (λ status. status ≤ 1) }
-    ensures counted { OnOk result (O.failed out.new ≡ O.failed out.old) }
+    ensures counted { OnOk result (O.failure_count out.new ≡ O.failure_count out.old) }
     ensures why { IfErr result (λ failure. is_write_failure failure ≡ true) }
-    ensures part { OnErr result (IsReportPrefixWritten (O.taken out.old) (O.taken out.new) report.now.rows) }
+    ensures part { OnErr result (IsReportPrefixWritten (O.accepted out.old) (O.accepted out.new) report.now.rows) }
     ensures failed { IfErr result
-        (λ error. error ≡ Failure.WriteFailed → HasIncreased (O.failed out.old) (O.failed out.new)) }
+        (λ error. error ≡ Failure.WriteFailed → HasIncreased (O.failure_count out.old) (O.failure_count out.new)) }
 {
     write_report(alloc, report, out)?;
     Ok(verdicts_status(report.rows.as_slice()))

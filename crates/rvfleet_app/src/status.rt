@@ -24,8 +24,8 @@ pub const FAILED: u8 = 3;
 /// Writes the line for rejected arguments, and returns the status 2.
 pub fn reject_arguments<E: Sink>(errors: &mut E) -> u8
     ensures status { result ≡ BAD_ARGUMENTS }
-    ensures told { IsLineWritten (E.taken errors.old) (E.taken errors.new)
-        (E.failed errors.old) (E.failed errors.new) bad_arguments_line }
+    ensures told { IsLineWritten (E.accepted errors.old) (E.accepted errors.new)
+        (E.failure_count errors.old) (E.failure_count errors.new) bad_arguments_line }
 {
     write_error_line(errors, "rvfleet: bad words\n");
     BAD_ARGUMENTS
@@ -35,10 +35,10 @@ pub fn reject_arguments<E: Sink>(errors: &mut E) -> u8
 pub fn reject_list<E: Sink>(alloc: Global, errors: &mut E, error: JobError) -> u8
     ensures status { result ≡ BAD_ARGUMENTS ⊎ result ≡ FAILED }
     ensures told { result ≡ BAD_ARGUMENTS
-        → IsLineWritten (E.taken errors.old) (E.taken errors.new)
-        (E.failed errors.old) (E.failed errors.new) (fault_line error) }
-    ensures failed { result ≡ FAILED → IsLineWritten (E.taken errors.old) (E.taken errors.new)
-        (E.failed errors.old) (E.failed errors.new) (failure_line Failure.OutOfMemory) }
+        → IsLineWritten (E.accepted errors.old) (E.accepted errors.new)
+        (E.failure_count errors.old) (E.failure_count errors.new) (fault_line error) }
+    ensures failed { result ≡ FAILED → IsLineWritten (E.accepted errors.old) (E.accepted errors.new)
+        (E.failure_count errors.old) (E.failure_count errors.new) (failure_line Failure.OutOfMemory) }
 {
     let JobError { job, what } = error;
     let Ok(line) = format!(in alloc; "rvfleet: job {job}: {}\n", what.name()) else {
@@ -52,8 +52,8 @@ pub fn reject_list<E: Sink>(alloc: Global, errors: &mut E, error: JobError) -> u
 /// Writes the line for a failure, and returns the status 3.
 pub fn write_failure_line<E: Sink>(errors: &mut E, failure: Failure) -> u8
     ensures status { result ≡ FAILED }
-    ensures told { IsLineWritten (E.taken errors.old) (E.taken errors.new)
-        (E.failed errors.old) (E.failed errors.new) (failure_line failure) }
+    ensures told { IsLineWritten (E.accepted errors.old) (E.accepted errors.new)
+        (E.failure_count errors.old) (E.failure_count errors.new) (failure_line failure) }
 {
     write_error_line(errors, failure_line(failure));
     FAILED
@@ -64,11 +64,11 @@ pub fn write_failure_line<E: Sink>(errors: &mut E, failure: Failure) -> u8
 pub fn reject_unreadable_args<E: Sink>(error: &io::Error, errors: &mut E) -> u8
     ensures status { result ≡ BAD_ARGUMENTS ⊎ result ≡ FAILED }
     ensures refused { result ≡ BAD_ARGUMENTS
-        → IsLineWritten (E.taken errors.old) (E.taken errors.new)
-        (E.failed errors.old) (E.failed errors.new) bad_arguments_line }
+        → IsLineWritten (E.accepted errors.old) (E.accepted errors.new)
+        (E.failure_count errors.old) (E.failure_count errors.new) bad_arguments_line }
     ensures failed { result ≡ FAILED
-        → IsLineWritten (E.taken errors.old) (E.taken errors.new)
-        (E.failed errors.old) (E.failed errors.new) (failure_line Failure.OutOfMemory) }
+        → IsLineWritten (E.accepted errors.old) (E.accepted errors.new)
+        (E.failure_count errors.old) (E.failure_count errors.new) (failure_line Failure.OutOfMemory) }
 {
     match error.kind() {
         ErrorKind::OutOfMemory => write_failure_line(errors, Failure::OutOfMemory),
@@ -92,8 +92,8 @@ fn failure_line(failure: Failure) -> &'static str
 
 // Writes a line on standard error. A failure to write it is ignored: it changes no status.
 fn write_error_line<E: Sink>(errors: &mut E, line: &str)
-    ensures { IsLineWritten (E.taken errors.old) (E.taken errors.new)
-        (E.failed errors.old) (E.failed errors.new) line.now }
+    ensures { IsLineWritten (E.accepted errors.old) (E.accepted errors.new)
+        (E.failure_count errors.old) (E.failure_count errors.new) line.now }
 {
     let _ = put_all(errors, line.as_bytes());
 }

@@ -19,7 +19,7 @@ struct KnownStore<'a> {
 impl<'a> Store for KnownStore<'a> {
     ghost contents = { λ store. Some (λ _. Some store.bytes.now) };
 
-    ghost faulted = { λ _. 0 };
+    ghost fault_count = { λ _. 0 };
 
     // Returns the bytes of the store, whatever the path; an error if there are too many.
     fn read(&mut self, alloc: Global, _path: &str) -> Result<Vec<u8>, ReadError> {

@@ -74,7 +74,7 @@ fn bytes_of(alloc: Global, sample: &str) -> Result<Vec<u8>, SampleError> {
 impl<'a> Store for SampleStore<'a> {
     ghost contents = { λ _. None };
 
-    ghost faulted = { λ store. store.faults };
+    ghost fault_count = { λ store. store.faults };
 
     // Records the path, and returns the bytes of the file at it, or an error.
     fn read(&mut self, alloc: Global, path: &str) -> Result<Vec<u8>, ReadError> {

@@ -46,9 +46,9 @@ impl MemorySink {
 }
 
 impl Sink for MemorySink {
-    ghost taken = { λ sink. Some sink.bytes.items };
+    ghost accepted = { λ sink. Some sink.bytes.items };
 
-    ghost failed = { λ sink. sink.failures };
+    ghost failure_count = { λ sink. sink.failures };
 
     // Accepts leading bytes, or fails if it is the write that must fail.
     fn put(&mut self, bytes: &[u8]) -> Result<usize, SinkFailed> {

@@ -7,7 +7,7 @@ use Rattle.std.proofs.lemmas.Grind.{flat_map-append}
 use Rattle.std.proofs.lemmas.List.{map-append, take_more}
 use Rattle.std.proofs.lemmas.List.Elements.{All-head, All-tail}
 use Rattle.rv_files.specs.Files.{FileContents}
-use Rattle.rv_files.specs.Limits.{most_bytes}
+use Rattle.rv_files.specs.Limits.{max_file_size}
 use Rattle.rv_count_tables.specs.Table.{IsTable}
 use Rattle.rv_count_tables.specs.declared.table.CountTable.{CountTable}
 use Rattle.rv_profile.specs.JobImages.{AreSmall}
@@ -47,20 +47,20 @@ refused_more judging plan unread places i place lt is =
 -- ---- files
 
 content_small : (known : Option FileContents) (path : List ℕ) (k : Kept) → AgreesWithContents known path k
-    → IfSome (content_if_read (Some k)) (λ bytes. length bytes ≤ most_bytes)
+    → IfSome (content_if_read (Some k)) (λ bytes. length bytes ≤ max_file_size)
 content_small known path (kept.Content bytes) of = of.0
 content_small known path kept.Unreadable of = tt
 content_small known path kept.TooLong of = tt
 
 kept_small_by : (known : Option FileContents) (path : List ℕ) (answer : Answer) (answers : List Answer) (same : Bool)
     → bytes_eq path answer.path ≡ same → AgreesWithContents known answer.path answer.kept
-    → IfSome (content_if_read (Some (result_or_unreadable answers path))) (λ bytes. length bytes ≤ most_bytes)
-    → IfSome (content_if_read (Some (result_or_unreadable (answer ∷ answers) path))) (λ bytes. length bytes ≤ most_bytes)
+    → IfSome (content_if_read (Some (result_or_unreadable answers path))) (λ bytes. length bytes ≤ max_file_size)
+    → IfSome (content_if_read (Some (result_or_unreadable (answer ∷ answers) path))) (λ bytes. length bytes ≤ max_file_size)
 kept_small_by known path answer answers true same of rest = rw same (content_small known answer.path answer.kept of)
 kept_small_by known path answer answers false same of rest = rw same rest
 
 kept_small : (known : Option FileContents) (path : List ℕ) (answers : List Answer) → AgreeWithContents known answers
-    → IfSome (content_if_read (Some (result_or_unreadable answers path))) (λ bytes. length bytes ≤ most_bytes)
+    → IfSome (content_if_read (Some (result_or_unreadable answers path))) (λ bytes. length bytes ≤ max_file_size)
 kept_small known path [] are = tt
 kept_small known path (answer ∷ answers) are =
     kept_small_by known path answer answers (bytes_eq path answer.path) refl

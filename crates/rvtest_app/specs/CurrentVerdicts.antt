@@ -9,7 +9,7 @@ use Rattle.rv_accept.specs.declared.current_verdict.Candidate.{Candidate}
 use Rattle.rv_accept.specs.declared.current_verdict.CurrentVerdict.{CurrentVerdict}
 use Rattle.rv_accept.specs.declared.current_verdict.CurrentVerdict.TheVariants as standing
 use Rattle.rv_files.specs.Files.{FileContents}
-use Rattle.rv_files.specs.Limits.{most_bytes}
+use Rattle.rv_files.specs.Limits.{max_file_size}
 use Rattle.rv_expect.specs.Comparisons.{Sides}
 use Rattle.rv_expect.specs.UnmetExpectations.{is_same}
 use Rattle.rv_expect.specs.Unmet.{unmet_expectations_of}
@@ -26,15 +26,15 @@ use Rattle.rv_rows.specs.Verdict.{did_run}
 abbrev pub IsMissingAt : Option FileContents → List ℕ → Type 0
 IsMissingAt known place = IfSome known (λ files. files place ≡ None)
 
--- the file at the path is longer than `most_bytes`, the largest number of bytes that is read of a file; holds for any path if the contents
+-- the file at the path is longer than `max_file_size`, the largest number of bytes that is read of a file; holds for any path if the contents
 -- of files are not known
 abbrev pub IsTooLongAt : Option FileContents → List ℕ → Type 0
-IsTooLongAt known place = IfSome known (λ files. IsSomeAnd (files place) (λ bytes. most_bytes < length bytes))
+IsTooLongAt known place = IfSome known (λ files. IsSomeAnd (files place) (λ bytes. max_file_size < length bytes))
 
--- the `Option` is the whole contents of the file at the path, or `None` if there is no file or it is longer than `most_bytes`
+-- the `Option` is the whole contents of the file at the path, or `None` if there is no file or it is longer than `max_file_size`
 abbrev pub AreContentsUpToLimit : Option FileContents → List ℕ → Option (List ℕ) → Type 0
 AreContentsUpToLimit known place None = IsMissingAt known place ⊎ IsTooLongAt known place
-AreContentsUpToLimit known place (Some bytes) = (length bytes ≤ most_bytes) × IfSome known (λ files. files place ≡ Some bytes)
+AreContentsUpToLimit known place (Some bytes) = (length bytes ≤ max_file_size) × IfSome known (λ files. files place ≡ Some bytes)
 
 -- `text` is the whole contents of the golden file at the path, which is resolved against `root`; `None` if no path is given
 abbrev pub IsGoldenText : Option FileContents → Option (List ℕ) → Option (List ℕ) → Option (List ℕ) → Type 0

@@ -88,7 +88,7 @@ pub(crate) fn accept_runs<
 >(host: &Host<'_, R, D>, args: &AcceptArgs<'_>, to: &mut Destinations<F, O, E>) -> Result<u8, Stop>
     ensures low { IfOk result (λ status. status ≤ 1) }
     ensures accepted { IfOk result (λ status. IsAcceptedAt (D.contents host.now.inputs.now) args.now status
-        (outputs_of F.placed O.taken E.taken E.failed to.old) (outputs_of F.placed O.taken E.taken E.failed to.new)) }
+        (outputs_of F.placed O.accepted E.accepted E.failure_count to.old) (outputs_of F.placed O.accepted E.accepted E.failure_count to.new)) }
     // A check opens no file for writing, whatever its result.
     ensures unwritten { args.now.check ≡ true → to.new.files ≡ to.old.files }
     ensures stopped { IfErr result (IsAcceptStop (D.contents host.now.inputs.now) args.now) }
@@ -122,7 +122,7 @@ fn accept_chosen<
     ensures low { IfOk result (λ status. status ≤ 1) }
     ensures accepted { IfOk result (λ status. IsAcceptOfSelected (D.contents host.now.inputs.now) args.now
         list.now.text.items list.now.jobs chosen.now status
-        (outputs_of F.placed O.taken E.taken E.failed to.old) (outputs_of F.placed O.taken E.taken E.failed to.new)) }
+        (outputs_of F.placed O.accepted E.accepted E.failure_count to.old) (outputs_of F.placed O.accepted E.accepted E.failure_count to.new)) }
     ensures unwritten { args.now.check ≡ true → to.new.files ≡ to.old.files }
     ensures stopped { IfErr result
         (IsAcceptChosenStop (D.contents host.now.inputs.now) args.now list.now.jobs) }
@@ -155,8 +155,8 @@ fn checked_jobs<R, D, F: Outputs + Drop, O: Sink + Drop, E: Sink + Drop>(
     ensures marks { IfOk result (λ marked. marked.marks.items
         ≡ jobs_to_run list.now.jobs chosen.now) }
     ensures files { to.new.files ≡ to.old.files }
-    ensures outside { OnOk result (AreOutsideFilesReported (outputs_of F.placed O.taken E.taken E.failed to.old)
-        (outputs_of F.placed O.taken E.taken E.failed to.new)) }
+    ensures outside { OnOk result (AreOutsideFilesReported (outputs_of F.placed O.accepted E.accepted E.failure_count to.old)
+        (outputs_of F.placed O.accepted E.accepted E.failure_count to.new)) }
     ensures apart { OnOk result (IfSome (F.placed to.old.files) (λ _. AreAcceptFilesNoInputs
         args.now list.now.jobs (jobs_to_run list.now.jobs chosen.now))) }
     ensures stopped { IfErr result IsAcceptOverwriteStop }
@@ -268,7 +268,7 @@ fn run_selected<
     ensures files { to.new.files ≡ to.old.files }
     ensures rows { IfOk result (λ rows. HaveSelectedRun (D.contents host.now.inputs.now)
         (optional_text args.now.run.root) marked.jobs marked.marks.items rows.items
-        (outputs_of F.placed O.taken E.taken E.failed to.old) (outputs_of F.placed O.taken E.taken E.failed to.new)) }
+        (outputs_of F.placed O.accepted E.accepted E.failure_count to.old) (outputs_of F.placed O.accepted E.accepted E.failure_count to.new)) }
     ensures stopped { IfErr result (λ why. (why ≡ Stop.OutOfMemory) ⊎ (why ≡ Stop.NoWorker)) }
 {
     let BareJobs { jobs, marks, .. } = marked;
@@ -339,7 +339,7 @@ fn write_accepted<'x, R, D: Inputs, F: Outputs + Drop, O: Sink + Drop, E: Sink +
     ensures unwritten { args.now.check ≡ true → to.new.files ≡ to.old.files }
     ensures put { IfOk result (λ status. IsOutcomeWritten args.now.check list.now outcomes.now.new.runs.items
         outcomes.now.claims.items outcomes.now.files.items outcomes.now.new status
-        (outputs_of F.placed O.taken E.taken E.failed to.old) (outputs_of F.placed O.taken E.taken E.failed to.new)) }
+        (outputs_of F.placed O.accepted E.accepted E.failure_count to.old) (outputs_of F.placed O.accepted E.accepted E.failure_count to.new)) }
     ensures stopped { IfErr result (IsAcceptanceWriteStop (D.contents host.now.inputs.now) args.now.check
         list.now.path.now outcomes.now.files.items) }
 {
@@ -368,7 +368,7 @@ fn write_lines<O: Sink>(
     accepting: &AcceptSummary<'_>,
     out: &mut O,
 ) -> Result<(), Stop>
-    ensures put { OnOk result (Appends (O.taken out.old) (O.taken out.new) (accept_lines accepting.now)) }
+    ensures put { OnOk result (Appends (O.accepted out.old) (O.accepted out.new) (accept_lines accepting.now)) }
     ensures stopped { IfErr result (λ why. (why ≡ Stop.OutOfMemory) ⊎ (why ≡ Stop.WriteFailed)) }
 {
     let mut lines = Vec::new(alloc);
@@ -383,7 +383,7 @@ fn write_count_line<O: Sink>(
     writing: Writing,
     out: &mut O,
 ) -> Result<(), Stop>
-    ensures put { OnOk result (Appends (O.taken out.old) (O.taken out.new)
+    ensures put { OnOk result (Appends (O.accepted out.old) (O.accepted out.new)
         (count_line writing (changed_count accepting.now) (skipped_count accepting.now))) }
     ensures stopped { IfErr result (λ why. (why ≡ Stop.OutOfMemory) ⊎ (why ≡ Stop.WriteFailed)) }
 {

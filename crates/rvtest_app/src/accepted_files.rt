@@ -12,7 +12,7 @@ use crate::written_text::write_file;
 use rv_accept::Target;
 use rv_accept_text::{AcceptSummary, GoldenFile};
 use rv_command::{Stop, path_message, read_file};
-use rv_files::limits::MOST_BYTES;
+use rv_files::limits::MAX_FILE_SIZE;
 use rv_files::{
     Bytes, InputError, Inputs, Outputs, Text, io_error_text, read_whole_up_to, resolved_path,
 };
@@ -71,7 +71,7 @@ fn read_golden_file<D: Inputs>(inputs: &D, alloc: Global, path: &str) -> Result<
     ensures old { IfOk result (IsOldContentsAt (D.contents inputs.now) path.now) }
     ensures stopped { IfErr result (IsListUnreadStop (D.contents inputs.now) path.now) }
 {
-    match read_whole_up_to(inputs, alloc, path, MOST_BYTES) {
+    match read_whole_up_to(inputs, alloc, path, MAX_FILE_SIZE) {
         Ok(Some(bytes)) => Ok(Some(Bytes::new(bytes))),
         Ok(None) => Err(Stop::system_failure(path_message(
             alloc,

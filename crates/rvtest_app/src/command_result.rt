@@ -21,13 +21,13 @@ pub(crate) fn write_command_result<O: Sink>(
     found: Result<Found, Stop>,
 ) -> Result<u8, Stop>
     ensures put { IfOk result (λ status. MatchResult found (λ found. (status ≡ found.status)
-        × Appends (O.taken out.old) (O.taken out.new) found.text.items) (λ stop. ⊥)) }
-    ensures counted { OnOk result (O.failed out.new ≡ O.failed out.old) }
+        × Appends (O.accepted out.old) (O.accepted out.new) found.text.items) (λ stop. ⊥)) }
+    ensures counted { OnOk result (O.failure_count out.new ≡ O.failure_count out.old) }
     ensures part { OnErr result (MatchResult found
-        (λ found. AppendsPrefix (O.taken out.old) (O.taken out.new) found.text.items)
-        (λ stop. O.taken out.new ≡ O.taken out.old)) }
+        (λ found. AppendsPrefix (O.accepted out.old) (O.accepted out.new) found.text.items)
+        (λ stop. O.accepted out.new ≡ O.accepted out.old)) }
     ensures failed { IfErr result (λ _. MatchResult found
-        (λ _. O.failed out.new ≡ one_more (O.failed out.old)) (λ _. O.failed out.new ≡ O.failed out.old)) }
+        (λ _. O.failure_count out.new ≡ one_more (O.failure_count out.old)) (λ _. O.failure_count out.new ≡ O.failure_count out.old)) }
     ensures stopped { IfErr result (λ why. MatchResult found (λ _. why ≡ Stop.WriteFailed) (λ stop. why ≡ stop)) }
 {
     let Found { text, status } = found?;

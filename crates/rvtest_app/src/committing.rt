@@ -32,13 +32,13 @@ pub(crate) fn commit_outlets<F: Outputs>(
     alloc: Global,
     outlets: Outlets<'_, F::Place, F::File>,
 ) -> Result<(), Stop>
-    requires report { has_no_failure F.File.failed outlets.report }
-    requires junit { has_no_failure F.File.failed outlets.junit }
+    requires report { has_no_failure F.File.failure_count outlets.report }
+    requires junit { has_no_failure F.File.failure_count outlets.junit }
     ensures placed { OnOk result (AreFilesCommitted (F.placed files.old) (F.placed files.new)
-        (joined_files (files_of F.pending_path F.File.taken outlets.entry.junit)
-        (files_of F.pending_path F.File.taken outlets.entry.report))) }
+        (joined_files (files_of F.pending_path F.File.accepted outlets.entry.junit)
+        (files_of F.pending_path F.File.accepted outlets.entry.report))) }
     ensures part { OnErr result (AreFilesPartlyCommitted (F.placed files.old) (F.placed files.new)
-        (files_of F.pending_path F.File.taken outlets.entry.junit)) }
+        (files_of F.pending_path F.File.accepted outlets.entry.junit)) }
     ensures stopped { IfErr result (λ why. IsUncommittedStop (outlet_path outlets.entry.report) why
         ⊎ IsUncommittedStop (outlet_path outlets.entry.junit) why) }
 {
@@ -52,13 +52,13 @@ fn sync_outlets<'a, F: Outputs>(
     alloc: Global,
     outlets: Outlets<'a, F::Place, F::File>,
 ) -> Result<SyncedFiles<'a, F::Place, F::Synced>, Stop>
-    requires report { has_no_failure F.File.failed outlets.report }
-    requires junit { has_no_failure F.File.failed outlets.junit }
+    requires report { has_no_failure F.File.failure_count outlets.report }
+    requires junit { has_no_failure F.File.failure_count outlets.junit }
     ensures same { F.placed files.new ≡ F.placed files.old }
     ensures junit { IfOk result (λ synced. synced_files F.pending_path F.synced_bytes synced.junit
-        ≡ files_of F.pending_path F.File.taken outlets.entry.junit) }
+        ≡ files_of F.pending_path F.File.accepted outlets.entry.junit) }
     ensures report { IfOk result (λ synced. synced_files F.pending_path F.synced_bytes synced.report
-        ≡ files_of F.pending_path F.File.taken outlets.entry.report) }
+        ≡ files_of F.pending_path F.File.accepted outlets.entry.report) }
     ensures junit_path { IfOk result (λ synced. synced_path synced.junit ≡ outlet_path outlets.entry.junit) }
     ensures report_path { IfOk result (λ synced. synced_path synced.report ≡ outlet_path outlets.entry.report) }
     ensures stopped { IfErr result (λ why. IsUncommittedStop (outlet_path outlets.entry.report) why
@@ -87,10 +87,10 @@ fn sync_outlet<'a, F: Outputs>(
     alloc: Global,
     outlet: Outlet<'a, F::Place, F::File>,
 ) -> Result<Option<SyncedFile<'a, F::Place, F::Synced>>, Stop>
-    requires { has_no_failure F.File.failed outlet }
+    requires { has_no_failure F.File.failure_count outlet }
     ensures same { F.placed files.new ≡ F.placed files.old }
     ensures synced { IfOk result (λ synced. synced_files F.pending_path F.synced_bytes synced
-        ≡ files_of F.pending_path F.File.taken outlet.entry) }
+        ≡ files_of F.pending_path F.File.accepted outlet.entry) }
     ensures path { IfOk result (λ synced. synced_path synced ≡ outlet_path outlet.entry) }
     ensures stopped { IfErr result (IsUncommittedStop (outlet_path outlet.entry)) }
 {

@@ -14,7 +14,7 @@ ghost use Rattle.rvtest_app.specs.CurrentVerdicts.{comparison_with, verdict_by, 
 use crate::accepted_files::golden_file_path;
 use rv_accept::{Acceptance, Candidate, CurrentVerdict, console_path, is_accepted_end};
 use rv_expect::{Comparison, Unmet, unmet_expectations};
-use rv_files::limits::MOST_BYTES;
+use rv_files::limits::MAX_FILE_SIZE;
 use rv_files::{InputError, Inputs, read_whole_up_to};
 use rv_rows::{Job, Row, did_run};
 use std::alloc::{AllocError, Global};
@@ -151,7 +151,7 @@ impl<'x, D: Inputs> CurrentFiles<'x, D> {
         ensures { IfOk result (λ text. AreContentsUpToLimit (D.contents self.now.inputs.now) place.now
             (option_map (λ bytes. bytes.items) text)) }
     {
-        match read_whole_up_to(self.inputs, self.alloc, place, MOST_BYTES) {
+        match read_whole_up_to(self.inputs, self.alloc, place, MAX_FILE_SIZE) {
             Ok(Some(text)) => Ok(Some(text)),
             Ok(None) => Ok(None),
             Err(InputError::Failed(_)) => Ok(None),

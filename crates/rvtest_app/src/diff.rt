@@ -39,7 +39,7 @@ pub(crate) fn diff_reports<D: Inputs, F: Outputs + Drop, O: Sink + Drop, E: Sink
     to: &mut Destinations<F, O, E>,
 ) -> Result<u8, Stop>
     ensures put { IfOk result (λ status. IsDiffWritten (D.contents inputs.now) args.entry status
-        (outputs_of F.placed O.taken E.taken E.failed to.old) (outputs_of F.placed O.taken E.taken E.failed to.new)) }
+        (outputs_of F.placed O.accepted E.accepted E.failure_count to.old) (outputs_of F.placed O.accepted E.accepted E.failure_count to.new)) }
     ensures low { IfOk result (λ status. status ≤ 1) }
     ensures stopped { IfErr result (λ why. (why ≡ WriteFailed)
         ⊎ IsDiffAtStop (D.contents inputs.now) args.entry why) }

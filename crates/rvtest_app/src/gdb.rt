@@ -60,11 +60,11 @@ pub(crate) fn show_job_to_gdb<
 ) -> Result<u8, Stop>
     ensures answered { IfOk result (λ status. IsGdbServed (D.contents host.now.inputs.now) is_terminal args.entry
         (I.remaining input.old) (I.remaining input.new) status
-        (outputs_of F.placed O.taken E.taken E.failed to.old) (outputs_of F.placed O.taken E.taken E.failed to.new)) }
+        (outputs_of F.placed O.accepted E.accepted E.failure_count to.old) (outputs_of F.placed O.accepted E.accepted E.failure_count to.new)) }
     ensures done { IfOk result (λ status. status ≡ 0) }
     ensures stopped { IfErr result (λ why. IsGdbStopped (D.contents host.now.inputs.now) is_terminal args.entry why
-        (outputs_of F.placed O.taken E.taken E.failed to.old) (outputs_of F.placed O.taken E.taken E.failed to.new)
-        (O.failed to.old.out) (O.failed to.new.out)) }
+        (outputs_of F.placed O.accepted E.accepted E.failure_count to.old) (outputs_of F.placed O.accepted E.accepted E.failure_count to.new)
+        (O.failure_count to.old.out) (O.failure_count to.new.out)) }
 {
     let alloc = host.alloc;
     if is_terminal {

@@ -14,9 +14,9 @@ use rvtest_cli::ArgsError;
 /// arguments.
 pub(crate) fn respond_to_args_error<O: Sink>(out: &mut O, error: ArgsError) -> Result<u8, Stop>
     ensures done { IfOk result (λ status. status ≡ 0) }
-    ensures helped { OnOk result (IsHelpWritten error (O.taken out.old) (O.taken out.new)) }
-    ensures counted { OnOk result (O.failed out.new ≡ O.failed out.old) }
-    ensures stopped { IfErr result (IsArgsErrorStop error (O.failed out.old) (O.failed out.new)) }
+    ensures helped { OnOk result (IsHelpWritten error (O.accepted out.old) (O.accepted out.new)) }
+    ensures counted { OnOk result (O.failure_count out.new ≡ O.failure_count out.old) }
+    ensures stopped { IfErr result (IsArgsErrorStop error (O.failure_count out.old) (O.failure_count out.new)) }
 {
     match error {
         ArgsError::Told(ErrorKind::DisplayHelp | ErrorKind::DisplayVersion, text) => {
@@ -29,10 +29,10 @@ pub(crate) fn respond_to_args_error<O: Sink>(out: &mut O, error: ArgsError) -> R
 // Writes the text of the help or the version to standard output, and returns status 0.
 fn write_help<O: Sink>(out: &mut O, text: &str) -> Result<u8, Stop>
     ensures done { IfOk result (λ status. status ≡ 0) }
-    ensures put { OnOk result (Appends (O.taken out.old) (O.taken out.new) text.now) }
-    ensures counted { OnOk result (O.failed out.new ≡ O.failed out.old) }
-    ensures part { OnErr result (AppendsPrefix (O.taken out.old) (O.taken out.new) text.now) }
-    ensures stopped { IfErr result (IsHelpStop (O.failed out.old) (O.failed out.new)) }
+    ensures put { OnOk result (Appends (O.accepted out.old) (O.accepted out.new) text.now) }
+    ensures counted { OnOk result (O.failure_count out.new ≡ O.failure_count out.old) }
+    ensures part { OnErr result (AppendsPrefix (O.accepted out.old) (O.accepted out.new) text.now) }
+    ensures stopped { IfErr result (IsHelpStop (O.failure_count out.old) (O.failure_count out.new)) }
 {
     write_results(out, text.as_bytes())?;
     Ok(DONE)

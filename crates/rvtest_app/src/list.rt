@@ -33,7 +33,7 @@ pub(crate) fn list_chosen_jobs<D: Inputs, F: Outputs + Drop, O: Sink + Drop, E: 
     to: &mut Destinations<F, O, E>,
 ) -> Result<u8, Stop>
     ensures put { IfOk result (λ status. IsListWritten (D.contents inputs.now) args.now status
-        (outputs_of F.placed O.taken E.taken E.failed to.old) (outputs_of F.placed O.taken E.taken E.failed to.new)) }
+        (outputs_of F.placed O.accepted E.accepted E.failure_count to.old) (outputs_of F.placed O.accepted E.accepted E.failure_count to.new)) }
     ensures low { IfOk result (λ status. status ≤ 1) }
     ensures stopped { IfErr result (λ why. (why ≡ Stop.WriteFailed)
         ⊎ IsListStop (D.contents inputs.now) args.now why) }

@@ -53,7 +53,7 @@ pub(crate) fn merge_reports<D: Inputs, F: Outputs + Drop, O: Sink + Drop, E: Sin
 ) -> Result<u8, Stop>
     ensures low { IfOk result (λ status. status ≤ 1) }
     ensures merged { IfOk result (λ status. IsMergedAt (D.contents inputs.now) args.now status
-        (outputs_of F.placed O.taken E.taken E.failed to.old) (outputs_of F.placed O.taken E.taken E.failed to.new)) }
+        (outputs_of F.placed O.accepted E.accepted E.failure_count to.old) (outputs_of F.placed O.accepted E.accepted E.failure_count to.new)) }
     ensures undone { OnErr result (IsAbortedMergeAt (D.contents inputs.now) args.now
         (F.placed to.old.files) (F.placed to.new.files)) }
     ensures stopped { IfErr result (IsMergeStop (D.contents inputs.now) args.now) }
@@ -179,7 +179,7 @@ fn write_merged<F: Outputs + Drop, O: Sink + Drop, E: Sink + Drop>(
         (merged_report_path (optional_text args.now.report) (optional_text args.now.junit))
         (optional_text args.now.junit) merged.line.items (report_text merged.rows)
         (merged_junit args.now merged.rows)
-        (outputs_of F.placed O.taken E.taken E.failed to.old) (outputs_of F.placed O.taken E.taken E.failed to.new)) }
+        (outputs_of F.placed O.accepted E.accepted E.failure_count to.old) (outputs_of F.placed O.accepted E.accepted E.failure_count to.new)) }
     ensures part { OnErr result (AreFilesPartlyCommitted (F.placed to.old.files) (F.placed to.new.files)
         (Some (file_at (optional_text args.now.junit) (merged_junit args.now merged.rows)))) }
     ensures stopped { IfErr result (IsMergeWriteStop args.now) }

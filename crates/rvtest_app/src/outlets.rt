@@ -55,12 +55,12 @@ pub(crate) fn open_outlets<'a, F: Outputs>(
     junit: Option<&'a str>,
 ) -> Result<Outlets<'a, F::Place, F::File>, Stop>
     ensures same { F.placed files.new ≡ F.placed files.old }
-    ensures report { IfOk result (λ outlets. HasReceived F.pending_path F.File.taken F.File.failed
+    ensures report { IfOk result (λ outlets. HasReceived F.pending_path F.File.accepted F.File.failure_count
         (F.placed files.old) (optional_text report.entry) [] outlets.report) }
-    ensures junit { IfOk result (λ outlets. HasReceived F.pending_path F.File.taken F.File.failed
+    ensures junit { IfOk result (λ outlets. HasReceived F.pending_path F.File.accepted F.File.failure_count
         (F.placed files.old) (optional_text junit.entry) [] outlets.junit) }
-    ensures unfailed { IfOk result (λ outlets. has_no_failure F.File.failed outlets.report
-        × has_no_failure F.File.failed outlets.junit) }
+    ensures unfailed { IfOk result (λ outlets. has_no_failure F.File.failure_count outlets.report
+        × has_no_failure F.File.failure_count outlets.junit) }
     ensures stopped { IfErr result (IsEitherFileStop (file_path_at (optional_text report.entry))
         (file_path_at (optional_text junit.entry))) }
 {
@@ -81,7 +81,7 @@ pub(crate) fn open_outlet<'a, F: Outputs>(
     path: Option<&'a str>,
 ) -> Result<Outlet<'a, F::Place, F::File>, Stop>
     ensures same { F.placed files.new ≡ F.placed files.old }
-    ensures open { IfOk result (HasReceived F.pending_path F.File.taken F.File.failed
+    ensures open { IfOk result (HasReceived F.pending_path F.File.accepted F.File.failure_count
         (F.placed files.old) (optional_text path.entry) []) }
     ensures stopped { IfErr result (λ why. IsSomeAnd (file_path_at (optional_text path.entry))
         (λ path. IsUnopenedJobStop path why)) }
@@ -118,7 +118,7 @@ fn open_file<'a, F: Outputs>(
 ) -> Result<Outlet<'a, F::Place, F::File>, Stop>
     requires { is_stdout path.now ≡ false }
     ensures same { F.placed files.new ≡ F.placed files.old }
-    ensures open { IfOk result (HasReceived F.pending_path F.File.taken F.File.failed
+    ensures open { IfOk result (HasReceived F.pending_path F.File.accepted F.File.failure_count
         (F.placed files.old) (Some path.now) []) }
     ensures stopped { IfErr result (IsUnopenedJobStop path.now) }
 {
@@ -199,11 +199,11 @@ impl<'a, P: Drop, W: Sink + LastError + Drop> Outlet<'a, P, W> {
         report: ReportText<'_>,
     ) -> Result<(), Stop>
         ensures put { OnOk result
-            (IsWrittenToOutlet W.taken W.failed self.old self.new (report_rest_of report.entry)) }
-        ensures out { OnOk result (Appends (O.taken out.old) (O.taken out.new)
+            (IsWrittenToOutlet W.accepted W.failure_count self.old self.new (report_rest_of report.entry)) }
+        ensures out { OnOk result (Appends (O.accepted out.old) (O.accepted out.new)
             (text_if_stdout self.old (report_text_of report.entry))) }
-        ensures counted { OnOk result (O.failed out.new ≡ O.failed out.old) }
-        ensures part { OnErr result (AppendsPrefix (O.taken out.old) (O.taken out.new)
+        ensures counted { OnOk result (O.failure_count out.new ≡ O.failure_count out.old) }
+        ensures part { OnErr result (AppendsPrefix (O.accepted out.old) (O.accepted out.new)
             (text_if_stdout self.old (report_text_of report.entry))) }
         ensures path { outlet_path self.new ≡ outlet_path self.old }
         ensures stopped { IfErr result (IsTextNotWrittenStop (outlet_path self.old)) }
@@ -227,13 +227,13 @@ impl<'a, P: Drop, W: Sink + LastError + Drop> Outlet<'a, P, W> {
         cases: &Cases<'_, T>,
     ) -> Result<(), Stop>
         requires known { AreLinesOf (T.line cases.now.reporter.now) cases.now.places.now cases.now.rows.now cases.now.texts.now }
-        ensures put { OnOk result (IsWrittenToOutlet W.taken W.failed self.old self.new
+        ensures put { OnOk result (IsWrittenToOutlet W.accepted W.failure_count self.old self.new
             (junit_text suite.now.name.now (judge_view suite.now.judge)
             (row_text_list (T.line cases.now.reporter.now) cases.now.places.now cases.now.rows.now) cases.now.rows.now)) }
-        ensures out { OnOk result (Appends (O.taken out.old) (O.taken out.new) (text_if_stdout self.old
+        ensures out { OnOk result (Appends (O.accepted out.old) (O.accepted out.new) (text_if_stdout self.old
             (junit_text suite.now.name.now (judge_view suite.now.judge)
             (row_text_list (T.line cases.now.reporter.now) cases.now.places.now cases.now.rows.now) cases.now.rows.now))) }
-        ensures counted { OnOk result (O.failed out.new ≡ O.failed out.old) }
+        ensures counted { OnOk result (O.failure_count out.new ≡ O.failure_count out.old) }
         ensures path { outlet_path self.new ≡ outlet_path self.old }
         ensures stopped { IfErr result (IsTextNotWrittenStop (outlet_path self.old)) }
     {

@@ -28,7 +28,7 @@ pub(crate) fn write_shown<F: Outputs + Drop, O: Sink + Drop, E: Sink + Drop>(
 ) -> Result<(), Stop>
     ensures files { to.new.files ≡ to.old.files }
     ensures shown { OnOk result (IsWrittenToErrorsIf is_beside text.now
-        (outputs_of F.placed O.taken E.taken E.failed to.old) (outputs_of F.placed O.taken E.taken E.failed to.new)) }
+        (outputs_of F.placed O.accepted E.accepted E.failure_count to.old) (outputs_of F.placed O.accepted E.accepted E.failure_count to.new)) }
     ensures stopped { IfErr result (λ why. why ≡ Stop.WriteFailed) }
 {
     if is_beside {
@@ -47,22 +47,22 @@ pub(crate) fn put_files<F: Outputs + Drop, O: Sink + Drop, E: Sink + Drop, T: Ro
     texts: FileTexts<'_, '_, '_, T>,
 ) -> Result<(), Stop>
     requires known { AreLinesOf (T.line texts.reporter.now) texts.places.now (report_rows texts.report) texts.texts.now }
-    requires report { has_no_failure F.File.failed outlets.report }
-    requires junit { has_no_failure F.File.failed outlets.junit }
+    requires report { has_no_failure F.File.failure_count outlets.report }
+    requires junit { has_no_failure F.File.failure_count outlets.junit }
     ensures errors { to.new.errors ≡ to.old.errors }
     ensures put { (had : List ℕ) (report_path junit_path : Option (List ℕ))
-        → HasReceived F.pending_path F.File.taken F.File.failed (F.placed to.old.files) report_path had outlets.entry.report
-        → HasReceived F.pending_path F.File.taken F.File.failed (F.placed to.old.files) junit_path [] outlets.entry.junit
-        → OnOk result (Appends (O.taken to.old.out) (O.taken to.new.out)
+        → HasReceived F.pending_path F.File.accepted F.File.failure_count (F.placed to.old.files) report_path had outlets.entry.report
+        → HasReceived F.pending_path F.File.accepted F.File.failure_count (F.placed to.old.files) junit_path [] outlets.entry.junit
+        → OnOk result (Appends (O.accepted to.old.out) (O.accepted to.new.out)
         (stdout_at junit_path (junit_of_report T.line texts.entry) ++ stdout_at report_path (report_text_of texts.entry.report))) }
     ensures placed { (had : List ℕ) (report_path junit_path : Option (List ℕ))
-        → HasReceived F.pending_path F.File.taken F.File.failed (F.placed to.old.files) report_path had outlets.entry.report
-        → HasReceived F.pending_path F.File.taken F.File.failed (F.placed to.old.files) junit_path [] outlets.entry.junit
+        → HasReceived F.pending_path F.File.accepted F.File.failure_count (F.placed to.old.files) report_path had outlets.entry.report
+        → HasReceived F.pending_path F.File.accepted F.File.failure_count (F.placed to.old.files) junit_path [] outlets.entry.junit
         → OnOk result (AreFilesCommitted (F.placed to.old.files) (F.placed to.new.files)
         (Some (file_at junit_path (junit_of_report T.line texts.entry)
         ++ file_at report_path (had ++ report_rest_of texts.entry.report)))) }
     ensures part { (junit_path : Option (List ℕ))
-        → HasReceived F.pending_path F.File.taken F.File.failed (F.placed to.old.files) junit_path [] outlets.entry.junit
+        → HasReceived F.pending_path F.File.accepted F.File.failure_count (F.placed to.old.files) junit_path [] outlets.entry.junit
         → OnErr result (AreFilesPartlyCommitted (F.placed to.old.files) (F.placed to.new.files)
         (Some (file_at junit_path (junit_of_report T.line texts.entry)))) }
     ensures stopped { IfErr result
@@ -87,10 +87,10 @@ fn write_texts<P: Drop, W: Sink + LastError + Drop, O: Sink, T: RowReporter>(
 ) -> Result<(), Stop>
     requires known { AreLinesOf (T.line texts.reporter.now) texts.places.now (report_rows texts.report) texts.texts.now }
     ensures junit { OnOk result
-        (IsWrittenToOutlet W.taken W.failed outlets.old.junit outlets.new.junit (junit_of_report T.line texts.entry)) }
-    ensures report { OnOk result (IsWrittenToOutlet W.taken W.failed outlets.old.report outlets.new.report
+        (IsWrittenToOutlet W.accepted W.failure_count outlets.old.junit outlets.new.junit (junit_of_report T.line texts.entry)) }
+    ensures report { OnOk result (IsWrittenToOutlet W.accepted W.failure_count outlets.old.report outlets.new.report
         (report_rest_of texts.entry.report)) }
-    ensures out { OnOk result (Appends (O.taken out.old) (O.taken out.new)
+    ensures out { OnOk result (Appends (O.accepted out.old) (O.accepted out.new)
         (text_if_stdout outlets.old.junit (junit_of_report T.line texts.entry)
         ++ text_if_stdout outlets.old.report (report_text_of texts.entry.report))) }
     ensures junit_path { outlet_path outlets.new.junit ≡ outlet_path outlets.old.junit }

@@ -65,15 +65,15 @@ where
     // A status of 0 or 1 means that everything was written, to standard output in the requested colours.
     ensures answered { result.1 ≤ 1 → IsAnswered (D.contents host.now.inputs.now) (I.remaining input.old)
         terminals.is_out_terminal terminals.is_out_colored (map T.text words.entry.now) result.1
-        (outputs_of F.placed O.taken E.taken E.failed to) (outputs_of F.placed O.taken E.taken E.failed result.0) }
+        (outputs_of F.placed O.accepted E.accepted E.failure_count to) (outputs_of F.placed O.accepted E.accepted E.failure_count result.0) }
     // Any other status means that the command stopped before its work was done and that its last output says so, except when the reader
     // closed standard output.
     ensures ended { IsAnswered (D.contents host.now.inputs.now) (I.remaining input.old)
         terminals.is_out_terminal terminals.is_out_colored (map T.text words.entry.now) result.1
-        (outputs_of F.placed O.taken E.taken E.failed to) (outputs_of F.placed O.taken E.taken E.failed result.0)
+        (outputs_of F.placed O.accepted E.accepted E.failure_count to) (outputs_of F.placed O.accepted E.accepted E.failure_count result.0)
         ⊎ IsStopReported (O.closed result.0.out)
         (IsProgramStop (D.contents host.now.inputs.now) terminals.is_out_terminal (map T.text words.entry.now))
-        result.1 (outputs_of F.placed O.taken E.taken E.failed result.0) }
+        result.1 (outputs_of F.placed O.accepted E.accepted E.failure_count result.0) }
 {
     let (mut to, answer) = match read_words(host.alloc, words) {
         Ok(Some(request)) => {
@@ -116,15 +116,15 @@ fn run_in_colors<
 where
     F::File: Send,
     requires colors { requested_colors request terminals.is_out_colored ≡ J.colors }
-    requires before { O.taken to.out ≡ J.before }
+    requires before { O.accepted to.out ≡ J.before }
     ensures low { IfOk result.1 (λ status. status ≤ 2) }
     ensures done { IfOk result.1 (λ status. IsDoneInColors (D.contents host.now.inputs.now) (I.remaining input.old)
         terminals.is_out_terminal terminals.is_out_colored request.entry status
-        (outputs_of F.placed O.taken E.taken E.failed to) (outputs_of F.placed O.taken E.taken E.failed result.0)) }
+        (outputs_of F.placed O.accepted E.accepted E.failure_count to) (outputs_of F.placed O.accepted E.accepted E.failure_count result.0)) }
     ensures stopped { IfErr result.1 (IsCommandStop (D.contents host.now.inputs.now) terminals.is_out_terminal request.entry) }
     // Whatever the result, standard output received coloured results, followed at most by the first bytes of an escape sequence.
     ensures shown { (plain : Option (List ℕ)) × IsPartlyColoredAs (requested_colors request.entry terminals.is_out_colored)
-        (O.taken to.out) plain (O.taken result.0.out) }
+        (O.accepted to.out) plain (O.accepted result.0.out) }
 {
     let colors = requested_colors(&request, terminals.is_out_colored);
     let Destinations { files, out, errors } = to;
@@ -170,7 +170,7 @@ where
     ensures low { IfOk result.1 (λ status. status ≤ 2) }
     ensures done { IfOk result.1 (λ status. IsCommandDone (D.contents host.now.inputs.now) (I.remaining input.old)
         terminals.is_out_terminal request.entry status
-        (outputs_of F.placed O.taken E.taken E.failed to) (outputs_of F.placed O.taken E.taken E.failed result.0)) }
+        (outputs_of F.placed O.accepted E.accepted E.failure_count to) (outputs_of F.placed O.accepted E.accepted E.failure_count result.0)) }
     // A command that a failed write could not have stopped wrote nothing.
     ensures untouched { IfOk result.1 (λ _.
         IsCommandStop (D.contents host.now.inputs.now) terminals.is_out_terminal request.entry Stop.WriteFailed
@@ -206,7 +206,7 @@ where
 pub fn reject_unreadable_args<E: Sink>(error: &io::Error, errors: &mut E) -> u8
     ensures low { result ≤ 3 }
     ensures status { result ≡ unreadable_args_status (error_kind error.now) }
-    ensures told { IsMessageWritten (E.taken errors.old) (E.taken errors.new) (E.failed errors.old) (E.failed errors.new)
+    ensures told { IsMessageWritten (E.accepted errors.old) (E.accepted errors.new) (E.failure_count errors.old) (E.failure_count errors.new)
         (unreadable_args_message (error_kind error.now)) }
 {
     match error.kind() {

@@ -42,12 +42,12 @@ impl<'a> ReportText<'a> {
     /// Writes the report. After an error, a prefix of it has been written.
     pub(crate) fn write<W: Sink>(self, alloc: Global, out: &mut W) -> Result<(), WriteError>
         ensures all { OnOk result
-            (Appends (W.taken out.old) (W.taken out.new) (report_text_of self.entry)) }
-        ensures counted { OnOk result (W.failed out.new ≡ W.failed out.old) }
+            (Appends (W.accepted out.old) (W.accepted out.new) (report_text_of self.entry)) }
+        ensures counted { OnOk result (W.failure_count out.new ≡ W.failure_count out.old) }
         ensures part { OnErr result
-            (AppendsPrefix (W.taken out.old) (W.taken out.new) (report_text_of self.entry)) }
+            (AppendsPrefix (W.accepted out.old) (W.accepted out.new) (report_text_of self.entry)) }
         ensures failed { IfErr result (λ error. error ≡ WriteError.Failed
-            → HasIncreased (W.failed out.old) (W.failed out.new)) }
+            → HasIncreased (W.failure_count out.old) (W.failure_count out.new)) }
     {
         match self {
             ReportText::Whole(rows) => write_report(alloc, &Report { rows }, out),
@@ -59,12 +59,12 @@ impl<'a> ReportText<'a> {
     /// Writes the part of the report that is written after all jobs have finished. After an error, a prefix of it has been written.
     pub(crate) fn write_rest<W: Sink>(self, alloc: Global, out: &mut W) -> Result<(), WriteError>
         ensures all { OnOk result
-            (Appends (W.taken out.old) (W.taken out.new) (report_rest_of self.entry)) }
-        ensures counted { OnOk result (W.failed out.new ≡ W.failed out.old) }
+            (Appends (W.accepted out.old) (W.accepted out.new) (report_rest_of self.entry)) }
+        ensures counted { OnOk result (W.failure_count out.new ≡ W.failure_count out.old) }
         ensures part { OnErr result
-            (AppendsPrefix (W.taken out.old) (W.taken out.new) (report_rest_of self.entry)) }
+            (AppendsPrefix (W.accepted out.old) (W.accepted out.new) (report_rest_of self.entry)) }
         ensures failed { IfErr result (λ error. error ≡ WriteError.Failed
-            → HasIncreased (W.failed out.old) (W.failed out.new)) }
+            → HasIncreased (W.failure_count out.old) (W.failure_count out.new)) }
     {
         match self {
             ReportText::Whole(rows) => write_report(alloc, &Report { rows }, out),
@@ -80,13 +80,13 @@ fn write_whole_report<W: Sink>(
     into: IntoRows<'_>,
     out: &mut W,
 ) -> Result<(), WriteError>
-    ensures all { OnOk result (Appends (W.taken out.old) (W.taken out.new)
+    ensures all { OnOk result (Appends (W.accepted out.old) (W.accepted out.new)
         (report_text (merged_rows into.entry.chosen.places.now into.entry.chosen.rows into.entry.old))) }
-    ensures counted { OnOk result (W.failed out.new ≡ W.failed out.old) }
-    ensures part { OnErr result (AppendsPrefix (W.taken out.old) (W.taken out.new)
+    ensures counted { OnOk result (W.failure_count out.new ≡ W.failure_count out.old) }
+    ensures part { OnErr result (AppendsPrefix (W.accepted out.old) (W.accepted out.new)
         (report_text (merged_rows into.entry.chosen.places.now into.entry.chosen.rows into.entry.old))) }
     ensures failed { IfErr result (λ error. error ≡ WriteError.Failed
-        → HasIncreased (W.failed out.old) (W.failed out.new)) }
+        → HasIncreased (W.failure_count out.old) (W.failure_count out.new)) }
 {
     let rows = into.into_whole_rows();
     write_report(alloc, &Report { rows }, out)

@@ -24,13 +24,13 @@ pub(crate) fn write_chosen_report<W: Sink>(
     shard: Option<Shard>,
     out: &mut W,
 ) -> Result<(), WriteError>
-    ensures all { OnOk result (Appends (W.taken out.old) (W.taken out.new)
+    ensures all { OnOk result (Appends (W.accepted out.old) (W.accepted out.new)
         (chosen_report_text chosen.entry.jobs chosen.entry.places.now shard chosen.entry.rows)) }
-    ensures counted { OnOk result (W.failed out.new ≡ W.failed out.old) }
-    ensures part { OnErr result (AppendsPrefix (W.taken out.old) (W.taken out.new)
+    ensures counted { OnOk result (W.failure_count out.new ≡ W.failure_count out.old) }
+    ensures part { OnErr result (AppendsPrefix (W.accepted out.old) (W.accepted out.new)
         (chosen_report_text chosen.entry.jobs chosen.entry.places.now shard chosen.entry.rows)) }
     ensures failed { IfErr result (λ error. error ≡ WriteError.Failed
-        → HasIncreased (W.failed out.old) (W.failed out.new)) }
+        → HasIncreased (W.failure_count out.old) (W.failure_count out.new)) }
 {
     let extent = match shard {
         Some(shard) => Extent::Shard(shard),
@@ -49,13 +49,13 @@ pub(crate) fn write_last_line<W: Sink>(
     shard: Option<Shard>,
     out: &mut W,
 ) -> Result<(), WriteError>
-    ensures all { OnOk result (Appends (W.taken out.old) (W.taken out.new)
+    ensures all { OnOk result (Appends (W.accepted out.old) (W.accepted out.new)
         (chosen_last_line chosen.entry.jobs chosen.entry.places.now shard chosen.entry.rows)) }
-    ensures counted { OnOk result (W.failed out.new ≡ W.failed out.old) }
-    ensures part { OnErr result (AppendsPrefix (W.taken out.old) (W.taken out.new)
+    ensures counted { OnOk result (W.failure_count out.new ≡ W.failure_count out.old) }
+    ensures part { OnErr result (AppendsPrefix (W.accepted out.old) (W.accepted out.new)
         (chosen_last_line chosen.entry.jobs chosen.entry.places.now shard chosen.entry.rows)) }
     ensures failed { IfErr result (λ error. error ≡ WriteError.Failed
-        → HasIncreased (W.failed out.old) (W.failed out.new)) }
+        → HasIncreased (W.failure_count out.old) (W.failure_count out.new)) }
 {
     let extent = match shard {
         Some(shard) => Extent::Shard(shard),
@@ -75,13 +75,13 @@ fn write_part_report<W: Sink>(
     chosen: ChosenRows<'_>,
     out: &mut W,
 ) -> Result<(), WriteError>
-    ensures all { OnOk result (Appends (W.taken out.old) (W.taken out.new)
+    ensures all { OnOk result (Appends (W.accepted out.old) (W.accepted out.new)
         (part_text extent chosen.entry.places.now chosen.entry.rows)) }
-    ensures counted { OnOk result (W.failed out.new ≡ W.failed out.old) }
-    ensures part { OnErr result (AppendsPrefix (W.taken out.old) (W.taken out.new)
+    ensures counted { OnOk result (W.failure_count out.new ≡ W.failure_count out.old) }
+    ensures part { OnErr result (AppendsPrefix (W.accepted out.old) (W.accepted out.new)
         (part_text extent chosen.entry.places.now chosen.entry.rows)) }
     ensures failed { IfErr result (λ error. error ≡ WriteError.Failed
-        → HasIncreased (W.failed out.old) (W.failed out.new)) }
+        → HasIncreased (W.failure_count out.old) (W.failure_count out.new)) }
 {
     let report = SavedReport {
         extent,

@@ -56,7 +56,7 @@ pub(crate) fn run_requested_jobs<
 where
     F::File: Send,
     ensures run { IfOk result.1 (λ status. IsRunAt (D.contents host.now.inputs.now) args.now status
-        (outputs_of F.placed O.taken E.taken E.failed to) (outputs_of F.placed O.taken E.taken E.failed result.0)) }
+        (outputs_of F.placed O.accepted E.accepted E.failure_count to) (outputs_of F.placed O.accepted E.accepted E.failure_count result.0)) }
     ensures undone { OnErr result.1 (IsAbortedRunAt (D.contents host.now.inputs.now) args.now
         (F.placed to.files) (F.placed result.0.files)) }
     ensures low { IfOk result.1 (λ status. status ≤ 1) }
@@ -122,7 +122,7 @@ impl<'x, R: Threads + Wait + Sync + Clock, D: Inputs> ListRun<'x, R, D> {
         requires { self.now.rule ≡ failure_rule self.now.args.now.lenient }
         ensures run { IfOk result.1 (λ status. IsRunOfSelected (D.contents self.now.host.now.inputs.now) self.now.args.now
             marked.known marked.jobs (Some marked.marks.items) marked.frame.shard marked.frame.old status
-            (outputs_of F.placed O.taken E.taken E.failed to) (outputs_of F.placed O.taken E.taken E.failed result.0)) }
+            (outputs_of F.placed O.accepted E.accepted E.failure_count to) (outputs_of F.placed O.accepted E.accepted E.failure_count result.0)) }
         ensures undone { OnErr result.1 (IsAbortedRunOfJobs (D.contents self.now.host.now.inputs.now) self.now.args.now
             marked.known marked.jobs (selected_job_indices marked.marks.items) marked.frame.shard marked.frame.old
             (F.placed to.files) (F.placed result.0.files)) }
@@ -186,8 +186,8 @@ pub(crate) fn gather_jobs_at<S: Store>(
     ensures paths { IfOk result (λ plan. paths_of plan.answers
         ≡ paths_used (jobs_needed_for jobs places.now)) }
     ensures kept { IfOk result (λ plan. AgreeWithContents (S.contents store.old) plan.answers) }
-    ensures faults { IfOk result (λ plan. S.faulted store.new
-        ≡ after_increments (S.faulted store.old) (unreadable_count plan.answers)) }
+    ensures faults { IfOk result (λ plan. S.fault_count store.new
+        ≡ after_increments (S.fault_count store.old) (unreadable_count plan.answers)) }
 {
     gather_jobs(alloc, jobs, Vec::from_slice(alloc, places)?, store)
 }

@@ -37,14 +37,14 @@ impl<'x, R: Threads + Wait + Sync + Clock, D: Inputs> ListRun<'x, R, D> {
         requires within { AreJobIndices plan.now places.now }
         requires rising { IsStrictlyIncreasing places.now }
         requires open { (path : Option (List ℕ))
-            × HasReceived F.pending_path F.File.taken F.File.failed None path [] outlet }
+            × HasReceived F.pending_path F.File.accepted F.File.failure_count None path [] outlet }
         ensures counted { (path : Option (List ℕ)) (earlier : Option (List CommittedFile))
-            → HasReceived F.pending_path F.File.taken F.File.failed earlier path [] outlet.entry
+            → HasReceived F.pending_path F.File.accepted F.File.failure_count earlier path [] outlet.entry
             → OnOk result (AreCountsWritten self.now.args.now.stacks path plan.now places.now
-            (with_committed_if_reported earlier (outputs_of F.placed O.taken E.taken E.failed to.old))
-            (outputs_of F.placed O.taken E.taken E.failed to.new)) }
+            (with_committed_if_reported earlier (outputs_of F.placed O.accepted E.accepted E.failure_count to.old))
+            (outputs_of F.placed O.accepted E.accepted E.failure_count to.new)) }
         ensures requested { (path : Option (List ℕ)) (earlier : Option (List CommittedFile))
-            → HasReceived F.pending_path F.File.taken F.File.failed earlier path [] outlet.entry
+            → HasReceived F.pending_path F.File.accepted F.File.failure_count earlier path [] outlet.entry
             → OnErr result (is_some path ≡ true) }
         ensures same { OnErr result (F.placed to.new.files ≡ F.placed to.old.files) }
         ensures stopped { IfErr result (IsCountsWriteStop self.now.args.now (outlet_path outlet.entry)) }

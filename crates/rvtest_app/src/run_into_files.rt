@@ -71,7 +71,7 @@ impl<'x, R: Threads + Wait + Sync + Clock, D: Inputs> ListRun<'x, R, D> {
         ensures outputs_of { OnOk result.1 (IsCountedRunWritten self.now.args.now (reporter_of planned.now.reporter.now)
             planned.now.places.now frame.shard frame.old (run_rows self.now.args.now.stop_after
             (judge_view planned.now.reporter.now.judge) planned.now.reporter.now.plan.now planned.now.places.now)
-            (outputs_of F.placed O.taken E.taken E.failed to) (outputs_of F.placed O.taken E.taken E.failed result.0)) }
+            (outputs_of F.placed O.accepted E.accepted E.failure_count to) (outputs_of F.placed O.accepted E.accepted E.failure_count result.0)) }
         ensures part { (rows : List ARow) → rows ≡ run_rows self.now.args.now.stop_after
             (judge_view planned.now.reporter.now.judge) planned.now.reporter.now.plan.now planned.now.places.now
             → OnErr result.1 ((F.placed result.0.files ≡ F.placed to.files)
@@ -144,7 +144,7 @@ impl<'x, R: Threads + Wait + Sync + Clock, D: Inputs> ListRun<'x, R, D> {
         requires failed { IfErr run.ran (λ error. error ≡ ReportFailed → is_some (outlet_path outlets.report) ≡ true) }
         requires whole { ForSome frame.old (λ rows. length rows ≡ length planned.now.reporter.now.plan.now.jobs) }
         requires path { outlet_path outlets.report ≡ file_path_at (run_report_path self.now.args.now) }
-        requires taken { IfOk run.ran (λ rows. HaveRunOutletsReceived F.pending_path F.File.taken F.File.failed (F.placed to.files)
+        requires taken { IfOk run.ran (λ rows. HaveRunOutletsReceived F.pending_path F.File.accepted F.File.failure_count (F.placed to.files)
             self.now.args.now (streamed_rows frame.old (shown_indices planned.now.places.now rows) rows) outlets) }
         ensures status { IfOk result.1 (λ status. status ≡ rows_status (judge_view planned.now.reporter.now.judge) (run_rows
             self.now.args.now.stop_after (judge_view planned.now.reporter.now.judge) planned.now.reporter.now.plan.now
@@ -153,11 +153,11 @@ impl<'x, R: Threads + Wait + Sync + Clock, D: Inputs> ListRun<'x, R, D> {
             (row_lines_at (reporter_of planned.now.reporter.now)) (judge_view planned.now.reporter.now.judge)
             planned.now.reporter.now.plan.now planned.now.places.now (run_rows self.now.args.now.stop_after
             (judge_view planned.now.reporter.now.judge) planned.now.reporter.now.plan.now planned.now.places.now))
-            before (outputs_of F.placed O.taken E.taken E.failed to))
+            before (outputs_of F.placed O.accepted E.accepted E.failure_count to))
             → OnOk result.1 (IsCountedRunWritten self.now.args.now (reporter_of planned.now.reporter.now) planned.now.places.now
             frame.shard frame.old (run_rows self.now.args.now.stop_after (judge_view planned.now.reporter.now.judge)
             planned.now.reporter.now.plan.now planned.now.places.now) before
-            (outputs_of F.placed O.taken E.taken E.failed result.0)) }
+            (outputs_of F.placed O.accepted E.accepted E.failure_count result.0)) }
         ensures part { OnErr result.1 ((F.placed result.0.files ≡ F.placed to.files)
             ⊎ AreRunFilesPartlyCommitted self.now.args.now (reporter_of planned.now.reporter.now) planned.now.places.now frame.shard
             frame.old (run_rows self.now.args.now.stop_after (judge_view planned.now.reporter.now.judge)
@@ -194,15 +194,15 @@ impl<'x, R: Threads + Wait + Sync + Clock, D: Inputs> ListRun<'x, R, D> {
         requires few { length rows ≤ length planned.now.places.now }
         requires texts { AreLinesOf (failure_lines (reporter_of planned.now.reporter.now)) planned.now.places.now rows texts.items }
         requires whole { ForSome frame.old (λ rows. length rows ≡ length planned.now.reporter.now.plan.now.jobs) }
-        requires taken { HaveRunOutletsReceived F.pending_path F.File.taken F.File.failed (F.placed to.old.files) self.now.args.now
+        requires taken { HaveRunOutletsReceived F.pending_path F.File.accepted F.File.failure_count (F.placed to.old.files) self.now.args.now
             (streamed_rows frame.old (shown_indices planned.now.places.now rows) rows) outlets }
         ensures status { IfOk result (λ status. status ≡ rows_status (judge_view planned.now.reporter.now.judge) rows) }
         ensures outputs_of { (before : CommandOutputs) → IsWrittenToErrorsIf (uses_run_stdout self.now.args.now) (run_output_text
             (row_lines_at (reporter_of planned.now.reporter.now)) (judge_view planned.now.reporter.now.judge)
             planned.now.reporter.now.plan.now planned.now.places.now rows)
-            before (outputs_of F.placed O.taken E.taken E.failed to.old)
+            before (outputs_of F.placed O.accepted E.accepted E.failure_count to.old)
             → OnOk result (IsCountedRunWritten self.now.args.now (reporter_of planned.now.reporter.now) planned.now.places.now
-            frame.shard frame.old rows before (outputs_of F.placed O.taken E.taken E.failed to.new)) }
+            frame.shard frame.old rows before (outputs_of F.placed O.accepted E.accepted E.failure_count to.new)) }
         ensures part { OnErr result ((F.placed to.new.files ≡ F.placed to.old.files)
             ⊎ AreRunFilesPartlyCommitted self.now.args.now (reporter_of planned.now.reporter.now) planned.now.places.now frame.shard
             frame.old rows (F.placed to.old.files) (F.placed to.new.files)) }
@@ -240,28 +240,28 @@ impl<'x, R: Threads + Wait + Sync + Clock, D: Inputs> ListRun<'x, R, D> {
         requires counted { length rows ≡ length planned.now.places.now }
         requires texts { AreLinesOf (failure_lines (reporter_of planned.now.reporter.now)) planned.now.places.now rows texts.items }
         requires whole { ForSome frame.old (λ rows. length rows ≡ length planned.now.reporter.now.plan.now.jobs) }
-        requires report { has_no_failure F.File.failed outlets.report }
-        requires junit { has_no_failure F.File.failed outlets.junit }
+        requires report { has_no_failure F.File.failure_count outlets.report }
+        requires junit { has_no_failure F.File.failure_count outlets.junit }
         ensures status { IfOk result (λ status. status ≡ rows_status (judge_view planned.now.reporter.now.judge) rows) }
         ensures errors { to.new.errors ≡ to.old.errors }
         ensures put { (report_path junit_path : Option (List ℕ))
-            → HasReceived F.pending_path F.File.taken F.File.failed (F.placed to.old.files) report_path
+            → HasReceived F.pending_path F.File.accepted F.File.failure_count (F.placed to.old.files) report_path
             (streamed_rows frame.old planned.now.places.now rows) outlets.entry.report
-            → HasReceived F.pending_path F.File.taken F.File.failed (F.placed to.old.files) junit_path [] outlets.entry.junit
-            → OnOk result (Appends (O.taken to.old.out) (O.taken to.new.out)
+            → HasReceived F.pending_path F.File.accepted F.File.failure_count (F.placed to.old.files) junit_path [] outlets.entry.junit
+            → OnOk result (Appends (O.accepted to.old.out) (O.accepted to.new.out)
             (stdout_at junit_path (run_junit self.now.args.now (reporter_of planned.now.reporter.now)
             planned.now.places.now rows) ++ stdout_at report_path (run_report_text frame.old
             (length planned.now.reporter.now.plan.now.jobs) planned.now.places.now frame.shard rows))) }
         ensures placed { (report_path junit_path : Option (List ℕ))
-            → HasReceived F.pending_path F.File.taken F.File.failed (F.placed to.old.files) report_path
+            → HasReceived F.pending_path F.File.accepted F.File.failure_count (F.placed to.old.files) report_path
             (streamed_rows frame.old planned.now.places.now rows) outlets.entry.report
-            → HasReceived F.pending_path F.File.taken F.File.failed (F.placed to.old.files) junit_path [] outlets.entry.junit
+            → HasReceived F.pending_path F.File.accepted F.File.failure_count (F.placed to.old.files) junit_path [] outlets.entry.junit
             → OnOk result (AreFilesCommitted (F.placed to.old.files) (F.placed to.new.files)
             (Some (file_at junit_path (run_junit self.now.args.now (reporter_of planned.now.reporter.now)
             planned.now.places.now rows) ++ file_at report_path (run_report_text frame.old
             (length planned.now.reporter.now.plan.now.jobs) planned.now.places.now frame.shard rows)))) }
         ensures part { (junit_path : Option (List ℕ))
-            → HasReceived F.pending_path F.File.taken F.File.failed (F.placed to.old.files) junit_path [] outlets.entry.junit
+            → HasReceived F.pending_path F.File.accepted F.File.failure_count (F.placed to.old.files) junit_path [] outlets.entry.junit
             → OnErr result (AreFilesPartlyCommitted (F.placed to.old.files) (F.placed to.new.files)
             (Some (file_at junit_path (run_junit self.now.args.now (reporter_of planned.now.reporter.now)
             planned.now.places.now rows)))) }

@@ -26,7 +26,7 @@ pub(crate) fn open_run_outlets<'a, F: Outputs>(
     args: &RunArgs<'a>,
 ) -> Result<RunOutlets<'a, F::Place, F::File>, Stop>
     ensures same { F.placed files.new ≡ F.placed files.old }
-    ensures open { IfOk result (HaveRunOutletsReceived F.pending_path F.File.taken F.File.failed (F.placed files.old) args.now []) }
+    ensures open { IfOk result (HaveRunOutletsReceived F.pending_path F.File.accepted F.File.failure_count (F.placed files.old) args.now []) }
     ensures stopped { IfErr result (IsRunWriteStop args.now) }
 {
     let counts = open_outlet(files, alloc, args.counts)?;

@@ -48,7 +48,7 @@ pub(crate) fn show_report<D: Inputs, F: Outputs + Drop, O: Sink + Drop, E: Sink 
 ) -> Result<u8, Stop>
     ensures low { IfOk result (λ status. status ≤ 1) }
     ensures shown { IfOk result (λ status. IsShowWritten (D.contents inputs.now) args.entry status
-        (outputs_of F.placed O.taken E.taken E.failed to.old) (outputs_of F.placed O.taken E.taken E.failed to.new)) }
+        (outputs_of F.placed O.accepted E.accepted E.failure_count to.old) (outputs_of F.placed O.accepted E.accepted E.failure_count to.new)) }
     ensures undone { OnErr result (IsAbortedShowAt (D.contents inputs.now) args.entry
         (F.placed to.old.files) (F.placed to.new.files)) }
     ensures stopped { IfErr result (IsShowErrorStop (D.contents inputs.now) args.entry) }
@@ -120,7 +120,7 @@ fn write_summarized_report<F: Outputs + Drop, O: Sink + Drop, E: Sink + Drop>(
     ensures put { OnOk result (IsOutputWritten None (optional_text args.entry.junit) summarized.summary.items
         (report_text summarized.report.rows)
         (shown_junit args.entry summarized.report.rows)
-        (outputs_of F.placed O.taken E.taken E.failed to.old) (outputs_of F.placed O.taken E.taken E.failed to.new)) }
+        (outputs_of F.placed O.accepted E.accepted E.failure_count to.old) (outputs_of F.placed O.accepted E.accepted E.failure_count to.new)) }
     ensures part { OnErr result (AreFilesPartlyCommitted (F.placed to.old.files) (F.placed to.new.files)
         (Some (file_at (optional_text args.entry.junit) (shown_junit args.entry summarized.report.rows)))) }
     ensures stopped { IfErr result (IsOutputStop None (optional_text args.entry.junit)) }

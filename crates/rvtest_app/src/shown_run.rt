@@ -65,20 +65,20 @@ impl<'x, R: Threads + Wait + Sync + Clock, D: Inputs> ListRun<'x, R, D> {
         terminals: Terminals<P>,
     ) -> (W, Option<V>, ShownRun)
         requires there { is_some sink ≡ K.sends }
-        requires sink { IfSome sink (λ sink. (K.before ≡ V.taken sink) × (K.failures ≡ V.failed sink)) }
+        requires sink { IfSome sink (λ sink. (K.before ≡ V.accepted sink) × (K.failures ≡ V.failure_count sink)) }
         requires line { report_row_text rows.now.is_streaming ≡ K.line }
         requires judging { judge_view planned.now.reporter.now.judge ≡ K.judging }
         requires keeps { stores_failure_texts self.now.args.now planned.now.reporter.now.verbosity ≡ K.keeps }
         ensures rows { IfOk result.2.ran (λ rows. rows ≡ run_rows self.now.args.now.stop_after
             (judge_view planned.now.reporter.now.judge) planned.now.reporter.now.plan.now planned.now.places.now) }
         ensures few { IfOk result.2.ran (λ rows. length rows ≤ length planned.now.places.now) }
-        ensures shown { OnOk result.2.ran (Appends (W.taken shown.stream) (W.taken result.0)
+        ensures shown { OnOk result.2.ran (Appends (W.accepted shown.stream) (W.accepted result.0)
             (run_output_text (row_lines_at (reporter_of planned.now.reporter.now))
             (judge_view planned.now.reporter.now.judge) planned.now.reporter.now.plan.now planned.now.places.now
             (run_rows self.now.args.now.stop_after (judge_view planned.now.reporter.now.judge)
             planned.now.reporter.now.plan.now planned.now.places.now))) }
-        ensures counted { OnOk result.2.ran (W.failed result.0 ≡ W.failed shown.stream) }
-        ensures report { OnOk result.2.ran (AreRowsWritten V.taken V.failed sink result.1
+        ensures counted { OnOk result.2.ran (W.failure_count result.0 ≡ W.failure_count shown.stream) }
+        ensures report { OnOk result.2.ran (AreRowsWritten V.accepted V.failure_count sink result.1
             (joined_row_texts (report_row_text rows.now.is_streaming) planned.now.places.now (run_rows self.now.args.now.stop_after
             (judge_view planned.now.reporter.now.judge) planned.now.reporter.now.plan.now planned.now.places.now))) }
         ensures sink { is_some result.1 ≡ is_some sink }

@@ -56,7 +56,7 @@ impl<'x, R: Threads + Wait + Sync, D: Inputs> JobsView<'x, R, D> {
     ) -> Result<u8, Stop>
         ensures put { IfOk result (λ status. IsViewWritten (D.contents self.now.host.now.inputs.now) self.now.args.now
             self.now.view status
-            (outputs_of F.placed O.taken E.taken E.failed to.old) (outputs_of F.placed O.taken E.taken E.failed to.new)) }
+            (outputs_of F.placed O.accepted E.accepted E.failure_count to.old) (outputs_of F.placed O.accepted E.accepted E.failure_count to.new)) }
         ensures low { IfOk result (λ status. status ≤ 1) }
         ensures stopped { IfErr result (λ why. (why ≡ Stop.WriteFailed)
             ⊎ IsViewStop (D.contents self.now.host.now.inputs.now) self.now.args.now self.now.view why) }
@@ -85,7 +85,7 @@ impl<'x, R: Threads + Wait + Sync, D: Inputs> JobsView<'x, R, D> {
         requires { length marks.now ≡ length jobs }
         ensures put { IfOk result (λ status. (status ≡ 0) × IsViewOfJobs (D.contents self.now.host.now.inputs.now)
             self.now.args.now self.now.view jobs (selected_job_indices marks.now)
-            (outputs_of F.placed O.taken E.taken E.failed to.old) (outputs_of F.placed O.taken E.taken E.failed to.new)) }
+            (outputs_of F.placed O.accepted E.accepted E.failure_count to.old) (outputs_of F.placed O.accepted E.accepted E.failure_count to.new)) }
         ensures stopped { IfErr result (IsViewFailedStop (D.contents self.now.host.now.inputs.now) self.now.args.now
             self.now.view jobs (selected_job_indices marks.now)) }
     {

@@ -23,7 +23,7 @@ pub(crate) fn write_text<F: Outputs + Drop, O: Sink + Drop, E: Sink + Drop>(
     bytes: &[u8],
 ) -> Result<(), Stop>
     ensures written { OnOk result (IsWrittenAt (Some (written_path (optional_text path.entry))) bytes.now
-        (outputs_of F.placed O.taken E.taken E.failed to.old) (outputs_of F.placed O.taken E.taken E.failed to.new)) }
+        (outputs_of F.placed O.accepted E.accepted E.failure_count to.old) (outputs_of F.placed O.accepted E.accepted E.failure_count to.new)) }
     ensures errors { to.new.errors ≡ to.old.errors }
     ensures untouched { (is_stdout (written_path (optional_text path.entry)) ≡ true) ⊎ (to.new.out ≡ to.old.out) }
     ensures same { OnErr result (F.placed to.new.files ≡ F.placed to.old.files) }
@@ -40,7 +40,7 @@ fn write_text_at<F: Outputs + Drop, O: Sink + Drop, E: Sink + Drop>(
     bytes: &[u8],
 ) -> Result<(), Stop>
     ensures written { OnOk result (IsWrittenAt (Some path.now) bytes.now
-        (outputs_of F.placed O.taken E.taken E.failed to.old) (outputs_of F.placed O.taken E.taken E.failed to.new)) }
+        (outputs_of F.placed O.accepted E.accepted E.failure_count to.old) (outputs_of F.placed O.accepted E.accepted E.failure_count to.new)) }
     ensures errors { to.new.errors ≡ to.old.errors }
     ensures untouched { (is_stdout path.now ≡ true) ⊎ (to.new.out ≡ to.old.out) }
     ensures same { OnErr result (F.placed to.new.files ≡ F.placed to.old.files) }
@@ -78,9 +78,9 @@ pub(crate) fn finish_file<F: Outputs>(
     file: OpenFile<'_, F::Place, F::File>,
     bytes: &[u8],
 ) -> Result<(), Stop>
-    requires unfailed { F.File.failed file.sink ≡ 0 }
+    requires unfailed { F.File.failure_count file.sink ≡ 0 }
     requires named { file.path.now ≡ F.pending_path file.place }
-    ensures placed { IfSome (F.placed files.old) (λ _. F.File.taken file.entry.sink ≡ Some [])
+    ensures placed { IfSome (F.placed files.old) (λ _. F.File.accepted file.entry.sink ≡ Some [])
         → OnOk result (AreFilesCommitted (F.placed files.old) (F.placed files.new)
         (Some (committed_file file.entry.path.now bytes.now ∷ []))) }
     ensures same { OnErr result (F.placed files.new ≡ F.placed files.old) }
@@ -116,11 +116,11 @@ pub(crate) fn write_to_outlet<F: Outputs + Drop, O: Sink + Drop, E: Sink + Drop>
     outlet: Outlet<'_, F::Place, F::File>,
     bytes: &[u8],
 ) -> Result<(), Stop>
-    requires { (path : Option (List ℕ)) × HasReceived F.pending_path F.File.taken F.File.failed None path [] outlet }
+    requires { (path : Option (List ℕ)) × HasReceived F.pending_path F.File.accepted F.File.failure_count None path [] outlet }
     ensures written { (path : Option (List ℕ)) (earlier : Option (List CommittedFile))
-        → HasReceived F.pending_path F.File.taken F.File.failed earlier path [] outlet.entry → OnOk result (IsWrittenAt path bytes.now
-        (with_committed_if_reported earlier (outputs_of F.placed O.taken E.taken E.failed to.old))
-        (outputs_of F.placed O.taken E.taken E.failed to.new)) }
+        → HasReceived F.pending_path F.File.accepted F.File.failure_count earlier path [] outlet.entry → OnOk result (IsWrittenAt path bytes.now
+        (with_committed_if_reported earlier (outputs_of F.placed O.accepted E.accepted E.failure_count to.old))
+        (outputs_of F.placed O.accepted E.accepted E.failure_count to.new)) }
     ensures errors { to.new.errors ≡ to.old.errors }
     ensures same { OnErr result (F.placed to.new.files ≡ F.placed to.old.files) }
     ensures stopped { IfErr result (λ why. (why ≡ Stop.WriteFailed) ⊎ IsFileStop (outlet_path outlet.entry) why) }

@@ -94,9 +94,9 @@ impl<'a> NotingSink<'a> {
 }
 
 impl<'a> Sink for NotingSink<'a> {
-    ghost taken = { λ _. None };
+    ghost accepted = { λ _. None };
 
-    ghost failed = { λ sink. sink.failures };
+    ghost failure_count = { λ sink. sink.failures };
 
     // Accepts leading bytes and records how many rows were reported before, or fails if it is the write that must fail.
     fn put(&mut self, bytes: &[u8]) -> Result<usize, SinkFailed> {

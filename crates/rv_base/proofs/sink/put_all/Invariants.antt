@@ -5,8 +5,8 @@ use Rattle.rv_base.proofs.sink.put_all.Given as goal
 abbrev pub invariant-loop-at : goal.invariant-loop-at
 invariant-loop-at g l = record {
   within : l.at ≤ length l.bytes;
-  appended : Appends (g.W.Sink.taken l.initial.out) (g.W.Sink.taken l.out) (take l.at l.bytes);
-  counted : g.W.Sink.failed l.out ≡ g.W.Sink.failed l.initial.out;
+  appended : Appends (g.W.Sink.accepted l.initial.out) (g.W.Sink.accepted l.out) (take l.at l.bytes);
+  counted : g.W.Sink.failure_count l.out ≡ g.W.Sink.failure_count l.initial.out;
 }
 
 abbrev pub decreases-loop-at : goal.decreases-loop-at

@@ -7,7 +7,7 @@ use Rattle.rv_gdb.proofs.conversation.respond_to_chunk.Goals as goal
 
 pub loop-index-init : goal.loop-index-init
 loop-index-init g c = (
-  heard_none (g.E.EndText.end_text c.args.context.now.end.now) c.args.session.now c.args.chunk.now (g.O.Sink.taken c.args.out.now)
+  heard_none (g.E.EndText.end_text c.args.context.now.end.now) c.args.session.now c.args.chunk.now (g.O.Sink.accepted c.args.out.now)
       c.requires.requested,
   (same_run c.args.session.now, (refl, refl)),
 )

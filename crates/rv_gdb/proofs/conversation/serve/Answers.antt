@@ -6,7 +6,7 @@ use Rattle.rv_gdb.proofs.conversation.serve.Goals as goal
 pub returns-then-is_over-clause-heard : goal.returns-then-is_over-clause-heard
 returns-then-is_over-clause-heard g c =
     silent (g.E.EndText.end_text c.args.context.now.end.now) c.args.session.now (g.I.Read.remaining c.args.input.now)
-    (g.O.Sink.taken c.args.out.now) c.requires.requested
+    (g.O.Sink.accepted c.args.out.now) c.requires.requested
 
 pub loop-init : goal.loop-init
 loop-init g c = (

@@ -14,7 +14,7 @@ loop-place-init g c = record {
   same = λ i. g.S.Store.contents c.args.store.now;
   paths = ap paths_of c.in_ok-none.ensures;
   kept = start_kept c.in_ok-none.none c.in_ok-none.ensures (g.S.Store.contents c.args.store.now);
-  faults = start_faults c.in_ok-none.none c.in_ok-none.ensures (g.S.Store.faulted c.args.store.now);
+  faults = start_faults c.in_ok-none.none c.in_ok-none.ensures (g.S.Store.fault_count c.args.store.now);
   noted = subst (λ js. AreRecorded (paths_of c.in_ok-none.none) js c.in_ok-noted.noted.items) c.as_slice.ensures.value
       (subst (λ xs. AreRecorded xs c.as_slice.result.now c.in_ok-noted.noted.items)
       (sym (ap paths_of c.in_ok-none.ensures))
@@ -37,7 +37,7 @@ loop-place-preserved g c =
           inv.paths
           ∙ sym (needed_more c.args.jobs c.args.places.items c.loop-place.place-index 0 (omega arith)));
       kept = rw inv.same at (c.in_ok-asked.ensures.kept kept);
-      faults = c.in_ok-asked.ensures.faults (g.S.Store.faulted c.args.store.now) inv.faults;
+      faults = c.in_ok-asked.ensures.faults (g.S.Store.fault_count c.args.store.now) inv.faults;
       noted = subst (λ js. AreRecorded (paths_of c.in_ok-asked.asked) js c.read_paths_for_row.new.noted.items) jobs
           c.in_ok-asked.ensures.noted;
     }
@@ -81,4 +81,4 @@ returns-clause-faults g c =
     let same = parts_whole c.loop-place.asked (paths_used (jobs_needed_for c.args.jobs c.args.places.items))
     c.into_results-answers.result.items used c.into_results-answers.ensures in
     c.loop-place.invariant.faults
-    ∙ ap (λ (a : List Answer). after_increments (g.S.Store.faulted c.args.store.now) (unreadable_count a)) (sym same)
+    ∙ ap (λ (a : List Answer). after_increments (g.S.Store.fault_count c.args.store.now) (unreadable_count a)) (sym same)

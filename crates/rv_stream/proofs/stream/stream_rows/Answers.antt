@@ -35,9 +35,9 @@ returns-in-Ok-clause-rows g c =
     let observer = s.second.first in
     let kept = s.second.second in
     let before = g.J.StreamSpec.before in
-    let taken = g.W.Sink.taken c.finish-out.result.0 in
+    let taken = g.W.Sink.accepted c.finish-out.result.0 in
     let received : List ReportedRow → Type 0 = λ told.
-    IsSent before (g.W.Sink.taken box.out) g.J.StreamSpec.failures (g.W.Sink.failed box.out) box.failed box.unsent.items
+    IsSent before (g.W.Sink.accepted box.out) g.J.StreamSpec.failures (g.W.Sink.failure_count box.out) box.failed box.unsent.items
     (concat (texts_of_reported told))
     × (g.B.Observer.has_seen observer told
     × ((judge_view kept.judge ≡ judging)
@@ -66,9 +66,9 @@ returns-in-Ok-clause-few g c =
     let observer = s.second.first in
     let kept = s.second.second in
     let before = g.J.StreamSpec.before in
-    let taken = g.W.Sink.taken c.finish-out.result.0 in
+    let taken = g.W.Sink.accepted c.finish-out.result.0 in
     let received : List ReportedRow → Type 0 = λ told.
-    IsSent before (g.W.Sink.taken box.out) g.J.StreamSpec.failures (g.W.Sink.failed box.out) box.failed box.unsent.items
+    IsSent before (g.W.Sink.accepted box.out) g.J.StreamSpec.failures (g.W.Sink.failure_count box.out) box.failed box.unsent.items
     (concat (texts_of_reported told))
     × (g.B.Observer.has_seen observer told
     × ((judge_view kept.judge ≡ judging)
@@ -102,9 +102,9 @@ returns-in-Ok-clause-all g c =
     let observer = s.second.first in
     let kept = s.second.second in
     let before = g.J.StreamSpec.before in
-    let taken = g.W.Sink.taken c.finish-out.result.0 in
+    let taken = g.W.Sink.accepted c.finish-out.result.0 in
     let received : List ReportedRow → Type 0 = λ told.
-    IsSent before (g.W.Sink.taken box.out) g.J.StreamSpec.failures (g.W.Sink.failed box.out) box.failed box.unsent.items
+    IsSent before (g.W.Sink.accepted box.out) g.J.StreamSpec.failures (g.W.Sink.failure_count box.out) box.failed box.unsent.items
     (concat (texts_of_reported told))
     × (g.B.Observer.has_seen observer told
     × ((judge_view kept.judge ≡ judging)
@@ -137,9 +137,9 @@ returns-in-Ok-clause-counted g c =
     let observer = s.second.first in
     let kept = s.second.second in
     let before = g.J.StreamSpec.before in
-    let taken = g.W.Sink.taken c.finish-out.result.0 in
+    let taken = g.W.Sink.accepted c.finish-out.result.0 in
     let received : List ReportedRow → Type 0 = λ told.
-    IsSent before (g.W.Sink.taken box.out) g.J.StreamSpec.failures (g.W.Sink.failed box.out) box.failed box.unsent.items
+    IsSent before (g.W.Sink.accepted box.out) g.J.StreamSpec.failures (g.W.Sink.failure_count box.out) box.failed box.unsent.items
     (concat (texts_of_reported told))
     × (g.B.Observer.has_seen observer told
     × ((judge_view kept.judge ≡ judging)
@@ -171,9 +171,9 @@ returns-in-Ok-clause-part g c =
     let observer = s.second.first in
     let kept = s.second.second in
     let before = g.J.StreamSpec.before in
-    let taken = g.W.Sink.taken c.finish-out.result.0 in
+    let taken = g.W.Sink.accepted c.finish-out.result.0 in
     let received : List ReportedRow → Type 0 = λ told.
-    IsSent before (g.W.Sink.taken box.out) g.J.StreamSpec.failures (g.W.Sink.failed box.out) box.failed box.unsent.items
+    IsSent before (g.W.Sink.accepted box.out) g.J.StreamSpec.failures (g.W.Sink.failure_count box.out) box.failed box.unsent.items
     (concat (texts_of_reported told))
     × (g.B.Observer.has_seen observer told
     × ((judge_view kept.judge ≡ judging)
@@ -189,7 +189,7 @@ returns-in-Ok-clause-part g c =
     (begun_of_all received line places every begun before taken
     (c.finish-out.ensures.begun (concat (texts_of_reported begun.seen.reported)) begun.seen.seen.0)) in
     let start = sym c.requires.before.0 in
-    let part_from : AppendsPrefix (g.W.Sink.taken c.args.to.out) taken (joined_row_texts line places (rows_within c.args.limit.now (batch_rows batch))) =
+    let part_from : AppendsPrefix (g.W.Sink.accepted c.args.to.out) taken (joined_row_texts line places (rows_within c.args.limit.now (batch_rows batch))) =
     subst (λ (b : Option (List ℕ)). AppendsPrefix b taken (joined_row_texts line places (rows_within c.args.limit.now (batch_rows batch)))) c.requires.before.0 part in
     on_error c.rows_of_run.result _ part_from
 
@@ -205,9 +205,9 @@ returns-in-Err-clause-part g c =
     let observer = s.second.first in
     let kept = s.second.second in
     let before = g.J.StreamSpec.before in
-    let taken = g.W.Sink.taken c.finish-out.result.0 in
+    let taken = g.W.Sink.accepted c.finish-out.result.0 in
     let received : List ReportedRow → Type 0 = λ told.
-    IsSent before (g.W.Sink.taken box.out) g.J.StreamSpec.failures (g.W.Sink.failed box.out) box.failed box.unsent.items
+    IsSent before (g.W.Sink.accepted box.out) g.J.StreamSpec.failures (g.W.Sink.failure_count box.out) box.failed box.unsent.items
     (concat (texts_of_reported told))
     × (g.B.Observer.has_seen observer told
     × ((judge_view kept.judge ≡ judging)
@@ -223,7 +223,7 @@ returns-in-Err-clause-part g c =
     (begun_of_all received line places every begun before taken
     (c.finish-out.ensures.begun (concat (texts_of_reported begun.seen.reported)) begun.seen.seen.0)) in
     let start = sym c.requires.before.0 in
-    let part_from : AppendsPrefix (g.W.Sink.taken c.args.to.out) taken (joined_row_texts line places (rows_within c.args.limit.now (batch_rows batch))) =
+    let part_from : AppendsPrefix (g.W.Sink.accepted c.args.to.out) taken (joined_row_texts line places (rows_within c.args.limit.now (batch_rows batch))) =
     subst (λ (b : Option (List ℕ)). AppendsPrefix b taken (joined_row_texts line places (rows_within c.args.limit.now (batch_rows batch)))) c.requires.before.0 part in
     part_from
 
@@ -239,9 +239,9 @@ returns-in-Ok-clause-seen g c =
     let observer = s.second.first in
     let kept = s.second.second in
     let before = g.J.StreamSpec.before in
-    let taken = g.W.Sink.taken c.finish-out.result.0 in
+    let taken = g.W.Sink.accepted c.finish-out.result.0 in
     let received : List ReportedRow → Type 0 = λ told.
-    IsSent before (g.W.Sink.taken box.out) g.J.StreamSpec.failures (g.W.Sink.failed box.out) box.failed box.unsent.items
+    IsSent before (g.W.Sink.accepted box.out) g.J.StreamSpec.failures (g.W.Sink.failure_count box.out) box.failed box.unsent.items
     (concat (texts_of_reported told))
     × (g.B.Observer.has_seen observer told
     × ((judge_view kept.judge ≡ judging)
@@ -273,9 +273,9 @@ returns-in-Ok-clause-seen_some g c =
     let observer = s.second.first in
     let kept = s.second.second in
     let before = g.J.StreamSpec.before in
-    let taken = g.W.Sink.taken c.finish-out.result.0 in
+    let taken = g.W.Sink.accepted c.finish-out.result.0 in
     let received : List ReportedRow → Type 0 = λ told.
-    IsSent before (g.W.Sink.taken box.out) g.J.StreamSpec.failures (g.W.Sink.failed box.out) box.failed box.unsent.items
+    IsSent before (g.W.Sink.accepted box.out) g.J.StreamSpec.failures (g.W.Sink.failure_count box.out) box.failed box.unsent.items
     (concat (texts_of_reported told))
     × (g.B.Observer.has_seen observer told
     × ((judge_view kept.judge ≡ judging)
@@ -303,9 +303,9 @@ returns-in-Err-clause-seen_some g c =
     let observer = s.second.first in
     let kept = s.second.second in
     let before = g.J.StreamSpec.before in
-    let taken = g.W.Sink.taken c.finish-out.result.0 in
+    let taken = g.W.Sink.accepted c.finish-out.result.0 in
     let received : List ReportedRow → Type 0 = λ told.
-    IsSent before (g.W.Sink.taken box.out) g.J.StreamSpec.failures (g.W.Sink.failed box.out) box.failed box.unsent.items
+    IsSent before (g.W.Sink.accepted box.out) g.J.StreamSpec.failures (g.W.Sink.failure_count box.out) box.failed box.unsent.items
     (concat (texts_of_reported told))
     × (g.B.Observer.has_seen observer told
     × ((judge_view kept.judge ≡ judging)

@@ -7,8 +7,8 @@ abbrev pub invariant-loop-at : goal.invariant-loop-at
 invariant-loop-at g l = record {
   within : l.at ≤ length l.bytes;
   here : l.here ≡ fold place_after l.fn.place (take l.at l.bytes);
-  shown : Appends (g.S.Sink.taken l.initial.sink) (g.S.Sink.taken l.sink) (colored l.fn.place (take l.at l.bytes));
-  counted : g.S.Sink.failed l.sink ≡ g.S.Sink.failed l.initial.sink;
+  shown : Appends (g.S.Sink.accepted l.initial.sink) (g.S.Sink.accepted l.sink) (colored l.fn.place (take l.at l.bytes));
+  counted : g.S.Sink.failure_count l.sink ≡ g.S.Sink.failure_count l.initial.sink;
 }
 
 abbrev pub decreases-loop-at : goal.decreases-loop-at

@@ -20,10 +20,10 @@ returns-clause-accepted g c =
     let outcomes = c.in_ok-outcomes.outcomes in
     IfOk-map c.write_accepted.result _ _
     (λ status put. record {
-      first = outputs_of g.F.Outputs.placed g.O.Sink.taken g.E.Sink.taken g.E.Sink.failed c.checked_jobs.new.to;
+      first = outputs_of g.F.Outputs.placed g.O.Sink.accepted g.E.Sink.accepted g.E.Sink.failure_count c.checked_jobs.new.to;
       outside = c.in_ok-marked.ensures.outside;
       rows = c.in_ok-rows.rows.items;
-      middle = outputs_of g.F.Outputs.placed g.O.Sink.taken g.E.Sink.taken g.E.Sink.failed c.run_selected.new.to;
+      middle = outputs_of g.F.Outputs.placed g.O.Sink.accepted g.E.Sink.accepted g.E.Sink.failure_count c.run_selected.new.to;
       ran = rw (c.in_ok-marked.ensures.jobs, c.in_ok-marked.ensures.marks) at c.in_ok-rows.ensures.rows;
       judged = c.in_ok-runs.runs.items;
       judging = rw c.as_slice-2.ensures.value at c.in_ok-runs.ensures;

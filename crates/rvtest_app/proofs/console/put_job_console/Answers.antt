@@ -13,9 +13,9 @@ returns-clause-put g c = record {
   line = c.as_slice-2.result.now;
   of = rw (c.as_slice.ensures, c.as_slice-2.ensures.value) c.in_ok-row.ensures.told;
   middle = record {
-    out = g.O.Sink.taken c.write_results.new.out;
-    errors = g.E.Sink.taken c.args.to.now.errors;
-    failures = g.E.Sink.failed c.args.to.now.errors;
+    out = g.O.Sink.accepted c.write_results.new.out;
+    errors = g.E.Sink.accepted c.args.to.now.errors;
+    failures = g.E.Sink.failure_count c.args.to.now.errors;
     placed = g.F.Outputs.placed c.args.to.now.files;
   };
   put = (c.in_ok-write_results.ensures.put, refl, refl, refl);

@@ -13,9 +13,9 @@ returns-clause-put g c = record {
   notes = c.as_slice.result.now;
   are = rw (c.as_slice-2.ensures.value, c.as_slice.ensures.value) c.in_ok-names.ensures.listed;
   middle = record {
-    out = g.O.Sink.taken c.args.to.now.out;
-    errors = g.E.Sink.taken c.write_message.new.errors;
-    failures = g.E.Sink.failed c.write_message.new.errors;
+    out = g.O.Sink.accepted c.args.to.now.out;
+    errors = g.E.Sink.accepted c.write_message.new.errors;
+    failures = g.E.Sink.failure_count c.write_message.new.errors;
     placed = g.F.Outputs.placed c.args.to.now.files;
   };
   told = (refl, c.write_message.ensures, refl);

@@ -13,16 +13,16 @@ use Rattle.rvtest_app.proofs.program.run_rvtest.Goals.{in-Ok-Some, in-Ok-None, i
 answered : (g : Over) (c : goal.Joined-drop g) → IsAnswered (g.D.Inputs.contents c.args.host.now.inputs.now)
     (g.I.Read.remaining c.args.input.now) c.args.terminals.is_out_terminal c.args.terminals.is_out_colored
     (map g.T.AsStr.text c.args.words.now) c.in-Ok.status
-    (outputs_of g.F.Outputs.placed g.O.Sink.taken g.E.Sink.taken g.E.Sink.failed c.args.to)
-    (outputs_of g.F.Outputs.placed g.O.Sink.taken g.E.Sink.taken g.E.Sink.failed c.match-read_words.to.0)
+    (outputs_of g.F.Outputs.placed g.O.Sink.accepted g.E.Sink.accepted g.E.Sink.failure_count c.args.to)
+    (outputs_of g.F.Outputs.placed g.O.Sink.accepted g.E.Sink.accepted g.E.Sink.failure_count c.match-read_words.to.0)
 answered g c =
     let known = g.D.Inputs.contents c.args.host.now.inputs.now in
     let rest = g.I.Read.remaining c.args.input.now in
     let is_terminal = c.args.terminals.is_out_terminal in
     let is_colored = c.args.terminals.is_out_colored in
     let words = map g.T.AsStr.text c.args.words.now in
-    let before = outputs_of g.F.Outputs.placed g.O.Sink.taken g.E.Sink.taken g.E.Sink.failed c.args.to in
-    let after = outputs_of g.F.Outputs.placed g.O.Sink.taken g.E.Sink.taken g.E.Sink.failed c.match-read_words.to.0 in
+    let before = outputs_of g.F.Outputs.placed g.O.Sink.accepted g.E.Sink.accepted g.E.Sink.failure_count c.args.to in
+    let after = outputs_of g.F.Outputs.placed g.O.Sink.accepted g.E.Sink.accepted g.E.Sink.failure_count c.match-read_words.to.0 in
     let all : IfOk c.match-read_words.to.1 (λ status. IsAnswered known rest is_terminal is_colored words status before after) =
     elim c.match-read_words.branch [
       | in-Ok-Some w ↦
@@ -59,7 +59,7 @@ returns-clause-ended g c =
           rw w.to-is (words_stop known is_terminal words _ _ _ _ w.in-Err.ensures.kinds w.in-Err.ensures.misused
           w.respond_to_args_error-answer.ensures.stopped)
     ] in
-    let before = outputs_of g.F.Outputs.placed g.O.Sink.taken g.E.Sink.taken g.E.Sink.failed c.match-read_words.to.0 in
+    let before = outputs_of g.F.Outputs.placed g.O.Sink.accepted g.E.Sink.accepted g.E.Sink.failure_count c.match-read_words.to.0 in
     inr (
       c.in-Err-answer.stop,
       rw c.in-Err-answer.is at stopped,

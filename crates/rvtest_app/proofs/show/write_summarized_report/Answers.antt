@@ -9,8 +9,8 @@ use Rattle.rvtest_app.proofs.show.write_summarized_report.Goals as goal
 pub returns-in-Ok-clause-put : goal.returns-in-Ok-clause-put
 returns-in-Ok-clause-put g c =
     let path = g.F.Outputs.pending_path in
-    let taken = g.F.File.Sink.taken in
-    let failed = g.F.File.Sink.failed in
+    let taken = g.F.File.Sink.accepted in
+    let failed = g.F.File.Sink.failure_count in
     let outlets = c.in_ok-outlets.outlets in
     let junit_path = optional_text c.args.args.junit in
     let report_path = None in
@@ -31,10 +31,10 @@ returns-in-Ok-clause-put g c =
     let errors = c.write_whole_files.ensures.errors in
     OnOk-both c.write_whole_files.result _ _ _
     (λ p q. record {
-      middle = outputs_of g.F.Outputs.placed g.O.Sink.taken g.E.Sink.taken g.E.Sink.failed c.write_shown.new.to;
+      middle = outputs_of g.F.Outputs.placed g.O.Sink.accepted g.E.Sink.accepted g.E.Sink.failure_count c.write_shown.new.to;
       seen = seen;
       out = p;
-      quiet = (ap g.E.Sink.taken errors, ap g.E.Sink.failed errors);
+      quiet = (ap g.E.Sink.accepted errors, ap g.E.Sink.failure_count errors);
       placed = q;
     })
     out placed
@@ -47,6 +47,6 @@ returns-in-Ok-clause-part g c =
 
 pub returns-in-Ok-clause-stopped : goal.returns-in-Ok-clause-stopped
 returns-in-Ok-clause-stopped g c =
-    output_of_put g.F.Outputs.pending_path g.F.File.Sink.taken g.F.File.Sink.failed _ None
+    output_of_put g.F.Outputs.pending_path g.F.File.Sink.accepted g.F.File.Sink.failure_count _ None
     (optional_text c.args.args.junit) _ _ c.write_whole_files.result c.in_ok-outlets.ensures.report
     c.in_ok-outlets.ensures.junit c.write_whole_files.ensures.stopped

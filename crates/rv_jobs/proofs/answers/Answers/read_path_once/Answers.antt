@@ -104,4 +104,4 @@ returns-clause-faults g c = λ n before.
     asked_faults ps (map (λ (q : Bor (List ℕ)). q.now) c.push-2.new.self.items) c.self.inside.answers.items
     c.push.new.self.items c.args.path.now c.in_ok-kept.kept c.self.invariant.even pathed c.in_ok-push.ensures.items
     c.args.self c.self.view_is
-    n (g.S.Store.faulted c.args.store.now) (g.S.Store.faulted c.read_path.new.store) before c.in_ok-kept.ensures.counted
+    n (g.S.Store.fault_count c.args.store.now) (g.S.Store.fault_count c.read_path.new.store) before c.in_ok-kept.ensures.counted

@@ -10,7 +10,7 @@ returns-in-Some-clause-seen g c = λ results sent.
     let made = c.args.made.now in
     let line = g.J.StreamSpec.line in
     let box = c.push_text.new.self in
-    subst (λ (text : List ℕ). IsSent g.J.StreamSpec.before (g.W.Sink.taken box.out) g.J.StreamSpec.failures (g.W.Sink.failed box.out)
+    subst (λ (text : List ℕ). IsSent g.J.StreamSpec.before (g.W.Sink.accepted box.out) g.J.StreamSpec.failures (g.W.Sink.failure_count box.out)
     box.failed box.unsent.items text)
     (ap (λ (own : ℕ → Row → List ℕ). text_by_index line results ++ own made.index made.row) c.args.self.now.line
     ∙ reports_more line results made)

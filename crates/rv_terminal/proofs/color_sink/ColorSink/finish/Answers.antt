@@ -8,12 +8,12 @@ returns-clause-whole g c = elim c.if-is_cut_off.branch [
   | then-is_cut_off w ↦ rw w.whole-is tt
   | else-is_cut_off w ↦
       rw (w.whole-is, ← c.self.view_is)
-      (out_whole g.J.Results.colors g.J.Results.before (g.S.Sink.taken c.self.inside.sink) c.self.inside.state
+      (out_whole g.J.Results.colors g.J.Results.before (g.S.Sink.accepted c.self.inside.sink) c.self.inside.state
       c.self.invariant.0 (sym c.is_cut_off.ensures ∙ w.if-is_cut_off.false))
 ]
 
 pub returns-clause-part : goal.returns-clause-part
 returns-clause-part g c =
     rw (← c.self.view_is)
-    (out_in_part g.J.Results.colors g.J.Results.before (g.S.Sink.taken c.self.inside.sink) c.self.inside.state
+    (out_in_part g.J.Results.colors g.J.Results.before (g.S.Sink.accepted c.self.inside.sink) c.self.inside.state
     c.self.invariant.0)

@@ -6,33 +6,33 @@ use Rattle.rv_terminal.proofs.color_sink.ColorSinkSink.put.Goals as goal
 
 pub invariant_of-self : goal.invariant_of-self
 invariant_of-self g c = (
-  course_kept g.J.Results.colors g.J.Results.before (g.S.Sink.taken c.self.inside.sink)
-      (g.S.Sink.taken c.write_in_state-count.new.sink) c.self.inside.state c.write_in_state-count.result.1
+  course_kept g.J.Results.colors g.J.Results.before (g.S.Sink.accepted c.self.inside.sink)
+      (g.S.Sink.accepted c.write_in_state-count.new.sink) c.self.inside.state c.write_in_state-count.result.1
       (take c.write_in_state-count.result.0 c.args.bytes.now) c.self.invariant.0 c.write_in_state-count.ensures.put,
   rw (c.write_in_state-count.ensures.counted, c.saturating_add-self-inside.ensures, c.if-count-eq0.true)
       (counted_none c.self.inside.state c.write_in_state-count.result.1
-      (take c.write_in_state-count.result.0 c.args.bytes.now) (g.S.Sink.taken c.self.inside.sink)
-      (g.S.Sink.taken c.write_in_state-count.new.sink) c.self.inside.failures
-      (g.S.Sink.failed c.self.inside.sink) c.write_in_state-count.ensures.put c.self.invariant.1),
+      (take c.write_in_state-count.result.0 c.args.bytes.now) (g.S.Sink.accepted c.self.inside.sink)
+      (g.S.Sink.accepted c.write_in_state-count.new.sink) c.self.inside.failures
+      (g.S.Sink.failure_count c.self.inside.sink) c.write_in_state-count.ensures.put c.self.invariant.1),
 )
 
 pub invariant_of-self-else-count-eq0 : goal.invariant_of-self-else-count-eq0
 invariant_of-self-else-count-eq0 g c =
     let some : 1 ≤ c.write_in_state-count.result.0 = omega (arith, c.if-count-eq0.false) in (
-      course_kept g.J.Results.colors g.J.Results.before (g.S.Sink.taken c.self.inside.sink)
-          (g.S.Sink.taken c.write_in_state-count.new.sink) c.self.inside.state c.write_in_state-count.result.1
+      course_kept g.J.Results.colors g.J.Results.before (g.S.Sink.accepted c.self.inside.sink)
+          (g.S.Sink.accepted c.write_in_state-count.new.sink) c.self.inside.state c.write_in_state-count.result.1
           (take c.write_in_state-count.result.0 c.args.bytes.now) c.self.invariant.0 c.write_in_state-count.ensures.put,
       rw c.write_in_state-count.ensures.counted
           (counted_some c.self.inside.state c.write_in_state-count.result.1
-          (take c.write_in_state-count.result.0 c.args.bytes.now) (g.S.Sink.taken c.self.inside.sink)
-          (g.S.Sink.taken c.write_in_state-count.new.sink) c.write_in_state-count.result.0
-          c.self.inside.failures (g.S.Sink.failed c.self.inside.sink) some c.write_in_state-count.ensures.put c.self.invariant.1),
+          (take c.write_in_state-count.result.0 c.args.bytes.now) (g.S.Sink.accepted c.self.inside.sink)
+          (g.S.Sink.accepted c.write_in_state-count.new.sink) c.write_in_state-count.result.0
+          c.self.inside.failures (g.S.Sink.failure_count c.self.inside.sink) some c.write_in_state-count.ensures.put c.self.invariant.1),
     )
 
 pub returns-then-count-eq0-clause-kept : goal.returns-then-count-eq0-clause-kept
 returns-then-count-eq0-clause-kept g c =
-    let old = g.S.Sink.taken c.self.inside.sink in
-    let new = g.S.Sink.taken c.write_in_state-count.new.sink in
+    let old = g.S.Sink.accepted c.self.inside.sink in
+    let new = g.S.Sink.accepted c.write_in_state-count.new.sink in
     let state = c.write_in_state-count.result.1 in
     rw (← c.self.view_is)
     (nothing_taken (results_of g.J.Results.colors g.J.Results.before old)
@@ -43,6 +43,6 @@ returns-then-count-eq0-clause-kept g c =
 pub returns-clause-taken : goal.returns-clause-taken
 returns-clause-taken g c =
     rw (← c.self.view_is)
-    (results_taken g.J.Results.colors g.J.Results.before (g.S.Sink.taken c.self.inside.sink)
-    (g.S.Sink.taken c.write_in_state-count.new.sink) c.self.inside.state c.write_in_state-count.result.1
+    (results_taken g.J.Results.colors g.J.Results.before (g.S.Sink.accepted c.self.inside.sink)
+    (g.S.Sink.accepted c.write_in_state-count.new.sink) c.self.inside.state c.write_in_state-count.result.1
     (take c.write_in_state-count.result.0 c.args.bytes.now) c.self.invariant.0 c.write_in_state-count.ensures.put)

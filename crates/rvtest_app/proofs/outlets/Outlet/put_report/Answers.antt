@@ -5,11 +5,11 @@ use Rattle.rvtest_app.proofs.outlets.Outlet.put_report.Goals as goal
 
 pub returns-in-File-clause-out : goal.returns-in-File-clause-out
 returns-in-File-clause-out g c =
-    OnOk-from c.file_result.result _ (rw c.in-File.is (appends_nothing (g.O.Sink.taken c.args.out.now)))
+    OnOk-from c.file_result.result _ (rw c.in-File.is (appends_nothing (g.O.Sink.accepted c.args.out.now)))
 
 pub returns-in-File-clause-part : goal.returns-in-File-clause-part
 returns-in-File-clause-part g c =
-    OnErr-from c.file_result.result _ (rw c.in-File.is (begins_nothing (g.O.Sink.taken c.args.out.now)))
+    OnErr-from c.file_result.result _ (rw c.in-File.is (begins_nothing (g.O.Sink.accepted c.args.out.now)))
 
 pub returns-in-Out-clause-stopped : goal.returns-in-Out-clause-stopped
 returns-in-Out-clause-stopped g c = rw c.in-Out.is (stdout_stop c.write.result c.stdout_result.result c.stdout_result.ensures.stopped)

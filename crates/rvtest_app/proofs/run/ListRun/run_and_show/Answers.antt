@@ -44,7 +44,7 @@ returns-clause-shown g c =
     let plan = planned.reporter.now.plan.now in
     let places = planned.places.now in
     let judging = judge_view planned.reporter.now.judge in
-    let taken = g.W.Sink.taken in
+    let taken = g.W.Sink.accepted in
     let all = run_rows c.args.self.now.args.now.stop_after judging plan places in
     let texts = rw (c.new-batch.ensures.plan, c.new-batch.ensures.places, c.new-out.ensures.sink, c.new-counting.ensures)
     at c.stream_rows-stream.ensures.all in
@@ -80,11 +80,11 @@ returns-clause-report g c =
     (sent_on c.rows_if_written-ran.result c.stream_rows-stream.result.2 c.finish-sink.result.1 _ _
     c.rows_if_written-ran.ensures.rows c.rows_if_written-ran.ensures.sent seen
     (λ seen. OnOk-map c.finish-sink.result.1 _ _
-    (sent_to g.V.Sink.taken g.V.Sink.failed g.K.StreamSpec.before g.K.StreamSpec.failures c.args.sink c.finish-sink.result.0 text
+    (sent_to g.V.Sink.accepted g.V.Sink.failure_count g.K.StreamSpec.before g.K.StreamSpec.failures c.args.sink c.finish-sink.result.0 text
     c.requires.sink (c.finish-sink.ensures.there ∙ sym c.requires.there))
     (c.finish-sink.ensures.all text
-    (subst (λ (text : List ℕ). IfSome sender.outbox (λ box. IsSent g.K.StreamSpec.before (g.V.Sink.taken box.out)
-    g.K.StreamSpec.failures (g.V.Sink.failed box.out) box.failed box.unsent.items text))
+    (subst (λ (text : List ℕ). IfSome sender.outbox (λ box. IsSent g.K.StreamSpec.before (g.V.Sink.accepted box.out)
+    g.K.StreamSpec.failures (g.V.Sink.failure_count box.out) box.failed box.unsent.items text))
     (ap (λ (line : ℕ → Row → List ℕ). text_by_index line seen.reported) (sym c.requires.line) ∙ reported_texts _ _ places all seen line)
     seen.seen.0))))
 

@@ -4,8 +4,8 @@ use Rattle.rvtest_app.proofs.run.ListRun.run_and_show.Given as goal
 
 abbrev pub ghosts-stream_rows : goal.ghosts-stream_rows
 ghosts-stream_rows g a = record {
-  before = g.W.Sink.taken a.to.out.sink;
-  failures = g.W.Sink.failed a.to.out.sink;
+  before = g.W.Sink.accepted a.to.out.sink;
+  failures = g.W.Sink.failure_count a.to.out.sink;
   sends = false;
   keeps = false;
   most = a.limit.now.failures;

@@ -8,8 +8,8 @@ use Rattle.rvtest_app.proofs.run.ListRun.run_into_files.Given as goal
 
 abbrev pub ghosts-run_and_show : goal.ghosts-run_and_show
 ghosts-run_and_show g a = record {
-  before = sink_received g.F.File.Sink.taken a.sink;
-  failures = sink_failures g.F.File.Sink.failed a.sink;
+  before = sink_received g.F.File.Sink.accepted a.sink;
+  failures = sink_failures g.F.File.Sink.failure_count a.sink;
   sends = is_some a.sink;
   keeps = stores_failure_texts a.self.now.args.now a.planned.now.reporter.now.verbosity;
   most = None;
@@ -19,8 +19,8 @@ ghosts-run_and_show g a = record {
 
 abbrev pub ghosts-run_and_show-2 : goal.ghosts-run_and_show-2
 ghosts-run_and_show-2 g a = record {
-  before = sink_received g.F.File.Sink.taken a.sink;
-  failures = sink_failures g.F.File.Sink.failed a.sink;
+  before = sink_received g.F.File.Sink.accepted a.sink;
+  failures = sink_failures g.F.File.Sink.failure_count a.sink;
   sends = is_some a.sink;
   keeps = stores_failure_texts a.self.now.args.now a.planned.now.reporter.now.verbosity;
   most = None;

@@ -37,7 +37,7 @@ pub write_counts-requires-clause-open : goal.write_counts-requires-clause-open
 write_counts-requires-clause-open g c κs within =
     let path = optional_text c.args.self.now.args.now.counts in (
       path,
-      untold g.F.Outputs.pending_path g.F.File.Sink.taken g.F.File.Sink.failed (g.F.Outputs.placed c.args.to.now.files) path
+      untold g.F.Outputs.pending_path g.F.File.Sink.accepted g.F.File.Sink.failure_count (g.F.Outputs.placed c.args.to.now.files) path
           c.args.outlets.counts [] c.requires.taken.counts,
     )
 
@@ -52,9 +52,9 @@ returns-in_ok-write_counts-in-Ok-clause-outputs_of g c = λ before shown.
     c.first_jobs-first.ensures.places ∙ ap (λ (rows : List Row). take (length rows) places) c.as_slice.ensures in
     let told = c.first_jobs-first.ensures.reporter in
     let files = c.in-Ok.ensures in
-    let start = outputs_of g.F.Outputs.placed g.O.Sink.taken g.E.Sink.taken g.E.Sink.failed c.args.to.now in
-    let after = outputs_of g.F.Outputs.placed g.O.Sink.taken g.E.Sink.taken g.E.Sink.failed c.write_run_files.new.to in
-    let report = subst (λ (ps : List ℕ). HasReceived g.F.Outputs.pending_path g.F.File.Sink.taken g.F.File.Sink.failed
+    let start = outputs_of g.F.Outputs.placed g.O.Sink.accepted g.E.Sink.accepted g.E.Sink.failure_count c.args.to.now in
+    let after = outputs_of g.F.Outputs.placed g.O.Sink.accepted g.E.Sink.accepted g.E.Sink.failure_count c.write_run_files.new.to in
+    let report = subst (λ (ps : List ℕ). HasReceived g.F.Outputs.pending_path g.F.File.Sink.accepted g.F.File.Sink.failure_count
     (g.F.Outputs.placed c.args.to.now.files) report_path (streamed_rows c.args.frame.old ps c.args.rows) c.args.outlets.report)
     (sym firsts) c.requires.taken.report in
     let same = placed_of_shown _ _ before start shown in
@@ -65,7 +65,7 @@ returns-in_ok-write_counts-in-Ok-clause-outputs_of g c = λ before shown.
             middle = start;
             seen = shown;
             out = rw (told, firsts) at (files.put report_path junit_path report c.requires.taken.junit);
-            quiet = (ap g.E.Sink.taken files.errors, ap g.E.Sink.failed files.errors);
+            quiet = (ap g.E.Sink.accepted files.errors, ap g.E.Sink.failure_count files.errors);
             placed = rw (told, firsts) at (files.placed report_path junit_path report c.requires.taken.junit);
           });
       counted = rw firsts at (c.in_ok-write_counts-in-Ok.ensures.counted (optional_text args.counts) before.placed
@@ -80,7 +80,7 @@ returns-in_err-write_counts-in-Ok-clause-part g c =
     let junit_path = optional_text args.junit in
     let firsts : c.first_jobs-first.result.places.now ≡ shown_indices places c.args.rows =
     c.first_jobs-first.ensures.places ∙ ap (λ (rows : List Row). take (length rows) places) c.as_slice.ensures in
-    let report = subst (λ (ps : List ℕ). HasReceived g.F.Outputs.pending_path g.F.File.Sink.taken g.F.File.Sink.failed
+    let report = subst (λ (ps : List ℕ). HasReceived g.F.Outputs.pending_path g.F.File.Sink.accepted g.F.File.Sink.failure_count
     (g.F.Outputs.placed c.args.to.now.files) report_path (streamed_rows c.args.frame.old ps c.args.rows) c.args.outlets.report)
     (sym firsts) c.requires.taken.report in
     let files = rw (c.first_jobs-first.ensures.reporter, firsts)
@@ -94,7 +94,7 @@ pub returns-in_err-write_counts-in-Ok-clause-stopped : goal.returns-in_err-write
 returns-in_err-write_counts-in-Ok-clause-stopped g c =
     let is = err_from_is_err_and c.from_residual.result c.from_residual.ensures.1 in
     let path = optional_text c.args.self.now.args.now.counts in
-    let told = path_told g.F.Outputs.pending_path g.F.File.Sink.taken g.F.File.Sink.failed _ path c.args.outlets.counts []
+    let told = path_told g.F.Outputs.pending_path g.F.File.Sink.accepted g.F.File.Sink.failure_count _ path c.args.outlets.counts []
     c.requires.taken.counts in
     rw (is.1, is.2) (unput_counts c.args.self.now.args.now _ (rw told at c.in_err-write_counts-in-Ok.ensures.stopped))
 
@@ -114,8 +114,8 @@ returns-in-Err-clause-stopped g c =
     let args = c.args.self.now.args.now in
     let report_path = run_report_path args in
     let junit_path = optional_text args.junit in
-    let report = path_told g.F.Outputs.pending_path g.F.File.Sink.taken g.F.File.Sink.failed _ report_path c.args.outlets.report _
+    let report = path_told g.F.Outputs.pending_path g.F.File.Sink.accepted g.F.File.Sink.failure_count _ report_path c.args.outlets.report _
     c.requires.taken.report in
-    let junit = path_told g.F.Outputs.pending_path g.F.File.Sink.taken g.F.File.Sink.failed _ junit_path c.args.outlets.junit []
+    let junit = path_told g.F.Outputs.pending_path g.F.File.Sink.accepted g.F.File.Sink.failure_count _ junit_path c.args.outlets.junit []
     c.requires.taken.junit in
     inl (inr (rw (report, junit) at c.in-Err.ensures.stopped))

@@ -12,7 +12,7 @@ returns-in-Nowhere-clause-counted g c = λ path earlier has.
 
 pub returns-in-Ok-clause-counted : goal.returns-in-Ok-clause-counted
 returns-in-Ok-clause-counted g c = λ path earlier has.
-    let given = path_given g.F.Outputs.pending_path g.F.File.Sink.taken g.F.File.Sink.failed earlier path c.args.outlet [] has
+    let given = path_given g.F.Outputs.pending_path g.F.File.Sink.accepted g.F.File.Sink.failure_count earlier path c.args.outlet [] has
     c.in_default.not-Nowhere in
     OnOk-map c.write_to_outlet.result _ _
     (counts_put _ path _ _ _ _ _ given (rw c.as_bytes.ensures.value c.in-Ok.ensures.text))
@@ -21,12 +21,12 @@ returns-in-Ok-clause-counted g c = λ path earlier has.
 pub returns-in-Ok-clause-requested : goal.returns-in-Ok-clause-requested
 returns-in-Ok-clause-requested g c = λ path earlier has.
     OnErr-from c.write_to_outlet.result _
-    (path_given g.F.Outputs.pending_path g.F.File.Sink.taken g.F.File.Sink.failed earlier path c.args.outlet [] has
+    (path_given g.F.Outputs.pending_path g.F.File.Sink.accepted g.F.File.Sink.failure_count earlier path c.args.outlet [] has
     c.in_default.not-Nowhere)
 
 pub returns-in-Err-clause-requested : goal.returns-in-Err-clause-requested
 returns-in-Err-clause-requested g c = λ path earlier has.
-    path_given g.F.Outputs.pending_path g.F.File.Sink.taken g.F.File.Sink.failed earlier path c.args.outlet [] has
+    path_given g.F.Outputs.pending_path g.F.File.Sink.accepted g.F.File.Sink.failure_count earlier path c.args.outlet [] has
     c.in_default.not-Nowhere
 
 pub returns-in-Ok-clause-stopped : goal.returns-in-Ok-clause-stopped
