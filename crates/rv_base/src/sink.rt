@@ -39,10 +39,10 @@ pub fn put_all<W: Sink>(out: &mut W, bytes: &[u8]) -> Result<(), SinkFailed>
     ensures part { OnErr result (AppendsPrefix (W.accepted out.old) (W.accepted out.new) bytes.now) }
     ensures failure { OnErr result (W.failure_count out.new ≡ one_more (W.failure_count out.old)) }
 {
-    let mut at = 0;
-    while at < bytes.len() {
-        match out.put(&bytes[at..]) {
-            Ok(count) => at += count,
+    let mut offset = 0;
+    while offset < bytes.len() {
+        match out.put(&bytes[offset..]) {
+            Ok(count) => offset += count,
             Err(failed) => return Err(failed),
         }
     }

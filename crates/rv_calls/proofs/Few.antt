@@ -7,7 +7,7 @@ use Rattle.rv_trace.specs.State.{State}
 use Rattle.rv_calls.specs.declared.frames.Frame.{Frame}
 use Rattle.rv_calls.specs.declared.transfer.Transfer.{Transfer}
 use Rattle.rv_calls.specs.Calls.{transfers_from, after_transfers, frames_of_run}
-use Rattle.rv_calls.specs.Stack.{max_frames, pushes_frame, is_pushed, frame_of, popped, remaining_depth, after_transfer}
+use Rattle.rv_calls.specs.Stack.{max_frames, pushes_frame, is_pushed, frame_of, after_pop, remaining_depth, after_transfer}
 
 second_holds : (a b : Bool) → (a && b) ≡ true → b ≡ true
 second_holds true b h = h
@@ -31,7 +31,7 @@ few_taken n frames few =
 few_after : (frames : List Frame) (t : Transfer) → length frames ≤ max_frames
     → length (after_transfer frames t) ≤ max_frames
 unfolding after_transfer
-few_after frames t few = few_pushed (popped frames t) t (is_pushed (popped frames t) t) refl
+few_after frames t few = few_pushed (after_pop frames t) t (is_pushed (after_pop frames t) t) refl
     (few_taken (remaining_depth t.action t.to t.sp frames) frames few)
 
 few_behind : (ts : List Transfer) (frames : List Frame) → length frames ≤ max_frames

@@ -16,29 +16,29 @@ symbol_or_address (Some place) address = symbol_text place
 symbol_or_address None address = word_digits address
 
 -- a code address as its symbol and offset in an image with these bytes, or as a number if it has no symbol
-abbrev pub place_text : Image → List ℕ → ℕ → List ℕ
-place_text image file address = symbol_or_address (symbol_at image file address) address
+abbrev pub address_text : Image → List ℕ → ℕ → List ℕ
+address_text image file address = symbol_or_address (symbol_at image file address) address
 
 -- an arrow, and the address of the call instruction that made a frame
 abbrev pub call_text : Image → List ℕ → Frame → List ℕ
-call_text image file frame = codes " <- " ++ place_text image file frame.call
+call_text image file frame = codes " <- " ++ address_text image file frame.call
 
 -- the maximum number of calls that are shown; with the pc these are 32 addresses
 abbrev pub max_shown : ℕ
 max_shown = 31
 
 -- the number of further calls; empty if there are none
-unfoldable pub more_text : ℕ → List ℕ
-more_text count = if count == 0 then [] else codes " <- " ++ decimal count ++ codes " more"
+unfoldable pub more_calls_text : ℕ → List ℕ
+more_calls_text count = if count == 0 then [] else codes " <- " ++ decimal count ++ codes " more"
 
 -- the number of calls that are not shown; empty if all are shown
-abbrev pub rest_text : List Frame → List ℕ
-rest_text frames = more_text (length frames - max_shown)
+abbrev pub hidden_count_text : List Frame → List ℕ
+hidden_count_text frames = more_calls_text (length frames - max_shown)
 
 -- the final pc, the address of each call, innermost first, up to the maximum number, and the number of further calls
 unfoldable pub call_addresses_text : Image → List ℕ → ℕ → List Frame → List ℕ
-call_addresses_text image file pc frames = place_text image file pc
-    ++ flat_map (call_text image file) (take max_shown (reverse frames)) ++ rest_text frames
+call_addresses_text image file pc frames = address_text image file pc
+    ++ flat_map (call_text image file) (take max_shown (reverse frames)) ++ hidden_count_text frames
 
 -- the line that shows the pc at the end of the run and the calls which had not returned
 unfoldable pub calls_line : Image → List ℕ → ℕ → List Frame → List ℕ

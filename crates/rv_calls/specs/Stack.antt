@@ -19,7 +19,7 @@ is_link number = (number == 1) || (number == 5)
 
 -- the effect of JALR in table 2.1, given whether rd is a link register, whether rs1 is one, and whether they are equal
 abbrev pub jalr_action : Bool → Bool → Bool → StackAction
-jalr_action false false same = action.Keep
+jalr_action false false same = action.NoEffect
 jalr_action false true same = action.Pop
 jalr_action true false same = action.Push
 jalr_action true true false = action.PopThenPush
@@ -28,14 +28,14 @@ jalr_action true true true = action.Push
 -- the effect of an instruction on the call stack, by its operation and registers: JAL pushes if rd is a link register, JALR has the effect
 -- in table 2.1, and any other instruction has none
 abbrev pub op_action : Op → ℕ → ℕ → StackAction
-op_action op.Jal rd rs1 = if is_link rd then action.Push else action.Keep
+op_action op.Jal rd rs1 = if is_link rd then action.Push else action.NoEffect
 op_action op.Jalr rd rs1 = jalr_action (is_link rd) (is_link rs1) (rd == rs1)
-op_action _ rd rs1 = action.Keep
+op_action _ rd rs1 = action.NoEffect
 
 -- the effect of an instruction on the call stack, or none if there is no instruction; a compressed one has the effect of its expansion
 abbrev pub instr_action : Option Instr → StackAction
 instr_action (Some i) = op_action i.op i.rd i.rs1
-instr_action None = action.Keep
+instr_action None = action.NoEffect
 
 -- whether this effect on the call stack includes a push
 abbrev pub pushes_frame : StackAction → Bool
@@ -76,8 +76,8 @@ remaining_depth action.PopThenPush to sp frames = depth_after_return to sp frame
 remaining_depth _ to sp frames = length frames
 
 -- the frames that remain after the pop of a transfer, or all of them if it does not pop
-abbrev pub popped : List Frame → Transfer → List Frame
-popped frames t = take (remaining_depth t.action t.to t.sp frames) frames
+abbrev pub after_pop : List Frame → Transfer → List Frame
+after_pop frames t = take (remaining_depth t.action t.to t.sp frames) frames
 
 -- whether a transfer pushes a frame onto the frames left by its pop; a call at the maximum depth counts as a jump
 abbrev pub is_pushed : List Frame → Transfer → Bool
@@ -88,9 +88,9 @@ abbrev pub frame_of : Transfer → Frame
 frame_of t = record { return_address = t.return_address; sp = t.sp; call = t.from }
 
 -- the frames `left` by the pop of a transfer, with the frame that it pushes, if it pushes one
-abbrev pub pushed : List Frame → Transfer → List Frame
-pushed left t = if is_pushed left t then left ++ frame_of t ∷ [] else left
+abbrev pub after_push : List Frame → Transfer → List Frame
+after_push left t = if is_pushed left t then left ++ frame_of t ∷ [] else left
 
 -- the frames after a transfer of control: first the pop, then the push
 unfoldable pub after_transfer : List Frame → Transfer → List Frame
-after_transfer frames t = pushed (popped frames t) t
+after_transfer frames t = after_push (after_pop frames t) t

@@ -10,7 +10,7 @@ use rv_trace::{Code, Instr, Op, instr_of};
 #[derive(Clone, Copy)]
 pub enum StackAction {
     /// No effect.
-    Keep,
+    NoEffect,
     /// A call.
     Push,
     /// A return.
@@ -26,21 +26,21 @@ impl StackAction {
     {
         match self {
             StackAction::Push | StackAction::PopThenPush => true,
-            StackAction::Keep | StackAction::Pop => false,
+            StackAction::NoEffect | StackAction::Pop => false,
         }
     }
 }
 
-/// Returns the effect of an encoding's instruction on the call stack, or `Keep` if there is no encoding or it is illegal.
+/// Returns the effect of an encoding's instruction on the call stack, or `NoEffect` if there is no encoding or it is illegal.
 pub fn action_of_code(code: Option<Code>) -> StackAction
     ensures { result ≡ instr_action (option_and_then instr_of code) }
 {
     let Some(code) = code else {
-        return StackAction::Keep;
+        return StackAction::NoEffect;
     };
     match instr_of(code) {
         Some(instr) => action_of(instr),
-        None => StackAction::Keep,
+        None => StackAction::NoEffect,
     }
 }
 
@@ -58,7 +58,7 @@ fn op_action(op: Op, rd: u8, rs1: u8) -> StackAction
     match op {
         Op::Jal if is_link(rd) => StackAction::Push,
         Op::Jalr => jalr_action(rd, rs1),
-        _ => StackAction::Keep,
+        _ => StackAction::NoEffect,
     }
 }
 
@@ -67,7 +67,7 @@ fn jalr_action(rd: u8, rs1: u8) -> StackAction
     ensures { result ≡ jalr_action (is_link rd) (is_link rs1) (rd == rs1) }
 {
     match (is_link(rd), is_link(rs1)) {
-        (false, false) => StackAction::Keep,
+        (false, false) => StackAction::NoEffect,
         (false, true) => StackAction::Pop,
         (true, false) => StackAction::Push,
         (true, true) if rd == rs1 => StackAction::Push,

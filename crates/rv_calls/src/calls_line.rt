@@ -3,8 +3,8 @@
 ghost use Rattle.std.specs.Prelude.{◌≡◌, ◌==◌, ◌++◌, ◌-◌, ◌≤◌, OnOk, length, reverse, take, option_map};
 ghost use Rattle.std.specs.List.{flat_map};
 ghost use Rattle.rv_trace.specs.SymbolSearch.{symbol_at};
-ghost use Rattle.rv_calls.specs.CallsLine.{call_text, calls_line, calls_text, more_text, max_shown, place_text};
-ghost use Rattle.rv_calls.specs.CallsLine.{call_addresses_text, rest_text, symbol_or_address};
+ghost use Rattle.rv_calls.specs.CallsLine.{call_text, calls_line, calls_text, more_calls_text, max_shown, address_text};
+ghost use Rattle.rv_calls.specs.CallsLine.{call_addresses_text, hidden_count_text, symbol_or_address};
 
 use crate::frames::{Frame, Frames};
 use crate::run::Calls;
@@ -65,7 +65,7 @@ fn push_call_addresses(
 {
     push_address_text(alloc, bytes, elf, pc)?;
     push_calls(alloc, bytes, elf, frames)?;
-    push_rest(bytes, frames)
+    push_hidden_count(bytes, frames)
 }
 
 // Appends the addresses of the innermost calls, up to the maximum number that is shown.
@@ -106,7 +106,7 @@ fn push_address_text(
     address: u32,
 ) -> Result<(), AllocError>
     ensures { OnOk result (bytes.new.items ≡ bytes.old.items
-        ++ place_text elf.now.image.now elf.now.bytes.now address) }
+        ++ address_text elf.now.image.now elf.now.bytes.now address) }
 {
     push_symbol_or_address(alloc, bytes, symbol_of(elf, address), address)
 }
@@ -136,16 +136,16 @@ fn push_symbol_or_address(
 }
 
 // Appends the number of calls that are not shown, or nothing if all are shown.
-fn push_rest(bytes: &mut Vec<u8>, frames: &[Frame]) -> Result<(), AllocError>
-    ensures { OnOk result (bytes.new.items ≡ bytes.old.items ++ rest_text frames.now) }
+fn push_hidden_count(bytes: &mut Vec<u8>, frames: &[Frame]) -> Result<(), AllocError>
+    ensures { OnOk result (bytes.new.items ≡ bytes.old.items ++ hidden_count_text frames.now) }
 {
     push_more_calls(bytes, frames.len().saturating_sub(MAX_SHOWN))
 }
 
 // Appends the number of further calls, or nothing if there are none.
-#[tactic(auto, unfolding(crate::specs::CallsLine::more_text))]
+#[tactic(auto, unfolding(crate::specs::CallsLine::more_calls_text))]
 fn push_more_calls(bytes: &mut Vec<u8>, count: usize) -> Result<(), AllocError>
-    ensures { OnOk result (bytes.new.items ≡ bytes.old.items ++ more_text count) }
+    ensures { OnOk result (bytes.new.items ≡ bytes.old.items ++ more_calls_text count) }
 {
     if count == 0 {
         return Ok(());

@@ -57,7 +57,7 @@ pub fn remaining_frames(frames: &[Frame], transfer: Transfer) -> usize
         StackAction::Pop | StackAction::PopThenPush => {
             depth_after_return(frames, transfer.to, transfer.sp)
         }
-        StackAction::Keep | StackAction::Push => frames.len(),
+        StackAction::NoEffect | StackAction::Push => frames.len(),
     }
 }
 

@@ -15,10 +15,10 @@ use Rattle.rv_fleet.specs.declared_listener.Flow.{Flow}
 use Rattle.rv_fleet.specs.declared_listener.Flow.TheVariants.{Continue, Stop}
 use Rattle.rv_fleet.specs.Results.{IsRunDelivered, HasReceived, HasReceivedSome}
 use Rattle.rv_trace.specs.Plans.{Planned}
-use Rattle.rv_counting.specs.declared.pieces.Piece.{Piece}
+use Rattle.rv_counting.specs.declared.index_ranges.IndexRange.{IndexRange}
 use Rattle.rv_counting.specs.JobTables.{jobs_at, IsTableOfFew, IsTableOfJobs, IsTableOfRange, IsTableOfJobsAt, SumsTo}
-use Rattle.rv_counting.specs.BatchRanges.{range_at, places_of, start_of, AreIndexRanges}
-use Rattle.rv_counting.specs.TableSums.{sum_of_run, sum_or_error, Added, AreTablesAdded, IsLastNotAdded}
+use Rattle.rv_counting.specs.BatchRanges.{range_at, indices_in, range_start, AreIndexRanges}
+use Rattle.rv_counting.specs.TableSums.{sum_of_run, sum_or_error, TableSumView, AreTablesAdded, IsLastNotAdded}
 use Rattle.rv_counting.proofs.OfJobs.{few_more, joined, no_counts_are_few, no_two_names, none_of_none}
 
 -- ---- what a listener has heard
@@ -153,7 +153,7 @@ module _ (P One : ℕ → CountTable → Type 0) (total : ℕ) (none : P 0 no_co
       (subst (λ ts. IsLastNotAdded sum error ts) (map-id h.results) h.received))
 
   -- behind a run that made the table of each number
-  module _ (added : Added) where
+  module _ (added : TableSumView) where
     pub run_added : (ran : Result Flow RunError)
         → IsRunDelivered (λ n u. One n u) total (λ ts. AreTablesAdded added.sum added.failed (map (λ (u : CountTable). u) ts))
         (is_some added.failed ≡ true) ran → IfOk (sum_of_run added ran) (P total)
@@ -201,34 +201,34 @@ take_both (suc n) (suc m) [] = let on : suc n + suc m ≡ suc (n + suc m) = omeg
 take_both (suc n) m (x ∷ xs) =
     let on : suc n + m ≡ suc (n + m) = omega arith in ap (λ k. take k (x ∷ xs)) on ∙ ap (λ ys. x ∷ ys) (take_both n m xs)
 
-module _ (plan : Planned) (places : List ℕ) (pieces : List Piece) (are : AreIndexRanges plan places pieces) where
+module _ (plan : Planned) (places : List ℕ) (pieces : List IndexRange) (are : AreIndexRanges plan places pieces) where
   -- the table of the first pieces
   abbrev OfFirst : ℕ → CountTable → Type 0
-  OfFirst n t = IsTableOfRange plan (take (start_of pieces n) places) t
+  OfFirst n t = IsTableOfRange plan (take (range_start pieces n) places) t
 
   abbrev OfOne : ℕ → CountTable → Type 0
-  OfOne n t = IsTableOfRange plan (places_of places (range_at pieces n)) t
+  OfOne n t = IsTableOfRange plan (indices_in places (range_at pieces n)) t
 
   none_counted : OfFirst 0 no_counts
   none_counted = record { table = none_of_none plan.answers; few = no_counts_are_few 0 }
 
   -- the indices of the first pieces and of one piece more
   joined_places : (n : ℕ) → n < length pieces
-      → take (start_of pieces n) places ++ places_of places (range_at pieces n) ≡ take (start_of pieces (n + 1)) places
+      → take (range_start pieces n) places ++ indices_in places (range_at pieces n) ≡ take (range_start pieces (n + 1)) places
   joined_places n lt =
       let piece = range_at pieces n in
       let h = are.each n lt in
       let some = h.some in
       let on : n + 1 ≡ suc n = omega arith in
-      let next : start_of pieces (n + 1) ≡ piece.to = ap (λ k. start_of pieces k) on in
-      let more : start_of pieces (n + 1) ≡ piece.from + (piece.to - piece.from) = omega (arith, some, next) in
-      ap (λ m. take m places ++ places_of places piece) (sym h.starts)
+      let next : range_start pieces (n + 1) ≡ piece.to = ap (λ k. range_start pieces k) on in
+      let more : range_start pieces (n + 1) ≡ piece.from + (piece.to - piece.from) = omega (arith, some, next) in
+      ap (λ m. take m places ++ indices_in places piece) (sym h.starts)
       ∙ sym (take_both piece.from (piece.to - piece.from) places) ∙ ap (λ m. take m places) (sym more)
 
   one_counted : (n : ℕ) (t u next : CountTable) → n < length pieces → OfFirst n t → OfOne n u → IsSumOfTables t u next → OfFirst (n + 1) next
   one_counted n t u next lt h one sums =
-      let ps = take (start_of pieces n) places in
-      let qs = places_of places (range_at pieces n) in
+      let ps = take (range_start pieces n) places in
+      let qs = indices_in places (range_at pieces n) in
       let long = length-append ps qs in
       subst (λ rs. IsTableOfRange plan rs next) (joined_places n lt) (
       record {
@@ -238,8 +238,8 @@ module _ (plan : Planned) (places : List ℕ) (pieces : List Piece) (are : AreIn
       }
       )
 
-  module _ (added : Added) (ran : Result Flow RunError)
-      (received : IsRunDelivered (λ n u. IsTableOfRange plan (places_of places (range_at pieces n)) u) (length pieces)
+  module _ (added : TableSumView) (ran : Result Flow RunError)
+      (received : IsRunDelivered (λ n u. IsTableOfRange plan (indices_in places (range_at pieces n)) u) (length pieces)
       (λ ts. AreTablesAdded added.sum added.failed (map (λ (u : CountTable). u) ts)) (is_some added.failed ≡ true) ran) where
     pub all_counted : IfOk (sum_of_run added ran) (IsTableOfJobsAt plan places)
     all_counted =
@@ -251,11 +251,11 @@ module _ (plan : Planned) (places : List ℕ) (pieces : List Piece) (are : AreIn
     memory_if_refused : (error : SumError) → length places ≤ max_jobs → NextRefused OfFirst OfOne (length pieces) error
         → error ≡ OutOfMemory
     memory_if_refused error few h =
-        let ps = take (start_of pieces h.count) places in
-        let qs = places_of places (range_at pieces h.count) in
+        let ps = take (range_start pieces h.count) places in
+        let qs = indices_in places (range_at pieces h.count) in
         let long = length-append ps qs in
         let same = ap length (joined_places h.count h.within) in
-        let most = length-take (start_of pieces (h.count + 1)) places in
+        let most = length-take (range_start pieces (h.count + 1)) places in
         wanting (length ps) (length qs) h.first h.next error (omega (arith, long, same, most, few)) h.node_of_first.few h.of_next.few h.refused
 
     pub memory_alone : length places ≤ max_jobs → IfErr (sum_of_run added ran) (λ error. error ≡ OutOfMemory)

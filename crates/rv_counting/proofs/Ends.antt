@@ -25,7 +25,7 @@ use Rattle.rv_trace.specs.Run.{Ran, after_fetch, step_of, run_of, run_after_step
 use Rattle.rv_trace.specs.declared.code.Code.{Code}
 use Rattle.rv_trace.specs.Code.{code_at, instr_of}
 use Rattle.rv_trace.proofs.Public.{code_is_fetched}
-use Rattle.rv_counting.specs.Coverage.{fetch_at, is_executed, is_taken, takes, is_executed_at_fault, is_executed_at_end, is_branch_instr, is_taken_code}
+use Rattle.rv_counting.specs.Coverage.{fetch_at, is_executed, is_taken, is_taken_step, is_executed_at_fault, is_executed_at_end, is_branch_instr, is_taken_code}
 
 -- what holds of an error
 abbrev pub err_is : {A E : Type 0} → (E → Type 0) → Result A E → Type 0
@@ -228,7 +228,7 @@ pub begun_is : (r : Fetched) → is_executed r ≡ true → (p : Instr × ℕ) �
 begun_is (Ok p) h = (p, refl)
 begun_is (Err f) h = absurd (false≢true h)
 
-pub taken_is : (s t : State) → step_of s ≡ Ok t → is_taken_code (code_at s.bus s.pc) s.pc t.pc ≡ takes (step_of s) s
+pub taken_is : (s t : State) → step_of s ≡ Ok t → is_taken_code (code_at s.bus s.pc) s.pc t.pc ≡ is_taken_step (step_of s) s
 taken_is s t e =
     let f = begun_is (fetch_at s) (completed_begins s t e) in
     let p = f.0 in
@@ -239,4 +239,4 @@ taken_is s t e =
     ap (λ (o : Option Code). is_taken_code o s.pc t.pc) shown.there
     ∙ (λ i. is_branch_instr (instr i) && not (t.pc == (s.pc + shown.long i) % 0x1_0000_0000))
     ∙ sym (ap (λ (r : Fetched). is_taken r s t) f.1)
-    ∙ sym (ap (λ (r : Result State Ending). takes r s) e)
+    ∙ sym (ap (λ (r : Result State Ending). is_taken_step r s) e)

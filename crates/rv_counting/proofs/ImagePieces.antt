@@ -8,8 +8,8 @@ use Rattle.rv_fleet.specs.Choices.{AreJobIndices}
 use Rattle.rv_trace.specs.declared_job.Job.{Job}
 use Rattle.rv_trace.specs.Plans.{Planned}
 use Rattle.rv_trace.specs.Trace.{job_at}
-use Rattle.rv_counting.specs.declared.pieces.Piece.{Piece}
-use Rattle.rv_counting.specs.BatchRanges.{range_at, places_of, start_of, AreIndexRanges, AreIndexRangesTo, HaveOneImage, IsIndexRange}
+use Rattle.rv_counting.specs.declared.index_ranges.IndexRange.{IndexRange}
+use Rattle.rv_counting.specs.BatchRanges.{range_at, indices_in, range_start, AreIndexRanges, AreIndexRangesTo, HaveOneImage, IsIndexRange}
 
 -- ---- one piece
 
@@ -34,7 +34,7 @@ module _ (plan : Planned) (places : List ℕ) (from : ℕ) where
     taken_place : (k : ℕ) → k < to - from → get_or (take (to - from) (drop from places)) k 0 ≡ get_or places (from + k) 0
     taken_place k lt = get_or-take (to - from) (drop from places) k 0 lt ∙ get_or-drop from places k 0
 
-    same_image : HaveOneImage plan (places_of places (record { from = from; to = to }))
+    same_image : HaveOneImage plan (indices_in places (record { from = from; to = to }))
     same_image k d lt =
         let most = length-take (to - from) (drop from places) in
         let low : k < to - from = omega (arith, lt, most) in
@@ -48,15 +48,15 @@ module _ (plan : Planned) (places : List ℕ) (from : ℕ) where
 
 -- ---- all of them
 
-start_kept : (pieces : List Piece) (piece : Piece) (k : ℕ) → k ≤ length pieces → start_of (pieces ++ piece ∷ []) k ≡ start_of pieces k
+start_kept : (pieces : List IndexRange) (piece : IndexRange) (k : ℕ) → k ≤ length pieces → range_start (pieces ++ piece ∷ []) k ≡ range_start pieces k
 start_kept pieces piece zero few = refl
 start_kept pieces piece (suc k) few =
-    ap (λ (p : Piece). p.to) (get_or_append_left pieces (piece ∷ []) (record { from = 0; to = 0 }) k (omega (arith, few)))
+    ap (λ (p : IndexRange). p.to) (get_or_append_left pieces (piece ∷ []) (record { from = 0; to = 0 }) k (omega (arith, few)))
 
 pub no_pieces : (plan : Planned) (places : List ℕ) → AreIndexRangesTo plan places 0 []
 no_pieces plan places = record { few = omega arith; each = λ k lt. absurd (omega (arith, lt)); all = refl }
 
-module _ (plan : Planned) (places : List ℕ) (from : ℕ) (pieces : List Piece) (piece : Piece) (h : AreIndexRangesTo plan places from pieces)
+module _ (plan : Planned) (places : List ℕ) (from : ℕ) (pieces : List IndexRange) (piece : IndexRange) (h : AreIndexRangesTo plan places from pieces)
     (next : IsIndexRange plan places from piece) where
   here : range_at (pieces ++ piece ∷ []) (length pieces) ≡ piece
   here = get_or-append_seam pieces piece [] (record { from = 0; to = 0 })
@@ -64,15 +64,15 @@ module _ (plan : Planned) (places : List ℕ) (from : ℕ) (pieces : List Piece)
   long : length (pieces ++ piece ∷ []) ≡ length pieces + 1
   long = length-append pieces (piece ∷ [])
 
-  last : IsIndexRange plan places (start_of (pieces ++ piece ∷ []) (length pieces)) (range_at (pieces ++ piece ∷ []) (length pieces))
+  last : IsIndexRange plan places (range_start (pieces ++ piece ∷ []) (length pieces)) (range_at (pieces ++ piece ∷ []) (length pieces))
   last =
-      subst (λ (p : Piece). IsIndexRange plan places (start_of (pieces ++ piece ∷ []) (length pieces)) p) (sym here)
+      subst (λ (p : IndexRange). IsIndexRange plan places (range_start (pieces ++ piece ∷ []) (length pieces)) p) (sym here)
       (subst (λ (n : ℕ). IsIndexRange plan places n piece) (sym (start_kept pieces piece (length pieces) (omega arith) ∙ h.all)) next)
 
   earlier : (k : ℕ) → k < length pieces
-      → IsIndexRange plan places (start_of (pieces ++ piece ∷ []) k) (range_at (pieces ++ piece ∷ []) k)
+      → IsIndexRange plan places (range_start (pieces ++ piece ∷ []) k) (range_at (pieces ++ piece ∷ []) k)
   earlier k lt =
-      subst (λ (p : Piece). IsIndexRange plan places (start_of (pieces ++ piece ∷ []) k) p)
+      subst (λ (p : IndexRange). IsIndexRange plan places (range_start (pieces ++ piece ∷ []) k) p)
       (sym (get_or_append_left pieces (piece ∷ []) (record { from = 0; to = 0 }) k lt))
       (subst (λ (n : ℕ). IsIndexRange plan places n (range_at pieces k)) (sym (start_kept pieces piece k (omega (arith, lt)))) (h.each k lt))
 
@@ -84,11 +84,11 @@ module _ (plan : Planned) (places : List ℕ) (from : ℕ) (pieces : List Piece)
         let e = next.starts in
         omega (arith, n, f, s, e));
     each = λ k lt. ⊎_elim
-        (λ (e : k ≡ length pieces). subst (λ n. IsIndexRange plan places (start_of (pieces ++ piece ∷ []) n) (range_at (pieces ++ piece ∷ []) n))
+        (λ (e : k ≡ length pieces). subst (λ n. IsIndexRange plan places (range_start (pieces ++ piece ∷ []) n) (range_at (pieces ++ piece ∷ []) n))
         (sym e) last)
         (λ (apart : k ≢ length pieces). let n = long in earlier k (omega (arith, lt, n, apart)))
         (cases_eq k (length pieces));
-    all = ap (λ n. start_of (pieces ++ piece ∷ []) n) (long ∙ one_on) ∙ ap (λ (p : Piece). p.to) here;
+    all = ap (λ n. range_start (pieces ++ piece ∷ []) n) (long ∙ one_on) ∙ ap (λ (p : IndexRange). p.to) here;
   }
     where
       one_on : length pieces + 1 ≡ suc (length pieces)
@@ -96,25 +96,25 @@ module _ (plan : Planned) (places : List ℕ) (from : ℕ) (pieces : List Piece)
 
 -- ---- one of them
 
-module _ (plan : Planned) (places : List ℕ) (pieces : List Piece) (are : AreIndexRanges plan places pieces) (number : ℕ)
+module _ (plan : Planned) (places : List ℕ) (pieces : List IndexRange) (are : AreIndexRanges plan places pieces) (number : ℕ)
     (lt : number < length pieces) where
-  abbrev pub piece : Piece
+  abbrev pub piece : IndexRange
   piece = range_at pieces number
 
-  piece_long : length (places_of places piece) ≡ piece.to - piece.from
+  piece_long : length (indices_in places piece) ≡ piece.to - piece.from
   piece_long =
       let taken = length-take (piece.to - piece.from) (drop piece.from places) in
       let rest = length-drop piece.from places in
       let within = (are.each number lt).within in
       omega (arith, taken, rest, within)
 
-  pub piece_some : 0 < length (places_of places piece)
+  pub piece_some : 0 < length (indices_in places piece)
   piece_some = let long = piece_long in let some = (are.each number lt).some in omega (arith, long, some)
 
-  pub piece_few : length (places_of places piece) ≤ length places
+  pub piece_few : length (indices_in places piece) ≤ length places
   piece_few = let long = piece_long in let within = (are.each number lt).within in omega (arith, long, within)
 
-  pub piece_indices : AreJobIndices plan places → AreJobIndices plan (places_of places piece)
+  pub piece_indices : AreJobIndices plan places → AreJobIndices plan (indices_in places piece)
   piece_indices h =
       All-take (λ (place : ℕ). place < length plan.jobs) (piece.to - piece.from) (drop piece.from places)
       (All-drop (λ (place : ℕ). place < length plan.jobs) piece.from places h)

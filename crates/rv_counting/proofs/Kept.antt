@@ -11,12 +11,12 @@ use Rattle.rv_trace.specs.declared_answers.Answer.{Answer}
 use Rattle.rv_trace.specs.declared_job.Job.{Job}
 use Rattle.rv_trace.specs.State.{State}
 use Rattle.rv_fleet.specs.declared_row.Refusal.{Refusal}
-use Rattle.rv_trace.specs.Outcome.{start_of}
+use Rattle.rv_trace.specs.Outcome.{range_start}
 use Rattle.rv_trace.specs.Rows.{content_if_read, start_in}
 use Rattle.rv_trace.specs.Wholes.{HaveSameResults}
 use Rattle.rv_count_tables.specs.Printable.{printable_text}
 use Rattle.rv_counting.specs.Coverage.{address_if}
-use Rattle.rv_counting.specs.JobTables.{has_digest, start_over, executed_from, taken_from, executed_by, taken_by, runs_by, first_path, IsTableOfJobs}
+use Rattle.rv_counting.specs.JobTables.{has_digest, start_state_of_image, executed_from, taken_from, executed_by, taken_by, runs_by, first_path, IsTableOfJobs}
 
 same_sum : (f g : Job → ℕ) (P : Job → Type 0) (js : List Job) → ((j : Job) → P j → f j ≡ g j) → All P js
     → sum_by f js ≡ sum_by g js
@@ -28,11 +28,11 @@ same_sum f g P (j ∷ js) same all =
 
 module _ (some others : List Answer) where
   same_start : (job : Job) → HaveSameResults some others job → start_in some job ≡ start_in others job
-  same_start job h = λ i. start_of job (h.image i) (h.reference i) (h.console i)
+  same_start job h = λ i. range_start job (h.image i) (h.reference i) (h.console i)
 
   same_over : (digest : List ℕ) (job : Job) → HaveSameResults some others job
-      → start_over some digest job ≡ start_over others digest job
-  unfolding start_over
+      → start_state_of_image some digest job ≡ start_state_of_image others digest job
+  unfolding start_state_of_image
   same_over digest job h =
       λ i. cond (has_digest digest (content_if_read (Some (h.image i)))) (result_ok (same_start job h i)) None
 

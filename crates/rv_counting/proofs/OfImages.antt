@@ -29,7 +29,7 @@ use Rattle.rv_counting.specs.declared.runs_counter.RunsCounter.{RunsCounter}
 use Rattle.rv_counting.specs.BatchRanges.{HaveOneImage}
 use Rattle.rv_counting.specs.Counters.{counts_of}
 use Rattle.rv_counting.specs.Coverage.{address_if}
-use Rattle.rv_counting.specs.JobTables.{has_digest, start_over, executed_from, taken_from, executed_by, taken_by, path_by, runs_by, first_path, jobs_at, table_of_runs, IsTableOfFew, IsTableOfJobs, IsTableOfRange}
+use Rattle.rv_counting.specs.JobTables.{has_digest, start_state_of_image, executed_from, taken_from, executed_by, taken_by, path_by, runs_by, first_path, jobs_at, table_of_runs, IsTableOfFew, IsTableOfJobs, IsTableOfRange}
 use Rattle.rv_counting.specs.RunCounts.{executed_of, taken_of, HasCountedJobs}
 use Rattle.rv_counting.specs.Tallies.{IsSorted}
 
@@ -91,8 +91,8 @@ module _ (answers : List Answer) where
       pub image : j.image ≡ path
 
     over_file : (digest : List ℕ) (j : Job) → IsOver j
-        → start_over answers digest j ≡ cond (bytes_eq (sha256 file) digest) (result_ok (start_in answers j)) None
-    unfolding start_over
+        → start_state_of_image answers digest j ≡ cond (bytes_eq (sha256 file) digest) (result_ok (start_in answers j)) None
+    unfolding start_state_of_image
     over_file digest j h = λ i. cond (has_digest digest (h.bytes i)) (result_ok (start_in answers j)) None
 
     picked : (b : Bool) (f : Option State → ℕ) (o : Option State) → f None ≡ 0 → f (cond b o None) ≡ cond b (f o) 0

@@ -22,7 +22,7 @@ use Rattle.rv_trace.specs.State.{State}
 use Rattle.rv_fleet.specs.declared_row.Refusal.{Refusal}
 use Rattle.rv_trace.specs.Rows.{start_in}
 use Rattle.rv_counting.specs.Coverage.{executed_in_run, taken_in_run}
-use Rattle.rv_counting.specs.JobTables.{has_digest, start_over, executed_from, taken_from, executed_by, taken_by, path_by, runs_by, first_path, table_of_runs, HasNoStacks, IsTableOfFew, IsTableOfJobs}
+use Rattle.rv_counting.specs.JobTables.{has_digest, start_state_of_image, executed_from, taken_from, executed_by, taken_by, path_by, runs_by, first_path, table_of_runs, HasNoStacks, IsTableOfFew, IsTableOfJobs}
 use Rattle.rv_trace.specs.Trace.{image_bytes}
 
 none_rise : digests_increase_from None [] ≡ true
@@ -182,13 +182,13 @@ picked_path true path s = refl
 picked_path false path s = refl
 
 module _ (answers : List Answer) (job : Job) where
-  pub not_over : (digest : List ℕ) → result_ok (start_in answers job) ≡ None → start_over answers digest job ≡ None
-  unfolding start_over
+  pub not_over : (digest : List ℕ) → result_ok (start_in answers job) ≡ None → start_state_of_image answers digest job ≡ None
+  unfolding start_state_of_image
   not_over digest none = picked_none (has_digest digest (image_bytes answers job)) (result_ok (start_in answers job)) none
 
   pub over : (digest file : List ℕ) (s : State) → image_bytes answers job ≡ Some file → start_in answers job ≡ Ok s
-      → start_over answers digest job ≡ cond (bytes_eq (sha256 file) digest) (Some s) None
-  unfolding start_over
+      → start_state_of_image answers digest job ≡ cond (bytes_eq (sha256 file) digest) (Some s) None
+  unfolding start_state_of_image
   over digest file s bytes start = λ i. cond (has_digest digest (bytes i)) (result_ok (start i)) None
 
 -- ---- jobs of both

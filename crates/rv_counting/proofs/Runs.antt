@@ -6,7 +6,7 @@ use Rattle.rv_trace.specs.Run.{Ran, step_of, run_of, run_after_step}
 use Rattle.rv_trace.specs.State.{State}
 use Rattle.rv_trace.proofs.Public.{after_none}
 use Rattle.rv_trace.specs.Trace.{state_after}
-use Rattle.rv_counting.specs.Coverage.{fetch_at, is_executed, takes, address_if, behind, executed_steps, executed_in_run, taken_in_run}
+use Rattle.rv_counting.specs.Coverage.{fetch_at, is_executed, is_taken_step, address_if, behind, executed_steps, executed_in_run, taken_in_run}
 
 -- ---- the first step of a run
 
@@ -148,7 +148,7 @@ unfolding taken_in_run
 taken_none at s = refl
 
 pub taken_first : (at n : ℕ) (s : State) → taken_in_run at (suc n) s
-    ≡ address_if (takes (step_of s) s && (s.pc == at)) + behind (step_of s) (λ t. taken_in_run at n t)
+    ≡ address_if (is_taken_step (step_of s) s && (s.pc == at)) + behind (step_of s) (λ t. taken_in_run at n t)
 unfolding taken_in_run
 taken_first at n s = refl
 

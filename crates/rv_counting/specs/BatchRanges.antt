@@ -3,7 +3,7 @@ use Rattle.std.specs.Prelude.{◌≡◌, ◌<◌, ◌≤◌, ℕ, zero, suc, Lis
 use Rattle.rv_trace.specs.declared_job.Job.{Job}
 use Rattle.rv_trace.specs.Plans.{Planned}
 use Rattle.rv_trace.specs.Trace.{job_at}
-use Rattle.rv_counting.specs.declared.pieces.Piece.{Piece}
+use Rattle.rv_counting.specs.declared.index_ranges.IndexRange.{IndexRange}
 
 -- the jobs at these indices name one image
 abbrev pub HaveOneImage : Planned → List ℕ → Type 0
@@ -11,31 +11,31 @@ HaveOneImage plan places = (k : ℕ) (d : Job) → k < length places
     → (job_at plan (slice_index_or places k 0) d).image ≡ (job_at plan (slice_index_or places 0 0) d).image
 
 -- the piece with this number, counted from 0; an empty one if there is no such piece
-abbrev pub range_at : List Piece → ℕ → Piece
+abbrev pub range_at : List IndexRange → ℕ → IndexRange
 range_at pieces k = slice_index_or pieces k (record { from = 0; to = 0 })
 
 -- the indices of the batch that are in this piece
-abbrev pub places_of : List ℕ → Piece → List ℕ
-places_of places piece = slice_range places piece.from piece.to
+abbrev pub indices_in : List ℕ → IndexRange → List ℕ
+indices_in places piece = slice_range places piece.from piece.to
 
 -- where the piece with this number must begin: at the end of the one before it, or at 0
-abbrev pub start_of : List Piece → ℕ → ℕ
-start_of pieces zero = 0
-start_of pieces (suc k) = (range_at pieces k).to
+abbrev pub range_start : List IndexRange → ℕ → ℕ
+range_start pieces zero = 0
+range_start pieces (suc k) = (range_at pieces k).to
 
 -- the piece begins at `from`, is not empty, ends within the batch, and its jobs name one image
-pub record IsIndexRange (plan : Planned) (places : List ℕ) (from : ℕ) (piece : Piece) : Type 0 where
+pub record IsIndexRange (plan : Planned) (places : List ℕ) (from : ℕ) (piece : IndexRange) : Type 0 where
   pub starts : piece.from ≡ from
   pub some : piece.from < piece.to
   pub within : piece.to ≤ length places
-  pub same : HaveOneImage plan (places_of places piece)
+  pub same : HaveOneImage plan (indices_in places piece)
 
 -- the pieces, one after another, have exactly the first `to` indices of the batch
-pub record AreIndexRangesTo (plan : Planned) (places : List ℕ) (to : ℕ) (pieces : List Piece) : Type 0 where
+pub record AreIndexRangesTo (plan : Planned) (places : List ℕ) (to : ℕ) (pieces : List IndexRange) : Type 0 where
   pub few : length pieces ≤ to
-  pub each : (k : ℕ) → k < length pieces → IsIndexRange plan places (start_of pieces k) (range_at pieces k)
-  pub all : start_of pieces (length pieces) ≡ to
+  pub each : (k : ℕ) → k < length pieces → IsIndexRange plan places (range_start pieces k) (range_at pieces k)
+  pub all : range_start pieces (length pieces) ≡ to
 
 -- the pieces, one after another, have exactly all indices of the batch
-abbrev pub AreIndexRanges : Planned → List ℕ → List Piece → Type 0
+abbrev pub AreIndexRanges : Planned → List ℕ → List IndexRange → Type 0
 AreIndexRanges plan places pieces = AreIndexRangesTo plan places (length places) pieces

@@ -25,8 +25,8 @@ has_digest digest None = false
 has_digest digest (Some bytes) = bytes_eq (sha256 bytes) digest
 
 -- the state in which a job's run begins, or `None` if the job is refused or its image does not have this digest
-unfoldable pub start_over : List Answer → List ℕ → Job → Option State
-start_over answers digest job =
+unfoldable pub start_state_of_image : List Answer → List ℕ → Job → Option State
+start_state_of_image answers digest job =
     if has_digest digest (image_bytes answers job) then result_ok (start_in answers job) else None
 
 -- how often a run from this state executes the instruction at an address, within a budget of `n` steps; 0 if there is no state
@@ -41,15 +41,15 @@ taken_from address n (Some s) = taken_in_run address n s
 
 -- how often a job's run executes the instruction at an address, or 0 if the job is refused or its image does not have this digest
 abbrev pub executed_by : List Answer → List ℕ → ℕ → Job → ℕ
-executed_by answers digest address job = executed_from address job.budget (start_over answers digest job)
+executed_by answers digest address job = executed_from address job.budget (start_state_of_image answers digest job)
 
 -- how often a job's run takes the branch at an address, or 0 if the job is refused or its image does not have this digest
 abbrev pub taken_by : List Answer → List ℕ → ℕ → Job → ℕ
-taken_by answers digest address job = taken_from address job.budget (start_over answers digest job)
+taken_by answers digest address job = taken_from address job.budget (start_state_of_image answers digest job)
 
 -- the printable path of a job's image, or `None` if the job is refused or its image does not have this digest
 abbrev pub path_by : List Answer → List ℕ → Job → Option (List ℕ)
-path_by answers digest job = option_map (λ s. printable_text job.image) (start_over answers digest job)
+path_by answers digest job = option_map (λ s. printable_text job.image) (start_state_of_image answers digest job)
 
 -- 1 for a job that runs, 0 for a refused one
 abbrev pub runs_by : List Answer → Job → ℕ

@@ -9,7 +9,7 @@ use Rattle.rv_fleet.specs.declared_engine.RunError.{RunError}
 use Rattle.rv_fleet.specs.declared_listener.Flow.{Flow}
 
 -- the sum of the tables that were added so far, and the error if the last one could not be added
-pub record Added : Type 0 where
+pub record TableSumView : Type 0 where
   pub sum : CountTable
   pub failed : Option SumError
 
@@ -20,7 +20,7 @@ sum_or_error sum (Some error) = Err error
 
 -- the sum of the tables of a run, or why there is none; a run that failed ran out of memory or could not start a thread, and both count as
 -- `OutOfMemory`
-abbrev pub sum_of_run : Added → Result Flow RunError → Result CountTable SumError
+abbrev pub sum_of_run : TableSumView → Result Flow RunError → Result CountTable SumError
 sum_of_run added (Ok flow) = sum_or_error added.sum added.failed
 sum_of_run added (Err error) = Err OutOfMemory
 

@@ -5,7 +5,7 @@ ghost use Rattle.rv_count_tables.specs.declared.sum.SumError.TheVariants.{OutOfM
 ghost use Rattle.rv_counting.specs.JobTables.{IsTableOfJobsAt};
 
 use crate::count_work::{CountWork, JobsTable};
-use crate::pieces::pieces_of;
+use crate::index_ranges::ranges_of_images;
 use crate::table_sum::TableSum;
 use rv_count_tables::{CountTable, SumError};
 use rv_fleet::{Batch, Crew, run_jobs};
@@ -24,7 +24,7 @@ pub fn count_batch<R: Threads + Wait + Sync>(
 ) -> Result<CountTable, AllocError>
     ensures { IfOk result (λ table. IsTableOfJobsAt batch.now.plan.now batch.now.places.now table) }
 {
-    let pieces = pieces_of(crew.alloc, batch.plan, batch.places, crew.workers)?;
+    let pieces = ranges_of_images(crew.alloc, batch.plan, batch.places, crew.workers)?;
     let work = CountWork {
         batch,
         pieces: pieces.as_slice(),

@@ -4,7 +4,7 @@ ghost use Rattle.std.specs.Prelude.{◌≡◌};
 ghost use Rattle.rv_count_tables.specs.Table.{IsTable};
 ghost use Rattle.rv_counting.specs.BatchRanges.{AreIndexRanges};
 
-use crate::pieces::Piece;
+use crate::index_ranges::IndexRange;
 use crate::table_of_jobs::table_of_jobs_at;
 use crate::table_sum::HasProgramHeaders;
 use rv_count_tables::CountTable;
@@ -52,19 +52,19 @@ impl HasProgramHeaders for JobsTable {
 #[derive(Drop)]
 pub(crate) struct CountWork<'a> {
     pub(crate) batch: &'a Batch<'a>,
-    pub(crate) pieces: &'a [Piece],
+    pub(crate) pieces: &'a [IndexRange],
     pub(crate) ghost are: { AreIndexRanges batch.now.plan.now batch.now.places.now pieces.now },
 }
 
 impl Work<JobsTable> for CountWork<'_> {
     ghost use Rattle.std.specs.Prelude.{length};
-    ghost use Rattle.rv_counting.specs.BatchRanges.{range_at, places_of};
+    ghost use Rattle.rv_counting.specs.BatchRanges.{range_at, indices_in};
     ghost use Rattle.rv_counting.specs.JobTables.{IsTableOfRange};
 
     ghost jobs = { λ s. length s.pieces.now };
 
     ghost is_made = { λ s number table. IsTableOfRange s.batch.now.plan.now
-        (places_of s.batch.now.places.now (range_at s.pieces.now number)) table };
+        (indices_in s.batch.now.places.now (range_at s.pieces.now number)) table };
 
     ghost is_worker_state = { λ _ _. Unit {0} };
 

@@ -14,7 +14,7 @@ mod count_work;
 mod counter;
 mod decode_cache;
 mod law;
-mod pieces;
+mod index_ranges;
 mod runs_counter;
 mod step;
 mod table_of_jobs;
@@ -22,10 +22,10 @@ mod table_sum;
 mod tally;
 
 pub use batch::count_batch;
-pub use block::{Block, first_of};
+pub use block::{Block, block_prefix};
 pub use count::count_run;
 pub use count_work::JobsTable;
-pub use counter::{Counter, Stepped};
+pub use counter::{Counter, CountedStep};
 pub use law::{
     completed_steps_are_executed, counts_have_even_addresses, counts_sum_to_the_steps,
     ending_says_whether_the_last_step_is_executed, jobs_have_one_table,

@@ -34,9 +34,9 @@ pub struct TableSum {
 
 impl Model for TableSum {
     ghost use Rattle.rv_count_tables.specs.Table.{IsTable};
-    ghost use Rattle.rv_counting.specs.TableSums.{Added};
+    ghost use Rattle.rv_counting.specs.TableSums.{TableSumView};
 
-    ghost Value = { Added };
+    ghost Value = { TableSumView };
 
     ghost view = { λ s. record { sum = s.sum; failed = s.failed } };
 

@@ -7,7 +7,7 @@ use Rattle.rv_counting.specs.Bits.{field}
 use Rattle.rv_counting.specs.declared_code.Code.{Code}
 use Rattle.rv_counting.specs.declared_code.Code.TheVariants.{Half, Word}
 use Rattle.rv_counting.specs.Code.{size_of_code}
-use Rattle.rv_cover_view.specs.Codes.{Placed, code_of_half, codes_from, first_code, first_half}
+use Rattle.rv_cover_view.specs.Codes.{AddressedCode, code_of_half, codes_from, first_code, first_half}
 
 -- a code has a byte at least, and no more than there are
 abbrev pub IsInFront : ℕ → Code → Type 0
@@ -38,7 +38,7 @@ code_in_front (a ∷ b ∷ rest) code e = half_in_front (a + 0x100 * b) rest cod
 
 -- ---- the codes behind
 
-behind : ℕ → ℕ → List ℕ → Code → List Placed
+behind : ℕ → ℕ → List ℕ → Code → List AddressedCode
 behind n address bytes code =
     (address, code) ∷ codes_from n ((address + size_of_code code) % 0x1_0000_0000) (drop (size_of_code code) bytes)
 
@@ -78,7 +78,7 @@ codes_enough (suc n) zero address bytes h k =
 codes_enough (suc n) (suc m) address bytes h k = elim (first_code bytes)
     as (λ o. first_code bytes ≡ o → codes_from (suc n) address bytes ≡ codes_from (suc m) address bytes) [
       | Some code ↦ λ e. code_first n address bytes code e
-          ∙ ap (λ (ps : List Placed). (address, code) ∷ ps)
+          ∙ ap (λ (ps : List AddressedCode). (address, code) ∷ ps)
           (codes_enough n m ((address + size_of_code code) % 0x1_0000_0000) (drop (size_of_code code) bytes)
           (shorter n bytes code e h) (shorter m bytes code e k))
           ∙ sym (code_first m address bytes code e)
@@ -92,7 +92,7 @@ codes_behind address bytes code e =
     let n = length bytes in
     codes_enough n (suc n) address bytes (omega arith) (omega arith)
     ∙ code_first n address bytes code e
-    ∙ ap (λ (ps : List Placed). (address, code) ∷ ps)
+    ∙ ap (λ (ps : List AddressedCode). (address, code) ∷ ps)
     (codes_enough n (length (drop (size_of_code code) bytes)) ((address + size_of_code code) % 0x1_0000_0000) (drop (size_of_code code) bytes)
     (shorter n bytes code e (omega arith)) (omega arith))
 

@@ -7,7 +7,7 @@ use Rattle.std.proofs.lemmas.Bool.Decides.{nat_tests}
 use Rattle.std.proofs.lemmas.List.{get_or-map, length-map}
 use Rattle.std.proofs.lemmas.Map.Keys.{IsStrictlyIncreasing-dedup}
 use Rattle.rv_elf.specs.declared.function.Function.{Function}
-use Rattle.rv_cover_view.specs.Functions.{IsEachOnce, address_of, named, stands_at}
+use Rattle.rv_cover_view.specs.Functions.{IsEachOnce, address_of, named, has_address}
 
 module _ {X : Type 0} (n : X → ℕ) where
   abbrev pub is_at : ℕ → X → Bool
@@ -124,10 +124,10 @@ module _ {X : Type 0} (n : X → ℕ) where
 abbrev pub starts : Function → ℕ
 starts f = f.address
 
-find_named : (address : ℕ) (fs : List Function) → find (stands_at address) (map named fs) ≡ option_map named (find (is_at starts address) fs)
+find_named : (address : ℕ) (fs : List Function) → find (has_address address) (map named fs) ≡ option_map named (find (is_at starts address) fs)
 find_named address [] = refl
 find_named address (f ∷ fs) = elim (f.address == address)
-    as (λ b. cond b (Some (named f)) (find (stands_at address) (map named fs)) ≡ option_map named (cond b (Some f) (find (is_at starts address) fs))) [
+    as (λ b. cond b (Some (named f)) (find (has_address address) (map named fs)) ≡ option_map named (cond b (Some f) (find (is_at starts address) fs))) [
       | true ↦ refl
       | false ↦ find_named address fs
     ]

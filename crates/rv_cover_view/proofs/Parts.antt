@@ -2,12 +2,12 @@
 use Rattle.std.proofs.Common.{◌≡◌, ◌+◌, ◌^◌, ◌<◌, ◌++◌, List, length, arith}
 use Rattle.std.proofs.lemmas.List.Sums.{count_by-le-length, sum_by-append}
 use Rattle.rv_count_tables.specs.declared.table.AddressCounts.{AddressCounts}
-use Rattle.rv_cover_view.specs.declared.amounts.CodeTotals.{CodeTotals}
-use Rattle.rv_cover_view.specs.Codes.{Placed}
+use Rattle.rv_cover_view.specs.declared.totals.CodeTotals.{CodeTotals}
+use Rattle.rv_cover_view.specs.Codes.{AddressedCode}
 use Rattle.rv_cover_view.specs.Cover.{totals_of_codes, is_instruction, is_executed_instruction, is_branch_both_ways, is_branch_one_way, is_branch_never}
-use Rattle.rv_cover_view.specs.Steps.{Fits, no_totals, plus}
+use Rattle.rv_cover_view.specs.Totals.{FitsIn64Bits, no_totals, plus}
 
-pub amounts_of_parts : (counts : List AddressCounts) (xs ys : List Placed)
+pub amounts_of_parts : (counts : List AddressCounts) (xs ys : List AddressedCode)
     → totals_of_codes counts (xs ++ ys) ≡ plus (totals_of_codes counts xs) (totals_of_codes counts ys)
 amounts_of_parts counts xs ys =
     let a = sum_by-append _ xs ys in
@@ -55,7 +55,7 @@ plus_none a =
     }
 
 -- so many codes are counted in 64 bits
-pub codes_fit : (counts : List AddressCounts) (ps : List Placed) → length ps < 2 ^ 64 → Fits (totals_of_codes counts ps)
+pub codes_fit : (counts : List AddressCounts) (ps : List AddressedCode) → length ps < 2 ^ 64 → FitsIn64Bits (totals_of_codes counts ps)
 codes_fit counts ps few = record {
   instructions = let l = count_by-le-length is_instruction ps in omega (arith, l, few);
   instructions_run = let l = count_by-le-length (is_executed_instruction counts) ps in omega (arith, l, few);
@@ -65,7 +65,7 @@ codes_fit counts ps few = record {
 }
 
 -- what is a part of it, too
-pub part_fits : (a b : CodeTotals) → Fits (plus a b) → Fits a
+pub part_fits : (a b : CodeTotals) → FitsIn64Bits (plus a b) → FitsIn64Bits a
 part_fits a b f = record {
   instructions = let l = f.instructions in omega (arith, l);
   instructions_run = let l = f.instructions_run in omega (arith, l);

@@ -11,15 +11,15 @@ use Rattle.rv_cover_view.specs.Functions.{address_of, bytes_of, code_bytes, name
 use Rattle.rv_count_tables.specs.declared.table.AddressCounts.{AddressCounts}
 use Rattle.rv_counting.specs.declared_code.Code.{Code}
 use Rattle.rv_counting.specs.Code.{size_of_code}
-use Rattle.rv_cover_view.specs.declared.amounts.CodeTotals.{CodeTotals}
-use Rattle.rv_cover_view.specs.Codes.{Placed, codes_from, codes_of, first_code}
+use Rattle.rv_cover_view.specs.declared.totals.CodeTotals.{CodeTotals}
+use Rattle.rv_cover_view.specs.Codes.{AddressedCode, codes_from, codes_of, first_code}
 use Rattle.rv_cover_view.specs.Cover.{totals_of_codes}
-use Rattle.rv_cover_view.specs.Steps.{Fits, plus}
+use Rattle.rv_cover_view.specs.Totals.{FitsIn64Bits, plus}
 use Rattle.rv_cover_view.proofs.Codes.{codes_behind, codes_few}
 use Rattle.rv_cover_view.proofs.Parts.{amounts_of_parts, codes_fit, part_fits, plus_parts}
 
 module _ (counts : List AddressCounts) (address : ℕ) (bytes : List ℕ) (code : Code) where
-  abbrev pub behind : List Placed
+  abbrev pub behind : List AddressedCode
   behind = codes_from (length (drop (size_of_code code) bytes)) ((address + size_of_code code) % 0x1_0000_0000) (drop (size_of_code code) bytes)
 
   pub one_code_more : (amounts one all : CodeTotals) → first_code bytes ≡ Some code
@@ -35,12 +35,12 @@ module _ (counts : List AddressCounts) (address : ℕ) (bytes : List ℕ) (code 
 
   pub one_code_fits : (n from : ℕ) (whole : List ℕ) (amounts one : CodeTotals) → n < 2 ^ 64 → first_code bytes ≡ Some code
       → plus amounts (totals_of_codes counts (codes_from (length bytes) address bytes)) ≡ totals_of_codes counts (codes_from n from whole)
-      → one ≡ totals_of_codes counts ((address, code) ∷ []) → Fits (plus amounts one)
+      → one ≡ totals_of_codes counts ((address, code) ∷ []) → FitsIn64Bits (plus amounts one)
   one_code_fits n from whole amounts one few e inv is =
       let all = codes_from n from whole in
       let l = codes_few n from whole in
       part_fits (plus amounts one) (totals_of_codes counts behind)
-      (subst Fits (sym (one_code_more amounts one (totals_of_codes counts all) e inv is))
+      (subst FitsIn64Bits (sym (one_code_more amounts one (totals_of_codes counts all) e inv is))
       (codes_fit counts all (omega (arith, l, few))))
 
 -- ---- functions
@@ -55,7 +55,7 @@ codes_bytes (f ∷ fs) =
     omega (arith, a, b, l, h)
 
 module _ (counts : List AddressCounts) (fs : List Function) (i : ℕ) (d : Function) where
-  abbrev pub codes_before : ℕ → List Placed
+  abbrev pub codes_before : ℕ → List AddressedCode
   codes_before k = flat_map codes_of (map named (take k fs))
 
   one_more : i < length fs → codes_before (i + 1) ≡ codes_before i ++ codes_of (named (get_or fs i d))
@@ -81,9 +81,9 @@ module _ (counts : List AddressCounts) (fs : List Function) (i : ℕ) (d : Funct
 
   pub one_function_fits : (amounts one : CodeTotals) → i < length fs → code_bytes (map named fs) < 2 ^ 64
       → amounts ≡ totals_of_codes counts (codes_before i) → one ≡ totals_of_codes counts (codes_of (named (get_or fs i d)))
-      → Fits (plus amounts one)
+      → FitsIn64Bits (plus amounts one)
   one_function_fits amounts one within few inv is =
       let l = codes_bytes (map named (take (i + 1) fs)) in
       let m = few_before (i + 1) in
-      subst Fits (sym (one_function_more amounts one within inv is))
+      subst FitsIn64Bits (sym (one_function_more amounts one within inv is))
       (codes_fit counts (codes_before (i + 1)) (omega (arith, l, m, few)))

@@ -25,17 +25,17 @@ unfoldable pub first_code : List ℕ → Option Code
 first_code bytes = option_and_then (code_of_half (drop 2 bytes)) (first_half bytes)
 
 -- an address and the encoding there
-abbrev pub Placed : Type 0
-Placed = ℕ × Code
+abbrev pub AddressedCode : Type 0
+AddressedCode = ℕ × Code
 
 -- the first `n` encodings in the bytes, or all if there are fewer, each with its address; the first one is at `address`, and addresses wrap
 -- around as a pc does
-unfoldable pub codes_from : ℕ → ℕ → List ℕ → List Placed
+unfoldable pub codes_from : ℕ → ℕ → List ℕ → List AddressedCode
 codes_from zero address bytes = []
 codes_from (suc n) address bytes = option_map_or
     (λ code. (address, code) ∷ codes_from n ((address + size_of_code code) % 0x1_0000_0000) (drop (size_of_code code) bytes))
     (first_code bytes) []
 
 -- all encodings of a function; each has at least one byte
-abbrev pub codes_of : Named → List Placed
+abbrev pub codes_of : Named → List AddressedCode
 codes_of f = codes_from (length (bytes_of f)) (address_of f) (bytes_of f)

@@ -6,9 +6,9 @@ use Rattle.rv_count_tables.specs.Table.{executed_at, taken_at}
 use Rattle.rv_counting.specs.Coverage.{is_branch_code}
 use Rattle.rv_elf.specs.Functions.{Named}
 use Rattle.rv_counting.specs.Code.{instr_of}
-use Rattle.rv_cover_view.specs.declared.amounts.Amounts.{Amounts}
-use Rattle.rv_cover_view.specs.declared.amounts.CodeTotals.{CodeTotals}
-use Rattle.rv_cover_view.specs.Codes.{Placed, codes_of}
+use Rattle.rv_cover_view.specs.declared.totals.CoverageTotals.{CoverageTotals}
+use Rattle.rv_cover_view.specs.declared.totals.CodeTotals.{CodeTotals}
+use Rattle.rv_cover_view.specs.Codes.{AddressedCode, codes_of}
 use Rattle.rv_cover_view.specs.Functions.{address_of, bytes_of}
 
 -- ---- a function
@@ -24,38 +24,38 @@ never_run counts fs = filter (λ f. not (has_run counts f)) fs
 -- ---- an encoding with its address
 
 -- whether RV32IMC has an instruction for the encoding
-abbrev pub is_instruction : Placed → Bool
+abbrev pub is_instruction : AddressedCode → Bool
 is_instruction p = is_some (instr_of p.1)
 
 -- whether an instruction was executed at the encoding's address
-abbrev pub was_executed : List AddressCounts → Placed → Bool
+abbrev pub was_executed : List AddressCounts → AddressedCode → Bool
 was_executed counts p = nat_lt 0 (executed_at p.0 counts)
 
 -- whether RV32IMC has an instruction for the encoding and an instruction was executed at its address
-abbrev pub is_executed_instruction : List AddressCounts → Placed → Bool
+abbrev pub is_executed_instruction : List AddressCounts → AddressedCode → Bool
 is_executed_instruction counts p = is_instruction p && was_executed counts p
 
 -- whether the branch was taken at least once and not taken at least once
-abbrev pub went_both_ways : List AddressCounts → Placed → Bool
+abbrev pub went_both_ways : List AddressCounts → AddressedCode → Bool
 went_both_ways counts p = nat_lt 0 (taken_at p.0 counts) && nat_lt (taken_at p.0 counts) (executed_at p.0 counts)
 
 -- whether the encoding is a conditional branch that was both taken and not taken
-abbrev pub is_branch_both_ways : List AddressCounts → Placed → Bool
+abbrev pub is_branch_both_ways : List AddressCounts → AddressedCode → Bool
 is_branch_both_ways counts p = is_branch_code p.1 && went_both_ways counts p
 
 -- whether the encoding is a conditional branch that was executed, and was always taken or never taken
-abbrev pub is_branch_one_way : List AddressCounts → Placed → Bool
+abbrev pub is_branch_one_way : List AddressCounts → AddressedCode → Bool
 is_branch_one_way counts p = is_branch_code p.1 && (was_executed counts p && not (went_both_ways counts p))
 
 -- whether the encoding is a conditional branch that was never executed
-abbrev pub is_branch_never : List AddressCounts → Placed → Bool
+abbrev pub is_branch_never : List AddressCounts → AddressedCode → Bool
 is_branch_never counts p = is_branch_code p.1 && not (was_executed counts p)
 
 -- ---- sums
 
 -- the coverage of encodings: how many are instructions, how many of these ran, and how many are conditional branches that went both ways,
 -- one way, or never ran
-abbrev pub totals_of_codes : List AddressCounts → List Placed → CodeTotals
+abbrev pub totals_of_codes : List AddressCounts → List AddressedCode → CodeTotals
 totals_of_codes counts ps = record {
   instructions = count_by is_instruction ps;
   instructions_run = count_by (is_executed_instruction counts) ps;
@@ -65,7 +65,7 @@ totals_of_codes counts ps = record {
 }
 
 -- the coverage of functions: how many there are, how many ran, and the coverage of their encodings
-abbrev pub totals_of : List AddressCounts → List Named → Amounts
+abbrev pub totals_of : List AddressCounts → List Named → CoverageTotals
 totals_of counts fs = record {
   functions = length fs;
   functions_run = count_by (has_run counts) fs;

@@ -2,8 +2,8 @@
 use Rattle.std.specs.Prelude.{◌++◌, ◌==◌, ◌||◌, ℕ, Bool, if◌then◌else◌, List, [], ◌∷◌, codes}
 use Rattle.std.specs.Fmt.{decimal}
 use Rattle.std.specs.List.{flat_map, list_any}
-use Rattle.rv_cover_view.specs.declared.amounts.Amounts.{Amounts}
-use Rattle.rv_cover_view.specs.declared.amounts.CodeTotals.{CodeTotals}
+use Rattle.rv_cover_view.specs.declared.totals.CoverageTotals.{CoverageTotals}
+use Rattle.rv_cover_view.specs.declared.totals.CodeTotals.{CodeTotals}
 
 -- the CSV header, which names the columns
 unfoldable pub csv_header : List ℕ
@@ -18,15 +18,15 @@ abbrev pub doubled_quote : ℕ → List ℕ
 doubled_quote byte = if byte == 34 then 34 ∷ 34 ∷ [] else byte ∷ []
 
 -- a field with its quotes doubled
-abbrev pub with_quotes_twice : List ℕ → List ℕ
-with_quotes_twice field = flat_map doubled_quote field
+abbrev pub with_doubled_quotes : List ℕ → List ℕ
+with_doubled_quotes field = flat_map doubled_quote field
 
 -- a field of a CSV row: if it has a special byte, it is put in quotes, and its own quotes are doubled
 unfoldable pub csv_field : List ℕ → List ℕ
-csv_field field = if list_any is_special field then codes "\"" ++ with_quotes_twice field ++ codes "\"" else field
+csv_field field = if list_any is_special field then codes "\"" ++ with_doubled_quotes field ++ codes "\"" else field
 
 -- the fields of a row for the numbers of functions
-unfoldable pub csv_functions : Amounts → List ℕ
+unfoldable pub csv_functions : CoverageTotals → List ℕ
 csv_functions a = codes "," ++ decimal a.functions ++ codes "," ++ decimal a.functions_run
 
 -- the fields of a row for the numbers of instructions
@@ -39,5 +39,5 @@ csv_branches a = codes "," ++ decimal a.branches_both_ways ++ codes "," ++ decim
     ++ codes "," ++ decimal a.branches_never
 
 -- the row of the image with this path and coverage
-unfoldable pub csv_row : List ℕ → Amounts → List ℕ
+unfoldable pub csv_row : List ℕ → CoverageTotals → List ℕ
 csv_row path a = csv_field path ++ csv_functions a ++ csv_instructions a.code ++ csv_branches a.code ++ codes "\n"

@@ -18,13 +18,13 @@ abbrev pub bytes_of : Named → List ℕ
 bytes_of f = f.1.1
 
 -- whether a function has this address
-abbrev pub stands_at : ℕ → Named → Bool
-stands_at address f = address_of f == address
+abbrev pub has_address : ℕ → Named → Bool
+has_address address f = address_of f == address
 
 -- `new` is sorted by address, and has for each address of `old` only the first function there
 pub record IsEachOnce (old new : List Named) : Type 0 where
   pub rising : IsStrictlyIncreasing (map address_of new)
-  pub first : (address : ℕ) → find (stands_at address) new ≡ find (stands_at address) old
+  pub first : (address : ℕ) → find (has_address address) new ≡ find (has_address address) old
 
 -- the total size of the functions in bytes
 abbrev pub code_bytes : List Named → ℕ

@@ -16,8 +16,8 @@ image_text true cover = csv_row cover.path.now cover.amounts
 image_text false cover = image_line cover.path.now cover.amounts ++ never_run_line (map named cover.never_run.items)
 
 -- the header of the report: the CSV header if the Bool is true, or else the heading of a table for people
-abbrev pub head_text : Bool → List ℕ
-head_text csv = if csv then csv_header else cover_header
+abbrev pub header_text : Bool → List ℕ
+header_text csv = if csv then csv_header else cover_header
 
 -- the text is the coverage of an image by a table's counts: a CSV row if `csv` is true, or else lines for people
 abbrev pub IsImageCoverText : Bool → CountTable → ImageFileView → List ℕ → Type 0
@@ -33,4 +33,4 @@ AreImageCoverTexts csv table (image ∷ images) text = (first : List ℕ) × (Is
 -- the text is the header of a report, and then the coverage of each image by a table's counts, in order: as CSV if `csv` is true, or else
 -- for people
 abbrev pub IsCoverText : Bool → CountTable → List ImageFileView → List ℕ → Type 0
-IsCoverText csv table images text = (lines : List ℕ) × (AreImageCoverTexts csv table images lines × (text ≡ head_text csv ++ lines))
+IsCoverText csv table images text = (lines : List ℕ) × (AreImageCoverTexts csv table images lines × (text ≡ header_text csv ++ lines))

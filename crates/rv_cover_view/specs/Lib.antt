@@ -1,7 +1,7 @@
 pub mod Functions
 pub mod Codes
 pub mod Cover
-pub mod Steps
+pub mod Totals
 pub mod Text
 pub mod Csv
 pub mod Images

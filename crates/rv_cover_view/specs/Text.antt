@@ -4,8 +4,8 @@ use Rattle.std.specs.Fmt.{decimal}
 use Rattle.std.specs.List.{flat_map}
 use Rattle.rv_elf.specs.Functions.{Named}
 use Rattle.rv_count_tables.specs.Printable.{printable_name, printable_text}
-use Rattle.rv_cover_view.specs.declared.amounts.Amounts.{Amounts}
-use Rattle.rv_cover_view.specs.declared.amounts.CodeTotals.{CodeTotals}
+use Rattle.rv_cover_view.specs.declared.totals.CoverageTotals.{CoverageTotals}
+use Rattle.rv_cover_view.specs.declared.totals.CodeTotals.{CodeTotals}
 
 -- a number, with leading spaces so that it fills `width` characters
 unfoldable pub right : ℕ → ℕ → List ℕ
@@ -16,7 +16,7 @@ unfoldable pub cover_header : List ℕ
 cover_header = codes "   functions run        instructions run  branches both ways   one way     never  image\n"
 
 -- the columns for the numbers of functions
-unfoldable pub function_columns : Amounts → List ℕ
+unfoldable pub function_columns : CoverageTotals → List ℕ
 function_columns a = right 6 a.functions_run ++ codes " of " ++ right 6 a.functions
 
 -- the columns for the numbers of instructions and of conditional branches
@@ -25,7 +25,7 @@ code_columns a = right 11 a.instructions_run ++ codes " of " ++ right 9 a.instru
     ++ right 20 a.branches_both_ways ++ right 10 a.branches_one_way ++ right 10 a.branches_never
 
 -- the line of the image with this path and coverage
-unfoldable pub image_line : List ℕ → Amounts → List ℕ
+unfoldable pub image_line : List ℕ → CoverageTotals → List ℕ
 image_line path a = function_columns a ++ code_columns a.code ++ codes "  " ++ printable_text path ++ codes "\n"
 
 -- the names of functions, each after a comma and a space

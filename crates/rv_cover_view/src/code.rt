@@ -6,7 +6,7 @@ ghost use Rattle.rv_counting.specs.Code.{size_of_code};
 ghost use Rattle.rv_cover_view.specs.Codes.{codes_from, first_code, first_half};
 ghost use Rattle.rv_cover_view.specs.Cover.{totals_of_codes};
 
-use crate::amounts::CodeTotals;
+use crate::totals::CodeTotals;
 use rv_count_tables::{AddressCounts, counts_at};
 use rv_counting::{Code, code_length, instr_of, is_branch, is_long};
 

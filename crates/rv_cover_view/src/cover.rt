@@ -7,7 +7,7 @@ ghost use Rattle.rv_cover_view.specs.Codes.{codes_of};
 ghost use Rattle.rv_cover_view.specs.Cover.{totals_of, totals_of_codes, has_run, never_run};
 ghost use Rattle.rv_cover_view.specs.Functions.{code_bytes, named};
 
-use crate::amounts::{Amounts, CodeTotals};
+use crate::totals::{CoverageTotals, CodeTotals};
 use crate::code::totals_of_code;
 use rv_count_tables::{AddressCounts, was_executed_within};
 use rv_elf::Function;
@@ -15,12 +15,12 @@ use std::alloc::{AllocError, Global};
 
 /// Returns the coverage of functions: how many ran, and how many of their instructions and conditional branches were executed. Takes one
 /// search among the counts for each function and each encoding.
-pub fn cover_of_functions(functions: &[Function<'_>], counts: &[AddressCounts]) -> Amounts
+pub fn cover_of_functions(functions: &[Function<'_>], counts: &[AddressCounts]) -> CoverageTotals
     requires rising { increase_from 0 counts.now ≡ true }
     requires few { code_bytes (map named functions.now) < 2 ^ 64 }
     ensures { result ≡ totals_of counts.now (map named functions.now) }
 {
-    Amounts {
+    CoverageTotals {
         functions: functions.len() as u64,
         functions_run: functions_run(functions, counts),
         code: coverage_of_functions(functions, counts),

@@ -2,15 +2,15 @@
 
 ghost use Rattle.std.specs.Prelude.{◌≡◌, ◌++◌, OnOk};
 ghost use Rattle.std.specs.List.{list_any};
-ghost use Rattle.rv_cover_view.specs.Csv.{csv_branches, csv_field, csv_functions, csv_header, csv_instructions, csv_row, is_special, with_quotes_twice};
+ghost use Rattle.rv_cover_view.specs.Csv.{csv_branches, csv_field, csv_functions, csv_header, csv_instructions, csv_row, is_special, with_doubled_quotes};
 
-use crate::amounts::{Amounts, CodeTotals};
+use crate::totals::{CoverageTotals, CodeTotals};
 use rv_count_tables::{Span, push_spans, push_text};
 use std::alloc::AllocError;
 
 /// Appends the CSV header, which names the columns.
 #[tactic(auto, unfolding(crate::specs::Csv::csv_header))]
-pub fn push_csv_head(bytes: &mut Vec<u8>) -> Result<(), AllocError>
+pub fn push_csv_header(bytes: &mut Vec<u8>) -> Result<(), AllocError>
     ensures { OnOk result (bytes.new.items ≡ bytes.old.items ++ csv_header) }
 {
     push_text(
@@ -21,7 +21,7 @@ pub fn push_csv_head(bytes: &mut Vec<u8>) -> Result<(), AllocError>
 
 /// Appends the CSV row of an image: its path, quoted if necessary, and its totals.
 #[tactic(auto, unfolding(crate::specs::Csv::csv_row))]
-pub fn push_csv_row(bytes: &mut Vec<u8>, path: &[u8], amounts: &Amounts) -> Result<(), AllocError>
+pub fn push_csv_row(bytes: &mut Vec<u8>, path: &[u8], amounts: &CoverageTotals) -> Result<(), AllocError>
     ensures { OnOk result (bytes.new.items ≡ bytes.old.items ++ csv_row path.now amounts.now) }
 {
     push_csv_field(bytes, path)?;
@@ -33,7 +33,7 @@ pub fn push_csv_row(bytes: &mut Vec<u8>, path: &[u8], amounts: &Amounts) -> Resu
 
 // Appends the fields for the numbers of functions.
 #[tactic(auto, unfolding(crate::specs::Csv::csv_functions))]
-fn push_csv_functions(bytes: &mut Vec<u8>, amounts: &Amounts) -> Result<(), AllocError>
+fn push_csv_functions(bytes: &mut Vec<u8>, amounts: &CoverageTotals) -> Result<(), AllocError>
     ensures { OnOk result (bytes.new.items ≡ bytes.old.items ++ csv_functions amounts.now) }
 {
     push_spans(
@@ -90,7 +90,7 @@ pub fn push_csv_field(bytes: &mut Vec<u8>, field: &[u8]) -> Result<(), AllocErro
         return bytes.extend_from_slice(field);
     }
     push_text(bytes, "\"")?;
-    push_with_quotes_twice(bytes, field)?;
+    push_with_doubled_quotes(bytes, field)?;
     push_text(bytes, "\"")
 }
 

@@ -5,7 +5,7 @@ ghost use Rattle.rv_count_tables.specs.Table.{increase_from};
 ghost use Rattle.rv_elf.specs.Image.{IsImageOf};
 ghost use Rattle.rv_cover_view.specs.Images.{IsCoverOf};
 
-use crate::amounts::Amounts;
+use crate::totals::CoverageTotals;
 use crate::by_address::functions_by_address;
 use crate::cover::{cover_of_functions, never_run};
 use rv_count_tables::AddressCounts;
@@ -18,7 +18,7 @@ pub struct ImageCover<'a> {
     /// The path of the image, which is shown.
     pub path: &'a [u8],
     /// The totals of the image's functions, one for each address.
-    pub amounts: Amounts,
+    pub amounts: CoverageTotals,
     /// The functions that never ran, sorted by address.
     pub never_run: Vec<Function<'a>>,
 }

@@ -2,10 +2,10 @@
 
 ghost use Rattle.std.specs.Prelude.{◌≡◌, ◌++◌, IfOk, List, OnOk, ℕ};
 ghost use Rattle.rv_count_tables.specs.Table.{IsTable};
-ghost use Rattle.rv_cover_view.specs.ImagesText.{IsCoverText, IsImageCoverText, head_text, image_text};
+ghost use Rattle.rv_cover_view.specs.ImagesText.{IsCoverText, IsImageCoverText, header_text, image_text};
 ghost use Rattle.rv_cover_view.specs.JobImages.{image_of_file, images_of_files};
 
-use crate::csv::{push_csv_head, push_csv_row};
+use crate::csv::{push_csv_header, push_csv_row};
 use crate::image_counts::counts_of;
 use crate::image_cover::{ImageCover, cover_of_image};
 use crate::image_file::ImageFile;
@@ -24,7 +24,7 @@ pub fn cover_text(
     ensures { IfOk result (λ text. IsCoverText csv table.now (images_of_files images.now) text.items) }
 {
     let mut text = Vec::new(alloc);
-    push_head(&mut text, csv)?;
+    push_header(&mut text, csv)?;
     for image in images {
         push_image(alloc, &mut text, csv, table, image)?;
     }
@@ -32,11 +32,11 @@ pub fn cover_text(
 }
 
 // Appends the header of the report: the CSV header if `csv` is true, or else the heading of a table for people.
-fn push_head(text: &mut Vec<u8>, csv: bool) -> Result<(), AllocError>
-    ensures { OnOk result (text.new.items ≡ text.old.items ++ head_text csv) }
+fn push_header(text: &mut Vec<u8>, csv: bool) -> Result<(), AllocError>
+    ensures { OnOk result (text.new.items ≡ text.old.items ++ header_text csv) }
 {
     if csv {
-        push_csv_head(text)
+        push_csv_header(text)
     } else {
         push_cover_header(text)
     }

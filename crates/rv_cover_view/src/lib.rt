@@ -8,7 +8,7 @@
 //! [`push_csv_field`].
 #![tactic(auto)]
 
-mod amounts;
+mod totals;
 mod by_address;
 mod code;
 mod cover;
@@ -23,10 +23,10 @@ mod law;
 mod tests;
 mod text;
 
-pub use amounts::{Amounts, CodeTotals};
+pub use totals::{CoverageTotals, CodeTotals};
 pub use by_address::{each_address_once, functions_by_address};
 pub use cover::{cover_of_functions, never_run};
-pub use csv::{push_csv_field, push_csv_head, push_csv_row};
+pub use csv::{push_csv_field, push_csv_header, push_csv_row};
 pub use image_counts::{entry_of_image, other_image};
 pub use image_cover::{ImageCover, cover_of_image};
 pub use image_file::ImageFile;

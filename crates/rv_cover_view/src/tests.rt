@@ -1,8 +1,8 @@
 //! Tests with functions counted by hand.
 
 use crate::{
-    Amounts, CodeTotals, cover_of_functions, each_address_once, never_run, push_cover_header,
-    push_csv_head, push_csv_row, push_image_line, push_never_run_line,
+    CoverageTotals, CodeTotals, cover_of_functions, each_address_once, never_run, push_cover_header,
+    push_csv_header, push_csv_row, push_image_line, push_never_run_line,
 };
 use rv_count_tables::AddressCounts;
 use rv_elf::Function;
@@ -155,7 +155,7 @@ build/a.elf,2,1,30,20,5,3,1
 // A CSV field that has a comma or a quote is put in quotes, and its own quotes are doubled.
 #[test]
 fn a_field_with_a_comma_or_a_quote_is_quoted(rt: HostRuntime) -> Result<(), Fail> {
-    let amounts = Amounts {
+    let amounts = CoverageTotals {
         functions: 2,
         functions_run: 1,
         code: CodeTotals {
@@ -167,7 +167,7 @@ fn a_field_with_a_comma_or_a_quote_is_quoted(rt: HostRuntime) -> Result<(), Fail
         },
     };
     let mut text = Vec::new(rt.alloc());
-    push_csv_head(&mut text)?;
+    push_csv_header(&mut text)?;
     push_csv_row(&mut text, b"build/a.elf".as_slice(), &amounts)?;
     push_csv_row(&mut text, b"a \"b\", c.elf".as_slice(), &amounts)?;
     if text.as_slice() != CSV.as_bytes() {

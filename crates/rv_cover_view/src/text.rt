@@ -4,7 +4,7 @@ ghost use Rattle.std.specs.Prelude.{◌≡◌, ◌++◌, OnOk, map, replicate};
 ghost use Rattle.rv_cover_view.specs.Functions.{named};
 ghost use Rattle.rv_cover_view.specs.Text.{code_columns, cover_header, function_columns, further_names, image_line, never_run_line, right};
 
-use crate::amounts::{Amounts, CodeTotals};
+use crate::totals::{CoverageTotals, CodeTotals};
 use rv_count_tables::{Span, push_number, push_spans, push_text};
 use rv_elf::Function;
 use std::alloc::{AllocError, Global};
@@ -26,7 +26,7 @@ pub fn push_image_line(
     alloc: Global,
     bytes: &mut Vec<u8>,
     path: &[u8],
-    amounts: &Amounts,
+    amounts: &CoverageTotals,
 ) -> Result<(), AllocError>
     ensures { OnOk result (bytes.new.items ≡ bytes.old.items ++ image_line path.now amounts.now) }
 {
@@ -69,7 +69,7 @@ fn push_further_names(bytes: &mut Vec<u8>, functions: &[Function<'_>]) -> Result
 fn push_function_columns(
     alloc: Global,
     bytes: &mut Vec<u8>,
-    amounts: &Amounts,
+    amounts: &CoverageTotals,
 ) -> Result<(), AllocError>
     ensures { OnOk result (bytes.new.items ≡ bytes.old.items ++ function_columns amounts.now) }
 {

@@ -3,7 +3,7 @@ use Rattle.std.specs.Prelude.{ℕ, List, [], ◌++◌, codes, Option, Some, None
 use Rattle.rv_isa.specs.Words.{meaning32}
 use Rattle.rv_isa.specs.Halfwords.{meaning16}
 use Rattle.rv_isa.specs.declared.instruction.Instr.{Instr}
-use Rattle.rv_isa.specs.declared.sets.Isa.TheVariants as set
+use Rattle.rv_isa.specs.declared.isa.Isa.TheVariants as set
 use Rattle.rv_disasm.specs.declared.form.Fetched.{Fetched}
 use Rattle.rv_disasm.specs.declared.form.Operands.{Operands}
 use Rattle.rv_disasm.specs.declared.form.Operands.TheVariants.{Absent, One, Two, Three}

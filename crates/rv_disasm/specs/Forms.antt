@@ -3,8 +3,8 @@
 use Rattle.std.specs.Prelude.{ℕ, List, [], ◌∷◌, codes, Option, not, ◌==◌, if◌then◌else◌}
 use Rattle.std.specs.List.{zip}
 use Rattle.rv_isa.specs.Halfwords.{fits16, immediate_ci, rd, rows16}
-use Rattle.rv_isa.specs.Tables.{first_of}
-use Rattle.rv_isa.specs.declared.sets.Isa.TheVariants as set
+use Rattle.rv_isa.specs.Tables.{first_match}
+use Rattle.rv_isa.specs.declared.isa.Isa.TheVariants as set
 use Rattle.rv_isa.specs.declared.instruction.Op.{Op}
 use Rattle.rv_isa.specs.declared.instruction.Op.TheVariants as op
 use Rattle.rv_disasm.specs.declared.form.Form.{Form as CodesForm}
@@ -169,4 +169,4 @@ forms16 h =
 
 -- the form of the first row of RV32IMC that the halfword matches, or `None` if it matches none
 unfoldable pub form16 : ℕ → Option Form
-form16 h = first_of (λ r. fits16 set.Imc h r.0) (λ r. r.1) (zip rows16 (forms16 h))
+form16 h = first_match (λ r. fits16 set.Imc h r.0) (λ r. r.1) (zip rows16 (forms16 h))

@@ -2,7 +2,7 @@
 use Rattle.std.specs.Prelude.{ℕ, List, ◌++◌, codes, Option, Some, None}
 use Rattle.rv_isa.specs.Words.{meaning32}
 use Rattle.rv_isa.specs.declared.instruction.Instr.{Instr}
-use Rattle.rv_isa.specs.declared.sets.Isa.TheVariants as set
+use Rattle.rv_isa.specs.declared.isa.Isa.TheVariants as set
 use Rattle.rv_disasm.specs.Forms.{Form, form16, form32}
 use Rattle.rv_disasm.specs.Unsimulated.{Row, unsimulated16, unsimulated32}
 

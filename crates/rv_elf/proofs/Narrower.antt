@@ -3,9 +3,9 @@ use Rattle.std.proofs.Common.{◌≡◌, ◌∙◌, ℕ, false, not, ◌&&◌, �
 use Rattle.std.proofs.Common.{◌%◌, ◌==◌}
 use Rattle.std.specs.List.{list_any}
 use Rattle.std.proofs.lemmas.Bool.{or_parts}
-use Rattle.rv_isa.specs.declared.sets.Isa.{Isa}
-use Rattle.rv_isa.specs.declared.sets.Isa.TheVariants.{Imc}
-use Rattle.rv_isa.specs.Extensions.{has, RV32C}
+use Rattle.rv_isa.specs.declared.isa.Isa.{Isa}
+use Rattle.rv_isa.specs.declared.isa.Isa.TheVariants.{Imc}
+use Rattle.rv_isa.specs.Extensions.{has_extension, RV32C}
 use Rattle.rv_elf.specs.declared.error.ImageError.{ImageError}
 use Rattle.rv_elf.specs.declared.error.ImageError.TheVariants.{EntryAlign}
 use Rattle.rv_elf.specs.declared.image.Image.{Image}
@@ -31,7 +31,7 @@ wider (row ∷ rows) was now passes h =
 refusals_wider : (isa : Isa) (file : List ℕ) → list_any (λ r. r.0) (refusals isa file) ≡ false
     → list_any (λ r. r.0) (refusals Imc file) ≡ false
 refusals_wider isa file h =
-    let last : Isa → ErrorRow = λ set. (not (has set RV32C) && not (e_entry file % 4 == 0), EntryAlign) in
+    let last : Isa → ErrorRow = λ set. (not (has_extension set RV32C) && not (e_entry file % 4 == 0), EntryAlign) in
     wider (take 13 (refusals Imc file)) (last isa) (last Imc) refl h
 
 pub image_wider : (isa : Isa) (file : List ℕ) (image : Image) → image_of isa file ≡ Ok image

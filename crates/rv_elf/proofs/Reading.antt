@@ -4,8 +4,8 @@ use Rattle.std.proofs.Common.{◌∷◌, refl, sym, ap, length, Ok, Err, ◌%◌
 use Rattle.std.specs.List.{list_any, list_all, filter}
 use Rattle.std.proofs.lemmas.Bool.{or_parts, and_parts, and_from, not_from_false, not-true, not-false, ltb-false}
 use Rattle.std.proofs.lemmas.Bool.{lt-ltb}
-use Rattle.rv_isa.specs.declared.sets.Isa.{Isa}
-use Rattle.rv_isa.specs.Extensions.{has, RV32C}
+use Rattle.rv_isa.specs.declared.isa.Isa.{Isa}
+use Rattle.rv_isa.specs.Extensions.{has_extension, RV32C}
 use Rattle.rv_elf.specs.declared.error.ImageError.{ImageError}
 use Rattle.rv_elf.specs.declared.error.ImageError.TheVariants.{OutOfMemory}
 use Rattle.rv_elf.specs.declared.image.Image.{Image}
@@ -115,12 +115,12 @@ entry_even isa file image e =
     ap (λ i. i.entry % 2) (sym (there_is isa file image e))
     ∙ eqb-true _ _ (not-false _ (or_parts (not (e_entry file % 2 == 0)) _ rows.1).0)
 
-pub entry_aligned : (isa : Isa) (file : List ℕ) (image : Image) → image_of isa file ≡ Ok image → has isa RV32C ≡ false
+pub entry_aligned : (isa : Isa) (file : List ℕ) (image : Image) → image_of isa file ≡ Ok image → has_extension isa RV32C ≡ false
     → image.entry % 4 ≡ 0
 entry_aligned isa file image e c =
     let rows = or_parts (length (segments file) == 0) _ (entered isa file image e) in
     let odd = or_parts (not (e_entry file % 2 == 0)) _ rows.1 in
-    let row = (or_parts (not (has isa RV32C) && not (e_entry file % 4 == 0)) false odd.1).0 in
+    let row = (or_parts (not (has_extension isa RV32C) && not (e_entry file % 4 == 0)) false odd.1).0 in
     ap (λ i. i.entry % 4) (sym (there_is isa file image e))
     ∙ eqb-true _ _ (not-false _ (sym (ap (λ b. not b && not (e_entry file % 4 == 0)) c) ∙ row))
 
@@ -142,6 +142,6 @@ module _ (isa : Isa) (file : List ℕ) where
   read_even (Err why) e is = tt
 
   pub read_aligned : (r : Result Image ImageError) → image_of isa file ≡ image_after_header isa file → IsRead r
-      → IfOk r (λ image. has isa RV32C ≡ false → image.entry % 4 ≡ 0)
+      → IfOk r (λ image. has_extension isa RV32C ≡ false → image.entry % 4 ≡ 0)
   read_aligned (Ok image) e is = entry_aligned isa file image (e ∙ is)
   read_aligned (Err why) e is = tt

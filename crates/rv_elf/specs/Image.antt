@@ -3,8 +3,8 @@
 use Rattle.std.specs.Prelude.{◌≡◌, ◌≤◌, ◌<◌, ◌==◌, ◌+◌, ◌*◌, ◌%◌, ℕ, Bool, not, ◌&&◌, ◌||◌, List}
 use Rattle.std.specs.Prelude.{[], ◌∷◌, length, map, filter, Result, Ok, nat_lt}
 use Rattle.std.specs.List.{list_any, range_with_len}
-use Rattle.rv_isa.specs.declared.sets.Isa.{Isa}
-use Rattle.rv_isa.specs.Extensions.{has, RV32C}
+use Rattle.rv_isa.specs.declared.isa.Isa.{Isa}
+use Rattle.rv_isa.specs.Extensions.{has_extension, RV32C}
 use Rattle.rv_elf.specs.declared.error.ImageError.{ImageError}
 use Rattle.rv_elf.specs.declared.error.ImageError.TheVariants.{ShortHeader, BadMagic, Not32Bit}
 use Rattle.rv_elf.specs.declared.error.ImageError.TheVariants.{NotLittleEndian, BadVersion}
@@ -162,7 +162,7 @@ refusals isa file = (nat_lt (length file) 52, ShortHeader)
     ∷ (list_any (is_segment_past_file (length file)) (program_header_table file), SegmentFile)
     ∷ (length (segments file) == 0, NoSegment)
     ∷ (not (e_entry file % 2 == 0), EntryOdd)
-    ∷ (not (has isa RV32C) && not (e_entry file % 4 == 0), EntryAlign)
+    ∷ (not (has_extension isa RV32C) && not (e_entry file % 4 == 0), EntryAlign)
     ∷ []
 
 -- the entry and the loaded segments of a file, before any check

@@ -1,7 +1,7 @@
 -- The checks of each step of reading an image: its part of the errors in `refusals`.
 use Rattle.std.specs.Prelude.{ℕ, List, drop, take, Result, Ok}
-use Rattle.rv_isa.specs.declared.sets.Isa.{Isa}
-use Rattle.rv_isa.specs.declared.sets.Isa.TheVariants.{Imc}
+use Rattle.rv_isa.specs.declared.isa.Isa.{Isa}
+use Rattle.rv_isa.specs.declared.isa.Isa.TheVariants.{Imc}
 use Rattle.rv_elf.specs.declared.error.ImageError.{ImageError}
 use Rattle.rv_elf.specs.declared.image.Image.{Image}
 use Rattle.rv_elf.specs.Rows.{ErrorRow, first_error_of, accepted}

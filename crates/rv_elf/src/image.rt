@@ -1,6 +1,6 @@
 //! An executable as its entry and its segments, and how it is read from a file.
 ghost use Rattle.std.specs.Prelude.{◌≡◌, ◌≢◌, ◌≤◌, IfOk, MatchResult, Ok, Err, false, length, ◌%◌};
-ghost use Rattle.rv_isa.specs.Extensions.{has, RV32C};
+ghost use Rattle.rv_isa.specs.Extensions.{has_extension, RV32C};
 ghost use Rattle.rv_elf.specs.Image.{image_of, segments, HasProgramHeaders, IsImageOf};
 ghost use Rattle.rv_elf.specs.Functions.{is_executable};
 ghost use Rattle.rv_elf.specs.ImageParts.{image_after_header, segments_and_entry_check};
@@ -60,7 +60,7 @@ pub fn read_image(alloc: Global, file: &[u8], isa: Isa) -> Result<Image, ImageEr
 
     // An instruction may start there.
     ensures even { IfOk result (λ image. image.entry % 2 ≡ 0) }
-    ensures aligned { IfOk result (λ image. has isa RV32C ≡ false → image.entry % 4 ≡ 0) }
+    ensures aligned { IfOk result (λ image. has_extension isa RV32C ≡ false → image.entry % 4 ≡ 0) }
 {
     check_header(file)?;
     read_image_after_header(alloc, file, isa)

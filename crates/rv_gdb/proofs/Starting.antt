@@ -7,7 +7,7 @@ use Rattle.rv_trace.specs.declared_elf_error.ImageError.{ImageError}
 use Rattle.rv_trace.specs.declared_image.Image.{Image}
 use Rattle.rv_trace.specs.Image.{image_of}
 use Rattle.rv_trace.specs.Loading.{map_check}
-use Rattle.rv_trace.specs.Extensions.{has, RV32C}
+use Rattle.rv_trace.specs.Extensions.{has_extension, RV32C}
 use Rattle.rv_trace.specs.declared_sets.Isa.{Isa}
 use Rattle.rv_trace.specs.Jobs.{console_path}
 use Rattle.rv_trace.specs.Plans.{result_or_unreadable}
@@ -135,10 +135,10 @@ even_of answers job image file bytes there =
     entry_even job.isa file image (read_as job.isa file image found)
 
 -- an entry that an instruction of the set may have
-entry_fits : (isa : Isa) (entry : ℕ) → (has isa RV32C ≡ false → entry % 4 ≡ 0) → is_misaligned isa entry ≡ false
-entry_fits isa entry h = go (has isa RV32C) refl
+entry_fits : (isa : Isa) (entry : ℕ) → (has_extension isa RV32C ≡ false → entry % 4 ≡ 0) → is_misaligned isa entry ≡ false
+entry_fits isa entry h = go (has_extension isa RV32C) refl
   where
-    go : (b : Bool) → has isa RV32C ≡ b → (not b && not (entry % 4 == 0)) ≡ false
+    go : (b : Bool) → has_extension isa RV32C ≡ b → (not b && not (entry % 4 == 0)) ≡ false
     go true is = refl
     go false is = rw (h is) refl
 

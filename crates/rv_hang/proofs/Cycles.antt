@@ -13,7 +13,7 @@ use Rattle.rv_trace.proofs.Public.{after_more, completes, each_completes, steps_
 use Rattle.rv_hang.specs.Quiet.{is_step_quiet}
 use Rattle.rv_hang.specs.Repetition.{HaveNoStops, RepeatsAtEnd, IsRepetition, matching_steps_after, first_matching, has_values}
 use Rattle.rv_hang.specs.declared.hart.HartValues.{HartValues}
-use Rattle.rv_hang.specs.declared.repetition.Again.{Again}
+use Rattle.rv_hang.specs.declared.repetition.MatchingSteps.{MatchingSteps}
 use Rattle.rv_hang.specs.declared.repetition.Repetition.{Repetition}
 use Rattle.rv_hang.proofs.QuietSteps.{Same, step_same}
 
@@ -101,7 +101,7 @@ pub record IsBefore (values : HartValues) (p place : ℕ) (s : State) : Type 0 w
   pub has : has_values values (state_after p s) ≡ true
   pub quiet : HaveNoStops p place s
 
-pub record Known (values : HartValues) (begin place : ℕ) (s : State) (again : Option Again) : Type 0 where
+pub record Known (values : HartValues) (begin place : ℕ) (s : State) (again : Option MatchingSteps) : Type 0 where
   pub some : IfSome again (λ a. IsBefore values a.first place s × IsBefore values a.last place s × (a.first ≤ a.last)
       × (begin ≤ a.first))
   pub found : (p : ℕ) → begin ≤ p → IsBefore values p place s → is_some again ≡ true
@@ -148,7 +148,7 @@ module _ (values : HartValues) (begin place : ℕ) (s t : State) (here : t ≡ s
         (ap is_step_quiet here ∙ b.quiet place (let m = b.before in omega arith) (omega arith)));
   }
 
-  with_values : (again : Option Again) → begin ≤ place → is_step_quiet t ≡ true → has_values values t ≡ true
+  with_values : (again : Option MatchingSteps) → begin ≤ place → is_step_quiet t ≡ true → has_values values t ≡ true
       → Known values begin place s again
       → Known values begin (place + 1) s (Some (record { first = first_matching again place; last = place }))
   with_values None l q h known = record {
@@ -165,7 +165,7 @@ module _ (values : HartValues) (begin place : ℕ) (s t : State) (here : t ≡ s
     found = λ p l b. refl;
   }
 
-  without_values : (again : Option Again) → is_step_quiet t ≡ true → has_values values t ≡ false
+  without_values : (again : Option MatchingSteps) → is_step_quiet t ≡ true → has_values values t ≡ false
       → Known values begin place s again → Known values begin (place + 1) s again
   without_values again q h known = record {
     some = some again known.some;
@@ -177,7 +177,7 @@ module _ (values : HartValues) (begin place : ℕ) (s t : State) (here : t ≡ s
     ];
   }
     where
-      some : (again : Option Again)
+      some : (again : Option MatchingSteps)
           → IfSome again (λ a. IsBefore values a.first place s × IsBefore values a.last place s × (a.first ≤ a.last)
           × (begin ≤ a.first))
           → IfSome again (λ a. IsBefore values a.first (place + 1) s × IsBefore values a.last (place + 1) s
@@ -185,7 +185,7 @@ module _ (values : HartValues) (begin place : ℕ) (s t : State) (here : t ≡ s
       some None k = tt
       some (Some a) k = (later a.first q k.0, later a.last q k.1, k.2, k.3)
 
-  pub known_more : (again : Option Again) → begin ≤ place → Known values begin place s again
+  pub known_more : (again : Option MatchingSteps) → begin ≤ place → Known values begin place s again
       → Known values begin (place + 1) s (matching_steps_after again place values t)
   known_more again l known = by (is_step_quiet t) (has_values values t) refl refl
     where
@@ -212,7 +212,7 @@ last_again values steps p s complete end b =
     same_state u v (eqb-true u.pc values.pc here.0 ∙ sym (eqb-true v.pc values.pc there.0))
     (same_lists u.registers values.registers here.1 ∙ sym (same_lists v.registers values.registers there.1)) same
 
-pub repetition_of : (values : HartValues) (begin steps : ℕ) (s : State) (a : Again) (waits : Bool)
+pub repetition_of : (values : HartValues) (begin steps : ℕ) (s : State) (a : MatchingSteps) (waits : Bool)
     → (run_of steps s).steps ≡ steps
     → has_values values (state_after steps s) ≡ true → Known values begin steps s (Some a)
     → IsRepetition steps s (record { begin = a.first; period = steps - a.last; waits = waits })
@@ -233,7 +233,7 @@ repetition_of values begin steps s a waits complete end known =
     }
 
 -- such a place is known
-pub is_known : (values : HartValues) (begin steps p : ℕ) (s : State) (again : Option Again)
+pub is_known : (values : HartValues) (begin steps p : ℕ) (s : State) (again : Option MatchingSteps)
     → has_values values (state_after steps s) ≡ true → Known values begin steps s again → begin ≤ p
     → RepeatsAtEnd steps p s → is_some again ≡ true
 is_known values begin steps p s again end known l last =

@@ -13,7 +13,7 @@ use Rattle.rv_trace.specs.declared_access.Width.{Width}
 use Rattle.rv_trace.specs.declared_access.Width.TheVariants.{Byte, Half, Word}
 use Rattle.rv_trace.specs.declared_faults.BusFault.{BusFault}
 use Rattle.rv_trace.specs.declared_faults.BusFault.TheVariants as bus
-use Rattle.rv_hang.specs.Quiet.{are_outside_console, has_byte_stored, is_store_redundant, is_there, has_value_stored}
+use Rattle.rv_hang.specs.Quiet.{are_outside_console, has_byte_stored, is_store_redundant, equals_value, has_value_stored}
 
 -- ---- maps and sets
 
@@ -35,13 +35,13 @@ add_again s a here = set.same_set nat_cmp_total nat_cmp-IsAntisymmetric (set.ins
 
 -- ---- bytes
 
-there_is : (o : Option ℕ) (b : ℕ) → is_there o b ≡ true → o ≡ Some b
+there_is : (o : Option ℕ) (b : ℕ) → equals_value o b ≡ true → o ≡ Some b
 there_is None b h = cc
 there_is (Some v) b h = ap (λ x. Some x) (eqb-true v b h)
 
 byte_again : (c : Contents) (a b : ℕ) → has_byte_stored c a b ≡ true → with_stored_byte c a b ≡ c
 byte_again c a b h =
-    let p = and_parts (is_there (fin.get c.memory a) b) (set.contains c.stored a) h in
+    let p = and_parts (equals_value (fin.get c.memory a) b) (set.contains c.stored a) h in
     let memory = insert_again c.memory a b (there_is (fin.get c.memory a) b p.0) in
     let stored = add_again c.stored a p.1 in
     λ i. record c { memory = memory i; stored = stored i }

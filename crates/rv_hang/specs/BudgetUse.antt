@@ -7,7 +7,7 @@ use Rattle.rv_trace.specs.State.{State}
 use Rattle.rv_trace.specs.Rows.{start_in}
 use Rattle.rv_hang.specs.Repetition.{RepeatsAtEnd, IsRepetition, IsWaitReported}
 use Rattle.rv_hang.specs.declared.budget_use.BudgetUse.{BudgetUse}
-use Rattle.rv_hang.specs.declared.budget_use.BudgetUse.TheVariants.{Changes, Repeats}
+use Rattle.rv_hang.specs.declared.budget_use.BudgetUse.TheVariants.{NoRepetition, Repeats}
 
 -- how many of the last steps of a run of `steps` steps are searched for a repetition
 abbrev pub searched_steps : ℕ → ℕ
@@ -17,7 +17,7 @@ searched_steps steps = min steps 100_000
 -- before which the run has the pc and the registers of its end and after which no step can change the bus
 abbrev pub IsBudgetUse : ℕ → State → BudgetUse → Type 0
 IsBudgetUse steps s (Repeats r) = IsRepetition steps s r × IsWaitReported steps s r
-IsBudgetUse steps s (Changes within) = (within ≡ searched_steps steps)
+IsBudgetUse steps s (NoRepetition within) = (within ≡ searched_steps steps)
     × ((place : ℕ) → steps - within ≤ place → RepeatsAtEnd steps place s → ⊥)
 
 -- how the run of a plan's job used up a budget of `steps` steps, as `IsBudgetUse` says; `None` only if the job is refused or its run does

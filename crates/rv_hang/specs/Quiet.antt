@@ -19,13 +19,13 @@ abbrev pub are_outside_console : ℕ → ℕ → Bool
 are_outside_console a n = nat_le (a + n) 0x1000_0000 || (nat_le 0x1000_0010 a && nat_le (a + n) 0x1_0000_0000)
 
 -- whether there is a value and it equals the given one
-abbrev pub is_there : Option ℕ → ℕ → Bool
-is_there None value = false
-is_there (Some there) value = there == value
+abbrev pub equals_value : Option ℕ → ℕ → Bool
+equals_value None value = false
+equals_value (Some there) value = there == value
 
 -- whether the byte at an address already has this value, and counts as stored
 abbrev pub has_byte_stored : Contents → ℕ → ℕ → Bool
-has_byte_stored c a byte = is_there (fin.get c.memory a) byte && set.contains c.stored a
+has_byte_stored c a byte = equals_value (fin.get c.memory a) byte && set.contains c.stored a
 
 -- whether the bytes at an address already have the values that a store of this width and value would give them, and count as stored
 abbrev pub has_value_stored : Contents → ℕ → Width → ℕ → Bool

@@ -6,7 +6,7 @@ use Rattle.rv_trace.specs.Trace.{state_after}
 use Rattle.rv_hang.specs.Quiet.{is_step_quiet}
 use Rattle.rv_hang.specs.ScriptEnd.{reads_script_end}
 use Rattle.rv_hang.specs.declared.hart.HartValues.{HartValues}
-use Rattle.rv_hang.specs.declared.repetition.Again.{Again}
+use Rattle.rv_hang.specs.declared.repetition.MatchingSteps.{MatchingSteps}
 use Rattle.rv_hang.specs.declared.repetition.Repetition.{Repetition}
 
 -- whether the hart has this pc and these registers in the state
@@ -39,13 +39,13 @@ pub record IsWaitReported (steps : ℕ) (s : State) (r : Repetition) : Type 0 wh
 -- ---- a search in progress
 
 -- the first step in `again`, or `place` if there is none
-abbrev pub first_matching : Option Again → ℕ → ℕ
+abbrev pub first_matching : Option MatchingSteps → ℕ → ℕ
 first_matching None place = place
 first_matching (Some again) place = again.first
 
 -- the first and the last step before which the hart has these values and after which no step can change the bus, or `None` if there is
 -- none; updated for step `place`, before which the state is `s`
-abbrev pub matching_steps_after : Option Again → ℕ → HartValues → State → Option Again
+abbrev pub matching_steps_after : Option MatchingSteps → ℕ → HartValues → State → Option MatchingSteps
 matching_steps_after again place values s =
     if is_step_quiet s then (if has_values values s
     then Some (record { first = first_matching again place; last = place }) else again)

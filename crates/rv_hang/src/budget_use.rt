@@ -22,7 +22,7 @@ pub enum BudgetUse {
     /// A state repeats, so the run never ends.
     Repeats(Repetition),
     /// None of this many last steps begins a loop that changes nothing on the bus.
-    Changes(u32),
+    NoRepetition(u32),
 }
 
 /// Returns an analysis of how a job's run of `steps` steps used up its budget, or `None` if the job is refused or its run ends earlier.
@@ -73,6 +73,6 @@ fn budget_use(machine: Machine, steps: u32, end: &HartValues) -> BudgetUse
 {
     match find_repetition(machine, steps, MAX_SEARCHED, end) {
         Some(repetition) => BudgetUse::Repeats(repetition),
-        None => BudgetUse::Changes(steps.min(MAX_SEARCHED)),
+        None => BudgetUse::NoRepetition(steps.min(MAX_SEARCHED)),
     }
 }

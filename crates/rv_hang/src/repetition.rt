@@ -44,8 +44,8 @@ pub fn find_repetition(
     let mut again = None;
     let mut waited = 0;
     for place in begin..steps {
-        again = again_at(again, &ahead, place, end);
-        waited = waited_at(waited, &ahead, place);
+        again = matching_steps_at(again, &ahead, place, end);
+        waited = waits_up_to(waited, &ahead, place);
         let _ = ahead.run(1);
     }
     let again = again?;
@@ -58,14 +58,14 @@ pub fn find_repetition(
 
 // The first and the last step with the pc and the registers of the end, after which no step can change the bus.
 #[derive(Clone, Copy)]
-struct Again {
+struct MatchingSteps {
     first: u32,
     last: u32,
 }
 
 // Returns the first and the last step before which the hart has the values `end` and after which nothing can change the bus, or `None` if
 // there is none. `again` has these steps up to step `place`, and `machine` is the machine before this step.
-fn again_at(again: Option<Again>, machine: &Machine, place: u32, end: &HartValues) -> Option<Again>
+fn matching_steps_at(again: Option<MatchingSteps>, machine: &Machine, place: u32, end: &HartValues) -> Option<MatchingSteps>
     ensures { result ≡ matching_steps_after again place end.now (state_of machine.now) }
 {
     if !is_step_quiet(machine) {
@@ -75,12 +75,12 @@ fn again_at(again: Option<Again>, machine: &Machine, place: u32, end: &HartValue
         return again;
     }
     let first = again.map_or(place, |again| again.first);
-    Some(Again { first, last: place })
+    Some(MatchingSteps { first, last: place })
 }
 
 // Returns the number of steps up to and including the last one that loads from the exhausted input script. `waited` is this number before
 // step `place`, and `machine` is the machine before this step.
-fn waited_at(waited: u32, machine: &Machine, place: u32) -> u32
+fn waits_up_to(waited: u32, machine: &Machine, place: u32) -> u32
     requires { place < 0xFFFF_FFFF }
     ensures { result ≡ waits_up_to waited place (state_of machine.now) }
 {

@@ -6,11 +6,11 @@ use Rattle.std.proofs.lemmas.Bool.{ne_eqb, eqb-false, eqb-true, cases_Bool}
 use Rattle.rv_isa.specs.Bits.{field}
 use Rattle.rv_isa.specs.declared.instruction.Op.{Op}
 use Rattle.rv_isa.specs.declared.instruction.Op.TheVariants as op
-use Rattle.rv_isa.specs.Words.{rows, instruction, meaning32, name_at, branches, loads, stores, immediates, shifts}
-use Rattle.rv_isa.specs.Words.{arithmetic_shifts, registers, register_alternate_ops, products, fences, instruction_fences}
+use Rattle.rv_isa.specs.Words.{rows, instruction, meaning32, op_with_funct3, branches, loads, stores, immediate_ops, shifts}
+use Rattle.rv_isa.specs.Words.{arithmetic_shifts, register_ops, register_alternate_ops, muldiv_ops, fences, instruction_fences}
 use Rattle.rv_isa.specs.Words.{TypeR, TypeI, TypeShift, TypeS, TypeB, TypeU, TypeJ, NoOperands}
-use Rattle.rv_isa.specs.declared.sets.Isa.{Isa}
-use Rattle.rv_isa.specs.Extensions.{has, has_m, RV32M}
+use Rattle.rv_isa.specs.declared.isa.Isa.{Isa}
+use Rattle.rv_isa.specs.Extensions.{has_extension, has_m, RV32M}
 use Rattle.rv_isa.proofs.Fields.{field-low, field_whole}
 
 -- a word with another opcode is no whole word of the system opcode
@@ -62,26 +62,26 @@ at_jalr isa w o = let e = not_word w 0x73 (rw o refl) in let b = not_word w 0x10
     rw (o, e, b) (simp (and_true, and_false) refl)
 
 pub at_branch : (isa : Isa) (w : ℕ) → field w 6 0 ≡ 0x63
-    → meaning32 isa w ≡ option_map (λ n. instruction n TypeB w) (name_at branches (field w 14 12))
+    → meaning32 isa w ≡ option_map (λ n. instruction n TypeB w) (op_with_funct3 branches (field w 14 12))
 unfolding meaning32 rows field
 at_branch isa w o = let e = not_word w 0x73 (rw o refl) in let b = not_word w 0x100073 (rw o refl) in
     rw (o, e, b) (simp (option_map-cond, and_true, and_false))
 
 pub at_load : (isa : Isa) (w : ℕ) → field w 6 0 ≡ 0x03
-    → meaning32 isa w ≡ option_map (λ n. instruction n TypeI w) (name_at loads (field w 14 12))
+    → meaning32 isa w ≡ option_map (λ n. instruction n TypeI w) (op_with_funct3 loads (field w 14 12))
 unfolding meaning32 rows field
 at_load isa w o = let e = not_word w 0x73 (rw o refl) in let b = not_word w 0x100073 (rw o refl) in
     rw (o, e, b) (simp (option_map-cond, and_true, and_false))
 
 pub at_store : (isa : Isa) (w : ℕ) → field w 6 0 ≡ 0x23
-    → meaning32 isa w ≡ option_map (λ n. instruction n TypeS w) (name_at stores (field w 14 12))
+    → meaning32 isa w ≡ option_map (λ n. instruction n TypeS w) (op_with_funct3 stores (field w 14 12))
 unfolding meaning32 rows field
 at_store isa w o = let e = not_word w 0x73 (rw o refl) in let b = not_word w 0x100073 (rw o refl) in
     rw (o, e, b) (simp (option_map-cond, and_true, and_false))
 
 pub at_fence : (isa : Isa) (w : ℕ) → field w 6 0 ≡ 0x0f
     → meaning32 isa w
-    ≡ option_map (λ n. instruction n NoOperands w) (name_at (fences ++ instruction_fences) (field w 14 12))
+    ≡ option_map (λ n. instruction n NoOperands w) (op_with_funct3 (fences ++ instruction_fences) (field w 14 12))
 unfolding meaning32 rows field
 at_fence isa w o = let e = not_word w 0x73 (rw o refl) in let b = not_word w 0x100073 (rw o refl) in
     rw (o, e, b) (simp (option_map-cond, and_true, and_false))
@@ -89,9 +89,9 @@ at_fence isa w o = let e = not_word w 0x73 (rw o refl) in let b = not_word w 0x1
 pub at_register : (isa : Isa) (w : ℕ) → field w 6 0 ≡ 0x33
     → meaning32 isa w
     ≡ option_map (λ n. instruction n TypeR w)
-    (cond (eqb (field w 31 25) 0) (name_at registers (field w 14 12))
-    (cond (eqb (field w 31 25) 32) (name_at register_alternate_ops (field w 14 12))
-    (cond (eqb (field w 31 25) 1 && has isa RV32M) (name_at products (field w 14 12)) None)))
+    (cond (eqb (field w 31 25) 0) (op_with_funct3 register_ops (field w 14 12))
+    (cond (eqb (field w 31 25) 32) (op_with_funct3 register_alternate_ops (field w 14 12))
+    (cond (eqb (field w 31 25) 1 && has_extension isa RV32M) (op_with_funct3 muldiv_ops (field w 14 12)) None)))
 unfolding meaning32 rows field
 at_register isa w o =
     let e = not_word w 0x73 (rw o refl) in
@@ -113,10 +113,10 @@ at_register isa w o =
 
 pub at_immediate : (isa : Isa) (w : ℕ) → field w 6 0 ≡ 0x13
     → meaning32 isa w
-    ≡ option_or (option_map (λ n. instruction n TypeI w) (name_at immediates (field w 14 12)))
+    ≡ option_or (option_map (λ n. instruction n TypeI w) (op_with_funct3 immediate_ops (field w 14 12)))
     (option_map (λ n. instruction n TypeShift w)
-    (cond (eqb (field w 31 25) 0) (name_at shifts (field w 14 12))
-    (cond (eqb (field w 31 25) 32) (name_at arithmetic_shifts (field w 14 12)) None)))
+    (cond (eqb (field w 31 25) 0) (op_with_funct3 shifts (field w 14 12))
+    (cond (eqb (field w 31 25) 32) (op_with_funct3 arithmetic_shifts (field w 14 12)) None)))
 unfolding meaning32 rows field
 at_immediate isa w o =
     let e = not_word w 0x73 (rw o refl) in
@@ -145,19 +145,19 @@ cond_same false x = refl
 pub at_left_shift : (isa : Isa) (w : ℕ) → field w 6 0 ≡ 0x13 → field w 14 12 ≡ 1
     → meaning32 isa w
     ≡ option_map (λ n. instruction n TypeShift w)
-    (cond (eqb (field w 31 25) 0) (name_at shifts (field w 14 12))
-    (cond (eqb (field w 31 25) 32) (name_at arithmetic_shifts (field w 14 12)) None))
+    (cond (eqb (field w 31 25) 0) (op_with_funct3 shifts (field w 14 12))
+    (cond (eqb (field w 31 25) 32) (op_with_funct3 arithmetic_shifts (field w 14 12)) None))
 at_left_shift isa w o p = at_immediate isa w o ∙ (rw p refl)
 
 pub at_right_shift : (isa : Isa) (w : ℕ) → field w 6 0 ≡ 0x13 → field w 14 12 ≡ 5
     → meaning32 isa w
     ≡ option_map (λ n. instruction n TypeShift w)
-    (cond (eqb (field w 31 25) 0) (name_at shifts (field w 14 12))
-    (cond (eqb (field w 31 25) 32) (name_at arithmetic_shifts (field w 14 12)) None))
+    (cond (eqb (field w 31 25) 0) (op_with_funct3 shifts (field w 14 12))
+    (cond (eqb (field w 31 25) 32) (op_with_funct3 arithmetic_shifts (field w 14 12)) None))
 at_right_shift isa w o p = at_immediate isa w o ∙ (rw p refl)
 
 pub at_plain_immediate : (isa : Isa) (w : ℕ) → field w 6 0 ≡ 0x13 → field w 14 12 ≢ 1 → field w 14 12 ≢ 5
-    → meaning32 isa w ≡ option_map (λ n. instruction n TypeI w) (name_at immediates (field w 14 12))
+    → meaning32 isa w ≡ option_map (λ n. instruction n TypeI w) (op_with_funct3 immediate_ops (field w 14 12))
 at_plain_immediate isa w o p q =
     at_immediate isa w o
     ∙ (rw (

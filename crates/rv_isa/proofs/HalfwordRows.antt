@@ -6,16 +6,16 @@ use Rattle.std.specs.List.{list_any}
 use Rattle.std.proofs.lemmas.Bool.{and_parts, or_cases, eqb-true, eqb-false, not-true, false≢true}
 use Rattle.rv_isa.specs.Bits.{field}
 use Rattle.rv_isa.specs.declared.instruction.Instr.{Instr}
-use Rattle.rv_isa.specs.declared.sets.Isa.{Isa}
-use Rattle.rv_isa.specs.declared.sets.Isa.TheVariants as set
-use Rattle.rv_isa.specs.Extensions.{has}
-use Rattle.rv_isa.specs.Words.{Fixed, has_fields, Means32}
+use Rattle.rv_isa.specs.declared.isa.Isa.{Isa}
+use Rattle.rv_isa.specs.declared.isa.Isa.TheVariants as set
+use Rattle.rv_isa.specs.Extensions.{has_extension}
+use Rattle.rv_isa.specs.Words.{FieldValue, has_fields, Means32}
 use Rattle.rv_isa.specs.Halfwords.{Row16, rows16, fits16, lacks_fields, Means16, meaning16, Expands}
-use Rattle.rv_isa.proofs.Tables.{pairs_pass, at_most_one, first_of-only, first_of-found}
+use Rattle.rv_isa.proofs.Tables.{pairs_pass, at_most_one, first_match-only, first_match-found}
 use Rattle.rv_isa.proofs.WordRows.{differ, differ_sound, fixed_in, meaning32_means}
 
 -- the two fields are one, with one value
-abbrev same : Fixed → Fixed → Bool
+abbrev same : FieldValue → FieldValue → Bool
 same f g = eqb f.high g.high && (eqb f.low g.low && eqb f.value g.value)
 
 -- one fixes what the other excludes, or the two fix a field at different values
@@ -30,7 +30,7 @@ unfolding rows16
 rows_apart = refl
 
 -- a field that is barred is not there
-barred_in : (h : ℕ) (fs : List Fixed) (f : Fixed) → lacks_fields h fs ≡ true → list_any (λ g. same f g) fs ≡ true
+barred_in : (h : ℕ) (fs : List FieldValue) (f : FieldValue) → lacks_fields h fs ≡ true → list_any (λ g. same f g) fs ≡ true
     → field h f.high f.low ≡ f.value → ⊥
 barred_in h [] f l t p = false≢true t
 barred_in h (g ∷ gs) f l t p =
@@ -49,12 +49,12 @@ barred_in h (g ∷ gs) f l t p =
 
 apart_sound : (isa : Isa) (h : ℕ) (r s : Row16) → apart r s ≡ true → fits16 isa h r ≡ true → fits16 isa h s ≡ true → ⊥
 apart_sound isa h r s a p q =
-    let rf = and_parts (has isa r.extension) (has_fields h r.fixed && (lacks_fields h r.excluded && r.needs h)) p in
-    let sf = and_parts (has isa s.extension) (has_fields h s.fixed && (lacks_fields h s.excluded && s.needs h)) q in
-    let rs = and_parts (has_fields h r.fixed) (lacks_fields h r.excluded && r.needs h) rf.1 in
-    let ss = and_parts (has_fields h s.fixed) (lacks_fields h s.excluded && s.needs h) sf.1 in
-    let rl = and_parts (lacks_fields h r.excluded) (r.needs h) rs.1 in
-    let sl = and_parts (lacks_fields h s.excluded) (s.needs h) ss.1 in
+    let rf = and_parts (has_extension isa r.extension) (has_fields h r.fixed && (lacks_fields h r.excluded && r.has_valid_immediate h)) p in
+    let sf = and_parts (has_extension isa s.extension) (has_fields h s.fixed && (lacks_fields h s.excluded && s.has_valid_immediate h)) q in
+    let rs = and_parts (has_fields h r.fixed) (lacks_fields h r.excluded && r.has_valid_immediate h) rf.1 in
+    let ss = and_parts (has_fields h s.fixed) (lacks_fields h s.excluded && s.has_valid_immediate h) sf.1 in
+    let rl = and_parts (lacks_fields h r.excluded) (r.has_valid_immediate h) rs.1 in
+    let sl = and_parts (lacks_fields h s.excluded) (s.has_valid_immediate h) ss.1 in
     let first = list_any (λ f. list_any (λ g. differ f g) s.fixed) r.fixed in
     let second = list_any (λ f. list_any (λ g. same f g) s.excluded) r.fixed in
     let third = list_any (λ f. list_any (λ g. same f g) r.excluded) s.fixed in
@@ -79,8 +79,8 @@ one_row isa h = at_most_one (fits16 isa h) apart (apart_sound isa h) rows16 rows
 pub meaning16_means : (isa : Isa) (h : ℕ) (i : Instr) → (meaning16 isa h ≡ Some i) ↔ Means16 isa h i
 unfolding meaning16 Means16
 meaning16_means isa h i = (
-  (λ e. first_of-found (fits16 isa h) (λ r. r.instr h) rows16 i e),
-  (λ m. first_of-only (fits16 isa h) (λ r. r.instr h) rows16 m.0 m.1 (one_row isa h) m.2 m.3 m.4.0
+  (λ e. first_match-found (fits16 isa h) (λ r. r.instr h) rows16 i e),
+  (λ m. first_match-only (fits16 isa h) (λ r. r.instr h) rows16 m.0 m.1 (one_row isa h) m.2 m.3 m.4.0
       ∙ ap (λ j. Some j) (sym m.4.1)),
 )
 

@@ -5,7 +5,7 @@ use Rattle.std.specs.Prelude.{count_by}
 use Rattle.std.specs.List.{list_all}
 use Rattle.std.proofs.lemmas.Bool.{cases_Bool, and_parts, cond-true, cond-false}
 use Rattle.std.proofs.lemmas.List.Sums.{sum_by-cons}
-use Rattle.rv_isa.specs.Tables.{first_of}
+use Rattle.rv_isa.specs.Tables.{first_match}
 
 -- the test holds of any two rows
 abbrev pub pairs_pass : {A : Type 0} → (A → A → Bool) → List A → Bool
@@ -65,30 +65,30 @@ counted fits (y ∷ ys) (suc k) x l e f =
     omega (arith, sum_by-cons (λ x. cond {A = ℕ} (fits x) 1 0) y ys, counted fits ys k x (omega arith) e f)
 
 -- where one row at most fits, a row that fits is the first
-pub first_of-only : {A B : Type 0} (fits : A → Bool) (give : A → B) (xs : List A) (k : ℕ) (x : A) → count_by fits xs ≤ 1
-    → k < length xs → get_or xs k x ≡ x → fits x ≡ true → first_of fits give xs ≡ Some (give x)
-first_of-only fits give [] k x c l e f = absurd (omega arith)
-first_of-only fits give (y ∷ ys) zero x c l e f =
-    cond-true (fits y) (Some (give y)) (first_of fits give ys) (subst (λ z. fits z ≡ true) (sym e) f)
+pub first_match-only : {A B : Type 0} (fits : A → Bool) (give : A → B) (xs : List A) (k : ℕ) (x : A) → count_by fits xs ≤ 1
+    → k < length xs → get_or xs k x ≡ x → fits x ≡ true → first_match fits give xs ≡ Some (give x)
+first_match-only fits give [] k x c l e f = absurd (omega arith)
+first_match-only fits give (y ∷ ys) zero x c l e f =
+    cond-true (fits y) (Some (give y)) (first_match fits give ys) (subst (λ z. fits z ≡ true) (sym e) f)
     ∙ ap (λ z. Some (give z)) e
-first_of-only fits give (y ∷ ys) (suc k) x c l e f =
+first_match-only fits give (y ∷ ys) (suc k) x c l e f =
     elim (cases_Bool (fits y)) [
       | inl here ↦ absurd (omega (arith, c, one_more fits y ys here, counted fits ys k x (omega arith) e f))
-      | inr past ↦ cond-false (fits y) (Some (give y)) (first_of fits give ys) past
-          ∙ first_of-only fits give ys k x (omega (arith, c, no_more fits y ys past)) (omega arith) e f
+      | inr past ↦ cond-false (fits y) (Some (give y)) (first_match fits give ys) past
+          ∙ first_match-only fits give ys k x (omega (arith, c, no_more fits y ys past)) (omega arith) e f
     ]
 
 -- what is given comes from a row that fits
-pub first_of-found : {A B : Type 0} (fits : A → Bool) (give : A → B) (xs : List A) (b : B)
-    → first_of fits give xs ≡ Some b → Any (λ x. (fits x ≡ true) × (b ≡ give x)) xs
-first_of-found fits give [] b h = cc
-first_of-found fits give (y ∷ ys) b h =
+pub first_match-found : {A B : Type 0} (fits : A → Bool) (give : A → B) (xs : List A) (b : B)
+    → first_match fits give xs ≡ Some b → Any (λ x. (fits x ≡ true) × (b ≡ give x)) xs
+first_match-found fits give [] b h = cc
+first_match-found fits give (y ∷ ys) b h =
     elim (cases_Bool (fits y)) [
       | inl here ↦
-          (let e : Some b ≡ Some (give y) = sym h ∙ cond-true (fits y) (Some (give y)) (first_of fits give ys) here in
+          (let e : Some b ≡ Some (give y) = sym h ∙ cond-true (fits y) (Some (give y)) (first_match fits give ys) here in
           (zero, y, omega arith, refl, (here, cc)))
       | inr past ↦
-          (let w = first_of-found fits give ys b
-          (sym (cond-false (fits y) (Some (give y)) (first_of fits give ys) past) ∙ h) in
+          (let w = first_match-found fits give ys b
+          (sym (cond-false (fits y) (Some (give y)) (first_match fits give ys) past) ∙ h) in
           (suc w.0, w.1, omega (arith, w.2), w.3, w.4))
     ]

@@ -4,7 +4,7 @@ use Rattle.std.specs.List.{list_all}
 use Rattle.std.proofs.lemmas.Int.{ints}
 use Rattle.rv_isa.specs.declared.instruction.Op.{Op}
 use Rattle.rv_isa.specs.declared.instruction.Instr.{Instr}
-use Rattle.rv_isa.specs.declared.sets.Isa.{Isa}
+use Rattle.rv_isa.specs.declared.isa.Isa.{Isa}
 use Rattle.rv_isa.specs.Words.{Format, TypeR, TypeI, TypeShift, TypeS, TypeB, TypeU, TypeJ, NoOperands, rows}
 use Rattle.rv_isa.specs.Words.{instruction, is_shift, IsWellFormed, Means32, meaning32}
 use Rattle.rv_isa.proofs.Tables.{all_at}

@@ -7,21 +7,21 @@ use Rattle.std.proofs.lemmas.Bool.{and_parts, or_cases, eqb-true, eqb-false, leb
 use Rattle.rv_isa.specs.Bits.{field}
 use Rattle.rv_isa.proofs.Fields.{field-low}
 use Rattle.rv_isa.specs.declared.instruction.Instr.{Instr}
-use Rattle.rv_isa.specs.declared.sets.Isa.{Isa}
-use Rattle.rv_isa.specs.Extensions.{has}
-use Rattle.rv_isa.specs.Words.{Row, Fixed, rows, has_fields, fits, instruction, Means32, meaning32}
-use Rattle.rv_isa.proofs.Tables.{pairs_pass, at_most_one, first_of-only, first_of-found}
+use Rattle.rv_isa.specs.declared.isa.Isa.{Isa}
+use Rattle.rv_isa.specs.Extensions.{has_extension}
+use Rattle.rv_isa.specs.Words.{Row, FieldValue, rows, has_fields, fits, instruction, Means32, meaning32}
+use Rattle.rv_isa.proofs.Tables.{pairs_pass, at_most_one, first_match-only, first_match-found}
 
 -- the first field's value refutes the second's
-unfoldable refutes : Fixed → Fixed → Bool
+unfoldable refutes : FieldValue → FieldValue → Bool
 refutes f g = eqb f.low 0 && (leb g.low g.high && (leb g.high f.high && not (eqb (field f.value g.high g.low) g.value)))
 
 -- the two fields are one, with different values
-abbrev pub differ : Fixed → Fixed → Bool
+abbrev pub differ : FieldValue → FieldValue → Bool
 differ f g = eqb f.high g.high && (eqb f.low g.low && not (eqb f.value g.value))
 
 -- no word has both fields
-abbrev clash : Fixed → Fixed → Bool
+abbrev clash : FieldValue → FieldValue → Bool
 clash f g = differ f g || (refutes f g || refutes g f)
 
 -- a field of one row clashes with a field of the other
@@ -32,7 +32,7 @@ rows_apart : pairs_pass apart rows ≡ true
 unfolding rows field refutes
 rows_apart = refl
 
-refutes_sound : (w : ℕ) (f g : Fixed) → refutes f g ≡ true → field w f.high f.low ≡ f.value
+refutes_sound : (w : ℕ) (f g : FieldValue) → refutes f g ≡ true → field w f.high f.low ≡ f.value
     → field w g.high g.low ≡ g.value → ⊥
 unfolding refutes
 refutes_sound w f g r p q =
@@ -46,7 +46,7 @@ refutes_sound w f g r p q =
     ∙ field-low w f.high g.high g.low (leb-true g.low g.high b.0) (leb-true g.high f.high d.0) in
     eqb-false (field f.value g.high g.low) g.value (not-true (eqb (field f.value g.high g.low) g.value) d.1) (inner ∙ q)
 
-pub differ_sound : (w : ℕ) (f g : Fixed) → differ f g ≡ true → field w f.high f.low ≡ f.value
+pub differ_sound : (w : ℕ) (f g : FieldValue) → differ f g ≡ true → field w f.high f.low ≡ f.value
     → field w g.high g.low ≡ g.value → ⊥
 differ_sound w f g r p q =
     let a = and_parts (eqb f.high g.high) (eqb f.low g.low && not (eqb f.value g.value)) r in
@@ -55,7 +55,7 @@ differ_sound w f g r p q =
     let l : f.low ≡ g.low = eqb-true f.low g.low b.0 in
     eqb-false f.value g.value (not-true (eqb f.value g.value) b.1) (cc)
 
-clash_sound : (w : ℕ) (f g : Fixed) → clash f g ≡ true → field w f.high f.low ≡ f.value → field w g.high g.low ≡ g.value
+clash_sound : (w : ℕ) (f g : FieldValue) → clash f g ≡ true → field w f.high f.low ≡ f.value → field w g.high g.low ≡ g.value
     → ⊥
 clash_sound w f g c p q =
     elim (or_cases (differ f g) (refutes f g || refutes g f) c) [
@@ -67,8 +67,8 @@ clash_sound w f g c p q =
     ]
 
 -- of the fields that a word has, one passes the test
-pub fixed_in : (w : ℕ) (fs : List Fixed) (test : Fixed → Bool) → has_fields w fs ≡ true → list_any test fs ≡ true
-    → (P : Type 0) → ((f : Fixed) → test f ≡ true → field w f.high f.low ≡ f.value → P) → P
+pub fixed_in : (w : ℕ) (fs : List FieldValue) (test : FieldValue → Bool) → has_fields w fs ≡ true → list_any test fs ≡ true
+    → (P : Type 0) → ((f : FieldValue) → test f ≡ true → field w f.high f.low ≡ f.value → P) → P
 fixed_in w [] test h t P k = absurd (false≢true t)
 fixed_in w (f ∷ fs) test h t P k =
     let parts = and_parts (eqb (field w f.high f.low) f.value) (has_fields w fs) h in
@@ -85,8 +85,8 @@ apart_sound w r s a h k =
 fitting_apart : (isa : Isa) (w : ℕ) (r s : Row) → apart r s ≡ true → fits isa w r ≡ true → fits isa w s ≡ true → ⊥
 fitting_apart isa w r s a p q =
     apart_sound w r s a
-    (and_parts (has isa r.extension) (has_fields w r.fixed) p).1
-    (and_parts (has isa s.extension) (has_fields w s.fixed) q).1
+    (and_parts (has_extension isa r.extension) (has_fields w r.fixed) p).1
+    (and_parts (has_extension isa s.extension) (has_fields w s.fixed) q).1
 
 pub one_row : (isa : Isa) (w : ℕ) → count_by (fits isa w) rows ≤ 1
 one_row isa w = at_most_one (fits isa w) apart (fitting_apart isa w) rows rows_apart
@@ -95,7 +95,7 @@ one_row isa w = at_most_one (fits isa w) apart (fitting_apart isa w) rows rows_a
 pub meaning32_means : (isa : Isa) (w : ℕ) (i : Instr) → (meaning32 isa w ≡ Some i) ↔ Means32 isa w i
 unfolding meaning32 Means32
 meaning32_means isa w i = (
-  (λ h. first_of-found (fits isa w) (λ r. instruction r.name r.format w) rows i h),
-  (λ m. first_of-only (fits isa w) (λ r. instruction r.name r.format w) rows m.0 m.1 (one_row isa w) m.2 m.3 m.4.0
+  (λ h. first_match-found (fits isa w) (λ r. instruction r.name r.format w) rows i h),
+  (λ m. first_match-only (fits isa w) (λ r. instruction r.name r.format w) rows m.0 m.1 (one_row isa w) m.2 m.3 m.4.0
       ∙ ap (λ j. Some j) (sym m.4.1)),
 )

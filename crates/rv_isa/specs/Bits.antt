@@ -7,9 +7,9 @@ use Rattle.std.specs.Prelude.{nat_lt}
 unfoldable pub field : ℕ → ℕ → ℕ → ℕ
 field n high low = n / 2 ^ low % 2 ^ (high - low + 1)
 
--- the bit of `n` at position `place`: 0 or 1
+-- the bit of `n` at position `index`: 0 or 1
 abbrev pub bit : ℕ → ℕ → ℕ
-bit n place = field n place place
+bit n index = field n index index
 
 -- the two's complement value of a number below 2 ^ `bits`, whose sign bit is bit `bits` - 1
 abbrev pub sign_extended : ℕ → ℕ → ℤ

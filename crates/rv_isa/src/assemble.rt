@@ -2,9 +2,9 @@
 //! functions expect.
 
 ghost use Rattle.rv_isa.specs.Bits.{sign_extended};
-ghost use Rattle.rv_isa.specs.Words.{meaning32, operands};
+ghost use Rattle.rv_isa.specs.Words.{meaning32, instr_with};
 ghost use Rattle.rv_isa.specs.declared.instruction.Op.TheVariants as op;
-ghost use Rattle.rv_isa.specs.declared.sets.Isa.TheVariants as set;
+ghost use Rattle.rv_isa.specs.declared.isa.Isa.TheVariants as set;
 ghost use Rattle.std.specs.Prelude.{◌≡◌, ◌*◌, ◌<◌, ◌^◌, ◌%◌, pos};
 
 use crate::encode::{b_word, i_word, j_word, r_word, s_word, u_word};
@@ -19,7 +19,7 @@ pub fn addi(rd: u32, rs1: u32, imm: u32) -> u32
     requires rd { rd < 32 }
     requires rs1 { rs1 < 32 }
     requires imm { imm < 4096 }
-    ensures { meaning32 set.Imc result ≡ Some (operands op.Addi rd rs1 0 (sign_extended 12 imm)) }
+    ensures { meaning32 set.Imc result ≡ Some (instr_with op.Addi rd rs1 0 (sign_extended 12 imm)) }
 {
     i_word(imm, rs1, 0, rd, OP_IMM)
 }
@@ -30,7 +30,7 @@ pub fn andi(rd: u32, rs1: u32, imm: u32) -> u32
     requires rd { rd < 32 }
     requires rs1 { rs1 < 32 }
     requires imm { imm < 4096 }
-    ensures { meaning32 set.Imc result ≡ Some (operands op.Andi rd rs1 0 (sign_extended 12 imm)) }
+    ensures { meaning32 set.Imc result ≡ Some (instr_with op.Andi rd rs1 0 (sign_extended 12 imm)) }
 {
     i_word(imm, rs1, 7, rd, OP_IMM)
 }
@@ -41,7 +41,7 @@ pub fn lw(rd: u32, rs1: u32, imm: u32) -> u32
     requires rd { rd < 32 }
     requires rs1 { rs1 < 32 }
     requires imm { imm < 4096 }
-    ensures { meaning32 set.Imc result ≡ Some (operands op.Lw rd rs1 0 (sign_extended 12 imm)) }
+    ensures { meaning32 set.Imc result ≡ Some (instr_with op.Lw rd rs1 0 (sign_extended 12 imm)) }
 {
     i_word(imm, rs1, 2, rd, LOAD)
 }
@@ -52,7 +52,7 @@ pub fn jalr(rd: u32, rs1: u32, imm: u32) -> u32
     requires rd { rd < 32 }
     requires rs1 { rs1 < 32 }
     requires imm { imm < 4096 }
-    ensures { meaning32 set.Imc result ≡ Some (operands op.Jalr rd rs1 0 (sign_extended 12 imm)) }
+    ensures { meaning32 set.Imc result ≡ Some (instr_with op.Jalr rd rs1 0 (sign_extended 12 imm)) }
 {
     i_word(imm, rs1, 0, rd, JALR)
 }
@@ -63,7 +63,7 @@ pub fn slli(rd: u32, rs1: u32, shift: u32) -> u32
     requires rd { rd < 32 }
     requires rs1 { rs1 < 32 }
     requires shift { shift < 32 }
-    ensures { meaning32 set.Imc result ≡ Some (operands op.Slli rd rs1 0 (pos shift)) }
+    ensures { meaning32 set.Imc result ≡ Some (instr_with op.Slli rd rs1 0 (pos shift)) }
 {
     r_word(0, shift, rs1, 1, rd, OP_IMM)
 }
@@ -74,7 +74,7 @@ pub fn srli(rd: u32, rs1: u32, shift: u32) -> u32
     requires rd { rd < 32 }
     requires rs1 { rs1 < 32 }
     requires shift { shift < 32 }
-    ensures { meaning32 set.Imc result ≡ Some (operands op.Srli rd rs1 0 (pos shift)) }
+    ensures { meaning32 set.Imc result ≡ Some (instr_with op.Srli rd rs1 0 (pos shift)) }
 {
     r_word(0, shift, rs1, 5, rd, OP_IMM)
 }
@@ -85,7 +85,7 @@ pub fn srai(rd: u32, rs1: u32, shift: u32) -> u32
     requires rd { rd < 32 }
     requires rs1 { rs1 < 32 }
     requires shift { shift < 32 }
-    ensures { meaning32 set.Imc result ≡ Some (operands op.Srai rd rs1 0 (pos shift)) }
+    ensures { meaning32 set.Imc result ≡ Some (instr_with op.Srai rd rs1 0 (pos shift)) }
 {
     r_word(0x20, shift, rs1, 5, rd, OP_IMM)
 }
@@ -96,7 +96,7 @@ pub fn add(rd: u32, rs1: u32, rs2: u32) -> u32
     requires rd { rd < 32 }
     requires rs1 { rs1 < 32 }
     requires rs2 { rs2 < 32 }
-    ensures { meaning32 set.Imc result ≡ Some (operands op.Add rd rs1 rs2 (pos 0)) }
+    ensures { meaning32 set.Imc result ≡ Some (instr_with op.Add rd rs1 rs2 (pos 0)) }
 {
     r_word(0, rs2, rs1, 0, rd, OP)
 }
@@ -107,7 +107,7 @@ pub fn sub(rd: u32, rs1: u32, rs2: u32) -> u32
     requires rd { rd < 32 }
     requires rs1 { rs1 < 32 }
     requires rs2 { rs2 < 32 }
-    ensures { meaning32 set.Imc result ≡ Some (operands op.Sub rd rs1 rs2 (pos 0)) }
+    ensures { meaning32 set.Imc result ≡ Some (instr_with op.Sub rd rs1 rs2 (pos 0)) }
 {
     r_word(0x20, rs2, rs1, 0, rd, OP)
 }
@@ -118,7 +118,7 @@ pub fn xor(rd: u32, rs1: u32, rs2: u32) -> u32
     requires rd { rd < 32 }
     requires rs1 { rs1 < 32 }
     requires rs2 { rs2 < 32 }
-    ensures { meaning32 set.Imc result ≡ Some (operands op.Xor rd rs1 rs2 (pos 0)) }
+    ensures { meaning32 set.Imc result ≡ Some (instr_with op.Xor rd rs1 rs2 (pos 0)) }
 {
     r_word(0, rs2, rs1, 4, rd, OP)
 }
@@ -129,7 +129,7 @@ pub fn or(rd: u32, rs1: u32, rs2: u32) -> u32
     requires rd { rd < 32 }
     requires rs1 { rs1 < 32 }
     requires rs2 { rs2 < 32 }
-    ensures { meaning32 set.Imc result ≡ Some (operands op.Or rd rs1 rs2 (pos 0)) }
+    ensures { meaning32 set.Imc result ≡ Some (instr_with op.Or rd rs1 rs2 (pos 0)) }
 {
     r_word(0, rs2, rs1, 6, rd, OP)
 }
@@ -140,7 +140,7 @@ pub fn and(rd: u32, rs1: u32, rs2: u32) -> u32
     requires rd { rd < 32 }
     requires rs1 { rs1 < 32 }
     requires rs2 { rs2 < 32 }
-    ensures { meaning32 set.Imc result ≡ Some (operands op.And rd rs1 rs2 (pos 0)) }
+    ensures { meaning32 set.Imc result ≡ Some (instr_with op.And rd rs1 rs2 (pos 0)) }
 {
     r_word(0, rs2, rs1, 7, rd, OP)
 }
@@ -151,7 +151,7 @@ pub fn sw(rs1: u32, rs2: u32, imm: u32) -> u32
     requires rs1 { rs1 < 32 }
     requires rs2 { rs2 < 32 }
     requires imm { imm < 4096 }
-    ensures { meaning32 set.Imc result ≡ Some (operands op.Sw 0 rs1 rs2 (sign_extended 12 imm)) }
+    ensures { meaning32 set.Imc result ≡ Some (instr_with op.Sw 0 rs1 rs2 (sign_extended 12 imm)) }
 {
     s_word(imm, rs2, rs1, 2, STORE)
 }
@@ -164,7 +164,7 @@ pub fn beq(rs1: u32, rs2: u32, offset: u32) -> u32
     requires offset { offset < 8192 }
     requires even { offset % 2 ≡ 0 }
     ensures { meaning32 set.Imc result
-        ≡ Some (operands op.Beq 0 rs1 rs2 (sign_extended 13 offset)) }
+        ≡ Some (instr_with op.Beq 0 rs1 rs2 (sign_extended 13 offset)) }
 {
     b_word(offset, rs2, rs1, 0, BRANCH)
 }
@@ -177,7 +177,7 @@ pub fn bne(rs1: u32, rs2: u32, offset: u32) -> u32
     requires offset { offset < 8192 }
     requires even { offset % 2 ≡ 0 }
     ensures { meaning32 set.Imc result
-        ≡ Some (operands op.Bne 0 rs1 rs2 (sign_extended 13 offset)) }
+        ≡ Some (instr_with op.Bne 0 rs1 rs2 (sign_extended 13 offset)) }
 {
     b_word(offset, rs2, rs1, 1, BRANCH)
 }
@@ -188,7 +188,7 @@ pub fn jal(rd: u32, offset: u32) -> u32
     requires rd { rd < 32 }
     requires offset { offset < 2 ^ 21 }
     requires even { offset % 2 ≡ 0 }
-    ensures { meaning32 set.Imc result ≡ Some (operands op.Jal rd 0 0 (sign_extended 21 offset)) }
+    ensures { meaning32 set.Imc result ≡ Some (instr_with op.Jal rd 0 0 (sign_extended 21 offset)) }
 {
     j_word(offset, rd, JAL)
 }
@@ -199,7 +199,7 @@ pub fn lui(rd: u32, upper: u32) -> u32
     requires rd { rd < 32 }
     requires upper { upper < 2 ^ 20 }
     ensures { meaning32 set.Imc result
-        ≡ Some (operands op.Lui rd 0 0 (sign_extended 32 (4096 * upper))) }
+        ≡ Some (instr_with op.Lui rd 0 0 (sign_extended 32 (4096 * upper))) }
 {
     u_word(upper, rd, LUI)
 }

@@ -32,7 +32,7 @@ pub fn field(word: u32, high: u32, low: u32) -> u32
 
 /// Returns the number whose low `width` bits are `low` and whose bits above are `high`.
 #[inline]
-pub fn join(high: u32, low: u32, width: u32) -> u32
+pub fn concat_bits(high: u32, low: u32, width: u32) -> u32
     requires fits { low < 2 ^ width }
     requires within { width < 32 }
     requires whole { high * 2 ^ width < 2 ^ 32 }

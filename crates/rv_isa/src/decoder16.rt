@@ -3,8 +3,8 @@ ghost use Rattle.rv_isa.specs.Bits.{field as bits_of};
 ghost use Rattle.rv_isa.specs.Halfwords.{rows16, fits16, Means16, meaning16, Expands};
 ghost use Rattle.rv_isa.specs.Words.{Means32, IsWellFormed};
 ghost use Rattle.rv_isa.specs.declared.instruction.Instr.{Instr};
-ghost use Rattle.rv_isa.specs.declared.sets.Isa.{Isa as Set};
-ghost use Rattle.rv_isa.specs.declared.sets.Isa.TheVariants as set;
+ghost use Rattle.rv_isa.specs.declared.isa.Isa.{Isa as Set};
+ghost use Rattle.rv_isa.specs.declared.isa.Isa.TheVariants as set;
 ghost use Rattle.std.specs.Prelude.{ℕ, ◌≡◌, ◌↔◌, ◌≤◌, IfSome, IsNone, IsTrue, count_by};
 
 use crate::assemble::{
@@ -17,7 +17,7 @@ use crate::half_immediates::{
     imm_addi16sp, imm_cb, imm_ci, imm_ciw, imm_cj, imm_cl, imm_css, imm_lwsp,
 };
 use crate::instruction::Instr;
-use crate::sets::Isa;
+use crate::isa::Isa;
 
 /// Whether a halfword begins a 32-bit instruction: its low two bits are 11 (section 1.5 of the RISC-V Unprivileged ISA 20191213). Any other
 /// halfword is a complete 16-bit instruction or illegal.

@@ -1,18 +1,18 @@
 //! Decodes a 32-bit word by its opcode, then by the fields that the opcode leaves open.
 ghost use Rattle.rv_isa.specs.Bits.{field as bits_of};
-ghost use Rattle.rv_isa.specs.Words.{rows, fits, Means32, meaning32, IsWellFormed, name_at};
-ghost use Rattle.rv_isa.specs.Words.{branches, loads, stores, immediates, shifts, arithmetic_shifts};
-ghost use Rattle.rv_isa.specs.Words.{registers, register_alternate_ops, fences, instruction_fences, products};
-ghost use Rattle.rv_isa.specs.Extensions.{has, RV32M};
+ghost use Rattle.rv_isa.specs.Words.{rows, fits, Means32, meaning32, IsWellFormed, op_with_funct3};
+ghost use Rattle.rv_isa.specs.Words.{branches, loads, stores, immediate_ops, shifts, arithmetic_shifts};
+ghost use Rattle.rv_isa.specs.Words.{register_ops, register_alternate_ops, fences, instruction_fences, muldiv_ops};
+ghost use Rattle.rv_isa.specs.Extensions.{has_extension, RV32M};
 ghost use Rattle.rv_isa.specs.declared.instruction.Instr.{Instr};
-ghost use Rattle.rv_isa.specs.declared.sets.Isa.{Isa as Set};
+ghost use Rattle.rv_isa.specs.declared.isa.Isa.{Isa as Set};
 ghost use Rattle.std.specs.Prelude.{ℕ, ◌≡◌, ◌↔◌, ◌≤◌, ◌==◌, ◌&&◌, ◌++◌, if◌then◌else◌, IfSome, count_by};
 
 use crate::bits::field;
 use crate::formats::{no_operands, type_b, type_i, type_j, type_r, type_s, type_shift, type_u};
 use crate::instruction::{Instr, Op};
 use crate::opcodes::{AUIPC, BRANCH, JAL, JALR, LOAD, LUI, MISC_MEM, OP, OP_IMM, STORE, SYSTEM};
-use crate::sets::Isa;
+use crate::isa::Isa;
 
 /// Decodes a 32-bit word: returns the instruction of its only row in the RV32G listing of the RISC-V Unprivileged ISA 20191213 (chapter 24;
 /// RV32I, RV32M and Zifencei), or `None` if no row of the instruction set matches. `Isa::Im` and `Isa::Imc` have the rows of RV32M; every
@@ -63,7 +63,7 @@ fn instr_of_word(word: u32, isa: Isa) -> Option<Instr>
 // Returns the conditional branch with this funct3, or `None` if there is none.
 #[inline]
 fn branch_op(funct3: u32) -> Option<Op>
-    ensures { result ≡ name_at branches funct3 }
+    ensures { result ≡ op_with_funct3 branches funct3 }
 {
     match funct3 {
         0 => Some(Op::Beq),
@@ -79,7 +79,7 @@ fn branch_op(funct3: u32) -> Option<Op>
 // Returns the load with this funct3, or `None` if there is none.
 #[inline]
 fn load_op(funct3: u32) -> Option<Op>
-    ensures { result ≡ name_at loads funct3 }
+    ensures { result ≡ op_with_funct3 loads funct3 }
 {
     match funct3 {
         0 => Some(Op::Lb),
@@ -94,7 +94,7 @@ fn load_op(funct3: u32) -> Option<Op>
 // Returns the store with this funct3, or `None` if there is none.
 #[inline]
 fn store_op(funct3: u32) -> Option<Op>
-    ensures { result ≡ name_at stores funct3 }
+    ensures { result ≡ op_with_funct3 stores funct3 }
 {
     match funct3 {
         0 => Some(Op::Sb),
@@ -107,7 +107,7 @@ fn store_op(funct3: u32) -> Option<Op>
 // Returns the arithmetic instruction with an immediate that has this funct3, or `None` if there is none. `shift_op` has the shifts.
 #[inline]
 fn immediate_op(funct3: u32) -> Option<Op>
-    ensures { result ≡ name_at immediates funct3 }
+    ensures { result ≡ op_with_funct3 immediate_ops funct3 }
 {
     match funct3 {
         0 => Some(Op::Addi),
@@ -123,8 +123,8 @@ fn immediate_op(funct3: u32) -> Option<Op>
 // Returns the shift by an immediate with this funct7 and funct3, or `None` if there is none.
 #[inline]
 fn shift_op(funct7: u32, funct3: u32) -> Option<Op>
-    ensures { result ≡ (if funct7 == 0 then name_at shifts funct3
-        else if funct7 == 0x20 then name_at arithmetic_shifts funct3
+    ensures { result ≡ (if funct7 == 0 then op_with_funct3 shifts funct3
+        else if funct7 == 0x20 then op_with_funct3 arithmetic_shifts funct3
         else None) }
 {
     match (funct7, funct3) {
@@ -138,9 +138,9 @@ fn shift_op(funct7: u32, funct3: u32) -> Option<Op>
 // Returns the arithmetic instruction on two registers with this funct7 and funct3, or `None` if the instruction set has none.
 #[inline]
 fn register_op(funct7: u32, funct3: u32, isa: Isa) -> Option<Op>
-    ensures { result ≡ (if funct7 == 0 then name_at registers funct3
-        else if funct7 == 0x20 then name_at register_alternate_ops funct3
-        else if (funct7 == 1) && has isa RV32M then name_at products funct3
+    ensures { result ≡ (if funct7 == 0 then op_with_funct3 register_ops funct3
+        else if funct7 == 0x20 then op_with_funct3 register_alternate_ops funct3
+        else if (funct7 == 1) && has_extension isa RV32M then op_with_funct3 muldiv_ops funct3
         else None) }
 {
     match funct7 {
@@ -154,7 +154,7 @@ fn register_op(funct7: u32, funct3: u32, isa: Isa) -> Option<Op>
 // Returns the arithmetic instruction on two registers with funct7 0000000 and this funct3, or `None` if there is none.
 #[inline]
 fn register_plain_op(funct3: u32) -> Option<Op>
-    ensures { result ≡ name_at registers funct3 }
+    ensures { result ≡ op_with_funct3 register_ops funct3 }
 {
     match funct3 {
         0 => Some(Op::Add),
@@ -172,7 +172,7 @@ fn register_plain_op(funct3: u32) -> Option<Op>
 // Returns the arithmetic instruction on two registers with funct7 0100000 and this funct3, or `None` if there is none.
 #[inline]
 fn register_alternate_op(funct3: u32) -> Option<Op>
-    ensures { result ≡ name_at register_alternate_ops funct3 }
+    ensures { result ≡ op_with_funct3 register_alternate_ops funct3 }
 {
     match funct3 {
         0 => Some(Op::Sub),
@@ -184,7 +184,7 @@ fn register_alternate_op(funct3: u32) -> Option<Op>
 // Returns the multiplication or division with this funct3, or `None` if there is none.
 #[inline]
 fn muldiv_op(funct3: u32) -> Option<Op>
-    ensures { result ≡ name_at products funct3 }
+    ensures { result ≡ op_with_funct3 muldiv_ops funct3 }
 {
     match funct3 {
         0 => Some(Op::Mul),
@@ -202,7 +202,7 @@ fn muldiv_op(funct3: u32) -> Option<Op>
 // Returns the fence with this funct3, or `None` if there is none.
 #[inline]
 fn fence_op(funct3: u32) -> Option<Op>
-    ensures { result ≡ name_at (fences ++ instruction_fences) funct3 }
+    ensures { result ≡ op_with_funct3 (fences ++ instruction_fences) funct3 }
 {
     match funct3 {
         0 => Some(Op::Fence),

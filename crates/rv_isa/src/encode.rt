@@ -5,7 +5,7 @@ ghost use Rattle.rv_isa.specs.Bits.{field as bits_of, sign_extended};
 ghost use Rattle.rv_isa.specs.Words.{immediate_s, immediate_b, immediate_j};
 ghost use Rattle.std.specs.Prelude.{◌≡◌, ◌+◌, ◌*◌, ◌-◌, ◌<◌, ◌≤◌, ◌^◌, ◌%◌};
 
-use crate::bits::{field, join};
+use crate::bits::{field, concat_bits};
 
 /// Returns the word of format R with these fields.
 #[inline]
@@ -25,9 +25,9 @@ pub fn r_word(funct7: u32, rs2: u32, rs1: u32, funct3: u32, rd: u32, opcode: u32
     ensures rd { bits_of result 11 7 ≡ rd }
     ensures opcode { bits_of result 6 0 ≡ opcode }
 {
-    let sources = join(join(funct7, rs2, 5), rs1, 5);
-    let rest = join(join(funct3, rd, 5), opcode, 7);
-    join(sources, rest, 15)
+    let sources = concat_bits(concat_bits(funct7, rs2, 5), rs1, 5);
+    let rest = concat_bits(concat_bits(funct3, rd, 5), opcode, 7);
+    concat_bits(sources, rest, 15)
 }
 
 /// Returns the word of format I with these fields; `imm` is the immediate's 12 bits.
@@ -46,10 +46,10 @@ pub fn i_word(imm: u32, rs1: u32, funct3: u32, rd: u32, opcode: u32) -> u32
     ensures rd { bits_of result 11 7 ≡ rd }
     ensures opcode { bits_of result 6 0 ≡ opcode }
 {
-    let with_rs1 = join(imm, rs1, 5);
-    let with_funct3 = join(with_rs1, funct3, 3);
-    let with_rd = join(with_funct3, rd, 5);
-    join(with_rd, opcode, 7)
+    let with_rs1 = concat_bits(imm, rs1, 5);
+    let with_funct3 = concat_bits(with_rs1, funct3, 3);
+    let with_rd = concat_bits(with_funct3, rd, 5);
+    concat_bits(with_rd, opcode, 7)
 }
 
 /// Returns the word of format S with these fields; `imm` is the immediate's 12 bits.
@@ -90,8 +90,8 @@ pub fn b_word(offset: u32, rs2: u32, rs1: u32, funct3: u32, opcode: u32) -> u32
     ensures funct3 { bits_of result 14 12 ≡ funct3 }
     ensures opcode { bits_of result 6 0 ≡ opcode }
 {
-    let upper = join(field(offset, 12, 12), field(offset, 10, 5), 6);
-    let lower = join(field(offset, 4, 1), field(offset, 11, 11), 1);
+    let upper = concat_bits(field(offset, 12, 12), field(offset, 10, 5), 6);
+    let lower = concat_bits(field(offset, 4, 1), field(offset, 11, 11), 1);
     r_word(upper, rs2, rs1, funct3, lower, opcode)
 }
 
@@ -107,8 +107,8 @@ pub fn u_word(upper: u32, rd: u32, opcode: u32) -> u32
     ensures rd { bits_of result 11 7 ≡ rd }
     ensures opcode { bits_of result 6 0 ≡ opcode }
 {
-    let with_rd = join(upper, rd, 5);
-    join(with_rd, opcode, 7)
+    let with_rd = concat_bits(upper, rd, 5);
+    concat_bits(with_rd, opcode, 7)
 }
 
 /// Returns the word of format J with these fields; `offset` is the 21 bits of an even offset in bytes.
@@ -124,26 +124,26 @@ pub fn j_word(offset: u32, rd: u32, opcode: u32) -> u32
     ensures rd { bits_of result 11 7 ≡ rd }
     ensures opcode { bits_of result 6 0 ≡ opcode }
 {
-    let with_low = join(field(offset, 20, 20), field(offset, 10, 1), 10);
-    let with_middle = join(with_low, field(offset, 11, 11), 1);
-    let with_high = join(with_middle, field(offset, 19, 12), 8);
+    let with_low = concat_bits(field(offset, 20, 20), field(offset, 10, 1), 10);
+    let with_middle = concat_bits(with_low, field(offset, 11, 11), 1);
+    let with_high = concat_bits(with_middle, field(offset, 19, 12), 8);
     u_word(with_high, rd, opcode)
 }
 
-/// Returns `value`, a two's complement number of `bits` bits, sign-extended to `wider` bits.
+/// Returns `value`, a two's complement number of `from_bits` bits, sign-extended to `to_bits` bits.
 #[inline]
-pub fn widen(value: u32, bits: u32, wider: u32) -> u32
-    requires some { 1 ≤ bits }
-    requires order { bits ≤ wider }
-    requires within { wider < 32 }
-    requires small { value < 2 ^ bits }
-    ensures same { sign_extended wider result ≡ sign_extended bits value }
-    ensures below { result < 2 ^ wider }
+pub fn widen(value: u32, from_bits: u32, to_bits: u32) -> u32
+    requires some { 1 ≤ from_bits }
+    requires order { from_bits ≤ to_bits }
+    requires within { to_bits < 32 }
+    requires small { value < 2 ^ from_bits }
+    ensures same { sign_extended to_bits result ≡ sign_extended from_bits value }
+    ensures below { result < 2 ^ to_bits }
     ensures parity { result % 2 ≡ value % 2 }
 {
-    if value < 1 << (bits - 1) {
+    if value < 1 << (from_bits - 1) {
         value
     } else {
-        value + ((1 << wider) - (1 << bits))
+        value + ((1 << to_bits) - (1 << from_bits))
     }
 }

@@ -5,7 +5,7 @@ ghost use Rattle.rv_isa.specs.Words.{immediate_i, immediate_s, immediate_b, imme
 ghost use Rattle.rv_isa.specs.Words.{TypeR, TypeI, TypeShift, TypeS, TypeB, TypeU, TypeJ, NoOperands};
 ghost use Rattle.std.specs.Prelude.{◌≡◌, ◌+◌, ◌*◌, ◌-◌, ◌<◌, ◌≤◌, ◌^◌};
 
-use crate::bits::{field, join, sign_extend};
+use crate::bits::{field, concat_bits, sign_extend};
 use crate::instruction::{Instr, Op};
 
 /// Returns the instruction of this name with the operands of a word of format R.
@@ -157,7 +157,7 @@ fn imm_i(word: u32) -> i32
 fn imm_s(word: u32) -> i32
     ensures { result ≡ immediate_s word }
 {
-    sign_extend(join(field(word, 31, 25), field(word, 11, 7), 5), 12)
+    sign_extend(concat_bits(field(word, 31, 25), field(word, 11, 7), 5), 12)
 }
 
 // Returns the sign-extended offset of a word of format B, in bytes.
@@ -165,9 +165,9 @@ fn imm_s(word: u32) -> i32
 fn imm_b(word: u32) -> i32
     ensures { result ≡ immediate_b word }
 {
-    let top = join(field(word, 31, 31), field(word, 7, 7), 1);
-    let upper = join(top, field(word, 30, 25), 6);
-    let halves = join(upper, field(word, 11, 8), 4);
+    let top = concat_bits(field(word, 31, 31), field(word, 7, 7), 1);
+    let upper = concat_bits(top, field(word, 30, 25), 6);
+    let halves = concat_bits(upper, field(word, 11, 8), 4);
     sign_extend(halves << 1, 13)
 }
 
@@ -184,8 +184,8 @@ fn imm_u(word: u32) -> i32
 fn imm_j(word: u32) -> i32
     ensures { result ≡ immediate_j word }
 {
-    let top = join(field(word, 31, 31), field(word, 19, 12), 8);
-    let upper = join(top, field(word, 20, 20), 1);
-    let halves = join(upper, field(word, 30, 21), 10);
+    let top = concat_bits(field(word, 31, 31), field(word, 19, 12), 8);
+    let upper = concat_bits(top, field(word, 20, 20), 1);
+    let halves = concat_bits(upper, field(word, 30, 21), 10);
     sign_extend(halves << 1, 21)
 }

@@ -4,7 +4,7 @@ ghost use Rattle.rv_isa.specs.Bits.{bit, field as bits_of};
 ghost use Rattle.rv_isa.specs.Halfwords as row;
 ghost use Rattle.std.specs.Prelude.{◌≡◌, ◌+◌, ◌*◌, ◌-◌, ◌<◌, ◌≤◌, ◌^◌, ◌%◌};
 
-use crate::bits::{field, join};
+use crate::bits::{field, concat_bits};
 
 /// Returns the immediate of C.ADDI, C.LI, C.ANDI and C.LUI as a number of 6 bits, before sign extension. For C.LUI it is in units of 4096.
 #[inline]
@@ -12,7 +12,7 @@ pub fn imm_ci(half: u32) -> u32
     ensures value { result ≡ row.immediate_ci half }
     ensures below { result < 64 }
 {
-    join(field(half, 12, 12), field(half, 6, 2), 5)
+    concat_bits(field(half, 12, 12), field(half, 6, 2), 5)
 }
 
 /// Returns the immediate of C.ADDI4SPN.
@@ -21,8 +21,8 @@ pub fn imm_ciw(half: u32) -> u32
     ensures value { result ≡ row.immediate_ciw half }
     ensures below { result < 1024 }
 {
-    let upper = join(field(half, 10, 7), field(half, 12, 11), 2);
-    let words = join(join(upper, field(half, 5, 5), 1), field(half, 6, 6), 1);
+    let upper = concat_bits(field(half, 10, 7), field(half, 12, 11), 2);
+    let words = concat_bits(concat_bits(upper, field(half, 5, 5), 1), field(half, 6, 6), 1);
     words << 2
 }
 
@@ -32,8 +32,8 @@ pub fn imm_cl(half: u32) -> u32
     ensures value { result ≡ row.immediate_cl half }
     ensures below { result < 128 }
 {
-    let upper = join(field(half, 5, 5), field(half, 12, 10), 3);
-    join(upper, field(half, 6, 6), 1) << 2
+    let upper = concat_bits(field(half, 5, 5), field(half, 12, 10), 3);
+    concat_bits(upper, field(half, 6, 6), 1) << 2
 }
 
 /// Returns the immediate of C.ADDI16SP as a number of 10 bits, before sign extension.
@@ -42,9 +42,9 @@ pub fn imm_addi16sp(half: u32) -> u32
     ensures value { result ≡ row.immediate_addi16sp half }
     ensures below { result < 1024 }
 {
-    let upper = join(field(half, 12, 12), field(half, 4, 3), 2);
-    let middle = join(join(upper, field(half, 5, 5), 1), field(half, 2, 2), 1);
-    join(middle, field(half, 6, 6), 1) << 4
+    let upper = concat_bits(field(half, 12, 12), field(half, 4, 3), 2);
+    let middle = concat_bits(concat_bits(upper, field(half, 5, 5), 1), field(half, 2, 2), 1);
+    concat_bits(middle, field(half, 6, 6), 1) << 4
 }
 
 /// Returns the offset of C.J and C.JAL as a number of 12 bits, before sign extension.
@@ -54,11 +54,11 @@ pub fn imm_cj(half: u32) -> u32
     ensures below { result < 4096 }
     ensures even { result % 2 ≡ 0 }
 {
-    let first = join(field(half, 12, 12), field(half, 8, 8), 1);
-    let top = join(first, field(half, 10, 9), 2);
-    let upper = join(join(top, field(half, 6, 6), 1), field(half, 7, 7), 1);
-    let middle = join(join(upper, field(half, 2, 2), 1), field(half, 11, 11), 1);
-    join(middle, field(half, 5, 3), 3) << 1
+    let first = concat_bits(field(half, 12, 12), field(half, 8, 8), 1);
+    let top = concat_bits(first, field(half, 10, 9), 2);
+    let upper = concat_bits(concat_bits(top, field(half, 6, 6), 1), field(half, 7, 7), 1);
+    let middle = concat_bits(concat_bits(upper, field(half, 2, 2), 1), field(half, 11, 11), 1);
+    concat_bits(middle, field(half, 5, 3), 3) << 1
 }
 
 /// Returns the offset of C.BEQZ and C.BNEZ as a number of 9 bits, before sign extension.
@@ -68,9 +68,9 @@ pub fn imm_cb(half: u32) -> u32
     ensures below { result < 512 }
     ensures even { result % 2 ≡ 0 }
 {
-    let first = join(field(half, 12, 12), field(half, 6, 5), 2);
-    let top = join(first, field(half, 2, 2), 1);
-    join(join(top, field(half, 11, 10), 2), field(half, 4, 3), 2) << 1
+    let first = concat_bits(field(half, 12, 12), field(half, 6, 5), 2);
+    let top = concat_bits(first, field(half, 2, 2), 1);
+    concat_bits(concat_bits(top, field(half, 11, 10), 2), field(half, 4, 3), 2) << 1
 }
 
 /// Returns the offset of C.LWSP.
@@ -79,8 +79,8 @@ pub fn imm_lwsp(half: u32) -> u32
     ensures value { result ≡ row.immediate_lwsp half }
     ensures below { result < 256 }
 {
-    let upper = join(field(half, 3, 2), field(half, 12, 12), 1);
-    join(upper, field(half, 6, 4), 3) << 2
+    let upper = concat_bits(field(half, 3, 2), field(half, 12, 12), 1);
+    concat_bits(upper, field(half, 6, 4), 3) << 2
 }
 
 /// Returns the offset of C.SWSP.
@@ -89,5 +89,5 @@ pub fn imm_css(half: u32) -> u32
     ensures value { result ≡ row.immediate_css half }
     ensures below { result < 256 }
 {
-    join(field(half, 8, 7), field(half, 12, 9), 4) << 2
+    concat_bits(field(half, 8, 7), field(half, 12, 9), 4) << 2
 }

@@ -15,10 +15,10 @@ mod formats;
 mod half_immediates;
 mod instruction;
 mod opcodes;
-mod sets;
+mod isa;
 
 pub use bits::{field, sign_extend};
 pub use decoder16::{decode16, expand, is_long, no_halfword_has_two_rows};
 pub use decoder32::{decode32, no_word_has_two_rows};
 pub use instruction::{Instr, Op};
-pub use sets::Isa;
+pub use isa::Isa;

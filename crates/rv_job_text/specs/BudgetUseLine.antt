@@ -2,7 +2,7 @@
 use Rattle.std.specs.Prelude.{◌≡◌, ◌==◌, ◌++◌, ℕ, Bool, List, [], Option, Some, None, codes, if◌then◌else◌}
 use Rattle.rv_hang.specs.BudgetUse.{IsBudgetUseIn}
 use Rattle.rv_hang.specs.declared.budget_use.BudgetUse.{BudgetUse}
-use Rattle.rv_hang.specs.declared.budget_use.BudgetUse.TheVariants.{Changes, Repeats}
+use Rattle.rv_hang.specs.declared.budget_use.BudgetUse.TheVariants.{NoRepetition, Repeats}
 use Rattle.rv_hang.specs.declared.repetition.Repetition.{Repetition}
 use Rattle.rv_rows.specs.Plans.{Planned}
 use Rattle.rv_rows.specs.declared_job.Job.{Job}
@@ -38,7 +38,7 @@ changes_line steps within = line (codes "     the budget may be too small: no en
 abbrev pub budget_use_line : ℕ → Option BudgetUse → List ℕ
 budget_use_line steps None = []
 budget_use_line steps (Some (Repeats r)) = repetition_line r
-budget_use_line steps (Some (Changes within)) = changes_line steps within
+budget_use_line steps (Some (NoRepetition within)) = changes_line steps within
 
 -- `found` is an analysis of the run if it used up its budget, or `None` for any other end
 abbrev pub IsBudgetUseAfter : RowEnd → Planned → Job → ℕ → Option BudgetUse → Type 0

@@ -18,7 +18,7 @@ pub(crate) fn push_budget_use_line(
 {
     match found {
         Some(BudgetUse::Repeats(repetition)) => push_repetition_line(text, repetition),
-        Some(BudgetUse::Changes(within)) => push_changes_line(text, steps, within),
+        Some(BudgetUse::NoRepetition(within)) => push_changes_line(text, steps, within),
         None => Ok(()),
     }
 }

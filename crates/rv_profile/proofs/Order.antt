@@ -12,7 +12,7 @@ use Rattle.rv_count_tables.specs.Table.{functions_increase_from}
 use Rattle.rv_count_tables.specs.declared.table.FunctionName.{FunctionName}
 use Rattle.rv_count_tables.specs.Trees.{all_steps}
 use Rattle.rv_count_tables.specs.declared_spot.Spot.{Spot}
-use Rattle.rv_profile.specs.Profile.{AreWithin, IsProfileOf, Profiled, goes_before, function_counts_of, profiled, profiles_of}
+use Rattle.rv_profile.specs.Profile.{AreWithin, IsProfileOf, FunctionCounts, precedes, function_counts_of, function_counts, profiles_of}
 use Rattle.rv_profile.specs.declared.function.FunctionProfile.{FunctionProfile}
 use Rattle.rv_profile.proofs.Parts.{profile_within}
 
@@ -49,12 +49,12 @@ by_address low xs rise k d from within =
     (subst (λ (n : ℕ). address_of (get_or xs k d) ≤ address_of (get_or xs n d)) (sym next)
     (neighbours low xs k d rise (omega (arith, within))))
 
-addresses : (spots : List Spot) (names : List FunctionName) (xs : List FunctionProfile) → profiles_of xs ≡ map (profiled spots) names
+addresses : (spots : List Spot) (names : List FunctionName) (xs : List FunctionProfile) → profiles_of xs ≡ map (function_counts spots) names
     → map (λ n. n.function) names ≡ map address_of xs
 addresses spots names xs is =
-    sym (map-map (λ (p : Profiled). p.function) (profiled spots) names)
-    ∙ ap (map (λ (p : Profiled). p.function)) (sym is)
-    ∙ map-map (λ (p : Profiled). p.function) function_counts_of xs
+    sym (map-map (λ (p : FunctionCounts). p.function) (function_counts spots) names)
+    ∙ ap (map (λ (p : FunctionCounts). p.function)) (sym is)
+    ∙ map-map (λ (p : FunctionCounts). p.function) function_counts_of xs
 
 -- ---- by own steps
 
@@ -75,7 +75,7 @@ module _ (xs ys : List FunctionProfile) (steps : ℕ) (few : steps < 2 ^ 64) (wi
   own_few : (k : ℕ) (d : FunctionProfile) → k < length ys → (get_or ys k d).steps.own ≤ steps
   own_few k d lt =
       let long = length-map ys function_counts_of in
-      subst (λ (p : Profiled). p.own ≤ steps) (get_or-map function_counts_of ys k d (function_counts_of d) lt)
+      subst (λ (p : FunctionCounts). p.own ≤ steps) (get_or-map function_counts_of ys k d (function_counts_of d) lt)
       (within k (function_counts_of d) (omega (arith, long, lt))).0
 
   key_rises : (k : ℕ) (d : FunctionProfile) → k + 1 < length ys → key_of (get_or ys k d) ≤ key_of (get_or ys (k + 1) d)
@@ -85,7 +85,7 @@ module _ (xs ys : List FunctionProfile) (steps : ℕ) (few : steps < 2 ^ 64) (wi
       not_less_back a b is = grind (arith, nat_tests)
 
   two_in_order : (k : ℕ) (d : FunctionProfile) → k + 1 < length ys
-      → goes_before (function_counts_of (get_or ys (k + 1) d)) (function_counts_of (get_or ys k d)) ≡ false
+      → precedes (function_counts_of (get_or ys (k + 1) d)) (function_counts_of (get_or ys k d)) ≡ false
   two_in_order k d lt =
       let keys = key_rises k d lt in
       let first = own_few k d (omega (arith, lt)) in
@@ -94,27 +94,27 @@ module _ (xs ys : List FunctionProfile) (steps : ℕ) (few : steps < 2 ^ 64) (wi
       (omega (arith, keys, first, second, few))
       (λ same. ties_still_rise address_of key_of xs ys before stable k d lt (ap (λ (n : ℕ). (2 ^ 64 - 1) - n) same))
 
-  in_order : (d : FunctionProfile) → IsSortedBy goes_before (profiles_of ys)
+  in_order : (d : FunctionProfile) → IsSortedBy precedes (profiles_of ys)
   in_order d k e from lt =
       let long = length-map ys function_counts_of in
       let lt' : k + 1 < length ys = omega (arith, long, lt) in
-      (λ i. goes_before (get_or-map function_counts_of ys (k + 1) d e lt' i) (get_or-map function_counts_of ys k d e (omega (arith, lt')) i))
+      (λ i. precedes (get_or-map function_counts_of ys (k + 1) d e lt' i) (get_or-map function_counts_of ys k d e (omega (arith, lt')) i))
       ∙ two_in_order k d lt'
 
-none_in_order : IsSortedBy goes_before (profiles_of [])
+none_in_order : IsSortedBy precedes (profiles_of [])
 none_in_order k d from lt = absurd (omega arith)
 
 -- functions that stood by address, sorted stably by these keys
 pub by_own_steps : (spots : List Spot) (names : List FunctionName) (xs ys : List FunctionProfile) → all_steps spots < 2 ^ 64
-    → functions_increase_from 0 names ≡ true → profiles_of xs ≡ map (profiled spots) names → IsPermutation xs ys
+    → functions_increase_from 0 names ≡ true → profiles_of xs ≡ map (function_counts spots) names → IsPermutation xs ys
     → IsSortedByKey key_of nat_cmp ys → IsStableByKey key_of nat_cmp xs ys → IsProfileOf spots names (profiles_of ys)
 by_own_steps spots names xs ys few rise is same sorted stable =
-    let each : IsPermutation (map (profiled spots) names) (profiles_of ys) =
-    subst (λ (ps : List Profiled). IsPermutation ps (profiles_of ys)) is (IsPermutation-map function_counts_of xs ys same) in
+    let each : IsPermutation (map (function_counts spots) names) (profiles_of ys) =
+    subst (λ (ps : List FunctionCounts). IsPermutation ps (profiles_of ys)) is (IsPermutation-map function_counts_of xs ys same) in
     let before = by_address 0 xs (subst (RiseFrom 0) (addresses spots names xs is) (names_above 0 names rise)) in
     record { each = each; order = ordered ys (profile_within spots names (profiles_of ys) each) before sorted stable }
   where
     ordered : (zs : List FunctionProfile) → AreWithin (all_steps spots) (profiles_of zs) → IsSortedByKey address_of nat_cmp xs
-        → IsSortedByKey key_of nat_cmp zs → IsStableByKey key_of nat_cmp xs zs → IsSortedBy goes_before (profiles_of zs)
+        → IsSortedByKey key_of nat_cmp zs → IsStableByKey key_of nat_cmp xs zs → IsSortedBy precedes (profiles_of zs)
     ordered [] within before sorted stable = none_in_order
     ordered (z ∷ zs) within before sorted stable = in_order xs (z ∷ zs) (all_steps spots) few within before sorted stable z

@@ -9,7 +9,7 @@ use Rattle.rv_count_tables.specs.declared.table.FunctionName.{FunctionName}
 use Rattle.rv_count_tables.specs.Profiles.{AreFunctionsOf, own_steps_of_all, times}
 use Rattle.rv_count_tables.specs.Trees.{address_if}
 use Rattle.rv_count_tables.specs.declared_spot.Spot.{Spot}
-use Rattle.rv_profile.specs.Profile.{IsProfileOf, Profiled, total_own_steps, profiled}
+use Rattle.rv_profile.specs.Profile.{IsProfileOf, FunctionCounts, total_own_steps, function_counts}
 
 abbrev pub function_of : FunctionName → ℕ
 function_of n = n.function
@@ -51,14 +51,14 @@ pub are_functions : (spots : List Spot) (names : List FunctionName) → function
     → AreFunctionsOf spots (map function_of names)
 are_functions spots names rise of = record { once = λ f. named_once 0 f names rise ∙ ap address_if (of f) }
 
-pub own_of_names : (spots : List Spot) (names : List FunctionName) → total_own_steps (map (profiled spots) names) ≡ own_steps_of_all (map function_of names) spots
+pub own_of_names : (spots : List Spot) (names : List FunctionName) → total_own_steps (map (function_counts spots) names) ≡ own_steps_of_all (map function_of names) spots
 own_of_names spots [] = refl
 own_of_names spots (n ∷ ns) =
     let h = own_of_names spots ns in
-    let a = sum_by-cons (λ (p : Profiled). p.own) (profiled spots n) (map (profiled spots) ns) in
+    let a = sum_by-cons (λ (p : FunctionCounts). p.own) (function_counts spots n) (map (function_counts spots) ns) in
     omega (arith, h, a)
 
-pub own_of_profile : (spots : List Spot) (names : List FunctionName) (found : List Profiled) → IsProfileOf spots names found
+pub own_of_profile : (spots : List Spot) (names : List FunctionName) (found : List FunctionCounts) → IsProfileOf spots names found
     → total_own_steps found ≡ own_steps_of_all (map function_of names) spots
 own_of_profile spots names found is =
-    sum_by-IsPermutation (λ (p : Profiled). p.own) (map (profiled spots) names) found is.each ∙ own_of_names spots names
+    sum_by-IsPermutation (λ (p : FunctionCounts). p.own) (map (function_counts spots) names) found is.each ∙ own_of_names spots names

@@ -8,7 +8,7 @@ use Rattle.std.specs.Prelude.{map}
 use Rattle.std.proofs.lemmas.List.Elements.{All-cons, All-nil}
 use Rattle.std.proofs.lemmas.List.Sorted.{All-permutation}
 use Rattle.rv_count_tables.specs.declared.table.FunctionName.{FunctionName}
-use Rattle.rv_profile.specs.Profile.{AreWithin, IsWithin, Profiled, profiled}
+use Rattle.rv_profile.specs.Profile.{AreWithin, IsWithin, FunctionCounts, function_counts}
 
 if_at_most : (test : Bool) (n : ℕ) → steps_if test n ≤ n
 if_at_most true n = omega arith
@@ -28,13 +28,13 @@ inclusive_at_most function front (s ∷ ss) =
     let rest = inclusive_at_most function (path_after front s) ss in
     omega (arith, here, rest)
 
-named_within : (spots : List Spot) (names : List FunctionName) → AreWithin (all_steps spots) (map (profiled spots) names)
+named_within : (spots : List Spot) (names : List FunctionName) → AreWithin (all_steps spots) (map (function_counts spots) names)
 named_within spots [] = All-nil (IsWithin (all_steps spots))
 named_within spots (n ∷ ns) =
-    All-cons (IsWithin (all_steps spots)) (profiled spots n) (map (profiled spots) ns)
+    All-cons (IsWithin (all_steps spots)) (function_counts spots n) (map (function_counts spots) ns)
     (own_at_most n.function spots, inclusive_at_most n.function [] spots) (named_within spots ns)
 
-pub profile_within : (spots : List Spot) (names : List FunctionName) (found : List Profiled) → IsPermutation (map (profiled spots) names) found
+pub profile_within : (spots : List Spot) (names : List FunctionName) (found : List FunctionCounts) → IsPermutation (map (function_counts spots) names) found
     → AreWithin (all_steps spots) found
 profile_within spots names found each =
-    All-permutation (IsWithin (all_steps spots)) (map (profiled spots) names) found each (named_within spots names)
+    All-permutation (IsWithin (all_steps spots)) (map (function_counts spots) names) found each (named_within spots names)

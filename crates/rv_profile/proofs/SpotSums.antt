@@ -5,7 +5,7 @@ use Rattle.std.proofs.lemmas.Bool.{and_cases, and_left, and_right, le-ltb, ltb-f
 use Rattle.std.proofs.lemmas.List.{take_all, take_more, take-append-drop}
 use Rattle.rv_count_tables.specs.Trees.{calls_of_node, sum_over_nodes, steps_of}
 use Rattle.rv_count_tables.specs.declared_spot.Spot.{Spot}
-use Rattle.rv_profile.specs.ImageStacks.{fit_in_64_bits, fitting, sums_of, with_node}
+use Rattle.rv_profile.specs.ImageStacks.{fit_in_64_bits, if_fitting, sums_of, with_node}
 use Rattle.rv_profile.specs.declared.sums.Sums.{Sums}
 
 sum_parts : (count : Spot → ℕ) (xs ys : List Spot)
@@ -40,12 +40,12 @@ fit_by : (few : Bool) (t s : Sums) → Some s ≡ cond few (Some t) None → (s 
 fit_by true t s is = (cc, refl)
 fit_by false t s is = absurd cc
 
-pub fit : (t s : Sums) → Some s ≡ fitting t → (s ≡ t) × (fit_in_64_bits s ≡ true)
+pub fit : (t s : Sums) → Some s ≡ if_fitting t → (s ≡ t) × (fit_in_64_bits s ≡ true)
 fit t s is =
     let both = fit_by (fit_in_64_bits t) t s is in
     (both.0, ap fit_in_64_bits both.0 ∙ both.1)
 
-none_fit : (t : Sums) → None ≡ fitting t → fit_in_64_bits t ≡ false
+none_fit : (t : Sums) → None ≡ if_fitting t → fit_in_64_bits t ≡ false
 none_fit t is = go (fit_in_64_bits t) refl is
   where
     go : (few : Bool) → fit_in_64_bits t ≡ few → None ≡ cond few (Some t) None → fit_in_64_bits t ≡ false
@@ -68,19 +68,19 @@ past_with spots k d within past =
 
 -- with a spot more
 pub one_more : (spots : List Spot) (k : ℕ) (d : Spot) (s t : Sums) → k < length spots → s ≡ sums_of (take k spots)
-    → Some t ≡ fitting (with_node s (get_or spots k d)) → (t ≡ sums_of (take (k + 1) spots)) × (fit_in_64_bits t ≡ true)
+    → Some t ≡ if_fitting (with_node s (get_or spots k d)) → (t ≡ sums_of (take (k + 1) spots)) × (fit_in_64_bits t ≡ true)
 one_more spots k d s t within is more =
     let both = fit (with_node s (get_or spots k d)) t more in
     (both.0 ∙ ap (λ (r : Sums). with_node r (get_or spots k d)) is ∙ sym (sums_more spots k d within), both.1)
 
 pub none_of_all : (spots : List Spot) (k : ℕ) (d : Spot) (s : Sums) → k < length spots → s ≡ sums_of (take k spots)
-    → None ≡ fitting (with_node s (get_or spots k d)) → None ≡ fitting (sums_of spots)
+    → None ≡ if_fitting (with_node s (get_or spots k d)) → None ≡ if_fitting (sums_of spots)
 none_of_all spots k d s within is none =
     let past = ap (λ (r : Sums). fit_in_64_bits (with_node r (get_or spots k d))) (sym is) ∙ none_fit (with_node s (get_or spots k d)) none in
     sym (ap (λ (b : Bool). cond b (Some (sums_of spots)) None) (past_with spots k d within past))
 
 pub all_fit : (spots : List Spot) (k : ℕ) (s : Sums) → length spots ≤ k → s ≡ sums_of (take k spots) → fit_in_64_bits s ≡ true
-    → Some s ≡ fitting (sums_of spots)
+    → Some s ≡ if_fitting (sums_of spots)
 all_fit spots k s all is few =
     let same : s ≡ sums_of spots = is ∙ ap sums_of (take_all k spots all) in
     ap Some same ∙ sym (ap (λ (b : Bool). cond b (Some (sums_of spots)) None) (sym (ap fit_in_64_bits same) ∙ few))

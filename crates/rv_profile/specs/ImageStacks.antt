@@ -44,8 +44,8 @@ abbrev pub fit_in_64_bits : Sums → Bool
 fit_in_64_bits sums = nat_lt sums.steps (2 ^ 64) && nat_lt sums.arrivals (2 ^ 64)
 
 -- the sums, or `None` if one of them does not fit in 64 bits
-abbrev pub fitting : Sums → Option Sums
-fitting sums = if fit_in_64_bits sums then Some sums else None
+abbrev pub if_fitting : Sums → Option Sums
+if_fitting sums = if fit_in_64_bits sums then Some sums else None
 
 -- whether the steps or the calls in the call tree that the table has for the image add up to 2^64 or more
 abbrev pub is_past_64_bits : CountTable → ImageFileView → Bool

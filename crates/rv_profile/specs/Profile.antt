@@ -10,7 +10,7 @@ use Rattle.rv_profile.specs.declared.function.FunctionProfile.{FunctionProfile}
 
 -- the counts of a function: its own steps, which are the steps of the nodes whose path ends with it; its inclusive steps, which are the
 -- steps of the nodes whose path contains it, each node counted once; and how often runs entered it
-pub record Profiled : Type 0 where
+pub record FunctionCounts : Type 0 where
   pub name : List ℕ
   -- the address of the function
   pub function : ℕ
@@ -20,8 +20,8 @@ pub record Profiled : Type 0 where
   pub arrivals : ℕ
 
 -- the counts in a call tree of the function with this name and address
-abbrev pub profiled : List Spot → FunctionName → Profiled
-profiled spots named = record {
+abbrev pub function_counts : List Spot → FunctionName → FunctionCounts
+function_counts spots named = record {
   name = named.name;
   function = named.function;
   own = own_steps_of named.function spots;
@@ -30,30 +30,30 @@ profiled spots named = record {
 }
 
 -- whether `p` comes before `q` in a profile: it has more own steps, or equally many and a lower address
-abbrev pub goes_before : Profiled → Profiled → Bool
-goes_before p q = nat_lt q.own p.own || ((p.own == q.own) && nat_lt p.function q.function)
+abbrev pub precedes : FunctionCounts → FunctionCounts → Bool
+precedes p q = nat_lt q.own p.own || ((p.own == q.own) && nat_lt p.function q.function)
 
--- `found` has the counts of each named function in the call tree, once, in the order that `goes_before` defines
-pub record IsProfileOf (spots : List Spot) (names : List FunctionName) (found : List Profiled) : Type 0 where
-  pub each : IsPermutation (map (profiled spots) names) found
-  pub order : IsSortedBy goes_before found
+-- `found` has the counts of each named function in the call tree, once, in the order that `precedes` defines
+pub record IsProfileOf (spots : List Spot) (names : List FunctionName) (found : List FunctionCounts) : Type 0 where
+  pub each : IsPermutation (map (function_counts spots) names) found
+  pub order : IsSortedBy precedes found
 
 -- the sum of the own steps of the functions
-abbrev pub total_own_steps : List Profiled → ℕ
+abbrev pub total_own_steps : List FunctionCounts → ℕ
 total_own_steps found = sum_by (λ p. p.own) found
 
 -- neither the own nor the inclusive steps of the function exceed `steps`, the steps of all nodes
-abbrev pub IsWithin : ℕ → Profiled → Type 0
+abbrev pub IsWithin : ℕ → FunctionCounts → Type 0
 IsWithin steps p = (p.own ≤ steps) × (p.inclusive ≤ steps)
 
 -- neither the own nor the inclusive steps of any of the functions exceed `steps`, the steps of all nodes
-abbrev pub AreWithin : ℕ → List Profiled → Type 0
+abbrev pub AreWithin : ℕ → List FunctionCounts → Type 0
 AreWithin steps ps = All (IsWithin steps) ps
 
 -- ---- profiles as the code has them
 
 -- the counts of a function, converted from the Rust value to the record that contracts use
-abbrev pub function_counts_of : FunctionProfile → Profiled
+abbrev pub function_counts_of : FunctionProfile → FunctionCounts
 function_counts_of function = record {
   name = function.name.now;
   function = function.function;
@@ -63,5 +63,5 @@ function_counts_of function = record {
 }
 
 -- the counts of functions, converted from the Rust values to the records that contracts use, in order
-abbrev pub profiles_of : List FunctionProfile → List Profiled
+abbrev pub profiles_of : List FunctionProfile → List FunctionCounts
 profiles_of functions = map function_counts_of functions

@@ -4,22 +4,22 @@ use Rattle.rv_count_tables.specs.declared.table.CountTable.{CountTable}
 use Rattle.rv_cover_view.specs.JobImages.{ImageFileView}
 use Rattle.rv_profile.specs.Csv.{csv_header, csv_rows}
 use Rattle.rv_profile.specs.ImageStacks.{names_of, nodes_of, sums_of}
-use Rattle.rv_profile.specs.Profile.{IsProfileOf, Profiled}
-use Rattle.rv_profile.specs.Text.{first_of, image_lines}
+use Rattle.rv_profile.specs.Profile.{IsProfileOf, FunctionCounts}
+use Rattle.rv_profile.specs.Text.{first_functions, image_lines}
 use Rattle.rv_profile.specs.declared.format.ProfileFormat.{ProfileFormat}
 use Rattle.rv_profile.specs.declared.sums.Sums.{Sums}
 
 -- the profile of the image with this path: CSV rows, or lines for people, as the format says
-abbrev pub image_text : ProfileFormat → List ℕ → Sums → List Profiled → List ℕ
-image_text format path sums ps = if format.csv then csv_rows path (first_of format.top ps) else image_lines format.top path sums ps
+abbrev pub image_text : ProfileFormat → List ℕ → Sums → List FunctionCounts → List ℕ
+image_text format path sums ps = if format.csv then csv_rows path (first_functions format.top ps) else image_lines format.top path sums ps
 
 -- the header of the report: the column names if the format is CSV, and otherwise empty
-abbrev pub head_text : ProfileFormat → List ℕ
-head_text format = if format.csv then csv_header else []
+abbrev pub header_text : ProfileFormat → List ℕ
+header_text format = if format.csv then csv_header else []
 
 -- `text` is the profile of the image, computed from its call tree in the table
 pub record IsImageProfileText (format : ProfileFormat) (table : CountTable) (image : ImageFileView) (text : List ℕ) : Type 0 where
-  pub functions : List Profiled
+  pub functions : List FunctionCounts
   pub profile : IsProfileOf (nodes_of table image.bytes) (names_of table image.bytes) functions
   pub shown : text ≡ image_text format image.path (sums_of (nodes_of table image.bytes)) functions
 
@@ -31,4 +31,4 @@ AreImageProfileTexts format table (image ∷ images) text = (first : List ℕ) �
 
 -- `text` is the profile report of these images: the CSV header if the format is CSV, and then the profile of each image, in order
 abbrev pub IsProfileText : ProfileFormat → CountTable → List ImageFileView → List ℕ → Type 0
-IsProfileText format table images text = (lines : List ℕ) × (AreImageProfileTexts format table images lines × (text ≡ head_text format ++ lines))
+IsProfileText format table images text = (lines : List ℕ) × (AreImageProfileTexts format table images lines × (text ≡ header_text format ++ lines))

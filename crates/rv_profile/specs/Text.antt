@@ -5,7 +5,7 @@ use Rattle.std.specs.Fmt.{decimal}
 use Rattle.std.specs.List.{flat_map}
 use Rattle.rv_cover_view.specs.Text.{right}
 use Rattle.rv_count_tables.specs.Printable.{printable_name, printable_text}
-use Rattle.rv_profile.specs.Profile.{Profiled}
+use Rattle.rv_profile.specs.Profile.{FunctionCounts}
 use Rattle.rv_profile.specs.declared.columns.Columns.{Columns}
 use Rattle.rv_profile.specs.declared.sums.Sums.{Sums}
 
@@ -61,12 +61,12 @@ unfoldable pub steps_line : List ℕ → ℕ → List ℕ
 steps_line path steps = printable_text path ++ codes ": " ++ decimal steps ++ steps_word steps
 
 -- the line of a function, given the widths of the columns and the steps of its image
-unfoldable pub function_line : Columns → ℕ → Profiled → List ℕ
+unfoldable pub function_line : Columns → ℕ → FunctionCounts → List ℕ
 function_line c steps p = share c.own p.own steps ++ share c.inclusive p.inclusive steps ++ right c.arrivals p.arrivals
     ++ codes "  " ++ printable_name p.name ++ codes "\n"
 
 -- the lines of functions, given the widths of the columns and the steps of their image
-abbrev pub function_lines : Columns → ℕ → List Profiled → List ℕ
+abbrev pub function_lines : Columns → ℕ → List FunctionCounts → List ℕ
 function_lines c steps ps = flat_map (function_line c steps) ps
 
 -- " more function" if the count is 1, and otherwise " more functions", followed by a line feed
@@ -80,17 +80,17 @@ more_line left = if left == 0 then [] else decimal left ++ functions_word left
 -- ---- an image
 
 -- the first elements of a list, as many as the number says; the whole list if no number is given
-abbrev pub first_of : {X : Type 0} → Option ℕ → List X → List X
-first_of None xs = xs
-first_of (Some count) xs = take count xs
+abbrev pub first_functions : {X : Type 0} → Option ℕ → List X → List X
+first_functions None xs = xs
+first_functions (Some count) xs = take count xs
 
 -- the lines after the image's own line: a header, a line for each function (only the first `top` if a number is given), and how many
 -- functions are not shown; empty if there are no functions
-abbrev pub functions_text : Option ℕ → Sums → List Profiled → List ℕ
+abbrev pub functions_text : Option ℕ → Sums → List FunctionCounts → List ℕ
 functions_text top sums [] = []
-functions_text top sums (p ∷ ps) = column_header (columns_of sums) ++ function_lines (columns_of sums) sums.steps (first_of top (p ∷ ps))
-    ++ more_line (length (p ∷ ps) - length (first_of top (p ∷ ps)))
+functions_text top sums (p ∷ ps) = column_header (columns_of sums) ++ function_lines (columns_of sums) sums.steps (first_functions top (p ∷ ps))
+    ++ more_line (length (p ∷ ps) - length (first_functions top (p ∷ ps)))
 
 -- the lines of the image with this path: its number of steps, and then its functions, only the first `top` of them if a number is given
-abbrev pub image_lines : Option ℕ → List ℕ → Sums → List Profiled → List ℕ
+abbrev pub image_lines : Option ℕ → List ℕ → Sums → List FunctionCounts → List ℕ
 image_lines top path sums ps = steps_line path sums.steps ++ functions_text top sums ps

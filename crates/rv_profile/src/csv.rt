@@ -11,7 +11,7 @@ use std::alloc::AllocError;
 
 /// Appends the first line of the CSV, with the column names.
 #[tactic(auto, unfolding(crate::specs::Csv::csv_header))]
-pub(crate) fn push_csv_head(bytes: &mut Vec<u8>) -> Result<(), AllocError>
+pub(crate) fn push_csv_header(bytes: &mut Vec<u8>) -> Result<(), AllocError>
     ensures { OnOk result (bytes.new.items ≡ bytes.old.items ++ csv_header) }
 {
     push_text(bytes, "image,function,address,self,inclusive,calls\n")

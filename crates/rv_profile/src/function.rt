@@ -1,7 +1,7 @@
 //! The counts of a function with its name.
 
 ghost use Rattle.std.specs.Prelude.{◌≡◌};
-ghost use Rattle.rv_profile.specs.Profile.{function_counts_of, profiled};
+ghost use Rattle.rv_profile.specs.Profile.{function_counts_of, function_counts};
 
 use rv_count_tables::{CallTreeIndex, FunctionName, FunctionSteps};
 
@@ -20,7 +20,7 @@ pub(crate) fn profile_of_function<'a>(
     index: &CallTreeIndex<'_>,
     named: &'a FunctionName,
 ) -> FunctionProfile<'a>
-    ensures { function_counts_of result ≡ profiled index.now.spots.now named.now }
+    ensures { function_counts_of result ≡ function_counts index.now.spots.now named.now }
 {
     FunctionProfile {
         name: named.name.as_str(),

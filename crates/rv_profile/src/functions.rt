@@ -3,7 +3,7 @@
 ghost use Rattle.std.specs.Prelude.{◌≡◌, IfOk, map, true};
 ghost use Rattle.rv_profile.specs.ImageStacks.{fit_in_64_bits, sums_of};
 ghost use Rattle.rv_count_tables.specs.Trees.{IsTree};
-ghost use Rattle.rv_profile.specs.Profile.{IsProfileOf, profiled, profiles_of};
+ghost use Rattle.rv_profile.specs.Profile.{IsProfileOf, function_counts, profiles_of};
 
 use crate::function::{FunctionProfile, profile_of_function};
 use crate::image_stacks::ImageStacks;
@@ -32,7 +32,7 @@ fn functions_of_stacks<'t>(
 ) -> Result<Vec<FunctionProfile<'t>>, AllocError>
     requires tree { IsTree stacks.spots.now }
     requires few { fit_in_64_bits (sums_of stacks.spots.now) ≡ true }
-    ensures { IfOk result (λ found. profiles_of found.items ≡ map (profiled stacks.entry.spots.now) stacks.entry.names.now) }
+    ensures { IfOk result (λ found. profiles_of found.items ≡ map (function_counts stacks.entry.spots.now) stacks.entry.names.now) }
 {
     let index = CallTreeIndex::new(alloc, stacks.spots)?;
     let mut functions = Vec::new(alloc);

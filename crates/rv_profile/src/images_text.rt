@@ -5,14 +5,14 @@ ghost use Rattle.rv_count_tables.specs.Table.{IsTable};
 ghost use Rattle.rv_cover_view.specs.JobImages.{image_of_file, images_of_files};
 ghost use Rattle.rv_profile.specs.ImageStacks.{image_past_64_bits, is_past_64_bits};
 ghost use Rattle.rv_profile.specs.Profile.{profiles_of};
-ghost use Rattle.rv_profile.specs.ProfileText.{IsProfileText, IsImageProfileText, head_text, image_text};
+ghost use Rattle.rv_profile.specs.ProfileText.{IsProfileText, IsImageProfileText, header_text, image_text};
 
-use crate::csv::{push_csv_head, push_csv_rows};
+use crate::csv::{push_csv_header, push_csv_rows};
 use crate::format::ProfileFormat;
 use crate::image_lines::push_image_lines;
 use crate::image_profile::{ImageProfile, profile_of_image};
 use crate::image_stacks::stacks_of;
-use crate::top::first_of;
+use crate::top::first_functions;
 use rv_count_tables::CountTable;
 use rv_cover_view::ImageFile;
 use std::alloc::{AllocError, Global};
@@ -30,7 +30,7 @@ pub fn profile_text(
     ensures { IfOk result (λ text. IsProfileText format table.now (images_of_files images.now) text.items) }
 {
     let mut text = Vec::new(alloc);
-    push_head(&mut text, format)?;
+    push_header(&mut text, format)?;
     for image in images {
         push_image(alloc, &mut text, format, table, image)?;
     }
@@ -38,11 +38,11 @@ pub fn profile_text(
 }
 
 // Appends the header of the report: the column names if the format is CSV, and otherwise nothing.
-fn push_head(text: &mut Vec<u8>, format: ProfileFormat) -> Result<(), AllocError>
-    ensures { OnOk result (text.new.items ≡ text.old.items ++ head_text format) }
+fn push_header(text: &mut Vec<u8>, format: ProfileFormat) -> Result<(), AllocError>
+    ensures { OnOk result (text.new.items ≡ text.old.items ++ header_text format) }
 {
     if format.csv {
-        push_csv_head(text)
+        push_csv_header(text)
     } else {
         Ok(())
     }
@@ -77,7 +77,7 @@ fn push_image_profile(
         ++ image_text format path.now profile.now.sums (profiles_of profile.now.functions.items)) }
 {
     if format.csv {
-        let functions = first_of(format.top, profile.functions.as_slice());
+        let functions = first_functions(format.top, profile.functions.as_slice());
         return push_csv_rows(text, path, functions);
     }
     push_image_lines(alloc, text, format.top, path, profile)

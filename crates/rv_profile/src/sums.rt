@@ -1,7 +1,7 @@
 //! Sums over the nodes of a call tree.
 
 ghost use Rattle.std.specs.Prelude.{◌≡◌};
-ghost use Rattle.rv_profile.specs.ImageStacks.{fitting, sums_of, with_node};
+ghost use Rattle.rv_profile.specs.ImageStacks.{if_fitting, sums_of, with_node};
 
 use rv_count_tables::Spot;
 
@@ -15,7 +15,7 @@ pub(crate) struct Sums {
 impl Sums {
     // Returns the sums, to which the counts of one more node are added, or `None` if one of them does not fit in 64 bits.
     fn with_node(self, spot: Spot) -> Option<Sums>
-        ensures { result ≡ fitting (with_node self spot) }
+        ensures { result ≡ if_fitting (with_node self spot) }
     {
         Some(Sums {
             steps: self.steps.checked_add(spot.steps)?,
@@ -26,7 +26,7 @@ impl Sums {
 
 /// Returns the sums over all nodes, or `None` if one of them does not fit in 64 bits.
 pub(crate) fn sums_of(spots: &[Spot]) -> Option<Sums>
-    ensures { result ≡ fitting (sums_of spots.now) }
+    ensures { result ≡ if_fitting (sums_of spots.now) }
 {
     let mut sums = Sums {
         steps: 0,

@@ -2,12 +2,12 @@
 
 ghost use Rattle.rv_count_tables.specs.Table.{IsTable};
 
-use crate::csv::{push_csv_head, push_csv_rows};
+use crate::csv::{push_csv_header, push_csv_rows};
 use crate::image_lines::push_image_lines;
 use crate::image_profile::{ImageProfile, profile_of_image};
 use crate::image_stacks::{has_stacks, stacks_of};
 use crate::sums::sums_of;
-use crate::top::first_of;
+use crate::top::first_functions;
 use rv_count_tables::{CountTable, read_table};
 use std::alloc::Global;
 use std::rt::HostRuntime;

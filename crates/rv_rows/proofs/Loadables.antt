@@ -3,7 +3,7 @@ use Rattle.std.proofs.Common.{◌≡◌, ◌%◌, ◌==◌, ◌&&◌, ℕ, Bool,
 use Rattle.std.proofs.Common.{Result, Ok, Err, refl, sym, ap, ◌∙◌}
 use Rattle.std.specs.Result.{result_ok}
 use Rattle.rv_machine.specs.declared_sets.Isa.{Isa}
-use Rattle.rv_machine.specs.Extensions.{RV32C, has}
+use Rattle.rv_machine.specs.Extensions.{RV32C, has_extension}
 use Rattle.rv_elf.specs.declared.image.Image.{Image}
 use Rattle.rv_elf.specs.Image.{image_of}
 use Rattle.rv_elf.specs.Loading.{map_check, initial_memory}
@@ -119,10 +119,10 @@ unfolding new_bus
 loaded_is before after job file image script is same loaded = rw (loaded, is, same) refl
 
 -- an entry that an instruction of the set may have
-pub aligned : (isa : Isa) (entry : ℕ) → (has isa RV32C ≡ false → entry % 4 ≡ 0) → is_misaligned isa entry ≡ false
-aligned isa entry h = go (has isa RV32C) refl
+pub aligned : (isa : Isa) (entry : ℕ) → (has_extension isa RV32C ≡ false → entry % 4 ≡ 0) → is_misaligned isa entry ≡ false
+aligned isa entry h = go (has_extension isa RV32C) refl
   where
-    go : (b : Bool) → has isa RV32C ≡ b → (not b && not (entry % 4 == 0)) ≡ false
+    go : (b : Bool) → has_extension isa RV32C ≡ b → (not b && not (entry % 4 == 0)) ≡ false
     go true is = refl
     go false is = rw (h is) refl
 

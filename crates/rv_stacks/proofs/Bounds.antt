@@ -10,7 +10,7 @@ use Rattle.rv_counting.specs.JobTables.{executed_from}
 use Rattle.rv_counting.specs.declared_ending.Ending.{Ending}
 use Rattle.rv_counting.specs.Run.{step_of}
 use Rattle.rv_counting.specs.State.{State}
-use Rattle.rv_stacks.specs.Stacks.{calls_by, arrivals_in, calls_to, jumps_to, path_at, steps_in}
+use Rattle.rv_stacks.specs.Stacks.{calls_by, calls_in, calls_to, jumps_to, path_at, steps_in}
 use Rattle.rv_stacks.specs.StackTables.{calls_from, steps_from}
 
 pub once_at_most : (b : Bool) → address_if b ≤ 1
@@ -28,13 +28,13 @@ module _ (function : ℕ → ℕ) (path : List ℕ) where
       let b = once_at_most (calls_to function path frames t) in
       omega (arith, a, b)
 
-  few_arrivals : (n : ℕ) (frames : List Frame) (s : State) → arrivals_in function path n frames s ≤ n + n
-  unfolding arrivals_in
+  few_arrivals : (n : ℕ) (frames : List Frame) (s : State) → calls_in function path n frames s ≤ n + n
+  unfolding calls_in
   few_arrivals zero frames s = omega arith
   few_arrivals (suc n) frames s =
       behind_at_most (step_of s)
       (λ t. calls_by function path frames (transfer_of s t)
-      + arrivals_in function path n (after_transfer frames (transfer_of s t)) t)
+      + calls_in function path n (after_transfer frames (transfer_of s t)) t)
       (suc n + suc n)
       (λ t. let a = two_at_most frames (transfer_of s t) in
       let b = few_arrivals n (after_transfer frames (transfer_of s t)) t in

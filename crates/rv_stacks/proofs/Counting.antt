@@ -11,11 +11,11 @@ use Rattle.rv_counting.specs.Run.{step_of}
 use Rattle.rv_counting.specs.State.{State}
 use Rattle.rv_stacks.specs.declared.walk.Walk.{Walk}
 use Rattle.rv_stacks.specs.Nodes.{all_calls, all_steps}
-use Rattle.rv_stacks.specs.Stacks.{calls_by, arrivals_in, executed_in_function, path_at, steps_in, AreStacksOf}
+use Rattle.rv_stacks.specs.Stacks.{calls_by, calls_in, executed_in_function, path_at, steps_in, AreStacksOf}
 use Rattle.rv_count_tables.specs.declared_spot.Spot.{Spot}
-use Rattle.rv_stacks.specs.declared.node.Node.{Node}
+use Rattle.rv_stacks.specs.declared.node.WalkNode.{WalkNode}
 use Rattle.rv_stacks.specs.Walks.{ArePreorderOf}
-use Rattle.rv_stacks.specs.StackSteps.{AreNodesOf, HasEnteredFirst, SoFar, StacksStep}
+use Rattle.rv_stacks.specs.StackSteps.{AreNodesOf, HasEnteredFirst, AreStacksSoFar, StacksStep}
 
 -- ---- one step ahead
 
@@ -43,12 +43,12 @@ steps_next function path n i frames s h =
     let e : n - i ≡ suc (n - (i + 1)) = omega arith in ap (λ (m : ℕ). steps_in function path m frames s) e
 
 pub arrivals_next : (function : ℕ → ℕ) (path : List ℕ) (n i : ℕ) (frames : List Frame) (s : State) → i < n
-    → arrivals_in function path (n - i) frames s ≡ behind (step_of s)
+    → calls_in function path (n - i) frames s ≡ behind (step_of s)
     (λ t. calls_by function path frames (transfer_of s t)
-    + arrivals_in function path (n - (i + 1)) (after_transfer frames (transfer_of s t)) t)
-unfolding arrivals_in
+    + calls_in function path (n - (i + 1)) (after_transfer frames (transfer_of s t)) t)
+unfolding calls_in
 arrivals_next function path n i frames s h =
-    let e : n - i ≡ suc (n - (i + 1)) = omega arith in ap (λ (m : ℕ). arrivals_in function path m frames s) e
+    let e : n - i ≡ suc (n - (i + 1)) = omega arith in ap (λ (m : ℕ). calls_in function path m frames s) e
 
 no_steps : (function : ℕ → ℕ) (path : List ℕ) (n i : ℕ) (frames : List Frame) (s : State) → n ≤ i
     → steps_in function path (n - i) frames s ≡ 0
@@ -57,10 +57,10 @@ no_steps function path n i frames s h =
     let e : n - i ≡ 0 = omega arith in ap (λ (m : ℕ). steps_in function path m frames s) e
 
 no_arrivals : (function : ℕ → ℕ) (path : List ℕ) (n i : ℕ) (frames : List Frame) (s : State) → n ≤ i
-    → arrivals_in function path (n - i) frames s ≡ 0
-unfolding arrivals_in
+    → calls_in function path (n - i) frames s ≡ 0
+unfolding calls_in
 no_arrivals function path n i frames s h =
-    let e : n - i ≡ 0 = omega arith in ap (λ (m : ℕ). arrivals_in function path m frames s) e
+    let e : n - i ≡ 0 = omega arith in ap (λ (m : ℕ). calls_in function path m frames s) e
 
 none_begun : (n i : ℕ) (s : State) → n ≤ i → executed_steps (n - i) s ≡ 0
 unfolding executed_steps
@@ -82,7 +82,7 @@ at_most_once false = omega arith
 -- ---- the loop
 
 pub none_so_far : (function : ℕ → ℕ) (n : ℕ) (s : State) (walk : Walk) → HasEnteredFirst (function s.pc) walk
-    → SoFar function n 0 s s [] walk
+    → AreStacksSoFar function n 0 s s [] walk
 none_so_far function n s walk h =
     let e : n - 0 ≡ n = omega arith in
     let arrived = h.all_calls in
@@ -101,13 +101,13 @@ none_so_far function n s walk h =
           let none = h.steps path in
           omega (arith, k, none);
       arrivals = λ path.
-          let k = ap (λ (m : ℕ). arrivals_in function path m [] s) e in
+          let k = ap (λ (m : ℕ). calls_in function path m [] s) e in
           let one = h.arrivals path in
           omega (arith, k, one);
     }
 
 module _ (function : ℕ → ℕ) (n i : ℕ) (start s t : State) (frames after : List Frame) (old new : Walk)
-    (h : SoFar function n i start s frames old) (under : i < n) where
+    (h : AreStacksSoFar function n i start s frames old) (under : i < n) where
   few_more : StacksStep function s frames old true t after new → all_steps new.nodes.items ≤ i + 1
   few_more step =
       let f = h.fewer in
@@ -115,7 +115,7 @@ module _ (function : ℕ → ℕ) (n i : ℕ) (start s t : State) (frames after 
       let o = at_most_once (is_executed (fetch_at s)) in
       omega (arith, f, a, o)
 
-  pub one_more : StacksStep function s frames old true t after new → SoFar function n (i + 1) start t after new
+  pub one_more : StacksStep function s frames old true t after new → AreStacksSoFar function n (i + 1) start t after new
   one_more step =
       let same = step.goes.0 in record {
         within = omega arith;
@@ -145,8 +145,8 @@ module _ (function : ℕ → ℕ) (n i : ℕ) (start s t : State) (frames after 
             let b = step.goes.2 path in
             let k = arrivals_next function path n i frames s under in
             let d = behind_completed (step_of s) s t (λ u. calls_by function path frames (transfer_of s u)
-            + arrivals_in function path (n - (i + 1)) (after_transfer frames (transfer_of s u)) u) step.completed step.state in
-            let e = ap (λ (fs : List Frame). arrivals_in function path (n - (i + 1)) fs t) same in
+            + calls_in function path (n - (i + 1)) (after_transfer frames (transfer_of s u)) u) step.completed step.state in
+            let e = ap (λ (fs : List Frame). calls_in function path (n - (i + 1)) fs t) same in
             let all = h.arrivals path in
             omega (arith, b, k, d, e, all);
       }
@@ -164,7 +164,7 @@ module _ (function : ℕ → ℕ) (n i : ℕ) (start s t : State) (frames after 
         let b = step.goes path in
         let k = arrivals_next function path n i frames s under in
         let d = behind_ended (step_of s) (λ u. calls_by function path frames (transfer_of s u)
-        + arrivals_in function path (n - (i + 1)) (after_transfer frames (transfer_of s u)) u) step.completed in
+        + calls_in function path (n - (i + 1)) (after_transfer frames (transfer_of s u)) u) step.completed in
         let all = h.arrivals path in
         omega (arith, b, k, d, all);
     own = λ f.
@@ -181,7 +181,7 @@ module _ (function : ℕ → ℕ) (n i : ℕ) (start s t : State) (frames after 
   }
 
 pub used_up : (function : ℕ → ℕ) (n i : ℕ) (start s : State) (frames : List Frame) (walk : Walk)
-    → SoFar function n i start s frames walk → n ≤ i → AreNodesOf function n start walk.nodes.items
+    → AreStacksSoFar function n i start s frames walk → n ≤ i → AreNodesOf function n start walk.nodes.items
 used_up function n i start s frames walk h over = record {
   steps = λ path.
       let k = no_steps function path n i frames s over in let all = h.steps path in omega (arith, k, all);
@@ -192,7 +192,7 @@ used_up function n i start s frames walk h over = record {
 }
 
 -- the nodes of a run as spots
-pub stacks_of_nodes : (function : ℕ → ℕ) (n : ℕ) (s : State) (nodes : List Node) (spots : List Spot)
+pub stacks_of_nodes : (function : ℕ → ℕ) (n : ℕ) (s : State) (nodes : List WalkNode) (spots : List Spot)
     → AreNodesOf function n s nodes → ArePreorderOf nodes spots → AreStacksOf function n s spots
 stacks_of_nodes function n s nodes spots h k = record {
   tree = k.tree;

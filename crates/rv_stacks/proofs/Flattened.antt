@@ -8,10 +8,10 @@ use Rattle.rv_count_tables.specs.declared_spot.Spot.{Spot}
 use Rattle.rv_count_tables.specs.Trees.{calls_of_node, sum_over_path, sum_over_nodes, last_path, path_after, steps_if, steps_of, HasCalls, IsTree, FollowsInPreorder}
 use Rattle.rv_count_tables.specs.Trees as spots
 use Rattle.rv_count_tables.proofs.Public.{last_parts, stand_of_parts}
-use Rattle.rv_stacks.specs.declared.flat.Flat.{Flat}
-use Rattle.rv_stacks.specs.declared.node.Node.{Node}
+use Rattle.rv_stacks.specs.declared.preorder.PreorderBuilder.{PreorderBuilder}
+use Rattle.rv_stacks.specs.declared.node.WalkNode.{WalkNode}
 use Rattle.rv_stacks.specs.Nodes.{all_steps, calls_at, is_empty, own_steps_of, path_below, path_of, steps_at, weighted_sum, weighted_sum_after}
-use Rattle.rv_stacks.specs.Walks.{ArePreorderOf, ReturnsToParent, IsPreorderBuilder, IsNextChild, IsTrail, Moves}
+use Rattle.rv_stacks.specs.Walks.{ArePreorderOf, ReturnsToParent, IsPreorderBuilder, IsNextChild, IsTrail, MovesCounts}
 use Rattle.rv_stacks.proofs.Growing.{trail_longer, trail_stays}
 use Rattle.rv_stacks.proofs.Nodes.{first_paths, path_with, paths_with, weighed_with, IsOfSame}
 use Rattle.std.proofs.Common.{length-set}
@@ -39,7 +39,7 @@ no_weight false = refl
 
 -- ---- a node whose counts move
 
-module _ (nodes : List Node) (old new : Flat) (number : ℕ) (node : Node) (depth : ℕ)
+module _ (nodes : List WalkNode) (old new : PreorderBuilder) (number : ℕ) (node : WalkNode) (depth : ℕ)
     (h : IsPreorderBuilder nodes old) (each : (d : ℕ) → IsNextChild (get_or old.trail.items (length old.path.items) d) old.from number nodes)
     (is : node ≡ get_or nodes (number - 1) node) (deep : depth ≡ length old.path.items)
     (path : new.path.items ≡ old.path.items ++ node.function ∷ []) (trail : new.trail.items ≡ old.trail.items ++ number ∷ [])
@@ -54,7 +54,7 @@ module _ (nodes : List Node) (old new : Flat) (number : ℕ) (node : Node) (dept
   abbrev spot : Spot
   spot = record { depth = depth; function = node.function; arrivals = node.arrivals; steps = node.steps }
 
-  abbrev emptied : Node
+  abbrev emptied : WalkNode
   emptied = record { parent = node.parent; function = node.function; arrivals = 0; steps = 0 }
 
   next : IsNextChild parent old.from number nodes
@@ -67,7 +67,7 @@ module _ (nodes : List Node) (old new : Flat) (number : ℕ) (node : Node) (dept
   one = let s = some in omega (arith, s)
 
   same : IsOfSame emptied (get_or nodes (number - 1) node)
-  same = record { parent = ap (λ (x : Node). x.parent) is; function = ap (λ (x : Node). x.function) is }
+  same = record { parent = ap (λ (x : WalkNode). x.parent) is; function = ap (λ (x : WalkNode). x.function) is }
 
   of_parent : path_of parent nodes ≡ old.path.items
   of_parent =
@@ -78,7 +78,7 @@ module _ (nodes : List Node) (old new : Flat) (number : ℕ) (node : Node) (dept
   of_number =
       path_with nodes number some next.within parent node (next.above (number - 1) node one) next.behind
       ∙ ap (λ (p : List ℕ). p ++ (get_or nodes (number - 1) node).function ∷ []) of_parent
-      ∙ ap (λ (x : Node). old.path.items ++ x.function ∷ []) (sym is)
+      ∙ ap (λ (x : WalkNode). old.path.items ++ x.function ∷ []) (sym is)
 
   of_spot : path_after front spot ≡ old.path.items ++ node.function ∷ []
   of_spot =
@@ -100,14 +100,14 @@ module _ (nodes : List Node) (old new : Flat) (number : ℕ) (node : Node) (dept
             let below = h.rising 0 (omega (arith, deep, less)) in
             let at = ap (λ (k : ℕ). get_or front k 0) deep in
             let over = next.rising (number - 1) node one in
-            let own = ap (λ (x : Node). x.function) is in
+            let own = ap (λ (x : WalkNode). x.function) is in
             omega (arith, below, at, over, own);
       }
 
   arrives : 0 < spot.arrivals
   arrives =
       let there = next.some (number - 1) node one in
-      let own = ap (λ (x : Node). x.arrivals) is in
+      let own = ap (λ (x : WalkNode). x.arrivals) is in
       omega (arith, there, own)
 
   flat : IsPreorderBuilder (set nodes (number - 1) emptied) new
@@ -130,7 +130,7 @@ module _ (nodes : List Node) (old new : Flat) (number : ℕ) (node : Node) (dept
       }
 
   -- what it weighed is in the spot
-  moved_weight : (w : List ℕ → Node → ℕ) (before more : ℕ) → more ≡ w (path_of number nodes) node
+  moved_weight : (w : List ℕ → WalkNode → ℕ) (before more : ℕ) → more ≡ w (path_of number nodes) node
       → w (path_of number nodes) emptied ≡ 0
       → before + more + weighted_sum w (set nodes (number - 1) emptied) ≡ before + weighted_sum w nodes
   moved_weight w before more is_more none =
@@ -138,33 +138,33 @@ module _ (nodes : List Node) (old new : Flat) (number : ℕ) (node : Node) (dept
       let here = ap (w (path_of number nodes)) is in
       omega (arith, all, here, is_more, none)
 
-  pub moved : Moves nodes old (set nodes (number - 1) (record { parent = node.parent; function = node.function; arrivals = 0; steps = 0 })) new
+  pub moved : MovesCounts nodes old (set nodes (number - 1) (record { parent = node.parent; function = node.function; arrivals = 0; steps = 0 })) new
   moved = record {
     flat = flat;
     arrivals = λ at.
-        let grown = ap (spots.calls_at at) spot_is ∙ counted_more calls_of_node at [] old.spots.items spot in
+        let extended_block = ap (spots.calls_at at) spot_is ∙ counted_more calls_of_node at [] old.spots.items spot in
         let kept = moved_weight (λ p n. cond (bytes_eq p at) n.arrivals 0) (spots.calls_at at old.spots.items)
         (cond (bytes_eq (path_after front spot) at) spot.arrivals 0)
         (ap (λ (p : List ℕ). cond (bytes_eq p at) node.arrivals 0) of_both) (no_weight (bytes_eq (path_of number nodes) at)) in
-        omega (arith, grown, kept);
+        omega (arith, extended_block, kept);
     steps = λ at.
-        let grown = ap (spots.steps_at at) spot_is ∙ counted_more steps_of at [] old.spots.items spot in
+        let extended_block = ap (spots.steps_at at) spot_is ∙ counted_more steps_of at [] old.spots.items spot in
         let kept = moved_weight (λ p n. cond (bytes_eq p at) n.steps 0) (spots.steps_at at old.spots.items)
         (cond (bytes_eq (path_after front spot) at) spot.steps 0)
         (ap (λ (p : List ℕ). cond (bytes_eq p at) node.steps 0) of_both) (no_weight (bytes_eq (path_of number nodes) at)) in
-        omega (arith, grown, kept);
+        omega (arith, extended_block, kept);
     own = λ f.
-        let grown = ap (spots.own_steps_of f) spot_is ∙ sum_more (λ s. steps_if (s.function == f) s.steps) old.spots.items spot in
+        let extended_block = ap (spots.own_steps_of f) spot_is ∙ sum_more (λ s. steps_if (s.function == f) s.steps) old.spots.items spot in
         let kept = moved_weight (λ p n. steps_if (n.function == f) n.steps) (spots.own_steps_of f old.spots.items)
         (steps_if (node.function == f) node.steps) refl (no_weight (node.function == f)) in
-        omega (arith, grown, kept);
-    all_steps = (let grown = ap spots.all_steps spot_is ∙ sum_more steps_of old.spots.items spot in
+        omega (arith, extended_block, kept);
+    all_steps = (let extended_block = ap spots.all_steps spot_is ∙ sum_more steps_of old.spots.items spot in
         let kept = moved_weight (λ p n. n.steps) (spots.all_steps old.spots.items) node.steps refl refl in
-        omega (arith, grown, kept));
+        omega (arith, extended_block, kept));
   }
 
 -- nothing moves on the way back
-pub went_back : (nodes : List Node) (old new : Flat) → ReturnsToParent nodes old new → Moves nodes old nodes new
+pub went_back : (nodes : List WalkNode) (old new : PreorderBuilder) → ReturnsToParent nodes old new → MovesCounts nodes old nodes new
 went_back nodes old new h = record {
   flat = h.flat;
   arrivals = λ path. ap (λ (ss : List Spot). spots.calls_at path ss + calls_at path nodes) h.spots;
@@ -175,7 +175,7 @@ went_back nodes old new h = record {
 
 -- ---- from the first on
 
-pub no_spot : (nodes : List Node) (flat : Flat) → flat.path.items ≡ [] → flat.trail.items ≡ 0 ∷ [] → flat.spots.items ≡ []
+pub no_spot : (nodes : List WalkNode) (flat : PreorderBuilder) → flat.path.items ≡ [] → flat.trail.items ≡ 0 ∷ [] → flat.spots.items ≡ []
     → IsPreorderBuilder nodes flat
 no_spot nodes flat path trail spots_are =
     let long = ap length path in
@@ -199,14 +199,14 @@ no_spot nodes flat path trail spots_are =
     }
 
 -- what is left of nodes, and what is in spots, is what was counted
-pub record Conserves (start left : List Node) (flat : Flat) : Type 0 where
+pub record Conserves (start left : List WalkNode) (flat : PreorderBuilder) : Type 0 where
   pub standing : IsPreorderBuilder left flat
   pub arrivals : (path : List ℕ) → spots.calls_at path flat.spots.items + calls_at path left ≡ calls_at path start
   pub steps : (path : List ℕ) → spots.steps_at path flat.spots.items + steps_at path left ≡ steps_at path start
   pub own : (f : ℕ) → spots.own_steps_of f flat.spots.items + own_steps_of f left ≡ own_steps_of f start
   pub all_steps : spots.all_steps flat.spots.items + all_steps left ≡ all_steps start
 
-pub none_moved : (nodes : List Node) (flat : Flat) → IsPreorderBuilder nodes flat → flat.spots.items ≡ [] → Conserves nodes nodes flat
+pub none_moved : (nodes : List WalkNode) (flat : PreorderBuilder) → IsPreorderBuilder nodes flat → flat.spots.items ≡ [] → Conserves nodes nodes flat
 none_moved nodes flat h none = record {
   standing = h;
   arrivals = λ path. let e = ap (λ (ss : List Spot). spots.calls_at path ss) none in omega (arith, e);
@@ -215,7 +215,7 @@ none_moved nodes flat h none = record {
   all_steps = (let e = ap (λ (ss : List Spot). spots.all_steps ss) none in omega (arith, e));
 }
 
-pub one_moved : (start before after : List Node) (old new : Flat) → Conserves start before old → Moves before old after new
+pub one_moved : (start before after : List WalkNode) (old new : PreorderBuilder) → Conserves start before old → MovesCounts before old after new
     → Conserves start after new
 one_moved start before after old new h m = record {
   standing = m.flat;
@@ -227,13 +227,13 @@ one_moved start before after old new h m = record {
 
 -- ---- at the end
 
-no_counts : (n : Node) → is_empty n ≡ true → (n.arrivals ≡ 0) × (n.steps ≡ 0)
+no_counts : (n : WalkNode) → is_empty n ≡ true → (n.arrivals ≡ 0) × (n.steps ≡ 0)
 no_counts n h =
     let both = and_parts (n.arrivals == 0) (n.steps == 0) h in
     (eqb-true n.arrivals 0 both.0, eqb-true n.steps 0 both.1)
 
-empty_weight : (w : List ℕ → Node → ℕ) (ps : List (List ℕ)) (ns : List Node)
-    → ((p : List ℕ) (n : Node) → (n.arrivals ≡ 0) × (n.steps ≡ 0) → w p n ≡ 0) → list_all is_empty ns ≡ true
+empty_weight : (w : List ℕ → WalkNode → ℕ) (ps : List (List ℕ)) (ns : List WalkNode)
+    → ((p : List ℕ) (n : WalkNode) → (n.arrivals ≡ 0) × (n.steps ≡ 0) → w p n ≡ 0) → list_all is_empty ns ≡ true
     → weighted_sum_after w ps ns ≡ 0
 empty_weight w ps [] none h = refl
 empty_weight w ps (n ∷ ns) none h =
@@ -246,7 +246,7 @@ zero_if : (b : Bool) (n : ℕ) → n ≡ 0 → cond b n 0 ≡ 0
 zero_if true n h = h
 zero_if false n h = refl
 
-pub all_moved : (start left : List Node) (flat : Flat) → Conserves start left flat → list_all is_empty left ≡ true
+pub all_moved : (start left : List WalkNode) (flat : PreorderBuilder) → Conserves start left flat → list_all is_empty left ≡ true
     → ArePreorderOf start flat.spots.items
 all_moved start left flat h empty = record {
   tree = h.standing.tree;

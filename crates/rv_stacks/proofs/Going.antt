@@ -7,7 +7,7 @@ use Rattle.std.specs.Str.{bytes_eq}
 use Rattle.rv_counting.specs.Coverage.{address_if}
 use Rattle.rv_stacks.specs.declared.walk.Walk.{Walk}
 use Rattle.rv_stacks.specs.Nodes.{all_calls, all_steps, calls_at, own_steps_of, steps_at}
-use Rattle.rv_stacks.specs.Walks.{Arrives, Returns}
+use Rattle.rv_stacks.specs.Walks.{Enters, ReturnsTo}
 use Rattle.rv_stacks.specs.StackSteps.{ContinuesIn}
 
 equal_test : (x y : ℕ) → x ≡ y → (x == y) ≡ true
@@ -27,7 +27,7 @@ module _ (old new : Walk) (depth function x : ℕ) (within : depth < length old.
   at_depth : get_or old.path.items depth 0 ≡ x
   at_depth = get_or_default old.path.items depth 0 x within ∙ sym is
 
-  pub goes_on_there : x ≡ function → Returns (depth + 1) old new → ContinuesIn depth function old new
+  pub goes_on_there : x ≡ function → ReturnsTo (depth + 1) old new → ContinuesIn depth function old new
   goes_on_there same back =
       let path : new.path.items ≡ take depth old.path.items ++ function ∷ [] =
       back.path ∙ take_more old.path.items depth x within
@@ -46,7 +46,7 @@ module _ (old new : Walk) (depth function x : ℕ) (within : depth < length old.
         all_steps = ap all_steps back.nodes;
       }
 
-  pub goes_elsewhere : (x ≡ function → ⊥) → Arrives (take depth old.path.items ++ function ∷ []) old new
+  pub goes_elsewhere : (x ≡ function → ⊥) → Enters (take depth old.path.items ++ function ∷ []) old new
       → ContinuesIn depth function old new
   goes_elsewhere other arrives =
       let test : (get_or old.path.items depth 0 == function) ≡ false =

@@ -5,10 +5,10 @@ use Rattle.std.proofs.lemmas.List.{get_or_append_left, take-append-le, take_all}
 use Rattle.std.proofs.Math.Seq.{get_or-append_seam}
 use Rattle.std.specs.Str.{bytes_eq}
 use Rattle.rv_count_tables.specs.Trees.{ends_with, address_if, steps_if}
-use Rattle.rv_stacks.specs.declared.node.Node.{Node}
+use Rattle.rv_stacks.specs.declared.node.WalkNode.{WalkNode}
 use Rattle.rv_stacks.specs.declared.walk.Walk.{Walk}
 use Rattle.rv_stacks.specs.Nodes.{all_calls, all_steps, calls_at, own_steps_of, path_below, paths_appended, path_of, paths_of, steps_at, weighted_sum, EntersOnce, HasChild, IsChild, KeepsPaths, StepsMore, times_if}
-use Rattle.rv_stacks.specs.Walks.{Arrives, IsTrail, Returns}
+use Rattle.rv_stacks.specs.Walks.{Enters, IsTrail, ReturnsTo}
 use Rattle.rv_stacks.proofs.Nodes.{first_paths, long_paths, path_with, paths_more, paths_with, weighed_more, weighed_with, IsOfSame}
 
 -- what stands at number 0
@@ -17,10 +17,10 @@ root = [] ∷ []
 
 -- ---- a child
 
-abbrev nothing : Node
+abbrev nothing : WalkNode
 nothing = record { parent = 0; function = 0; arrivals = 0; steps = 0 }
 
-pub found_child : (parent function number : ℕ) (nodes : List Node) → IsChild parent function number nodes
+pub found_child : (parent function number : ℕ) (nodes : List WalkNode) → IsChild parent function number nodes
     → HasChild parent function nodes number nodes
 found_child parent function number nodes h =
     let behind = h.behind in
@@ -43,14 +43,14 @@ no_weight : (b : Bool) → ◌≡◌ {A = ℕ} (cond b 0 0) 0
 no_weight true = refl
 no_weight false = refl
 
-module _ (parent function : ℕ) (nodes : List Node) (within : parent < length nodes + 1) where
-  abbrev fresh : Node
+module _ (parent function : ℕ) (nodes : List WalkNode) (within : parent < length nodes + 1) where
+  abbrev fresh : WalkNode
   fresh = record { parent = parent; function = function; arrivals = 0; steps = 0 }
 
-  abbrev grown : List Node
-  grown = nodes ++ fresh ∷ []
+  abbrev extended_block : List WalkNode
+  extended_block = nodes ++ fresh ∷ []
 
-  same_weight : (w : List ℕ → Node → ℕ) → ((p : List ℕ) → w p fresh ≡ 0) → weighted_sum w grown ≡ weighted_sum w nodes
+  same_weight : (w : List ℕ → WalkNode → ℕ) → ((p : List ℕ) → w p fresh ≡ 0) → weighted_sum w extended_block ≡ weighted_sum w nodes
   same_weight w none =
       let more = weighed_more w ([] ∷ []) nodes fresh in
       let zero = none (path_below (paths_of nodes) fresh) in
@@ -65,7 +65,7 @@ module _ (parent function : ℕ) (nodes : List Node) (within : parent < length n
         some = omega (arith, is);
         within = omega (arith, is, one);
         longer = omega (arith, one);
-        path = ap (λ (k : ℕ). path_of k grown) at
+        path = ap (λ (k : ℕ). path_of k extended_block) at
             ∙ ap (λ (ps : List (List ℕ)). get_or ps (length (paths_of nodes)) []) (paths_more ([] ∷ []) nodes fresh)
             ∙ get_or-append_seam (paths_of nodes) (path_below (paths_of nodes) fresh) [] [];
         paths = λ k less.
@@ -90,7 +90,7 @@ last_of f (y ∷ []) x = refl
 last_of f (y ∷ z ∷ zs) x = last_of f (z ∷ zs) x
 
 -- the functions of a node end with its own
-ends_at : (ps : List (List ℕ)) (ns : List Node) (place : ℕ) (d : Node) (f : ℕ) → place < length ns
+ends_at : (ps : List (List ℕ)) (ns : List WalkNode) (place : ℕ) (d : WalkNode) (f : ℕ) → place < length ns
     → ends_with f (get_or (paths_appended ps ns) (length ps + place) []) ≡ ((get_or ns place d).function == f)
 ends_at ps [] place d f within = absurd (omega (arith, within))
 ends_at ps (m ∷ ms) zero d f within =
@@ -108,22 +108,22 @@ ends_at ps (m ∷ ms) (suc place) d f within =
     ap (λ (k : ℕ). ends_with f (get_or (paths_appended longer ms) k [])) at
     ∙ ends_at longer ms place d f (omega (arith, within))
 
-module _ (nodes : List Node) (number : ℕ) (some : 0 < number) (within : number < length nodes + 1) (old : Node)
+module _ (nodes : List WalkNode) (number : ℕ) (some : 0 < number) (within : number < length nodes + 1) (old : WalkNode)
     (is : old ≡ get_or nodes (number - 1) old) where
-  same_of : (n : Node) → n.parent ≡ old.parent → n.function ≡ old.function → IsOfSame n (get_or nodes (number - 1) old)
+  same_of : (n : WalkNode) → n.parent ≡ old.parent → n.function ≡ old.function → IsOfSame n (get_or nodes (number - 1) old)
   same_of n above own = record {
-    parent = above ∙ ap (λ (x : Node). x.parent) is;
-    function = own ∙ ap (λ (x : Node). x.function) is;
+    parent = above ∙ ap (λ (x : WalkNode). x.parent) is;
+    function = own ∙ ap (λ (x : WalkNode). x.function) is;
   }
 
-  kept : (n : Node) → n.parent ≡ old.parent → n.function ≡ old.function → KeepsPaths nodes (set nodes (number - 1) n)
+  kept : (n : WalkNode) → n.parent ≡ old.parent → n.function ≡ old.function → KeepsPaths nodes (set nodes (number - 1) n)
   kept n above own = record {
     long = length-set nodes (number - 1) n;
     paths = paths_with nodes number some within n old (same_of n above own);
   }
 
   -- so much more
-  more : (w : List ℕ → Node → ℕ) (n : Node) (m : ℕ) → n.parent ≡ old.parent → n.function ≡ old.function
+  more : (w : List ℕ → WalkNode → ℕ) (n : WalkNode) (m : ℕ) → n.parent ≡ old.parent → n.function ≡ old.function
       → w (path_of number nodes) n ≡ w (path_of number nodes) old + m
       → weighted_sum w (set nodes (number - 1) n) ≡ weighted_sum w nodes + m
   more w n m above own grows =
@@ -131,7 +131,7 @@ module _ (nodes : List Node) (number : ℕ) (some : 0 < number) (within : number
       let here = ap (w (path_of number nodes)) is in
       omega (arith, all, here, grows)
 
-  same : (w : List ℕ → Node → ℕ) (n : Node) → n.parent ≡ old.parent → n.function ≡ old.function
+  same : (w : List ℕ → WalkNode → ℕ) (n : WalkNode) → n.parent ≡ old.parent → n.function ≡ old.function
       → w (path_of number nodes) n ≡ w (path_of number nodes) old → weighted_sum w (set nodes (number - 1) n) ≡ weighted_sum w nodes
   same w n above own stays =
       let all = more w n 0 above own (omega (arith, stays)) in omega (arith, all)
@@ -141,12 +141,12 @@ module _ (nodes : List Node) (number : ℕ) (some : 0 < number) (within : number
       let at : number ≡ length root + (number - 1) = omega (arith, some) in
       ap (λ (k : ℕ). ends_with f (path_of k nodes)) at
       ∙ ends_at root nodes (number - 1) old f (omega (arith, some, within))
-      ∙ ap (λ (x : Node). x.function == f) (sym is)
+      ∙ ap (λ (x : WalkNode). x.function == f) (sym is)
 
   pub arrived_once : EntersOnce number nodes
       (set nodes (number - 1) (record { parent = old.parent; function = old.function; arrivals = old.arrivals + 1; steps = old.steps }))
   arrived_once =
-      let n : Node = record { parent = old.parent; function = old.function; arrivals = old.arrivals + 1; steps = old.steps } in record {
+      let n : WalkNode = record { parent = old.parent; function = old.function; arrivals = old.arrivals + 1; steps = old.steps } in record {
         kept = kept n refl refl;
         arrivals = λ path. more (λ p x. cond (bytes_eq p path) x.arrivals 0) n (address_if (bytes_eq (path_of number nodes) path)) refl refl
             (sum_if (bytes_eq (path_of number nodes) path) old.arrivals 1);
@@ -159,7 +159,7 @@ module _ (nodes : List Node) (number : ℕ) (some : 0 < number) (within : number
   pub stepped_more : (k : ℕ) → StepsMore k number nodes
       (set nodes (number - 1) (record { parent = old.parent; function = old.function; arrivals = old.arrivals; steps = old.steps + k }))
   stepped_more k =
-      let n : Node = record { parent = old.parent; function = old.function; arrivals = old.arrivals; steps = old.steps + k } in record {
+      let n : WalkNode = record { parent = old.parent; function = old.function; arrivals = old.arrivals; steps = old.steps + k } in record {
         kept = kept n refl refl;
         arrivals = λ path. same (λ p x. cond (bytes_eq p path) x.arrivals 0) n refl refl refl;
         steps = λ path. more (λ p x. cond (bytes_eq p path) x.steps 0) n (times_if k (bytes_eq (path_of number nodes) path)) refl refl
@@ -174,7 +174,7 @@ module _ (nodes : List Node) (number : ℕ) (some : 0 < number) (within : number
 -- ---- trails
 
 -- nodes that keep the functions of the first
-pub trail_kept : (old new : List Node) (path trail : List ℕ) → IsTrail old path trail → length old ≤ length new
+pub trail_kept : (old new : List WalkNode) (path trail : List ℕ) → IsTrail old path trail → length old ≤ length new
     → ((k : ℕ) → k < length old + 1 → path_of k new ≡ path_of k old) → IsTrail new path trail
 trail_kept old new path trail h longer paths = record {
   long = h.long;
@@ -182,13 +182,13 @@ trail_kept old new path trail h longer paths = record {
   paths = λ k d less. paths (get_or trail k d) (h.within k d less) ∙ h.paths k d less;
 }
 
-pub trail_stays : (old new : List Node) (path trail : List ℕ) → IsTrail old path trail → KeepsPaths old new → IsTrail new path trail
+pub trail_stays : (old new : List WalkNode) (path trail : List ℕ) → IsTrail old path trail → KeepsPaths old new → IsTrail new path trail
 trail_stays old new path trail h keeps =
     let same = keeps.long in
     trail_kept old new path trail h (omega (arith, same)) (λ k less. ap (λ (ps : List (List ℕ)). get_or ps k []) keeps.paths)
 
 -- a node more
-pub trail_longer : (nodes : List Node) (path trail : List ℕ) (function number : ℕ) → IsTrail nodes path trail
+pub trail_longer : (nodes : List WalkNode) (path trail : List ℕ) (function number : ℕ) → IsTrail nodes path trail
     → number < length nodes + 1 → path_of number nodes ≡ path ++ function ∷ []
     → IsTrail nodes (path ++ function ∷ []) (trail ++ number ∷ [])
 trail_longer nodes path trail function number h within here =
@@ -221,11 +221,11 @@ some_number w zero here some =
     absurd (omega (arith, none, some))
 some_number w (suc number) here some = omega arith
 
-pub arrived : (old mid new : Walk) (parent depth function number : ℕ) (made : List Node) → Returns depth old mid
+pub arrived : (old mid new : Walk) (parent depth function number : ℕ) (made : List WalkNode) → ReturnsTo depth old mid
     → path_of parent mid.nodes.items ≡ mid.path.items
     → HasChild parent function mid.nodes.items number made → EntersOnce number made new.nodes.items
     → new.path.items ≡ mid.path.items ++ function ∷ [] → new.trail.items ≡ mid.trail.items ++ number ∷ []
-    → Arrives (take depth old.path.items ++ function ∷ []) old new
+    → Enters (take depth old.path.items ++ function ∷ []) old new
 arrived old mid new parent depth function number made back here child once path trail =
     let own = function ∷ [] in
     let there : path_of number made ≡ mid.path.items ++ own = child.path ∙ ap (λ (p : List ℕ). p ++ own) here in

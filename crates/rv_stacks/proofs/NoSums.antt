@@ -10,8 +10,8 @@ use Rattle.rv_count_tables.specs.declared.sum.SumError.{SumError}
 use Rattle.rv_count_tables.specs.declared.sum.SumError.TheVariants.{OutOfMemory, Count, Spot, Names, Runs}
 use Rattle.rv_count_tables.specs.declared.table.CountTable.{CountTable}
 use Rattle.rv_count_tables.specs.Sum.{HaveNoSum}
-use Rattle.rv_count_tables.specs.Table.{executed_in, arrivals_in, steps_in}
-use Rattle.rv_counting.specs.JobTables.{executed_by, executed_from, jobs_at, runs_by, start_over}
+use Rattle.rv_count_tables.specs.Table.{executed_in, calls_in, steps_in}
+use Rattle.rv_counting.specs.JobTables.{executed_by, executed_from, jobs_at, runs_by, start_state_of_image}
 use Rattle.rv_counting.proofs.Public.{not_over}
 use Rattle.rv_counting.specs.declared_answers.Answer.{Answer}
 use Rattle.rv_counting.specs.State.{State}
@@ -28,19 +28,19 @@ use Rattle.rv_stacks.proofs.WithStacks.{of_places, IsOfJobs}
 
 record IsSmall (n : ℕ) (t : CountTable) : Type 0 where
   pub begun : (digest : List ℕ) (address : ℕ) → executed_in digest address t.images ≤ n * 2 ^ 34
-  pub arrivals : (digest path : List ℕ) → arrivals_in digest path t.images ≤ n * 2 ^ 34
+  pub arrivals : (digest path : List ℕ) → calls_in digest path t.images ≤ n * 2 ^ 34
   pub steps : (digest path : List ℕ) → steps_in digest path t.images ≤ n * 2 ^ 34
   pub runs : t.runs ≤ n * 2 ^ 34
 
 few_if_run : (answers : List Answer) (job : Job) (digest : List ℕ) (count : ℕ → Option State → ℕ)
     → ((n : ℕ) (o : Option State) → count n o ≤ 1 + n + n) → ((n : ℕ) → count n None ≡ 0) → RunsWithinABudget answers job
-    → count job.budget (start_over answers digest job) ≤ 2 ^ 34
+    → count job.budget (start_state_of_image answers digest job) ≤ 2 ^ 34
 few_if_run answers job digest count few zero_of_none small = by (start_in answers job) refl
   where
-    by : (r : Result State Refusal) → start_in answers job ≡ r → count job.budget (start_over answers digest job) ≤ 2 ^ 34
+    by : (r : Result State Refusal) → start_in answers job ≡ r → count job.budget (start_state_of_image answers digest job) ≤ 2 ^ 34
     by (Ok s) start =
         let budget = small s start in
-        let k = few job.budget (start_over answers digest job) in
+        let k = few job.budget (start_state_of_image answers digest job) in
         omega (arith, budget, k)
     by (Err why) start =
         let none = not_over answers job digest (ap (λ (r : Result State Refusal). result_ok r) start) in

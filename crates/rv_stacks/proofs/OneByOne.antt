@@ -9,7 +9,7 @@ use Rattle.rv_count_tables.specs.declared.table.CountTable.{CountTable}
 use Rattle.rv_count_tables.specs.Sum.{IsSumOfTables, no_counts}
 use Rattle.rv_counting.proofs.Public.{run_added, run_ended, NextRefused}
 use Rattle.rv_counting.specs.JobTables.{jobs_at}
-use Rattle.rv_counting.specs.TableSums.{sum_of_run, Added, AreTablesAdded}
+use Rattle.rv_counting.specs.TableSums.{sum_of_run, TableSumView, AreTablesAdded}
 use Rattle.rv_counting.specs.declared_engine.RunError.{RunError}
 use Rattle.rv_counting.specs.declared_listener.Flow.{Flow}
 use Rattle.rv_counting.specs.Results.{IsRunDelivered}
@@ -30,7 +30,7 @@ module _ (plan : Planned) where
       (of_both plan.answers (jobs_at plan ps) (jobs_at plan (p ∷ [])) t u next (of_places plan ps t h)
       (of_places plan (p ∷ []) u one) sums))
 
-  module _ (places : List ℕ) (added : Added) (ran : Result Flow RunError)
+  module _ (places : List ℕ) (added : TableSumView) (ran : Result Flow RunError)
       (received : IsRunDelivered (λ n u. IsTableWithStacks plan (get_or places n 0 ∷ []) u) (length places)
       (λ ts. AreTablesAdded added.sum added.failed (map (λ (u : CountTable). u) ts)) (is_some added.failed ≡ true) ran) where
     abbrev OfFirst : ℕ → CountTable → Type 0

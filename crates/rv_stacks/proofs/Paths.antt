@@ -8,12 +8,12 @@ use Rattle.rv_calls.specs.declared.action.StackAction.{StackAction}
 use Rattle.rv_calls.specs.declared.action.StackAction.TheVariants as action
 use Rattle.rv_calls.specs.declared.frames.Frame.{Frame}
 use Rattle.rv_calls.specs.declared.transfer.Transfer.{Transfer}
-use Rattle.rv_calls.specs.Stack.{after_transfer, depth_below, remaining_depth, depth_up_to_return, frame_of, is_pushed, popped}
+use Rattle.rv_calls.specs.Stack.{after_transfer, depth_below, remaining_depth, depth_up_to_return, frame_of, is_pushed, after_pop}
 use Rattle.rv_counting.specs.Coverage.{address_if}
 use Rattle.rv_stacks.specs.declared.walk.Walk.{Walk}
-use Rattle.rv_stacks.specs.Walks.{Arrives}
-use Rattle.rv_stacks.specs.Stacks.{back_at, calls_to, continues_at, jumps_to, path_at}
-use Rattle.rv_stacks.specs.StackSteps.{Follows, ContinuesIn, IsAt}
+use Rattle.rv_stacks.specs.Walks.{Enters}
+use Rattle.rv_stacks.specs.Stacks.{address_after_pops, calls_to, continues_at, jumps_to, path_at}
+use Rattle.rv_stacks.specs.StackSteps.{FollowsTransfer, ContinuesIn, IsAt}
 
 -- ---- what is left of frames
 
@@ -25,7 +25,7 @@ after_return true up above all h k = k
 after_return false up above all h k = omega arith
 
 left_of_action : (a : StackAction) (to sp : ℕ) (frames : List Frame) → remaining_depth a to sp frames ≤ length frames
-left_of_action action.Keep to sp frames = omega arith
+left_of_action action.NoEffect to sp frames = omega arith
 left_of_action action.Push to sp frames = omega arith
 left_of_action action.Pop to sp frames =
     after_return (depth_up_to_return to frames == 0) (depth_up_to_return to frames) _ (length frames) (omega arith) (omega arith)
@@ -42,11 +42,11 @@ module _ (function : ℕ → ℕ) (frames : List Frame) (t : Transfer) where
   within : left ≤ length frames
   within = left_of_action t.action t.to t.sp frames
 
-  long_popped : length (popped frames t) ≡ left
+  long_popped : length (after_pop frames t) ≡ left
   long_popped = length-take-le left frames within
 
   -- the functions of the callers that are left
-  first_left : (pc : ℕ) → take left (path_at function frames pc) ≡ callers (popped frames t)
+  first_left : (pc : ℕ) → take left (path_at function frames pc) ≡ callers (after_pop frames t)
   first_left pc =
       let long = length-map frames (λ (f : Frame). function f.call) in
       let w = within in
@@ -54,7 +54,7 @@ module _ (function : ℕ → ℕ) (frames : List Frame) (t : Transfer) where
       ∙ take-map (λ (f : Frame). function f.call) left frames
 
   -- behind them stands the function where control is back
-  back_there : get_or (path_at function frames t.from) left 0 ≡ function (back_at frames t)
+  back_there : get_or (path_at function frames t.from) left 0 ≡ function (address_after_pops frames t)
   back_there =
       let long = length-map frames (λ (f : Frame). function f.call) in
       let w = within in
@@ -72,40 +72,40 @@ module _ (function : ℕ → ℕ) (frames : List Frame) (t : Transfer) where
 
   -- ---- with a call
 
-  module _ (calls : is_pushed (popped frames t) t ≡ true) where
-    after_call : after_transfer frames t ≡ popped frames t ++ frame_of t ∷ []
+  module _ (calls : is_pushed (after_pop frames t) t ≡ true) where
+    after_call : after_transfer frames t ≡ after_pop frames t ++ frame_of t ∷ []
     unfolding after_transfer
-    after_call = ap (λ (b : Bool). cond b (popped frames t ++ frame_of t ∷ []) (popped frames t)) calls
+    after_call = ap (λ (b : Bool). cond b (after_pop frames t ++ frame_of t ∷ []) (after_pop frames t)) calls
 
     at_call : continues_at frames t ≡ t.from
     at_call = ap (λ (b : Bool). cond b t.from t.to) calls
 
-    path_of_call : path_at function (after_transfer frames t) t.to ≡ path_at function (popped frames t) t.from ++ function t.to ∷ []
+    path_of_call : path_at function (after_transfer frames t) t.to ≡ path_at function (after_pop frames t) t.from ++ function t.to ∷ []
     path_of_call =
         ap (λ (fs : List Frame). path_at function fs t.to) after_call
-        ∙ ap (λ (fs : List ℕ). fs ++ function t.to ∷ []) (map-append (λ (f : Frame). function f.call) (popped frames t) (frame_of t ∷ []))
+        ∙ ap (λ (fs : List ℕ). fs ++ function t.to ∷ []) (map-append (λ (f : Frame). function f.call) (after_pop frames t) (frame_of t ∷ []))
 
     pub follows_call : (old mid new : Walk) (caller called : ℕ) → IsAt function frames t.from old → ContinuesIn left caller old mid
         → caller ≡ function t.from → called ≡ function t.to
-        → Arrives (take (left + 1) mid.path.items ++ called ∷ []) mid new → Follows function frames t old new
+        → Enters (take (left + 1) mid.path.items ++ called ∷ []) mid new → FollowsTransfer function frames t old new
     follows_call old mid new caller called at on from to arrives =
-        let path = path_at function (popped frames t) t.from in
+        let path = path_at function (after_pop frames t) t.from in
         let came : take left old.path.items ++ caller ∷ [] ≡ path =
         λ i. (ap (take left) at.path ∙ first_left t.from) i ++ from i ∷ [] in
         let mid_path : mid.path.items ≡ path = on.path ∙ came in
         let long : length path ≡ left + 1 =
-        let a = length-append (callers (popped frames t)) (function t.from ∷ []) in
-        let b = length-map (popped frames t) (λ (f : Frame). function f.call) in
+        let a = length-append (callers (after_pop frames t)) (function t.from ∷ []) in
+        let b = length-map (after_pop frames t) (λ (f : Frame). function f.call) in
         let c = long_popped in omega (arith, a, b, c) in
         let whole : take (left + 1) mid.path.items ≡ path =
         ap (take (left + 1)) mid_path ∙ take_all (left + 1) path (omega (arith, long)) in
         let behind : take (left + 1) mid.path.items ++ called ∷ [] ≡ path_at function (after_transfer frames t) t.to =
         (λ i. whole i ++ to i ∷ []) ∙ sym path_of_call in
-        let back : get_or old.path.items left 0 ≡ function (back_at frames t) =
+        let back : get_or old.path.items left 0 ≡ function (address_after_pops frames t) =
         ap (λ (p : List ℕ). get_or p left 0) at.path ∙ back_there in
         let next : caller ≡ function (continues_at frames t) = from ∙ ap function (sym at_call) in
-        let went : take left old.path.items ++ caller ∷ [] ≡ path_at function (popped frames t) (continues_at frames t) =
-        came ∙ ap (path_at function (popped frames t)) (sym at_call) in record {
+        let went : take left old.path.items ++ caller ∷ [] ≡ path_at function (after_pop frames t) (continues_at frames t) =
+        came ∙ ap (path_at function (after_pop frames t)) (sym at_call) in record {
           at = record { walk = arrives.walk; path = arrives.path ∙ behind };
           arrivals = λ at_path.
               let a = on.arrivals at_path in
@@ -126,24 +126,24 @@ module _ (function : ℕ → ℕ) (frames : List Frame) (t : Transfer) where
 
   -- ---- without
 
-  module _ (jumps : is_pushed (popped frames t) t ≡ false) where
-    after_jump : after_transfer frames t ≡ popped frames t
+  module _ (jumps : is_pushed (after_pop frames t) t ≡ false) where
+    after_jump : after_transfer frames t ≡ after_pop frames t
     unfolding after_transfer
-    after_jump = ap (λ (b : Bool). cond b (popped frames t ++ frame_of t ∷ []) (popped frames t)) jumps
+    after_jump = ap (λ (b : Bool). cond b (after_pop frames t ++ frame_of t ∷ []) (after_pop frames t)) jumps
 
     at_jump : continues_at frames t ≡ t.to
     at_jump = ap (λ (b : Bool). cond b t.from t.to) jumps
 
     pub follows_jump : (old new : Walk) (function_to : ℕ) → IsAt function frames t.from old → ContinuesIn left function_to old new
-        → function_to ≡ function t.to → Follows function frames t old new
+        → function_to ≡ function t.to → FollowsTransfer function frames t old new
     follows_jump old new function_to at on to =
-        let came : take left old.path.items ++ function_to ∷ [] ≡ path_at function (popped frames t) t.to =
+        let came : take left old.path.items ++ function_to ∷ [] ≡ path_at function (after_pop frames t) t.to =
         λ i. (ap (take left) at.path ∙ first_left t.from) i ++ to i ∷ [] in
-        let back : get_or old.path.items left 0 ≡ function (back_at frames t) =
+        let back : get_or old.path.items left 0 ≡ function (address_after_pops frames t) =
         ap (λ (p : List ℕ). get_or p left 0) at.path ∙ back_there in
         let next : function_to ≡ function (continues_at frames t) = to ∙ ap function (sym at_jump) in
-        let went : take left old.path.items ++ function_to ∷ [] ≡ path_at function (popped frames t) (continues_at frames t) =
-        came ∙ ap (path_at function (popped frames t)) (sym at_jump) in record {
+        let went : take left old.path.items ++ function_to ∷ [] ≡ path_at function (after_pop frames t) (continues_at frames t) =
+        came ∙ ap (path_at function (after_pop frames t)) (sym at_jump) in record {
           at = record {
             walk = on.walk;
             path = on.path ∙ came ∙ ap (λ (fs : List Frame). path_at function fs t.to) (sym after_jump);
@@ -164,19 +164,19 @@ module _ (function : ℕ → ℕ) (frames : List Frame) (t : Transfer) where
 
 -- ---- which of both it was
 
-pushed_length : (frames : List Frame) (t : Transfer) (b : Bool) → is_pushed (popped frames t) t ≡ b
-    → length (after_transfer frames t) ≡ length (popped frames t) + cond b 1 0
+pushed_length : (frames : List Frame) (t : Transfer) (b : Bool) → is_pushed (after_pop frames t) t ≡ b
+    → length (after_transfer frames t) ≡ length (after_pop frames t) + cond b 1 0
 unfolding after_transfer
 pushed_length frames t false is =
-    let e = ap (λ (b : Bool). length (cond b (popped frames t ++ frame_of t ∷ []) (popped frames t))) is in omega (arith, e)
+    let e = ap (λ (b : Bool). length (cond b (after_pop frames t ++ frame_of t ∷ []) (after_pop frames t))) is in omega (arith, e)
 pushed_length frames t true is =
-    let e = ap (λ (b : Bool). length (cond b (popped frames t ++ frame_of t ∷ []) (popped frames t))) is in
-    let one = length-append (popped frames t) (frame_of t ∷ []) in
+    let e = ap (λ (b : Bool). length (cond b (after_pop frames t ++ frame_of t ∷ []) (after_pop frames t))) is in
+    let one = length-append (after_pop frames t) (frame_of t ∷ []) in
     omega (arith, e, one)
 
 pub is_call : (frames : List Frame) (t : Transfer) → remaining_depth t.action t.to t.sp frames < length (after_transfer frames t)
-    → is_pushed (popped frames t) t ≡ true
-is_call frames t more = elim (cases_Bool (is_pushed (popped frames t) t)) [
+    → is_pushed (after_pop frames t) t ≡ true
+is_call frames t more = elim (cases_Bool (is_pushed (after_pop frames t) t)) [
   | inl hit ↦ hit
   | inr miss ↦ let e = pushed_length frames t false miss in
       let l = long_popped (λ n. n) frames t in
@@ -184,8 +184,8 @@ is_call frames t more = elim (cases_Bool (is_pushed (popped frames t) t)) [
 ]
 
 pub is_jump : (frames : List Frame) (t : Transfer) → length (after_transfer frames t) ≤ remaining_depth t.action t.to t.sp frames
-    → is_pushed (popped frames t) t ≡ false
-is_jump frames t less = elim (cases_Bool (is_pushed (popped frames t) t)) [
+    → is_pushed (after_pop frames t) t ≡ false
+is_jump frames t less = elim (cases_Bool (is_pushed (after_pop frames t) t)) [
   | inl hit ↦ let e = pushed_length frames t true hit in
       let l = long_popped (λ n. n) frames t in
       absurd (omega (arith, e, l, less))

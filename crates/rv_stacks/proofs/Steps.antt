@@ -14,13 +14,13 @@ use Rattle.rv_counting.specs.State.{State}
 use Rattle.rv_stacks.specs.declared.walk.Walk.{Walk}
 use Rattle.rv_count_tables.specs.Trees.{ends_with}
 use Rattle.rv_stacks.specs.Nodes.{all_steps, own_steps_of, steps_at}
-use Rattle.rv_stacks.specs.Walks.{Steps}
+use Rattle.rv_stacks.specs.Walks.{CountsSteps}
 use Rattle.rv_stacks.specs.Stacks.{calls_by, path_at}
-use Rattle.rv_stacks.specs.StackSteps.{CountsStepIf, Follows, IsAt, StacksStep}
+use Rattle.rv_stacks.specs.StackSteps.{CountsStepIf, FollowsTransfer, IsAt, StacksStep}
 
 -- ---- counted or not
 
-pub counted : (old new : Walk) → Steps 1 old new → CountsStepIf true old new
+pub counted : (old new : Walk) → CountsSteps 1 old new → CountsStepIf true old new
 counted old new h = record {
   walk = h.walk;
   path = h.path;
@@ -99,12 +99,12 @@ ended_step function s t frames after begun old new at over is same counts = reco
 
 pub whole_step : (function : ℕ → ℕ) (s t : State) (tr : Transfer) (frames after : List Frame) (old mid new : Walk)
     → IsAt function frames s.pc old → step_of s ≡ Ok t → tr ≡ transfer_of s t → is_executed (fetch_at s) ≡ true
-    → CountsStepIf true old mid → after ≡ after_transfer frames tr → Follows function frames tr mid new
+    → CountsStepIf true old mid → after ≡ after_transfer frames tr → FollowsTransfer function frames tr mid new
     → StacksStep function s frames old true t after new
 whole_step function s t tr frames after old mid new at steps is begun counts frames_are follows =
     let there : after ≡ after_transfer frames (transfer_of s t) = frames_are ∙ ap (after_transfer frames) is in
-    let goes : Follows function frames (transfer_of s t) mid new =
-    subst (λ (x : Transfer). Follows function frames x mid new) is follows in record {
+    let goes : FollowsTransfer function frames (transfer_of s t) mid new =
+    subst (λ (x : Transfer). FollowsTransfer function frames x mid new) is follows in record {
       walk = goes.at.walk;
       completed = ap completes (sym steps);
       state = subst (λ (r : Result State Ending). IsStateAfter r s t) (sym steps) refl;

@@ -2,76 +2,76 @@
 use Rattle.std.specs.Prelude.{◌≡◌, ◌==◌, ◌+◌, ◌<◌, ◌≤◌, ◌&&◌, ℕ, Bool, if◌then◌else◌, List, [], ◌∷◌, ◌++◌, length, slice_index_or}
 use Rattle.std.specs.Str.{bytes_eq}
 use Rattle.rv_count_tables.specs.Trees.{ends_with, address_if, steps_if}
-use Rattle.rv_stacks.specs.declared.node.Node.{Node}
+use Rattle.rv_stacks.specs.declared.node.WalkNode.{WalkNode}
 
 -- ---- the path of a node
 
 -- the path of a node: its parent's path, which is in `paths` at the parent's number, followed by the node's own function
-abbrev pub path_below : List (List ℕ) → Node → List ℕ
+abbrev pub path_below : List (List ℕ) → WalkNode → List ℕ
 path_below paths n = slice_index_or paths n.parent [] ++ n.function ∷ []
 
 -- the paths `paths`, followed by the path of each of these nodes
-abbrev pub paths_appended : List (List ℕ) → List Node → List (List ℕ)
+abbrev pub paths_appended : List (List ℕ) → List WalkNode → List (List ℕ)
 paths_appended paths [] = paths
 paths_appended paths (n ∷ ns) = paths_appended (paths ++ path_below paths n ∷ []) ns
 
 -- the list of the nodes' paths, indexed by node number; number 0, which is no node, has the empty path
-abbrev pub paths_of : List Node → List (List ℕ)
+abbrev pub paths_of : List WalkNode → List (List ℕ)
 paths_of nodes = paths_appended ([] ∷ []) nodes
 
 -- the path of the node `number`; empty if the number is 0
-abbrev pub path_of : ℕ → List Node → List ℕ
+abbrev pub path_of : ℕ → List WalkNode → List ℕ
 path_of number nodes = slice_index_or (paths_of nodes) number []
 
 -- ---- counts
 
 -- the sum of `weight` over these nodes, where `weight` depends on the node's path and the node; `paths` are the paths of the nodes before
 -- them
-abbrev pub weighted_sum_after : (List ℕ → Node → ℕ) → List (List ℕ) → List Node → ℕ
+abbrev pub weighted_sum_after : (List ℕ → WalkNode → ℕ) → List (List ℕ) → List WalkNode → ℕ
 weighted_sum_after weight paths [] = 0
 weighted_sum_after weight paths (n ∷ ns) =
     weight (path_below paths n) n + weighted_sum_after weight (paths ++ path_below paths n ∷ []) ns
 
 -- the sum of `weight` over all nodes, where `weight` depends on the node's path and the node
-abbrev pub weighted_sum : (List ℕ → Node → ℕ) → List Node → ℕ
+abbrev pub weighted_sum : (List ℕ → WalkNode → ℕ) → List WalkNode → ℕ
 weighted_sum weight nodes = weighted_sum_after weight ([] ∷ []) nodes
 
 -- how often a run entered the path `path`, according to the counts of the nodes
-abbrev pub calls_at : List ℕ → List Node → ℕ
+abbrev pub calls_at : List ℕ → List WalkNode → ℕ
 calls_at path nodes = weighted_sum (λ p n. if bytes_eq p path then n.arrivals else 0) nodes
 
 -- how many instructions a run executed on the path `path`, according to the counts of the nodes
-abbrev pub steps_at : List ℕ → List Node → ℕ
+abbrev pub steps_at : List ℕ → List WalkNode → ℕ
 steps_at path nodes = weighted_sum (λ p n. if bytes_eq p path then n.steps else 0) nodes
 
 -- the number of instructions executed in a function itself: the sum over the nodes whose path ends with it
-abbrev pub own_steps_of : ℕ → List Node → ℕ
+abbrev pub own_steps_of : ℕ → List WalkNode → ℕ
 own_steps_of function nodes = weighted_sum (λ p n. steps_if (n.function == function) n.steps) nodes
 
 -- the number of entries into all nodes together
-abbrev pub all_calls : List Node → ℕ
+abbrev pub all_calls : List WalkNode → ℕ
 all_calls nodes = weighted_sum (λ p n. n.arrivals) nodes
 
 -- the number of instructions executed in all nodes together
-abbrev pub all_steps : List Node → ℕ
+abbrev pub all_steps : List WalkNode → ℕ
 all_steps nodes = weighted_sum (λ p n. n.steps) nodes
 
 -- whether a node has neither entries nor instructions
-abbrev pub is_empty : Node → Bool
+abbrev pub is_empty : WalkNode → Bool
 is_empty n = (n.arrivals == 0) && (n.steps == 0)
 
 -- ---- children
 
 -- the node `number` is the child of the node `parent` for this function; a child has a greater number than its parent
-pub record IsChild (parent function number : ℕ) (nodes : List Node) : Type 0 where
+pub record IsChild (parent function number : ℕ) (nodes : List WalkNode) : Type 0 where
   pub behind : parent < number
   pub within : number < length nodes + 1
-  pub above : (k : ℕ) (d : Node) → k + 1 ≡ number → (slice_index_or nodes k d).parent ≡ parent
-  pub own : (k : ℕ) (d : Node) → k + 1 ≡ number → (slice_index_or nodes k d).function ≡ function
+  pub above : (k : ℕ) (d : WalkNode) → k + 1 ≡ number → (slice_index_or nodes k d).parent ≡ parent
+  pub own : (k : ℕ) (d : WalkNode) → k + 1 ≡ number → (slice_index_or nodes k d).function ≡ function
 
 -- the nodes `new` are the nodes `old`, to which a child of the node `parent` for this function may have been added; `number` is this child,
 -- and the paths and counts of `old` are unchanged
-pub record HasChild (parent function : ℕ) (old : List Node) (number : ℕ) (new : List Node) : Type 0 where
+pub record HasChild (parent function : ℕ) (old : List WalkNode) (number : ℕ) (new : List WalkNode) : Type 0 where
   pub some : 0 < number
   pub within : number < length new + 1
   pub longer : length old ≤ length new
@@ -86,12 +86,12 @@ pub record HasChild (parent function : ℕ) (old : List Node) (number : ℕ) (ne
 -- ---- counting in a node
 
 -- the nodes `new` are as many as the nodes `old`, and each has the same path
-pub record KeepsPaths (old new : List Node) : Type 0 where
+pub record KeepsPaths (old new : List WalkNode) : Type 0 where
   pub long : length new ≡ length old
   pub paths : paths_of new ≡ paths_of old
 
 -- the nodes `new` are the nodes `old` with one more entry into the node `number`; nothing else has changed
-pub record EntersOnce (number : ℕ) (old new : List Node) : Type 0 where
+pub record EntersOnce (number : ℕ) (old new : List WalkNode) : Type 0 where
   pub kept : KeepsPaths old new
   pub arrivals : (path : List ℕ) → calls_at path new ≡ calls_at path old + address_if (bytes_eq (path_of number old) path)
   pub steps : (path : List ℕ) → steps_at path new ≡ steps_at path old
@@ -104,7 +104,7 @@ abbrev pub times_if : ℕ → Bool → ℕ
 times_if n test = if test then n else 0
 
 -- the nodes `new` are the nodes `old` with `n` more instructions in the node `number`; nothing else has changed
-pub record StepsMore (n number : ℕ) (old new : List Node) : Type 0 where
+pub record StepsMore (n number : ℕ) (old new : List WalkNode) : Type 0 where
   pub kept : KeepsPaths old new
   pub arrivals : (path : List ℕ) → calls_at path new ≡ calls_at path old
   pub steps : (path : List ℕ) → steps_at path new ≡ steps_at path old + times_if n (bytes_eq (path_of number old) path)

@@ -4,7 +4,7 @@ use Rattle.std.specs.Str.{bytes_eq}
 use Rattle.rv_calls.specs.declared.frames.Frame.{Frame}
 use Rattle.rv_calls.specs.declared.transfer.Transfer.{Transfer}
 use Rattle.rv_calls.specs.Calls.{transfer_of}
-use Rattle.rv_calls.specs.Stack.{after_transfer, frame_of, is_pushed, popped}
+use Rattle.rv_calls.specs.Stack.{after_transfer, frame_of, is_pushed, after_pop}
 use Rattle.rv_count_tables.specs.declared.table.AddressCounts.{AddressCounts}
 use Rattle.rv_counting.specs.Coverage.{behind, executed_steps, fetch_at, is_executed, address_if, AreCountsOf}
 use Rattle.rv_counting.specs.declared_image.Image.{Image}
@@ -44,23 +44,23 @@ path_at function frames pc = map (λ f. function f.call) frames ++ function pc �
 
 -- the address at which control is after the returns of a transfer: the call of the outermost frame that it pops, or its own address if it
 -- pops no frame
-abbrev pub back_at : List Frame → Transfer → ℕ
-back_at frames t = (slice_index_or frames (length (popped frames t)) (frame_of t)).call
+abbrev pub address_after_pops : List Frame → Transfer → ℕ
+address_after_pops frames t = (slice_index_or frames (length (after_pop frames t)) (frame_of t)).call
 
 -- the address at which control continues in the frames that remain after the pops: the call instruction if the transfer pushes a frame, and
 -- otherwise its target
 abbrev pub continues_at : List Frame → Transfer → ℕ
-continues_at frames t = if is_pushed (popped frames t) t then t.from else t.to
+continues_at frames t = if is_pushed (after_pop frames t) t then t.from else t.to
 
 -- whether a transfer enters `path` by continuing in another function, by a jump or by running past the end of a function; the new function
 -- replaces the last one of the path, so a tail call replaces its caller
 abbrev pub jumps_to : (ℕ → ℕ) → List ℕ → List Frame → Transfer → Bool
-jumps_to function path frames t = not (function (back_at frames t) == function (continues_at frames t))
-    && bytes_eq (path_at function (popped frames t) (continues_at frames t)) path
+jumps_to function path frames t = not (function (address_after_pops frames t) == function (continues_at frames t))
+    && bytes_eq (path_at function (after_pop frames t) (continues_at frames t)) path
 
 -- whether a transfer enters `path` by a call, which appends the function of its target to the path
 abbrev pub calls_to : (ℕ → ℕ) → List ℕ → List Frame → Transfer → Bool
-calls_to function path frames t = is_pushed (popped frames t) t
+calls_to function path frames t = is_pushed (after_pop frames t) t
     && bytes_eq (path_at function (after_transfer frames t) t.to) path
 
 -- how often a transfer enters a path, at most twice: by continuing in another function, and by a call
@@ -77,11 +77,11 @@ steps_in function path (suc n) frames s =
     + behind (step_of s) (λ t. steps_in function path n (after_transfer frames (transfer_of s t)) t)
 
 -- how often a run of at most `n` steps from the state `s`, which begins with these frames, enters a path
-unfoldable pub arrivals_in : (ℕ → ℕ) → List ℕ → ℕ → List Frame → State → ℕ
-arrivals_in function path zero frames s = 0
-arrivals_in function path (suc n) frames s = behind (step_of s)
+unfoldable pub calls_in : (ℕ → ℕ) → List ℕ → ℕ → List Frame → State → ℕ
+calls_in function path zero frames s = 0
+calls_in function path (suc n) frames s = behind (step_of s)
     (λ t. calls_by function path frames (transfer_of s t)
-    + arrivals_in function path n (after_transfer frames (transfer_of s t)) t)
+    + calls_in function path n (after_transfer frames (transfer_of s t)) t)
 
 -- how many instructions a run of at most `n` steps from the state `s` executes in the function `f`, on all paths that end with it
 unfoldable pub executed_in_function : (ℕ → ℕ) → ℕ → ℕ → State → ℕ
@@ -96,7 +96,7 @@ pub record AreStacksOf (function : ℕ → ℕ) (n : ℕ) (s : State) (spots : L
   pub some : HasCalls spots
   pub steps : (path : List ℕ) → steps_at path spots ≡ steps_in function path n [] s
   pub arrivals : (path : List ℕ) → calls_at path spots
-      ≡ address_if (bytes_eq (function s.pc ∷ []) path) + arrivals_in function path n [] s
+      ≡ address_if (bytes_eq (function s.pc ∷ []) path) + calls_in function path n [] s
   pub own : (f : ℕ) → own_steps_of f spots ≡ executed_in_function function f n s
   pub all : all_steps spots ≡ executed_steps n s
 

@@ -4,13 +4,13 @@ use Rattle.std.specs.Str.{bytes_eq}
 use Rattle.rv_count_tables.specs.declared_spot.Spot.{Spot}
 use Rattle.rv_count_tables.specs.Trees as spots
 use Rattle.rv_count_tables.specs.Trees.{ends_with, last_path, address_if, HasCalls, IsTree}
-use Rattle.rv_stacks.specs.declared.flat.Flat.{Flat}
-use Rattle.rv_stacks.specs.declared.node.Node.{Node}
+use Rattle.rv_stacks.specs.declared.preorder.PreorderBuilder.{PreorderBuilder}
+use Rattle.rv_stacks.specs.declared.node.WalkNode.{WalkNode}
 use Rattle.rv_stacks.specs.declared.walk.Walk.{Walk}
 use Rattle.rv_stacks.specs.Nodes.{all_calls, all_steps, calls_at, own_steps_of, path_of, steps_at, times_if}
 
 -- `trail` has, for each prefix of the path from the empty one to the whole path, the number of the node with this path
-pub record IsTrail (nodes : List Node) (path trail : List ℕ) : Type 0 where
+pub record IsTrail (nodes : List WalkNode) (path trail : List ℕ) : Type 0 where
   pub long : length trail ≡ length path + 1
   pub within : (k d : ℕ) → k < length trail → slice_index_or trail k d < length nodes + 1
   pub paths : (k d : ℕ) → k < length trail → path_of (slice_index_or trail k d) nodes ≡ take k path
@@ -20,7 +20,7 @@ pub record IsWalk (w : Walk) : Type 0 where
   pub trail : IsTrail w.nodes.items w.path.items w.trail.items
 
 -- the walk `new` is `old` after it entered the node with the path `there` by a call or a jump
-pub record Arrives (there : List ℕ) (old new : Walk) : Type 0 where
+pub record Enters (there : List ℕ) (old new : Walk) : Type 0 where
   pub walk : IsWalk new
   pub path : new.path.items ≡ there
   pub arrivals : (at : List ℕ) → calls_at at new.nodes.items
@@ -31,13 +31,13 @@ pub record Arrives (there : List ℕ) (old new : Walk) : Type 0 where
   pub all_steps : all_steps new.nodes.items ≡ all_steps old.nodes.items
 
 -- the walk `new` is `old` after it returned to the node whose path is the first `depth` functions of its path
-pub record Returns (depth : ℕ) (old new : Walk) : Type 0 where
+pub record ReturnsTo (depth : ℕ) (old new : Walk) : Type 0 where
   pub walk : IsWalk new
   pub path : new.path.items ≡ take depth old.path.items
   pub nodes : new.nodes.items ≡ old.nodes.items
 
 -- the walk `new` is `old` with `n` more instructions in its current node
-pub record Steps (n : ℕ) (old new : Walk) : Type 0 where
+pub record CountsSteps (n : ℕ) (old new : Walk) : Type 0 where
   pub walk : IsWalk new
   pub path : new.path.items ≡ old.path.items
   pub arrivals : (at : List ℕ) → calls_at at new.nodes.items ≡ calls_at at old.nodes.items
@@ -50,7 +50,7 @@ pub record Steps (n : ℕ) (old new : Walk) : Type 0 where
 -- ---- nodes as spots
 
 -- the nodes `ss`, which are in preorder, have the counts of `nodes`: for each path, for each function, and in total
-pub record ArePreorderOf (nodes : List Node) (ss : List Spot) : Type 0 where
+pub record ArePreorderOf (nodes : List WalkNode) (ss : List Spot) : Type 0 where
   pub tree : IsTree ss
   pub some : HasCalls ss
   pub arrivals : (path : List ℕ) → spots.calls_at path ss ≡ calls_at path nodes
@@ -59,16 +59,16 @@ pub record ArePreorderOf (nodes : List Node) (ss : List Spot) : Type 0 where
   pub all_steps : spots.all_steps ss ≡ all_steps nodes
 
 -- the node `number` is a child of the node `parent` that a run entered, and its function is not below `from`
-pub record IsNextChild (parent from number : ℕ) (nodes : List Node) : Type 0 where
+pub record IsNextChild (parent from number : ℕ) (nodes : List WalkNode) : Type 0 where
   pub behind : parent < number
   pub within : number < length nodes + 1
-  pub above : (k : ℕ) (d : Node) → k + 1 ≡ number → (slice_index_or nodes k d).parent ≡ parent
-  pub rising : (k : ℕ) (d : Node) → k + 1 ≡ number → from ≤ (slice_index_or nodes k d).function
-  pub some : (k : ℕ) (d : Node) → k + 1 ≡ number → 0 < (slice_index_or nodes k d).arrivals
+  pub above : (k : ℕ) (d : WalkNode) → k + 1 ≡ number → (slice_index_or nodes k d).parent ≡ parent
+  pub rising : (k : ℕ) (d : WalkNode) → k + 1 ≡ number → from ≤ (slice_index_or nodes k d).function
+  pub some : (k : ℕ) (d : WalkNode) → k + 1 ≡ number → 0 < (slice_index_or nodes k d).arrivals
 
 -- the preorder nodes of `flat` form a tree, and its path is a prefix of the path of the last of them; if it is shorter, the next function
 -- of the longer path is below `from`
-pub record IsPreorderBuilder (nodes : List Node) (flat : Flat) : Type 0 where
+pub record IsPreorderBuilder (nodes : List WalkNode) (flat : PreorderBuilder) : Type 0 where
   pub tree : IsTree flat.spots.items
   pub some : HasCalls flat.spots.items
   pub trail : IsTrail nodes flat.path.items flat.trail.items
@@ -79,7 +79,7 @@ pub record IsPreorderBuilder (nodes : List Node) (flat : Flat) : Type 0 where
 
 -- counts were moved from the nodes to the preorder nodes: the counts of `new` and of the nodes `after` together are the counts of `old` and
 -- of the nodes `before`
-pub record Moves (before : List Node) (old : Flat) (after : List Node) (new : Flat) : Type 0 where
+pub record MovesCounts (before : List WalkNode) (old : PreorderBuilder) (after : List WalkNode) (new : PreorderBuilder) : Type 0 where
   pub flat : IsPreorderBuilder after new
   pub arrivals : (path : List ℕ) → spots.calls_at path new.spots.items + calls_at path after
       ≡ spots.calls_at path old.spots.items + calls_at path before
@@ -89,6 +89,6 @@ pub record Moves (before : List Node) (old : Flat) (after : List Node) (new : Fl
   pub all_steps : spots.all_steps new.spots.items + all_steps after ≡ spots.all_steps old.spots.items + all_steps before
 
 -- no counts were moved: `new` has the preorder nodes of `old`, and its path and its trail agree with the nodes
-pub record ReturnsToParent (nodes : List Node) (old new : Flat) : Type 0 where
+pub record ReturnsToParent (nodes : List WalkNode) (old new : PreorderBuilder) : Type 0 where
   pub flat : IsPreorderBuilder nodes new
   pub spots : new.spots.items ≡ old.spots.items

@@ -4,7 +4,7 @@ ghost use Rattle.std.specs.Prelude.{◌≡◌, ◌*◌, ◌+◌, ◌%◌, ◌^�
 ghost use Rattle.rv_stacks.specs.Nodes.{IsChild};
 ghost use Rattle.rv_stacks.specs.Walks.{IsNextChild};
 
-use crate::node::Node;
+use crate::node::WalkNode;
 use std::alloc::{AllocError, Global};
 use std::collections::BTreeMap;
 
@@ -81,7 +81,7 @@ impl Children {
     }
 
     /// Returns the number of the child of the node `parent` for this function; `None` if there is none.
-    pub(crate) fn find(&self, nodes: &[Node], parent: usize, function: u32) -> Option<usize>
+    pub(crate) fn find(&self, nodes: &[WalkNode], parent: usize, function: u32) -> Option<usize>
         ensures { IfSome result (λ number. IsChild parent function number nodes.now) }
     {
         let above = self.links_of(parent);
@@ -102,14 +102,14 @@ impl Children {
 
     /// Returns the number of the child of the node `parent` that a run entered and whose function is the lowest that is not below `from`;
     /// `None` if there is none.
-    pub(crate) fn next(&self, nodes: &[Node], parent: usize, from: u64) -> Option<usize>
+    pub(crate) fn next(&self, nodes: &[WalkNode], parent: usize, from: u64) -> Option<usize>
         ensures { IfSome result (λ number. IsNextChild parent from number nodes.now) }
     {
         let above = self.links_of(parent);
         let mut next = self.next_unchained_child(nodes, parent, from);
         let mut number = above.first;
         for _ in 0..above.many {
-            if is_next(nodes, parent, from, number) && is_lower(nodes, number, next) {
+            if is_next_child(nodes, parent, from, number) && is_lower(nodes, number, next) {
                 next = Some(number);
             }
             number = self.links_of(number).next;
@@ -119,11 +119,11 @@ impl Children {
 
     // Returns the number of the next child of the node `parent` that is not in a chain and whose function is not below `from`; `None` if
     // there is none.
-    fn next_unchained_child(&self, nodes: &[Node], parent: usize, from: u64) -> Option<usize>
+    fn next_unchained_child(&self, nodes: &[WalkNode], parent: usize, from: u64) -> Option<usize>
         ensures { IfSome result (λ number. IsNextChild parent from number nodes.now) }
     {
         let number = *self.others.range(key_of(parent, from)..).next()?.1;
-        if is_next(nodes, parent, from, number) {
+        if is_next_child(nodes, parent, from, number) {
             Some(number)
         } else {
             None
@@ -137,7 +137,7 @@ impl Children {
 }
 
 // Whether the node `number` is the child of the node `parent` for this function; a child has a greater number than its parent.
-fn is_child(nodes: &[Node], parent: usize, function: u32, number: usize) -> bool
+fn is_child(nodes: &[WalkNode], parent: usize, function: u32, number: usize) -> bool
     ensures { result ≡ true → IsChild parent function number nodes.now }
 {
     if number <= parent || nodes.len() < number {
@@ -148,7 +148,7 @@ fn is_child(nodes: &[Node], parent: usize, function: u32, number: usize) -> bool
 }
 
 // Whether the node `number` is a child of the node `parent` that a run entered, and its function is not below `from`.
-fn is_next(nodes: &[Node], parent: usize, from: u64, number: usize) -> bool
+fn is_next_child(nodes: &[WalkNode], parent: usize, from: u64, number: usize) -> bool
     ensures { result ≡ true → IsNextChild parent from number nodes.now }
 {
     if number <= parent || nodes.len() < number {
@@ -159,7 +159,7 @@ fn is_next(nodes: &[Node], parent: usize, from: u64, number: usize) -> bool
 }
 
 // Whether the node `number` has a lower function than the node `than`; true if `than` is `None`.
-fn is_lower(nodes: &[Node], number: usize, than: Option<usize>) -> bool {
+fn is_lower(nodes: &[WalkNode], number: usize, than: Option<usize>) -> bool {
     match than {
         Some(other) => function_of(nodes, number) < function_of(nodes, other),
         None => true,
@@ -167,7 +167,7 @@ fn is_lower(nodes: &[Node], number: usize, than: Option<usize>) -> bool {
 }
 
 // Returns the function of the node `number`; `None` if there is no such node.
-fn function_of(nodes: &[Node], number: usize) -> Option<u32> {
+fn function_of(nodes: &[WalkNode], number: usize) -> Option<u32> {
     Some(nodes.get(number.checked_sub(1)?)?.function)
 }
 

@@ -4,17 +4,17 @@ ghost use Rattle.std.specs.Prelude.{◌≡◌, ◌^◌, ◌<◌, OnOk, length};
 ghost use Rattle.rv_calls.specs.Stack.{after_transfer};
 ghost use Rattle.rv_stacks.specs.Nodes.{all_calls};
 ghost use Rattle.rv_stacks.specs.Walks.{IsWalk};
-ghost use Rattle.rv_stacks.specs.StackSteps.{IsFunctionCache, Follows, ContinuesIn, IsAt};
+ghost use Rattle.rv_stacks.specs.StackSteps.{IsFunctionCache, FollowsTransfer, ContinuesIn, IsAt};
 ghost use Rattle.rv_stacks.specs.Stacks.{function_at};
 
-use crate::functions::{CachedFunction, look_up};
+use crate::functions::{CachedFunction, look_up_function};
 use crate::walk::Walk;
 use rv_calls::{Frame, Transfer, apply_transfer, remaining_frames};
 use rv_counting::CodeSymbols;
 use std::alloc::AllocError;
 
 /// Moves the walk as a transfer of control says, and applies the transfer to the frames.
-pub(crate) fn follow(
+pub(crate) fn follow_transfer(
     symbols: &CodeSymbols<'_>,
     known: &mut Vec<CachedFunction>,
     frames: &mut Vec<Frame>,
@@ -26,25 +26,25 @@ pub(crate) fn follow(
     requires few { all_calls walk.old.nodes.items < 2 ^ 40 }
     ensures known { OnOk result (IsFunctionCache (function_at symbols.now.image.now symbols.now.bytes.now) known.new.items) }
     ensures frames { OnOk result (frames.new.items ≡ after_transfer frames.old.items transfer) }
-    ensures walk { OnOk result (Follows (function_at symbols.now.image.now symbols.now.bytes.now) frames.old.items transfer
+    ensures walk { OnOk result (FollowsTransfer (function_at symbols.now.image.now symbols.now.bytes.now) frames.old.items transfer
         walk.old walk.new) }
 {
     let left = remaining_frames(frames.as_slice(), transfer);
     apply_transfer(frames, transfer)?;
     if left < frames.len() {
-        let caller = look_up(known, symbols, transfer.from);
-        go_on(walk, left, caller)?;
-        let function = look_up(known, symbols, transfer.to);
-        walk.arrive(left + 1, function)
+        let caller = look_up_function(known, symbols, transfer.from);
+        continue_in(walk, left, caller)?;
+        let function = look_up_function(known, symbols, transfer.to);
+        walk.enter(left + 1, function)
     } else {
-        let function = look_up(known, symbols, transfer.to);
-        go_on(walk, left, function)
+        let function = look_up_function(known, symbols, transfer.to);
+        continue_in(walk, left, function)
     }
 }
 
 // Continues the walk in `function`, which replaces the function after the first `depth` functions of the path. This counts as an entry only
 // if the two differ.
-fn go_on(walk: &mut Walk, depth: usize, function: u32) -> Result<(), AllocError>
+fn continue_in(walk: &mut Walk, depth: usize, function: u32) -> Result<(), AllocError>
     requires walk { IsWalk walk.old }
     requires depth { depth < length walk.old.path.items }
     requires few { all_calls walk.old.nodes.items < 2 ^ 63 }
@@ -54,5 +54,5 @@ fn go_on(walk: &mut Walk, depth: usize, function: u32) -> Result<(), AllocError>
         walk.return_to(depth + 1);
         return Ok(());
     }
-    walk.arrive(depth, function)
+    walk.enter(depth, function)
 }

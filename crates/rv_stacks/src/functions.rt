@@ -11,7 +11,7 @@ use rv_counting::{Block, CodeSymbols};
 use std::alloc::{AllocError, Global};
 
 /// The number of cached functions. Addresses that share a slot evict each other.
-const PLACES: usize = 4096;
+const CACHE_SIZE: usize = 4096;
 
 /// No instruction can begin at this address, so no function of code can be there.
 pub(crate) const LAST_ADDRESS: u32 = u32::MAX;
@@ -32,13 +32,13 @@ pub(crate) fn new_function_cache(
     ensures { IfOk result (λ known. IsFunctionCache (function_at symbols.now.image.now symbols.now.bytes.now) known.items) }
 {
     let function = function_of(symbols, address);
-    let mut known = Vec::with_capacity(alloc, PLACES)?;
-    known.resize(PLACES, CachedFunction { address, function })?;
+    let mut known = Vec::with_capacity(alloc, CACHE_SIZE)?;
+    known.resize(CACHE_SIZE, CachedFunction { address, function })?;
     Ok(known)
 }
 
 /// Returns the function that a code address belongs to, from the cache or by a search, which is then cached.
-pub(crate) fn look_up(
+pub(crate) fn look_up_function(
     known: &mut Vec<CachedFunction>,
     symbols: &CodeSymbols<'_>,
     address: u32,
@@ -47,7 +47,7 @@ pub(crate) fn look_up(
     ensures value { result ≡ function_at symbols.now.image.now symbols.now.bytes.now address }
     ensures known { IsFunctionCache (function_at symbols.now.image.now symbols.now.bytes.now) known.new.items }
 {
-    let place = address as usize / 2 % PLACES;
+    let place = address as usize / 2 % CACHE_SIZE;
     let there = known[place];
     if there.address == address {
         return there.function;
@@ -76,10 +76,10 @@ pub(crate) fn steps_in_function(
     if block.steps < 2 {
         return 0;
     }
-    let function = look_up(known, symbols, counts[block.place].address);
+    let function = look_up_function(known, symbols, counts[block.place].address);
     for steps in 0..block.steps - 1 {
         let next = counts[block.place + steps as usize + 1].address;
-        if look_up(known, symbols, next) != function {
+        if look_up_function(known, symbols, next) != function {
             return steps;
         }
     }

@@ -10,7 +10,7 @@
 mod batch;
 mod children;
 mod control_flow;
-mod flat;
+mod preorder;
 mod functions;
 mod job;
 mod law;
@@ -24,7 +24,7 @@ mod walk;
 
 pub use batch::count_batch_with_stacks;
 pub use children::Children;
-pub use flat::Flat;
+pub use preorder::PreorderBuilder;
 pub use functions::{CachedFunction, function_of};
 pub use job::count_job_with_stacks;
 pub use law::{
@@ -33,7 +33,7 @@ pub use law::{
     table_without_stacks_is_that_of_counts, tables_with_stacks_of_parts_sum_to_that_of_all,
     tables_with_stacks_of_shards_sum_to_that_of_all,
 };
-pub use node::Node;
+pub use node::WalkNode;
 pub use run::count_with_stacks;
 pub use stacks::Stacks;
 pub use walk::Walk;

@@ -8,7 +8,7 @@ use std::alloc::AllocError;
 
 /// A path of functions, each of which called the next: the path of the parent, then the node's own function.
 #[derive(Clone, Copy)]
-pub struct Node {
+pub struct WalkNode {
     /// The parent's number, or 0 for a node of the first level.
     pub parent: usize,
     /// The address of the node's own function.
@@ -21,7 +21,7 @@ pub struct Node {
 
 /// Returns the number of the child of the node `parent` for this function, which is created if it does not exist.
 pub(crate) fn number_of_child(
-    nodes: &mut Vec<Node>,
+    nodes: &mut Vec<WalkNode>,
     children: &mut Children,
     parent: usize,
     function: u32,
@@ -32,7 +32,7 @@ pub(crate) fn number_of_child(
     if let Some(number) = children.find(nodes.as_slice(), parent, function) {
         return Ok(number);
     }
-    nodes.push(Node {
+    nodes.push(WalkNode {
         parent,
         function,
         arrivals: 0,
@@ -44,14 +44,14 @@ pub(crate) fn number_of_child(
 }
 
 /// Counts an entry into the node `number`.
-pub(crate) fn count_call(nodes: &mut Vec<Node>, number: usize)
+pub(crate) fn count_call(nodes: &mut Vec<WalkNode>, number: usize)
     requires some { 0 < number }
     requires within { number < length nodes.old.items + 1 }
     requires few { all_calls nodes.old.items < 2 ^ 63 }
     ensures { EntersOnce number nodes.old.items nodes.new.items }
 {
     let old = nodes[number - 1];
-    nodes[number - 1] = Node {
+    nodes[number - 1] = WalkNode {
         parent: old.parent,
         function: old.function,
         arrivals: old.arrivals + 1,
@@ -60,14 +60,14 @@ pub(crate) fn count_call(nodes: &mut Vec<Node>, number: usize)
 }
 
 /// Counts `steps` instructions in the node `number`.
-pub(crate) fn count_steps(nodes: &mut Vec<Node>, number: usize, steps: u32)
+pub(crate) fn count_steps(nodes: &mut Vec<WalkNode>, number: usize, steps: u32)
     requires some { 0 < number }
     requires within { number < length nodes.old.items + 1 }
     requires few { all_steps nodes.old.items < 2 ^ 63 }
     ensures { StepsMore steps number nodes.old.items nodes.new.items }
 {
     let old = nodes[number - 1];
-    nodes[number - 1] = Node {
+    nodes[number - 1] = WalkNode {
         parent: old.parent,
         function: old.function,
         arrivals: old.arrivals,

@@ -2,11 +2,11 @@
 
 ghost use Rattle.std.specs.Prelude.{◌≡◌, ◌∷◌, ◌++◌, ◌+◌, ◌^◌, ◌<◌, ◌≤◌, [], ℕ, IfOk, OnOk, length, slice_index_or, take};
 ghost use Rattle.rv_stacks.specs.Nodes.{all_calls, all_steps, paths_of};
-ghost use Rattle.rv_stacks.specs.Walks.{Arrives, ArePreorderOf, IsWalk, Returns, Steps};
+ghost use Rattle.rv_stacks.specs.Walks.{Enters, ArePreorderOf, IsWalk, ReturnsTo, CountsSteps};
 
 use crate::children::Children;
-use crate::flat::preorder_of_nodes;
-use crate::node::{Node, count_call, count_steps, number_of_child};
+use crate::preorder::preorder_of_nodes;
+use crate::node::{WalkNode, count_call, count_steps, number_of_child};
 use rv_count_tables::Spots;
 use std::alloc::{AllocError, Global};
 
@@ -17,7 +17,7 @@ pub struct Walk {
     pub path: Vec<u32>,
     /// 0, followed by the number of the node for each prefix of the path.
     pub trail: Vec<usize>,
-    pub nodes: Vec<Node>,
+    pub nodes: Vec<WalkNode>,
     /// Finds the children of a node.
     pub children: Children,
 }
@@ -41,11 +41,11 @@ impl Walk {
 
     /// Enters, by a call or a jump, the node whose path is the first `depth` functions of the current path, followed by `function`.
     /// Allocates if the node is new.
-    pub fn arrive(&mut self, depth: usize, function: u32) -> Result<(), AllocError>
+    pub fn enter(&mut self, depth: usize, function: u32) -> Result<(), AllocError>
         requires walk { IsWalk self.old }
         requires depth { depth ≤ length self.old.path.items }
         requires few { all_calls self.old.nodes.items < 2 ^ 63 }
-        ensures { OnOk result (Arrives (take depth self.old.path.items ++ function ∷ []) self.old self.new) }
+        ensures { OnOk result (Enters (take depth self.old.path.items ++ function ∷ []) self.old self.new) }
     {
         self.return_to(depth);
         let parent = self.last_number();
@@ -60,7 +60,7 @@ impl Walk {
     pub fn return_to(&mut self, depth: usize)
         requires walk { IsWalk self.old }
         requires depth { depth ≤ length self.old.path.items }
-        ensures { Returns depth self.old self.new }
+        ensures { ReturnsTo depth self.old self.new }
     {
         self.path.truncate(depth);
         self.trail.truncate(depth + 1);
@@ -71,7 +71,7 @@ impl Walk {
         requires walk { IsWalk self.old }
         requires some { 0 < length self.old.path.items }
         requires few { all_steps self.old.nodes.items < 2 ^ 63 }
-        ensures { Steps steps self.old self.new }
+        ensures { CountsSteps steps self.old self.new }
     {
         let number = self.last_number();
         count_steps(&mut self.nodes, number, steps);

@@ -3,17 +3,17 @@ use Rattle.rv_base.specs.Counts.{one_more}
 use Rattle.rv_base.proofs.Outgoing.{first_bytes, next_taken}
 use Rattle.rv_base.proofs.sink.put_all.Goals as goal
 
-pub loop-at-preserved : goal.loop-at-preserved
-loop-at-preserved g c = record {
+pub loop-offset-preserved : goal.loop-offset-preserved
+loop-offset-preserved g c = record {
   within = omega (arith, length-take {A = ℕ}, length-drop {A = ℕ}, c.in-Ok.ensures.within);
-  appended = next_taken _ _ _ c.args.bytes.now c.loop-at.at c.in-Ok.count c.loop-at.invariant.within
-      c.loop-at.invariant.appended c.in-Ok.ensures.taken;
-  counted = c.in-Ok.ensures.counted ∙ c.loop-at.invariant.counted;
+  appended = next_taken _ _ _ c.args.bytes.now c.loop-offset.offset c.in-Ok.count c.loop-offset.invariant.within
+      c.loop-offset.invariant.appended c.in-Ok.ensures.taken;
+  counted = c.in-Ok.ensures.counted ∙ c.loop-offset.invariant.counted;
 }
 
 pub returns-in-Err-clause-part : goal.returns-in-Err-clause-part
 returns-in-Err-clause-part g c =
-    first_bytes _ _ _ c.args.bytes.now c.loop-at.at c.loop-at.invariant.appended c.in-Err.ensures.kept
+    first_bytes _ _ _ c.args.bytes.now c.loop-offset.offset c.loop-offset.invariant.appended c.in-Err.ensures.kept
 
 pub returns-in-Err-clause-failure : goal.returns-in-Err-clause-failure
-returns-in-Err-clause-failure g c = c.in-Err.ensures.failure ∙ ap one_more c.loop-at.invariant.counted
+returns-in-Err-clause-failure g c = c.in-Err.ensures.failure ∙ ap one_more c.loop-offset.invariant.counted

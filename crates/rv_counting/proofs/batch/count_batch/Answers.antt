@@ -4,7 +4,7 @@ use Rattle.std.specs.Prelude.{IfErr, IfOk}
 use Rattle.rv_count_tables.specs.declared.sum.SumError.{SumError}
 use Rattle.rv_count_tables.specs.declared.sum.SumError.TheVariants.{OutOfMemory}
 use Rattle.rv_count_tables.specs.declared.table.CountTable.{CountTable}
-use Rattle.rv_counting.specs.declared.pieces.Piece.{Piece}
+use Rattle.rv_counting.specs.declared.index_ranges.IndexRange.{IndexRange}
 use Rattle.rv_counting.specs.BatchRanges.{AreIndexRanges}
 use Rattle.rv_counting.specs.JobTables.{IsTableOfJobsAt}
 use Rattle.rv_counting.proofs.Adding.{all_counted, memory_alone}
@@ -15,7 +15,7 @@ returns-in-Ok g c =
     let plan = c.args.batch.now.plan.now in
     let places = c.args.batch.now.places.now in
     let pieces = c.as_slice.result.now in
-    let are = subst (λ (ps : List Piece). AreIndexRanges plan places ps) (sym c.as_slice.ensures.value) c.in_ok-pieces.ensures in
+    let are = subst (λ (ps : List IndexRange). AreIndexRanges plan places ps) (sym c.as_slice.ensures.value) c.in_ok-pieces.ensures in
     let ran = c.run_jobs-sum.result in
     let sums = subst (λ (r : Result CountTable SumError). IfOk r (IsTableOfJobsAt plan places)) (sym c.into_sum_of_run.ensures)
     (all_counted plan places pieces are ran.0 ran.1 c.run_jobs-sum.ensures) in
@@ -26,7 +26,7 @@ alloc_error_of-requires g c =
     let plan = c.args.batch.now.plan.now in
     let places = c.args.batch.now.places.now in
     let pieces = c.as_slice.result.now in
-    let are = subst (λ (ps : List Piece). AreIndexRanges plan places ps) (sym c.as_slice.ensures.value) c.in_ok-pieces.ensures in
+    let are = subst (λ (ps : List IndexRange). AreIndexRanges plan places ps) (sym c.as_slice.ensures.value) c.in_ok-pieces.ensures in
     let ran = c.run_jobs-sum.result in
     let refused = subst (λ (r : Result CountTable SumError). IfErr r (λ error. error ≡ OutOfMemory)) (sym c.into_sum_of_run.ensures)
     (memory_alone plan places pieces are ran.0 ran.1 c.run_jobs-sum.ensures c.args.batch.now.few) in

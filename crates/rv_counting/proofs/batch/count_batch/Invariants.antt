@@ -1,5 +1,5 @@
 use Rattle.std.proofs.Common.{length}
-use Rattle.rv_counting.specs.BatchRanges.{range_at, places_of}
+use Rattle.rv_counting.specs.BatchRanges.{range_at, indices_in}
 use Rattle.rv_counting.specs.JobTables.{IsTableOfRange}
 use Rattle.rv_counting.proofs.batch.count_batch.Given as goal
 
@@ -7,7 +7,7 @@ abbrev pub ghosts-run_jobs : goal.ghosts-run_jobs
 ghosts-run_jobs g a =
     let work = a.work.now in record {
       is_result = λ number table. IsTableOfRange work.batch.now.plan.now
-          (places_of work.batch.now.places.now (range_at work.pieces.now number)) table;
+          (indices_in work.batch.now.places.now (range_at work.pieces.now number)) table;
       jobs = length work.pieces.now;
       group = 1;
     }

@@ -3,7 +3,7 @@ use Rattle.std.proofs.Common.{◌∙◌, Result, sym, ap, subst, refl}
 use Rattle.rv_trace.specs.declared_ending.Ending.{Ending}
 use Rattle.rv_trace.specs.Machine.{state_of}
 use Rattle.rv_trace.specs.State.{State}
-use Rattle.rv_counting.specs.Coverage.{completes, takes, IsStateAfter, is_taken_code}
+use Rattle.rv_counting.specs.Coverage.{completes, is_taken_step, IsStateAfter, is_taken_code}
 use Rattle.rv_counting.proofs.Ends.{ended_of, completed_of, ended_begins, completed_begins, taken_is}
 use Rattle.rv_counting.proofs.step.count_step.Goals as goal
 
@@ -15,7 +15,7 @@ returns-then-outcome-eq0 c =
     record {
       begun = c.is_executed_at_end.ensures ∙ ended_begins s c.run-outcome.result.ending h.0;
       completed = sym (ap completes h.0);
-      taken = sym (ap (λ (r : Result State Ending). takes r s) h.0);
+      taken = sym (ap (λ (r : Result State Ending). is_taken_step r s) h.0);
       state = subst (λ (r : Result State Ending). IsStateAfter r s t) (sym h.0) h.1;
     }
 

@@ -3,7 +3,7 @@ use Rattle.std.proofs.Common.{◌∙◌, ◌^◌, ◌<◌, ap, arith, length, sy
 use Rattle.std.proofs.lemmas.List.{length-drop}
 use Rattle.rv_counting.specs.Code.{size_of_code}
 use Rattle.rv_cover_view.specs.Cover.{totals_of_codes}
-use Rattle.rv_cover_view.specs.Steps.{plus}
+use Rattle.rv_cover_view.specs.Totals.{plus}
 use Rattle.rv_cover_view.proofs.Codes.{code_in_front, no_codes}
 use Rattle.rv_cover_view.proofs.Parts.{plus_none}
 use Rattle.rv_cover_view.proofs.Summing.{one_code_fits, one_code_more}

@@ -2,7 +2,7 @@
 use Rattle.std.proofs.Common.{◌≡◌, length}
 use Rattle.rv_cover_view.specs.Codes.{codes_from}
 use Rattle.rv_cover_view.specs.Cover.{totals_of_codes}
-use Rattle.rv_cover_view.specs.Steps.{plus}
+use Rattle.rv_cover_view.specs.Totals.{plus}
 use Rattle.rv_cover_view.proofs.code.totals_of_code.Given as goal
 
 abbrev pub invariant-loop-code : goal.invariant-loop-code

@@ -1,5 +1,5 @@
 use Rattle.std.proofs.Common.{refl}
-use Rattle.rv_isa.specs.declared.sets.Isa.TheVariants as set
+use Rattle.rv_isa.specs.declared.isa.Isa.TheVariants as set
 use Rattle.rv_isa.proofs.ByOpcode.{at_immediate}
 use Rattle.rv_isa.proofs.assemble.srai.Goals as goal
 

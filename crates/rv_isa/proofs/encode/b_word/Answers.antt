@@ -7,8 +7,8 @@ pub returns-clause-imm : goal.returns-clause-imm
 returns-clause-imm c =
     let w = c.r_word.result in
     let r = c.r_word.ensures in
-    let top = c.join-upper.ensures in
-    let low = c.join-lower.ensures in
+    let top = c.concat_bits-upper.ensures in
+    let low = c.concat_bits-lower.ensures in
     let b12 : field w 31 31 ≡ c.field.result =
     field_in w 31 25 31 31 (omega arith) (omega arith) (omega arith)
     ∙ ap (λ x. field x 6 6) r.funct7

@@ -7,9 +7,9 @@ pub returns-clause-imm : goal.returns-clause-imm
 returns-clause-imm c =
     let w = c.u_word.result in
     let r = c.u_word.ensures.upper in
-    let outer = c.join-with_high.ensures in
-    let middle = c.join-with_middle.ensures in
-    let inner = c.join-with_low.ensures in
+    let outer = c.concat_bits-with_high.ensures in
+    let middle = c.concat_bits-with_middle.ensures in
+    let inner = c.concat_bits-with_low.ensures in
     let b20 : field w 31 31 ≡ c.field.result =
     field_in w 31 12 31 31 (omega arith) (omega arith) (omega arith)
     ∙ ap (λ x. field x 19 19) r

@@ -17,18 +17,18 @@ powers i j h = pow-le-pow_right (omega arith) h
 shifted : (n : ℕ) → n < 32 → 1 * 2 ^ n % 4294967296 ≡ 2 ^ n
 shifted n h = omega (arith, pow_below n 32 h)
 
-lower : (value bits wider : ℕ) → 1 ≤ bits → bits ≤ wider → value < 2 ^ (bits - 1)
-    → sign_extended wider value ≡ sign_extended bits value
-lower value bits wider p q r =
-    let le = powers (bits - 1) (wider - 1) (omega arith) in
+lower : (value from_bits to_bits : ℕ) → 1 ≤ from_bits → from_bits ≤ to_bits → value < 2 ^ (from_bits - 1)
+    → sign_extended to_bits value ≡ sign_extended from_bits value
+lower value from_bits to_bits p q r =
+    let le = powers (from_bits - 1) (to_bits - 1) (omega arith) in
     grind (arith, ints, nat_tests)
 
-upper : (value bits wider : ℕ) → 1 ≤ bits → bits ≤ wider → 2 ^ (bits - 1) ≤ value → value < 2 ^ bits
-    → sign_extended wider (value + (2 ^ wider - 2 ^ bits)) ≡ sign_extended bits value
-upper value bits wider p q r s =
-    let le = powers (bits - 1) (wider - 1) (omega arith) in
-    let a = halves bits p in
-    let b = halves wider (omega arith) in
+upper : (value from_bits to_bits : ℕ) → 1 ≤ from_bits → from_bits ≤ to_bits → 2 ^ (from_bits - 1) ≤ value → value < 2 ^ from_bits
+    → sign_extended to_bits (value + (2 ^ to_bits - 2 ^ from_bits)) ≡ sign_extended from_bits value
+upper value from_bits to_bits p q r s =
+    let le = powers (from_bits - 1) (to_bits - 1) (omega arith) in
+    let a = halves from_bits p in
+    let b = halves to_bits (omega arith) in
     grind (arith, ints, nat_tests)
 
 pub overflow_sub-result : goal.overflow_sub-result
@@ -36,44 +36,44 @@ overflow_sub-result c =
     let r = c.requires in
     omega (
       arith,
-      shifted c.args.bits (omega arith),
-      shifted c.args.wider (omega arith),
-      powers c.args.bits c.args.wider r.order,
+      shifted c.args.from_bits (omega arith),
+      shifted c.args.to_bits (omega arith),
+      powers c.args.from_bits c.args.to_bits r.order,
     )
 
-pub returns-then-value-bits-clause-same : goal.returns-then-value-bits-clause-same
-returns-then-value-bits-clause-same c =
-    lower c.args.value c.args.bits c.args.wider c.requires.some c.requires.order
-    (omega (arith, shifted (c.args.bits - 1) (omega arith)))
+pub returns-then-value-from_bits-clause-same : goal.returns-then-value-from_bits-clause-same
+returns-then-value-from_bits-clause-same c =
+    lower c.args.value c.args.from_bits c.args.to_bits c.requires.some c.requires.order
+    (omega (arith, shifted (c.args.from_bits - 1) (omega arith)))
 
-pub returns-then-value-bits-clause-below : goal.returns-then-value-bits-clause-below
-returns-then-value-bits-clause-below c = omega (arith, powers c.args.bits c.args.wider c.requires.order)
+pub returns-then-value-from_bits-clause-below : goal.returns-then-value-from_bits-clause-below
+returns-then-value-from_bits-clause-below c = omega (arith, powers c.args.from_bits c.args.to_bits c.requires.order)
 
-pub returns-else-value-bits-clause-same : goal.returns-else-value-bits-clause-same
-returns-else-value-bits-clause-same c =
+pub returns-else-value-from_bits-clause-same : goal.returns-else-value-from_bits-clause-same
+returns-else-value-from_bits-clause-same c =
     let a = c.args in
-    rw (shifted a.wider (omega arith), shifted a.bits (omega arith))
-    (upper a.value a.bits a.wider c.requires.some c.requires.order
-    (omega (arith, shifted (a.bits - 1) (omega arith))) c.requires.small)
+    rw (shifted a.to_bits (omega arith), shifted a.from_bits (omega arith))
+    (upper a.value a.from_bits a.to_bits c.requires.some c.requires.order
+    (omega (arith, shifted (a.from_bits - 1) (omega arith))) c.requires.small)
 
-pub returns-else-value-bits-clause-below : goal.returns-else-value-bits-clause-below
-returns-else-value-bits-clause-below c =
+pub returns-else-value-from_bits-clause-below : goal.returns-else-value-from_bits-clause-below
+returns-else-value-from_bits-clause-below c =
     omega (
       arith,
-      shifted c.args.bits (omega arith),
-      shifted c.args.wider (omega arith),
-      powers c.args.bits c.args.wider c.requires.order,
+      shifted c.args.from_bits (omega arith),
+      shifted c.args.to_bits (omega arith),
+      powers c.args.from_bits c.args.to_bits c.requires.order,
     )
 
-pub returns-else-value-bits-clause-parity : goal.returns-else-value-bits-clause-parity
-returns-else-value-bits-clause-parity c =
+pub returns-else-value-from_bits-clause-parity : goal.returns-else-value-from_bits-clause-parity
+returns-else-value-from_bits-clause-parity c =
     let a = c.args in
     let r = c.requires in
     omega (
       arith,
-      shifted a.bits (omega arith),
-      shifted a.wider (omega arith),
-      halves a.bits r.some,
-      halves a.wider (omega arith),
-      powers a.bits a.wider r.order,
+      shifted a.from_bits (omega arith),
+      shifted a.to_bits (omega arith),
+      halves a.from_bits r.some,
+      halves a.to_bits (omega arith),
+      powers a.from_bits a.to_bits r.order,
     )

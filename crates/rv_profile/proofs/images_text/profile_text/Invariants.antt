@@ -1,8 +1,8 @@
 use Rattle.std.proofs.Common.{◌≡◌, ◌++◌, List, ℕ, take}
 use Rattle.rv_cover_view.specs.JobImages.{images_of_files}
-use Rattle.rv_profile.specs.ProfileText.{AreImageProfileTexts, head_text}
+use Rattle.rv_profile.specs.ProfileText.{AreImageProfileTexts, header_text}
 use Rattle.rv_profile.proofs.images_text.profile_text.Given as goal
 
 abbrev pub invariant-loop-image : goal.invariant-loop-image
 invariant-loop-image l = (lines : List ℕ) × (AreImageProfileTexts l.format l.table (images_of_files (take l.image-index l.images)) lines
-    × (l.text.items ≡ head_text l.format ++ lines))
+    × (l.text.items ≡ header_text l.format ++ lines))

@@ -1,5 +1,5 @@
 use Rattle.std.proofs.Common.{◌-◌, ◌∷◌, [], ap, arith, refl}
-use Rattle.rv_stacks.specs.declared.node.Node.{Node}
+use Rattle.rv_stacks.specs.declared.node.WalkNode.{WalkNode}
 use Rattle.rv_stacks.proofs.Growing.{arrived_once}
 use Rattle.rv_stacks.proofs.Nodes.{at_most_all}
 use Rattle.rv_stacks.proofs.node.count_call.Goals as goal
@@ -10,7 +10,7 @@ overflow_add-old c =
     let within = c.requires.within in
     let most = at_most_all (λ p n. n.arrivals) ([] ∷ []) c.args.nodes.now.items (c.args.number - 1) c.index-old.result.now
     (omega (arith, some, within)) (λ p n. refl) in
-    let there = ap (λ (n : Node). n.arrivals) c.index-old.ensures in
+    let there = ap (λ (n : WalkNode). n.arrivals) c.index-old.ensures in
     let few = c.requires.few in
     omega (arith, most, there, few)
 

@@ -1,5 +1,5 @@
 use Rattle.std.proofs.Common.{◌-◌, ◌+◌, ◌∷◌, ℕ, [], ap, arith, refl, set, subst}
-use Rattle.rv_stacks.specs.declared.node.Node.{Node}
+use Rattle.rv_stacks.specs.declared.node.WalkNode.{WalkNode}
 use Rattle.rv_stacks.specs.Nodes.{StepsMore}
 use Rattle.rv_stacks.proofs.Growing.{stepped_more}
 use Rattle.rv_stacks.proofs.Nodes.{at_most_all}
@@ -11,7 +11,7 @@ overflow_add-old c =
     let within = c.requires.within in
     let most = at_most_all (λ p n. n.steps) ([] ∷ []) c.args.nodes.now.items (c.args.number - 1) c.index-old.result.now
     (omega (arith, some, within)) (λ p n. refl) in
-    let there = ap (λ (n : Node). n.steps) c.index-old.ensures in
+    let there = ap (λ (n : WalkNode). n.steps) c.index-old.ensures in
     let few = c.requires.few in
     let fits = c.ranges.steps.fits in
     omega (arith, most, there, few, fits)

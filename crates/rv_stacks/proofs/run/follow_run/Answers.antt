@@ -5,7 +5,7 @@ use Rattle.rv_counting.proofs.Public.{counted_all}
 use Rattle.rv_counting.specs.Counters.{IsCounting}
 use Rattle.rv_counting.specs.Machine.{state_of}
 use Rattle.rv_stacks.specs.Stacks.{function_at}
-use Rattle.rv_stacks.specs.StackSteps.{HasEnteredFirst, SoFar}
+use Rattle.rv_stacks.specs.StackSteps.{HasEnteredFirst, AreStacksSoFar}
 use Rattle.rv_stacks.proofs.Advancing.{ready_so_far, still_so_far}
 use Rattle.rv_stacks.proofs.Counting.{none_so_far, used_up}
 use Rattle.rv_stacks.proofs.run.follow_run.Goals as goal
@@ -21,8 +21,8 @@ steps-init c =
       within = omega arith;
       counting = subst (λ (k : ℕ). IsCounting n k s s c.in_ok-counter.counter) (sym none) (c.in_ok-counter.ensures.counting n s);
       known = c.in_ok-stacks.ensures.known;
-      so_far = subst (λ (fs : List Frame). SoFar function n (n - n) s s fs walk) (sym c.in_ok-stacks.ensures.frames)
-          (subst (λ (k : ℕ). SoFar function n k s s [] walk) (sym none) (none_so_far function n s walk first));
+      so_far = subst (λ (fs : List Frame). AreStacksSoFar function n (n - n) s s fs walk) (sym c.in_ok-stacks.ensures.frames)
+          (subst (λ (k : ℕ). AreStacksSoFar function n k s s [] walk) (sym none) (none_so_far function n s walk first));
     }
 
 pub steps-preserved-then-block-eq0 : goal.steps-preserved-then-block-eq0
@@ -41,7 +41,7 @@ steps-preserved-then-block-eq0 c =
       counting = subst (λ (k : ℕ). IsCounting n k start t c.step.new.counter) sum
           (c.in_ok-step.ensures.counted.goes_on c.if-not-branch.false [] 1 n (n - left) start (omega (arith, w, some)) c.steps.invariant.counting);
       known = c.in_ok-step.ensures.stacks.known;
-      so_far = subst (λ (k : ℕ). SoFar function n k start t c.step.new.self.frames.items c.step.new.self.walk) sum
+      so_far = subst (λ (k : ℕ). AreStacksSoFar function n k start t c.step.new.self.frames.items c.step.new.self.walk) sum
           (c.in_ok-step.ensures.stacks.goes_on c.if-not-branch.false n (n - left) start (omega (arith, w, some)) here);
     }
 
@@ -66,7 +66,7 @@ steps-preserved c =
       counting = subst (λ (k : ℕ). IsCounting n k start t c.run_block.new.counter) sum
           (c.in_ok-run_block.ensures.counted.goes_on c.if-not-branch-2.false [] 1 n (n - left) start (omega (arith, w, few)) c.steps.invariant.counting);
       known = advance.known;
-      so_far = subst (λ (k : ℕ). SoFar function n k start t c.run_block.new.self.frames.items c.run_block.new.self.walk) sum
+      so_far = subst (λ (k : ℕ). AreStacksSoFar function n k start t c.run_block.new.self.frames.items c.run_block.new.self.walk) sum
           (advance.goes_on c.if-not-branch-2.false n (n - left) start (omega (arith, w, few)) here);
     }
 

@@ -3,7 +3,7 @@ use Rattle.std.proofs.Common.{◌-◌, ◌≤◌}
 use Rattle.rv_counting.specs.Counters.{IsCounting}
 use Rattle.rv_counting.specs.Machine.{state_of}
 use Rattle.rv_stacks.specs.Stacks.{function_at}
-use Rattle.rv_stacks.specs.StackSteps.{IsFunctionCache, SoFar}
+use Rattle.rv_stacks.specs.StackSteps.{IsFunctionCache, AreStacksSoFar}
 use Rattle.rv_stacks.proofs.run.follow_run.Given as goal
 
 abbrev pub invariant-steps : goal.invariant-steps
@@ -11,7 +11,7 @@ invariant-steps l = record {
   within : l.left ≤ l.budget;
   counting : IsCounting l.budget (l.budget - l.left) (state_of l.initial.machine) (state_of l.machine) l.counter;
   known : IsFunctionCache (function_at l.symbols.image.now l.symbols.bytes.now) l.stacks.known.items;
-  so_far : SoFar (function_at l.symbols.image.now l.symbols.bytes.now) l.budget (l.budget - l.left) (state_of l.initial.machine)
+  so_far : AreStacksSoFar (function_at l.symbols.image.now l.symbols.bytes.now) l.budget (l.budget - l.left) (state_of l.initial.machine)
       (state_of l.machine) l.stacks.frames.items l.stacks.walk;
 }
 

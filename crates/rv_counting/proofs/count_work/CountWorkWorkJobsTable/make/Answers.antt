@@ -1,6 +1,6 @@
 -- The jobs of a piece name one image.
 use Rattle.std.proofs.Common.{sym, subst, arith}
-use Rattle.rv_counting.specs.BatchRanges.{range_at, places_of}
+use Rattle.rv_counting.specs.BatchRanges.{range_at, indices_in}
 use Rattle.rv_counting.specs.JobTables.{IsTableOfRange}
 use Rattle.rv_counting.proofs.ImagePieces.{piece_few, piece_indices, piece_some}
 use Rattle.rv_counting.proofs.count_work.CountWorkWorkJobsTable.make.Goals as goal
@@ -32,5 +32,5 @@ table_of_jobs_at-requires-clause-same c = (c.args.self.now.are.each c.args.numbe
 pub returns-clause-made : goal.returns-clause-made
 returns-clause-made c =
     let work = c.args.self.now in
-    subst (IsTableOfRange work.batch.now.plan.now (places_of work.batch.now.places.now (range_at work.pieces.now c.args.number)))
+    subst (IsTableOfRange work.batch.now.plan.now (indices_in work.batch.now.places.now (range_at work.pieces.now c.args.number)))
     (sym c.new.ensures) c.in_ok-table.ensures

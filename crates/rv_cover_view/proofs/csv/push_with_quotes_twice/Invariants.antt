@@ -1,6 +1,0 @@
-use Rattle.std.proofs.Common.{◌≡◌, ◌++◌, take}
-use Rattle.rv_cover_view.specs.Csv.{with_quotes_twice}
-use Rattle.rv_cover_view.proofs.csv.push_with_quotes_twice.Given as goal
-
-abbrev pub invariant-loop-byte : goal.invariant-loop-byte
-invariant-loop-byte l = l.bytes.items ≡ l.fn.bytes.items ++ with_quotes_twice (take l.byte-index l.field)

@@ -1,0 +1,127 @@
+//! Conversion of nodes to preorder.
+
+ghost use Rattle.std.specs.Prelude.{◌≡◌, [], ℕ, List, IfOk, OnOk, length, slice_index_or};
+ghost use Rattle.std.specs.List.{list_all};
+ghost use Rattle.rv_stacks.specs.declared.node.WalkNode.{WalkNode as ANode};
+ghost use Rattle.rv_stacks.specs.Nodes.{is_empty};
+ghost use Rattle.rv_stacks.specs.Walks.{ArePreorderOf, ReturnsToParent, IsPreorderBuilder, IsNextChild, MovesCounts};
+
+use crate::children::Children;
+use crate::node::WalkNode;
+use rv_count_tables::{Spot, Spots};
+use std::alloc::{AllocError, Global};
+
+/// The preorder nodes built so far, and the node up to which counts have been moved.
+#[derive(Drop)]
+pub struct PreorderBuilder {
+    /// The path of that node.
+    pub path: Vec<u32>,
+    /// 0, followed by the number of the node for each prefix of the path.
+    pub trail: Vec<usize>,
+    pub spots: Vec<Spot>,
+    /// The lowest function that the next child can have.
+    pub from: u64,
+}
+
+/// Returns the nodes in preorder. Allocates only the result.
+pub(crate) fn preorder_of_nodes(
+    alloc: Global,
+    nodes: Vec<WalkNode>,
+    children: &Children,
+) -> Result<Spots, AllocError>
+    ensures { IfOk result (ArePreorderOf nodes.items) }
+{
+    let mut left = nodes;
+    let mut flat = PreorderBuilder::new(alloc)?;
+    // Each node is entered once and left once.
+    'turns: for _ in 0..left.len().saturating_mul(2) {
+        flat.visit_next(&mut left, children)?;
+    }
+    if are_empty(left.as_slice()) {
+        return Ok(Spots::new(flat.spots));
+    }
+    // Out of memory: not reached. Each node is found from its parent, so all counts have been moved; no contract says so.
+    Err(AllocError)
+}
+
+// Whether all nodes have neither entries nor instructions.
+fn are_empty(nodes: &[WalkNode]) -> bool
+    ensures { result ≡ list_all is_empty nodes.now }
+{
+    nodes.iter().all(is_empty)
+}
+
+// Whether a node has neither entries nor instructions.
+fn is_empty(node: &WalkNode) -> bool
+    ensures { result ≡ is_empty node.now }
+{
+    node.arrivals == 0 && node.steps == 0
+}
+
+impl PreorderBuilder {
+    // Creates the conversion's state before the first node.
+    fn new(alloc: Global) -> Result<PreorderBuilder, AllocError>
+        ensures { IfOk result (λ flat. (nodes : List ANode) → IsPreorderBuilder nodes flat × (flat.spots.items ≡ [])) }
+    {
+        let mut trail = Vec::new(alloc);
+        trail.push(0)?;
+        Ok(PreorderBuilder {
+            path: Vec::new(alloc),
+            trail,
+            spots: Vec::new(alloc),
+            from: 0,
+        })
+    }
+
+    // Moves to the next child of the current node, or back to its parent if there is no further child.
+    fn visit_next(&mut self, left: &mut Vec<WalkNode>, children: &Children) -> Result<(), AllocError>
+        requires { IsPreorderBuilder left.old.items self.old }
+        ensures { OnOk result (MovesCounts left.old.items self.old left.new.items self.new) }
+    {
+        let parent = self.trail[self.trail.len() - 1];
+        match children.next(left.as_slice(), parent, self.from) {
+            Some(number) => self.enter_child(left, number),
+            None => {
+                self.return_to_parent();
+                Ok(())
+            }
+        }
+    }
+
+    // Moves the counts of the node `number`, a child of the current node, to the preorder nodes, and makes it the current node.
+    fn enter_child(&mut self, left: &mut Vec<WalkNode>, number: usize) -> Result<(), AllocError>
+        requires flat { IsPreorderBuilder left.old.items self.old }
+        requires next { (d : ℕ) → IsNextChild (slice_index_or self.old.trail.items (length self.old.path.items) d) self.old.from number
+            left.old.items }
+        ensures { OnOk result (MovesCounts left.old.items self.old left.new.items self.new) }
+    {
+        let node = left[number - 1];
+        self.spots.push(Spot {
+            depth: self.path.len(),
+            function: node.function,
+            arrivals: node.arrivals,
+            steps: node.steps,
+        })?;
+        self.path.push(node.function)?;
+        self.trail.push(number)?;
+        self.from = 0;
+        left[number - 1] = WalkNode {
+            parent: node.parent,
+            function: node.function,
+            arrivals: 0,
+            steps: 0,
+        };
+        Ok(())
+    }
+
+    // Moves from the current node back to its parent.
+    fn return_to_parent(&mut self)
+        ensures { (nodes : List ANode) → IsPreorderBuilder nodes self.old → ReturnsToParent nodes self.old self.new }
+    {
+        let Some(function) = self.path.pop() else {
+            return;
+        };
+        self.trail.truncate(self.path.len() + 1);
+        self.from = u64::from(function) + 1;
+    }
+}
