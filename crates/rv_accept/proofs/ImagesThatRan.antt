@@ -6,7 +6,7 @@ use Rattle.std.proofs.lemmas.Bool.{eqb-true}
 use Rattle.rv_rows.specs.Image.{has_magic, image_of}
 use Rattle.rv_rows.specs.declared_elf_error.ImageError.{ImageError}
 use Rattle.rv_rows.specs.declared_image.Image.{Image}
-use Rattle.rv_rows.specs.declared_sets.Isa.{Isa}
+use Rattle.rv_rows.specs.declared_isa.Isa.{Isa}
 use Rattle.rv_rows.specs.Jobs.{without_expectations}
 use Rattle.rv_rows.specs.Reading.{◌>>=◌}
 use Rattle.rv_rows.specs.declared_kept.Kept.{Kept}

@@ -5,11 +5,11 @@ use Rattle.std.specs.Prelude.{option_and_then}
 use Rattle.rv_trace.specs.declared_instruction.Instr.{Instr}
 use Rattle.rv_trace.specs.declared_instruction.Op.{Op}
 use Rattle.rv_trace.specs.declared_instruction.Op.TheVariants as op
-use Rattle.rv_trace.specs.declared_sets.Isa.{Isa}
+use Rattle.rv_trace.specs.declared_isa.Isa.{Isa}
 use Rattle.rv_trace.specs.Bits.{field}
 use Rattle.rv_trace.specs.IsaWords.{meaning32}
 use Rattle.rv_trace.specs.Halfwords.{meaning16}
-use Rattle.rv_trace.specs.Bus.{Contents, load_from, store_to, fetch_half_from}
+use Rattle.rv_trace.specs.Bus.{BusContents, load_from, store_to, fetch_half_from}
 use Rattle.rv_trace.specs.declared_access.Width.{Width}
 use Rattle.rv_trace.specs.declared_faults.BusFault.{BusFault}
 use Rattle.rv_trace.specs.declared_faults.BusFault.TheVariants as bus
@@ -54,7 +54,7 @@ of_load bus.ConsoleFull = refl
 loaded : (w : Width) (x : _) (i : Instr) (next : ℕ) (s : State) → IsOfEffect (load w x s i next)
 loaded w x i next s = go (load_from s.bus (address s i) w)
   where
-    go : (r : Result (ℕ × Contents) BusFault) → IsOfEffect (after_load r w x s i next)
+    go : (r : Result (ℕ × BusContents) BusFault) → IsOfEffect (after_load r w x s i next)
     go (Ok p) = tt
     go (Err e) = of_load e
 
@@ -66,7 +66,7 @@ of_store bus.ConsoleFull pc at value = refl
 stored : (w : Width) (i : Instr) (next : ℕ) (s : State) → IsOfEffect (store w s i next)
 stored w i next s = go (store_to s.bus (address s i) w (rs2_value s i))
   where
-    go : (r : Result Contents BusFault) → IsOfEffect (after_store r s i next)
+    go : (r : Result BusContents BusFault) → IsOfEffect (after_store r s i next)
     go (Ok d) = tt
     go (Err e) = of_store e s.pc (address s i) (rs2_value s i)
 
@@ -147,7 +147,7 @@ by_length : (long : Bool) (a b : Fetched) → IsNoInstr a → IsNoInstr b → Is
 by_length true a b h k = h
 by_length false a b h k = k
 
-fetch_begins_none : (isa : Isa) (contents : Contents) (pc : ℕ) → IsNoInstr (fetch isa contents pc)
+fetch_begins_none : (isa : Isa) (contents : BusContents) (pc : ℕ) → IsNoInstr (fetch isa contents pc)
 unfolding fetch
 fetch_begins_none isa contents pc =
     behind_half (fetch_half_from contents pc) pc _

@@ -5,8 +5,8 @@ use Rattle.std.specs.List.{list_all}
 use Rattle.std.proofs.lemmas.Bool.{or_parts, and_parts, not-false, both_ways, true_from_ne_false}
 use Rattle.std.proofs.lemmas.List.Folds.{list_all_at}
 use Rattle.rv_memory.specs.declared.map.Region.{Region}
-use Rattle.rv_memory.specs.Regions.{in_one}
-use Rattle.rv_memory.specs.Bus.{Contents, new_bus, with_bytes, with_bytes_written}
+use Rattle.rv_memory.specs.Regions.{is_in_one_region}
+use Rattle.rv_memory.specs.Bus.{BusContents, new_bus, with_bytes, with_bytes_written}
 use Rattle.rv_elf.specs.declared.image.Image.{Image}
 use Rattle.rv_elf.specs.declared.image.Segment.{Segment}
 use Rattle.rv_elf.specs.declared.loading.LoadAt.{LoadAt}
@@ -35,7 +35,7 @@ all_at : (p : Segment → Bool) (ss : List Segment) (i : ℕ) (d : Segment) → 
 all_at p ss i d h l = true_from_ne_false _ (λ e. both_ways _ (list_all_at p ss i d l e) h)
 
 -- a new bus holds the opening memory of no segment
-pub opening_memory_none : (c : Contents) (file : List ℕ) (at : LoadAt) → c ≡ new_bus c.regions c.script c.misaligned
+pub opening_memory_none : (c : BusContents) (file : List ℕ) (at : LoadAt) → c ≡ new_bus c.regions c.script c.misaligned
     → c ≡ record c { memory = initial_memory c.regions [] file at }
 unfolding new_bus initial_memory
 opening_memory_none c file at e = let m = ap (λ d. d.memory) e in λ i. record c { memory = m i }
@@ -51,22 +51,22 @@ module _ (file : List ℕ) (image : Image) (ss : List Segment) (same : ss ≡ im
       → (get_or ss k no_segment).offset + (get_or ss k no_segment).filesz ≤ length file
   bytes_there = in_file_bounds (length file) (get_or ss k no_segment) within_file
 
-  module _ (c : Contents) (at : LoadAt) (accepts : map_check image.segments c.regions at ≡ accepted) (b : Contents)
+  module _ (c : BusContents) (at : LoadAt) (accepts : map_check image.segments c.regions at ≡ accepted) (b : BusContents)
       (before : b ≡ record c { memory = initial_memory c.regions (take k image.segments) file at }) where
-    fits_first : IsTrue (in_one c.regions (load_address at (get_or ss k no_segment)) (get_or ss k no_segment).filesz)
+    fits_first : IsTrue (is_in_one_region c.regions (load_address at (get_or ss k no_segment)) (get_or ss k no_segment).filesz)
     fits_first =
         (and_parts _ _
         (all_at (segment_fits c.regions at) ss k no_segment
         (ap (list_all (segment_fits c.regions at)) same ∙ (map_accepted image.segments c.regions at accepts).0) l)).0
 
     -- which lie in one region of the bus
-    pub fits_bus : IsTrue (in_one b.regions (load_address at (get_or ss k no_segment)) (get_or ss k no_segment).filesz)
+    pub fits_bus : IsTrue (is_in_one_region b.regions (load_address at (get_or ss k no_segment)) (get_or ss k no_segment).filesz)
     fits_bus =
-        subst (λ rs. IsTrue (in_one rs (load_address at (get_or ss k no_segment)) (get_or ss k no_segment).filesz))
+        subst (λ rs. IsTrue (is_in_one_region rs (load_address at (get_or ss k no_segment)) (get_or ss k no_segment).filesz))
         (sym (ap (λ x. x.regions) before)) fits_first
 
     -- and once they are placed it holds the opening memory of one segment more
-    pub one_more : (new : Contents) → new ≡ with_bytes b (load_address at (get_or ss k no_segment))
+    pub one_more : (new : BusContents) → new ≡ with_bytes b (load_address at (get_or ss k no_segment))
         (file_bytes file (get_or ss k no_segment))
         → new ≡ record c { memory = initial_memory c.regions (take (k + 1) image.segments) file at }
     one_more new e =

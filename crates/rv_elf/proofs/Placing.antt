@@ -7,7 +7,7 @@ use Rattle.std.proofs.lemmas.Bool.{eqb-true, eqb-false, eq-eqb, or_left, or_righ
 use Rattle.std.proofs.lemmas.Bool.{false_from_ne_true, both_ways}
 use Rattle.std.proofs.lemmas.List.{get_or-take, get_or-drop, length-take-le, length-drop}
 use Rattle.rv_memory.specs.declared.map.Region.{Region}
-use Rattle.rv_memory.specs.Regions.{covers, in_one, addresses, tabulate}
+use Rattle.rv_memory.specs.Regions.{covers, is_in_one_region, addresses, tabulate}
 use Rattle.rv_memory.specs.Bus.{with_bytes_written}
 use Rattle.rv_memory.proofs.Public.{among, among_addresses, is_covered, covers_bounds, tabulate-insert, tabulate-same}
 use Rattle.rv_elf.specs.declared.image.Segment.{Segment}
@@ -73,7 +73,7 @@ covered_each (r ∷ rs) a n k h l =
     (λ g. or_right (covers (a + k) 1 r) _ (covered_each rs a n k g l))
     (or_cases (covers a n r) (list_any (covers a n) rs) h)
 
-pub among_each : (rs : List Region) (a n : ℕ) → IsTrue (in_one rs a n) → (k : ℕ) → k < n
+pub among_each : (rs : List Region) (a n : ℕ) → IsTrue (is_in_one_region rs a n) → (k : ℕ) → k < n
     → among (a + k) (addresses rs) ≡ true
 among_each rs a n h k l =
     among_addresses rs (a + k) ∙ ⊎_elim (λ e. (let z = eqb-true n 0 e in absurd (omega arith)))
@@ -103,7 +103,7 @@ length-file_bytes file s h =
 -- the opening memory of one segment more is that of those before it, with its bytes put
 pub opening_memory_more : (rs : List Region) (file : List ℕ) (at : LoadAt) (ss : List Segment) (i : ℕ) (d : Segment)
     → any_segments_overlap at ss ≡ false → i < length ss
-    → IsTrue (in_one rs (load_address at (get_or ss i d)) (get_or ss i d).filesz)
+    → IsTrue (is_in_one_region rs (load_address at (get_or ss i d)) (get_or ss i d).filesz)
     → in_file (length file) (get_or ss i d) ≡ true
     → initial_memory rs (take (i + 1) ss) file at ≡ with_bytes_written (initial_memory rs (take i ss) file at)
     (load_address at (get_or ss i d)) (file_bytes file (get_or ss i d))

@@ -6,7 +6,7 @@ use Rattle.std.specs.List.{find, list_any, list_all}
 use Rattle.std.specs.Ordering.{nat_cmp}
 use Rattle.std.specs.FinMap as fin
 use Rattle.rv_memory.specs.declared.map.Region.{Region}
-use Rattle.rv_memory.specs.Regions.{in_one, addresses, tabulate}
+use Rattle.rv_memory.specs.Regions.{is_in_one_region, addresses, tabulate}
 use Rattle.rv_elf.specs.declared.error.ImageError.{ImageError}
 use Rattle.rv_elf.specs.declared.error.ImageError.TheVariants.{SegmentMap, SegmentOverlap}
 use Rattle.rv_elf.specs.declared.image.Segment.{Segment}
@@ -22,7 +22,7 @@ load_address Virtual s = s.vaddr
 -- whether the segment `s` fits a map: one region has all its file bytes at the load address, and one region has all its memory at the
 -- virtual address
 abbrev pub segment_fits : List Region → LoadAt → Segment → Bool
-segment_fits regions at s = in_one regions (load_address at s) s.filesz && in_one regions s.vaddr s.memsz
+segment_fits regions at s = is_in_one_region regions (load_address at s) s.filesz && is_in_one_region regions s.vaddr s.memsz
 
 -- the first segment that does not fit the map, or `None` if all fit
 abbrev pub unfit_segment : List Region → LoadAt → List Segment → Option Segment

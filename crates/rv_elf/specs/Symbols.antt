@@ -6,7 +6,7 @@ use Rattle.std.specs.Prelude.{length, nat_lt}
 use Rattle.std.specs.Prelude.{Option, option_and_then, option_map, unwrap_or, Result, Ok, is_none}
 use Rattle.std.specs.Option.{option_map_or}
 use Rattle.rv_memory.specs.declared.map.Region.{Region}
-use Rattle.rv_memory.specs.Regions.{in_one}
+use Rattle.rv_memory.specs.Regions.{is_in_one_region}
 use Rattle.rv_elf.specs.declared.error.ImageError.{ImageError}
 use Rattle.rv_elf.specs.declared.error.ImageError.TheVariants.{SectionTable, NoSymbols, SymbolTable}
 use Rattle.rv_elf.specs.declared.error.ImageError.TheVariants.{StringTable, NoBegin, SignatureRange}
@@ -62,7 +62,7 @@ symbol_of file name = first_error_of (symbol_rows file name)
 -- bytes are not in one region or make up more than 65,536 words
 abbrev pub is_bad_signature_range : ℕ → ℕ → List Region → Bool
 is_bad_signature_range begin end regions = nat_lt end begin || (not (begin % 4 == 0) || (not (end % 4 == 0)
-    || (nat_lt begin end && (not (in_one regions begin (end - begin))
+    || (nat_lt begin end && (not (is_in_one_region regions begin (end - begin))
     || nat_lt 0x4_0000 (end - begin)))))
 
 -- the error of a signature from `begin` up to `end` that is not in a valid range, or `accepted` if it is

@@ -1,7 +1,7 @@
 //! Whether an image fits a map, and how it is loaded into a bus.
 ghost use Rattle.std.specs.Prelude.{◌≡◌, ◌+◌, ◌<◌, ◌≤◌, ℕ, IsTrue, OnOk, length, count_by, option_map};
 ghost use Rattle.std.specs.List.{list_all, list_any};
-ghost use Rattle.rv_memory.specs.Regions.{in_one};
+ghost use Rattle.rv_memory.specs.Regions.{is_in_one_region};
 ghost use Rattle.rv_memory.specs.Bus.{new_bus, with_bytes};
 ghost use Rattle.rv_elf.specs.Rows.{accepted};
 ghost use Rattle.rv_elf.specs.Image.{IsImageOf};
@@ -130,7 +130,7 @@ fn write_segment(segment: &Segment, file: &[u8], at: LoadAt, bus: &mut Bus)
     requires inside { 0 < segment.now.filesz
         → segment.now.offset + segment.now.filesz ≤ length file.now }
     requires fits { IsTrue
-        (in_one bus.old.regions (load_address at segment.now) segment.now.filesz) }
+        (is_in_one_region bus.old.regions (load_address at segment.now) segment.now.filesz) }
     ensures { bus.new
         ≡ with_bytes bus.old (load_address at segment.now) (file_bytes file.now segment.now) }
 {

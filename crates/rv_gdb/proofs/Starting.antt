@@ -8,7 +8,7 @@ use Rattle.rv_trace.specs.declared_image.Image.{Image}
 use Rattle.rv_trace.specs.Image.{image_of}
 use Rattle.rv_trace.specs.Loading.{map_check}
 use Rattle.rv_trace.specs.Extensions.{has_extension, RV32C}
-use Rattle.rv_trace.specs.declared_sets.Isa.{Isa}
+use Rattle.rv_trace.specs.declared_isa.Isa.{Isa}
 use Rattle.rv_trace.specs.Jobs.{console_path}
 use Rattle.rv_trace.specs.Plans.{result_or_unreadable}
 use Rattle.rv_trace.specs.Reading.{◌>>=◌}
@@ -17,7 +17,7 @@ use Rattle.rv_trace.specs.declared_kept.Kept.{Kept}
 use Rattle.rv_trace.specs.declared_kept.Kept.TheVariants as kept
 use Rattle.rv_trace.specs.declared_job.Job.{Job}
 use Rattle.rv_trace.specs.State.{State, reset_state, is_misaligned}
-use Rattle.rv_trace.specs.Bus.{Contents}
+use Rattle.rv_trace.specs.Bus.{BusContents}
 use Rattle.rv_trace.specs.declared_outcome.Loadable.{Loadable}
 use Rattle.rv_trace.specs.declared_row.Refusal.{Refusal}
 use Rattle.rv_trace.specs.Outcome.{image_file_or_refusal, loadable_image, loaded_contents, loaded_state, range_if_requested, reference_or_refusal, start_if_loadable, start_if_readable, start_of}
@@ -106,7 +106,7 @@ module _ (job : Job) (s : State) where
       let same : b.image ≡ image = cc in
       let loaded : s ≡ loaded_state job b.file image = b.state ∙ ap (λ (i : Image). loaded_state job b.file i) same in
       let bus : loaded_contents job b.file image ≡ s.bus = sym (ap (λ (t : State). t.bus) loaded) in
-      loaded ∙ ap (λ (held : Contents). reset_state held image.entry job.isa) bus
+      loaded ∙ ap (λ (held : BusContents). reset_state held image.entry job.isa) bus
 
 -- an answer that is no state
 not_ok : {A E : Type 0} (r : Result A E) → ((x : A) → r ≡ Ok x → ⊥) → is_ok r ≡ false

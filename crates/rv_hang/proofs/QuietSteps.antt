@@ -5,8 +5,8 @@ use Rattle.std.proofs.lemmas.Bool.{both_ways, ne_eqb}
 use Rattle.rv_trace.specs.declared_instruction.Instr.{Instr}
 use Rattle.rv_trace.specs.declared_instruction.Op.{Op}
 use Rattle.rv_trace.specs.declared_instruction.Op.TheVariants as op
-use Rattle.rv_trace.specs.Bus.{Contents, console_load, load_from, next_of, refuses, size_of, store_to, touches_console, value_at}
-use Rattle.rv_trace.specs.Regions.{in_one}
+use Rattle.rv_trace.specs.Bus.{BusContents, console_load, load_from, next_script_byte, rejects, size_of, store_to, touches_console, value_at}
+use Rattle.rv_trace.specs.Regions.{is_in_one_region}
 use Rattle.rv_trace.specs.declared_access.Width.{Width}
 use Rattle.rv_trace.specs.declared_access.Width.TheVariants.{Byte, Half, Word}
 use Rattle.rv_trace.specs.declared_faults.BusFault.{BusFault}
@@ -53,7 +53,7 @@ branch false s i next = (refl, refl)
 -- ---- loads
 
 -- where a load takes no byte of the script, it leaves the bus
-abbrev TakesNothing : Contents → ℕ → Width → Type 0
+abbrev TakesNothing : BusContents → ℕ → Width → Type 0
 TakesNothing c a Word = consumes_script c a ≡ false
 TakesNothing c a w = Unit {0}
 
@@ -63,7 +63,7 @@ nothing_left (b ∷ bs) h =
     let some : (length (b ∷ bs) == 0) ≡ false = ne_eqb (length (b ∷ bs)) 0 (λ e. omega arith) in
     absurd (both_ways _ h (ap not some))
 
-by_address : (first : Bool) (c : Contents) (a v : ℕ) (other : Result (ℕ × Contents) BusFault) (p : ℕ × Contents)
+by_address : (first : Bool) (c : BusContents) (a v : ℕ) (other : Result (ℕ × BusContents) BusFault) (p : ℕ × BusContents)
     → (first && not (length c.script == 0)) ≡ false → (other ≡ Ok p → p.1 ≡ c)
     → cond first (Ok (v, record c { script = drop 1 c.script })) other ≡ Ok p → p.1 ≡ c
 by_address true c a v other p h rest e =
@@ -71,32 +71,32 @@ by_address true c a v other p h rest e =
     taken ∙ (λ i. record c { script = nothing_left c.script h i })
 by_address false c a v other p h rest e = rest e
 
-by_count : (second : Bool) (c : Contents) (p : ℕ × Contents)
+by_count : (second : Bool) (c : BusContents) (p : ℕ × BusContents)
     → cond second (Ok (length c.script, c)) (Err bus.Access) ≡ Ok p → p.1 ≡ c
 by_count true c p e = cc
 by_count false c p e = cc
 
-console_same : (c : Contents) (a : ℕ) (w : Width) (p : ℕ × Contents) → TakesNothing c a w → console_load c a w ≡ Ok p
+console_same : (c : BusContents) (a : ℕ) (w : Width) (p : ℕ × BusContents) → TakesNothing c a w → console_load c a w ≡ Ok p
     → p.1 ≡ c
 console_same c a Byte p h e = cc
 console_same c a Half p h e = cc
 console_same c a Word p h e =
-    by_address (a == 0x1000_0000) c a (next_of c.script) _ p h (by_count (a == 0x1000_0004) c p) e
+    by_address (a == 0x1000_0000) c a (next_script_byte c.script) _ p h (by_count (a == 0x1000_0004) c p) e
 
-by_place : (refused console within : Bool) (c : Contents) (v : ℕ) (other : Result (ℕ × Contents) BusFault)
-    (p : ℕ × Contents) → (other ≡ Ok p → p.1 ≡ c)
+by_place : (refused console within : Bool) (c : BusContents) (v : ℕ) (other : Result (ℕ × BusContents) BusFault)
+    (p : ℕ × BusContents) → (other ≡ Ok p → p.1 ≡ c)
     → cond refused (Err bus.Misaligned) (cond console other (cond within (Ok (v, c)) (Err bus.Access))) ≡ Ok p → p.1 ≡ c
 by_place true console within c v other p h e = cc
 by_place false true within c v other p h e = h e
 by_place false false true c v other p h e = cc
 by_place false false false c v other p h e = cc
 
-load_same : (c : Contents) (a : ℕ) (w : Width) (p : ℕ × Contents) → TakesNothing c a w → load_from c a w ≡ Ok p → p.1 ≡ c
-load_same c a w p h e = by_place (refuses c.misaligned a w) (touches_console a (size_of w)) (in_one c.regions a (size_of w))
+load_same : (c : BusContents) (a : ℕ) (w : Width) (p : ℕ × BusContents) → TakesNothing c a w → load_from c a w ≡ Ok p → p.1 ≡ c
+load_same c a w p h e = by_place (rejects c.misaligned a w) (touches_console a (size_of w)) (is_in_one_region c.regions a (size_of w))
     c (value_at c.memory a w) (console_load c a w) p (console_same c a w p h) e
 
 -- what a load leaves, whatever value it gives the register
-loaded : (w : Width) (i : Instr) (next : ℕ) (s : State) → TakesNothing s.bus (address s i) w → (p : ℕ × Contents)
+loaded : (w : Width) (i : Instr) (next : ℕ) (s : State) → TakesNothing s.bus (address s i) w → (p : ℕ × BusContents)
     → load_from s.bus (address s i) w ≡ Ok p → (v : ℕ) → Same s (with_pc (with_register (with_bus s p.1) i.rd v) next)
 loaded w i next s h p e v = let u = written (with_bus s p.1) i.rd v in
     (u.0 ∙ load_same s.bus (address s i) w p h e, u.1)
@@ -107,7 +107,7 @@ store_leaves : (w : Width) (i : Instr) (next : ℕ) (s : State) → is_store_red
     → Leaves s (store w s i next)
 store_leaves w i next s h = go (store_to s.bus (address s i) w (rs2_value s i)) refl
   where
-    go : (r : Result Contents BusFault) → store_to s.bus (address s i) w (rs2_value s i) ≡ r
+    go : (r : Result BusContents BusFault) → store_to s.bus (address s i) w (rs2_value s i) ≡ r
         → Leaves s (after_store r s i next)
     go (Ok d) e = (store_again s.bus d (address s i) w (rs2_value s i) h e, refl)
     go (Err f) e = tt

@@ -7,7 +7,7 @@ use Rattle.std.specs.Ordering.{nat_cmp}
 use Rattle.std.specs.FinMap as fin
 use Rattle.std.specs.FinSet as set
 use Rattle.std.specs.FinSet.{nat_cmp-IsAntisymmetric}
-use Rattle.rv_trace.specs.Bus.{Contents, console_store, put, with_stored_byte, refuses, size_of, store_to, touches_console}
+use Rattle.rv_trace.specs.Bus.{BusContents, console_store, put, with_stored_byte, rejects, size_of, store_to, touches_console}
 use Rattle.rv_trace.specs.Regions.{is_in_writable_region}
 use Rattle.rv_trace.specs.declared_access.Width.{Width}
 use Rattle.rv_trace.specs.declared_access.Width.TheVariants.{Byte, Half, Word}
@@ -39,14 +39,14 @@ there_is : (o : Option ℕ) (b : ℕ) → equals_value o b ≡ true → o ≡ So
 there_is None b h = cc
 there_is (Some v) b h = ap (λ x. Some x) (eqb-true v b h)
 
-byte_again : (c : Contents) (a b : ℕ) → has_byte_stored c a b ≡ true → with_stored_byte c a b ≡ c
+byte_again : (c : BusContents) (a b : ℕ) → has_byte_stored c a b ≡ true → with_stored_byte c a b ≡ c
 byte_again c a b h =
     let p = and_parts (equals_value (fin.get c.memory a) b) (set.contains c.stored a) h in
     let memory = insert_again c.memory a b (there_is (fin.get c.memory a) b p.0) in
     let stored = add_again c.stored a p.1 in
     λ i. record c { memory = memory i; stored = stored i }
 
-value_again : (c : Contents) (a : ℕ) (w : Width) (v : ℕ) → has_value_stored c a w v ≡ true → put c a w v ≡ c
+value_again : (c : BusContents) (a : ℕ) (w : Width) (v : ℕ) → has_value_stored c a w v ≡ true → put c a w v ≡ c
 value_again c a Byte v h = byte_again c a (v % 0x100) h
 value_again c a Half v h =
     let p = and_parts (has_byte_stored c a (v % 0x100)) (has_byte_stored c (a + 1) (v / 0x100 % 0x100)) h in
@@ -79,7 +79,7 @@ apart_touches a n h = false_from_ne_true _ (λ e.
       | inr r ↦ let begin = leb-true 0x1000_0010 a (and_parts _ _ r).0 in omega arith
     ])
 
-by_tests : (refused console within : Bool) (other : Result Contents BusFault) (stored d : Contents) → console ≡ false
+by_tests : (refused console within : Bool) (other : Result BusContents BusFault) (stored d : BusContents) → console ≡ false
     → cond refused (Err bus.Misaligned) (cond console other (cond within (Ok stored) (Err bus.Access))) ≡ Ok d
     → d ≡ stored
 by_tests true console within other stored d h e = cc
@@ -87,10 +87,10 @@ by_tests false true within other stored d h e = cc
 by_tests false false true other stored d h e = cc
 by_tests false false false other stored d h e = cc
 
-pub store_again : (c d : Contents) (a : ℕ) (w : Width) (v : ℕ) → is_store_redundant c a w v ≡ true
+pub store_again : (c d : BusContents) (a : ℕ) (w : Width) (v : ℕ) → is_store_redundant c a w v ≡ true
     → store_to c a w v ≡ Ok d → d ≡ c
 store_again c d a w v h e =
     let p = and_parts (are_outside_console a (size_of w)) (has_value_stored c a w v) h in
-    by_tests (refuses c.misaligned a w) (touches_console a (size_of w)) (is_in_writable_region c.regions a (size_of w))
+    by_tests (rejects c.misaligned a w) (touches_console a (size_of w)) (is_in_writable_region c.regions a (size_of w))
     (console_store c a w v) (put c a w v) d (apart_touches a (size_of w) p.0) e
     ∙ value_again c a w v p.1

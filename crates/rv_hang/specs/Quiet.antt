@@ -5,7 +5,7 @@ use Rattle.std.specs.FinSet as set
 use Rattle.rv_trace.specs.declared_instruction.Instr.{Instr}
 use Rattle.rv_trace.specs.declared_instruction.Op.{Op}
 use Rattle.rv_trace.specs.declared_instruction.Op.TheVariants as op
-use Rattle.rv_trace.specs.Bus.{Contents, size_of}
+use Rattle.rv_trace.specs.Bus.{BusContents, size_of}
 use Rattle.rv_trace.specs.declared_access.Width.{Width}
 use Rattle.rv_trace.specs.declared_access.Width.TheVariants.{Byte, Half, Word}
 use Rattle.rv_trace.specs.Effect.{address, rs2_value}
@@ -24,24 +24,24 @@ equals_value None value = false
 equals_value (Some there) value = there == value
 
 -- whether the byte at an address already has this value, and counts as stored
-abbrev pub has_byte_stored : Contents → ℕ → ℕ → Bool
+abbrev pub has_byte_stored : BusContents → ℕ → ℕ → Bool
 has_byte_stored c a byte = equals_value (fin.get c.memory a) byte && set.contains c.stored a
 
 -- whether the bytes at an address already have the values that a store of this width and value would give them, and count as stored
-abbrev pub has_value_stored : Contents → ℕ → Width → ℕ → Bool
+abbrev pub has_value_stored : BusContents → ℕ → Width → ℕ → Bool
 has_value_stored c a Byte v = has_byte_stored c a (v % 0x100)
 has_value_stored c a Half v = has_byte_stored c a (v % 0x100) && has_byte_stored c (a + 1) (v / 0x100 % 0x100)
 has_value_stored c a Word v = has_byte_stored c a (v % 0x100) && (has_byte_stored c (a + 1) (v / 0x100 % 0x100)
     && (has_byte_stored c (a + 2) (v / 0x1_0000 % 0x100) && has_byte_stored c (a + 3) (v / 0x100_0000 % 0x100)))
 
 -- whether a store of this width and value is outside the console and changes nothing
-abbrev pub is_store_redundant : Contents → ℕ → Width → ℕ → Bool
+abbrev pub is_store_redundant : BusContents → ℕ → Width → ℕ → Bool
 is_store_redundant c a w v = are_outside_console a (size_of w) && has_value_stored c a w v
 
 -- ---- steps
 
 -- whether a word load at this address consumes a byte of the input script: at the console's first address, while there is one
-abbrev pub consumes_script : Contents → ℕ → Bool
+abbrev pub consumes_script : BusContents → ℕ → Bool
 consumes_script c a = a == 0x1000_0000 && not (length c.script == 0)
 
 -- whether an instruction leaves the bus unchanged if it completes: only loads and stores access the bus; FENCE.I counts as if it changed

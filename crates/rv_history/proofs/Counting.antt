@@ -5,7 +5,7 @@ use Rattle.std.proofs.lemmas.Bool.{cases_eq}
 use Rattle.rv_trace.specs.declared_ending.Ending.{Ending}
 use Rattle.rv_trace.specs.Run.{step_of}
 use Rattle.rv_trace.specs.State.{State}
-use Rattle.rv_trace.specs.Bus.{Contents}
+use Rattle.rv_trace.specs.Bus.{BusContents}
 use Rattle.rv_history.specs.Counts.{IsFound, count_at, count_value}
 use Rattle.rv_history.specs.Places.{IsReached, last_step}
 use Rattle.rv_history.specs.declared.counts.Count.{Count}
@@ -65,10 +65,10 @@ result_at_budget count value budget place start s reached all is before =
 
 -- ---- what calls tell
 
-pub told_here : (count : Count) (script script' result : ℕ) (bus bus' : Contents) → result ≡ count_value count script bus
+pub told_here : (count : Count) (script script' result : ℕ) (bus bus' : BusContents) → result ≡ count_value count script bus
     → script ≡ script' → bus ≡ bus' → count_value count script' bus' ≡ result
 told_here count script script' result bus bus' is long same =
-    ap (λ (k : ℕ). count_value count k bus') (sym long) ∙ ap (λ (b : Contents). count_value count script b) (sym same) ∙ sym is
+    ap (λ (k : ℕ). count_value count k bus') (sym long) ∙ ap (λ (b : BusContents). count_value count script b) (sym same) ∙ sym is
 
 pub step_ended : (result : Option Ending) (P : Type 0) (Q : Ending → Type 0) → is_some result ≡ true → MatchOption result P Q
     → (ending : Ending) × Q ending

@@ -4,7 +4,7 @@ use Rattle.std.specs.Prelude.{if◌then◌else◌}
 use Rattle.std.specs.Result.{IfOk}
 use Rattle.std.specs.Str.{bytes_eq}
 use Rattle.std.proofs.lemmas.List.{at_drop_more}
-use Rattle.rv_trace.specs.Bus.{Contents}
+use Rattle.rv_trace.specs.Bus.{BusContents}
 use Rattle.rv_trace.specs.State.{State}
 use Rattle.rv_history.specs.Stops.{first_differing, first_triggered, watch_bytes}
 use Rattle.rv_history.specs.declared.stops.WatchHit.{WatchHit}
@@ -12,7 +12,7 @@ use Rattle.rv_history.specs.declared.stops.Stops.{Stops}
 use Rattle.rv_history.specs.declared.stops.Watch.{Watch}
 
 -- it is the one at a place, or one behind it
-pub differing_at : (watches : List Watch) (one other : Contents) (i : ℕ) (watch : Watch) → i < length watches
+pub differing_at : (watches : List Watch) (one other : BusContents) (i : ℕ) (watch : Watch) → i < length watches
     → first_differing (drop i watches) one other
     ≡ (if bytes_eq (watch_bytes one (get_or watches i watch)) (watch_bytes other (get_or watches i watch))
     then first_differing (drop (i + 1) watches) one other else Some (get_or watches i watch).address)

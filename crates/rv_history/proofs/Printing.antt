@@ -4,8 +4,8 @@ use Rattle.std.specs.Prelude.{slice_set}
 use Rattle.rv_trace.specs.declared_instruction.Instr.{Instr}
 use Rattle.rv_trace.specs.declared_instruction.Op.{Op}
 use Rattle.rv_trace.specs.declared_instruction.Op.TheVariants as op
-use Rattle.rv_trace.specs.Bus.{Contents, console_load, console_store, load_from, next_of, put, refuses, size_of, store_to, touches_console, value_at}
-use Rattle.rv_trace.specs.Regions.{in_one, is_in_writable_region}
+use Rattle.rv_trace.specs.Bus.{BusContents, console_load, console_store, load_from, next_script_byte, put, rejects, size_of, store_to, touches_console, value_at}
+use Rattle.rv_trace.specs.Regions.{is_in_one_region, is_in_writable_region}
 use Rattle.rv_trace.specs.declared_access.Width.{Width}
 use Rattle.rv_trace.specs.declared_access.Width.TheVariants.{Byte, Half, Word}
 use Rattle.rv_trace.specs.declared_faults.BusFault.{BusFault}
@@ -44,53 +44,53 @@ by_test P false x y p q = q
 
 -- ---- accesses
 
-abbrev Prints : Contents → Contents → Type 0
+abbrev Prints : BusContents → BusContents → Type 0
 Prints c d = Begins d.output c.output
 
-console_grows : (c : Contents) (a : ℕ) (w : Width) (v : ℕ) → ok_is (Prints c) (console_store c a w v)
+console_grows : (c : BusContents) (a : ℕ) (w : Width) (v : ℕ) → ok_is (Prints c) (console_store c a w v)
 console_grows c a Byte v = tt
 console_grows c a Half v = tt
 console_grows c a Word v =
-    let written : Result Contents BusFault = Ok (record c { output = c.output ++ (v % 0x100) ∷ [] }) in
-    let r : Result Contents BusFault = cond (ltb (length c.output) 0x1_0000) written (Err ConsoleFull) in
+    let written : Result BusContents BusFault = Ok (record c { output = c.output ++ (v % 0x100) ∷ [] }) in
+    let r : Result BusContents BusFault = cond (ltb (length c.output) 0x1_0000) written (Err ConsoleFull) in
     by_test (Prints c) (not (eqb a 0x1000_0000)) (Err Access) r tt
     (by_test (Prints c) (ltb (length c.output) 0x1_0000) written (Err ConsoleFull)
     (record { rest = (v % 0x100) ∷ []; whole_is = refl }) tt)
 
-put_prints : (c : Contents) (a : ℕ) (w : Width) (v : ℕ) → Prints c (put c a w v)
+put_prints : (c : BusContents) (a : ℕ) (w : Width) (v : ℕ) → Prints c (put c a w v)
 put_prints c a Byte v = same_begins c.output c.output refl
 put_prints c a Half v = same_begins c.output c.output refl
 put_prints c a Word v = same_begins c.output c.output refl
 
-store_prints : (c : Contents) (a : ℕ) (w : Width) (v : ℕ) → ok_is (Prints c) (store_to c a w v)
+store_prints : (c : BusContents) (a : ℕ) (w : Width) (v : ℕ) → ok_is (Prints c) (store_to c a w v)
 store_prints c a w v =
-    let put_there : Result Contents BusFault = cond (is_in_writable_region c.regions a (size_of w)) (Ok (put c a w v)) (Err Access) in
-    let r : Result Contents BusFault = cond (touches_console a (size_of w)) (console_store c a w v) put_there in
-    by_test (Prints c) (refuses c.misaligned a w) (Err Misaligned) r tt
+    let put_there : Result BusContents BusFault = cond (is_in_writable_region c.regions a (size_of w)) (Ok (put c a w v)) (Err Access) in
+    let r : Result BusContents BusFault = cond (touches_console a (size_of w)) (console_store c a w v) put_there in
+    by_test (Prints c) (rejects c.misaligned a w) (Err Misaligned) r tt
     (by_test (Prints c) (touches_console a (size_of w)) (console_store c a w v) put_there (console_grows c a w v)
     (by_test {E = BusFault} (Prints c) (is_in_writable_region c.regions a (size_of w)) (Ok (put c a w v)) (Err Access)
     (put_prints c a w v) tt))
 
-abbrev Loads : Contents → ℕ × Contents → Type 0
+abbrev Loads : BusContents → ℕ × BusContents → Type 0
 Loads c p = Begins p.1.output c.output
 
-console_loads : (c : Contents) (a : ℕ) (w : Width) → ok_is (Loads c) (console_load c a w)
+console_loads : (c : BusContents) (a : ℕ) (w : Width) → ok_is (Loads c) (console_load c a w)
 console_loads c a Byte = tt
 console_loads c a Half = tt
 console_loads c a Word =
-    let taken : Result (ℕ × Contents) BusFault = Ok (next_of c.script, record c { script = drop 1 c.script }) in
-    let left : Result (ℕ × Contents) BusFault = Ok (length c.script, c) in
-    let r : Result (ℕ × Contents) BusFault = cond (eqb a 0x1000_0004) left (Err Access) in
+    let taken : Result (ℕ × BusContents) BusFault = Ok (next_script_byte c.script, record c { script = drop 1 c.script }) in
+    let left : Result (ℕ × BusContents) BusFault = Ok (length c.script, c) in
+    let r : Result (ℕ × BusContents) BusFault = cond (eqb a 0x1000_0004) left (Err Access) in
     by_test (Loads c) (eqb a 0x1000_0000) taken r (same_begins c.output c.output refl)
     (by_test (Loads c) (eqb a 0x1000_0004) left (Err Access) (same_begins c.output c.output refl) tt)
 
-loads : (c : Contents) (a : ℕ) (w : Width) → ok_is (Loads c) (load_from c a w)
+loads : (c : BusContents) (a : ℕ) (w : Width) → ok_is (Loads c) (load_from c a w)
 loads c a w =
-    let found : Result (ℕ × Contents) BusFault = cond (in_one c.regions a (size_of w)) (Ok (value_at c.memory a w, c)) (Err Access) in
-    let r : Result (ℕ × Contents) BusFault = cond (touches_console a (size_of w)) (console_load c a w) found in
-    by_test (Loads c) (refuses c.misaligned a w) (Err Misaligned) r tt
+    let found : Result (ℕ × BusContents) BusFault = cond (is_in_one_region c.regions a (size_of w)) (Ok (value_at c.memory a w, c)) (Err Access) in
+    let r : Result (ℕ × BusContents) BusFault = cond (touches_console a (size_of w)) (console_load c a w) found in
+    by_test (Loads c) (rejects c.misaligned a w) (Err Misaligned) r tt
     (by_test (Loads c) (touches_console a (size_of w)) (console_load c a w) found (console_loads c a w)
-    (by_test {E = BusFault} (Loads c) (in_one c.regions a (size_of w)) (Ok (value_at c.memory a w, c)) (Err Access)
+    (by_test {E = BusFault} (Loads c) (is_in_one_region c.regions a (size_of w)) (Ok (value_at c.memory a w, c)) (Err Access)
     (same_begins c.output c.output refl) tt))
 
 -- ---- instructions
@@ -103,7 +103,7 @@ written_bus : (s : State) (n v : ℕ) → (with_register s n v).bus ≡ s.bus
 written_bus s n v = either_bus s (record s { registers = slice_set s.registers n v }) (eqb n 0) refl
 
 written : (s : State) (n v : ℕ) → Grows s (with_register s n v)
-written s n v = same_begins _ s.bus.output (ap (λ (c : Contents). c.output) (written_bus s n v))
+written s n v = same_begins _ s.bus.output (ap (λ (c : BusContents). c.output) (written_bus s n v))
 
 gone : (s : State) (target : ℕ) (after : State) → Grows s after → ok_is (Grows s) (jump_to s target after)
 gone s target after h = by_test {E = Ending} (Grows s) (is_misaligned s.isa target) (Err _) (Ok (with_pc after target)) tt h
@@ -113,13 +113,13 @@ branch true s i next = gone s (pc_plus_immediate s i) s (all_of s)
 branch false s i next = all_of s
 
 -- by the answer of a load
-by_load : (s : State) (i : Instr) (w : Width) (P : Type 0) → ((p : ℕ × Contents) → load_from s.bus (address s i) w ≡ Ok p → P)
+by_load : (s : State) (i : Instr) (w : Width) (P : Type 0) → ((p : ℕ × BusContents) → load_from s.bus (address s i) w ≡ Ok p → P)
     → ((e : BusFault) → load_from s.bus (address s i) w ≡ Err e → P) → P
 by_load s i w P ok err =
     elim (load_from s.bus (address s i) w) as (λ r. load_from s.bus (address s i) w ≡ r → P) [ Ok p ↦ ok p | Err e ↦ err e ] refl
 
 -- what a load leaves, with a register written
-loaded : (s : State) (i : Instr) (w : Width) (p : ℕ × Contents) (n v : ℕ) → load_from s.bus (address s i) w ≡ Ok p
+loaded : (s : State) (i : Instr) (w : Width) (p : ℕ × BusContents) (n v : ℕ) → load_from s.bus (address s i) w ≡ Ok p
     → Grows s (with_register (with_bus s p.1) n v)
 loaded s i w p n v e = begins_on _ p.1.output s.bus.output (subst (ok_is (Loads s.bus)) e (loads s.bus (address s i) w))
     (written (with_bus s p.1) n v)
@@ -127,7 +127,7 @@ loaded s i w p n v e = begins_on _ p.1.output s.bus.output (subst (ok_is (Loads 
 store_grows : (w : Width) (i : Instr) (next : ℕ) (s : State) → ok_is (Grows s) (store w s i next)
 store_grows w i next s = go (store_to s.bus (address s i) w (rs2_value s i)) (store_prints s.bus (address s i) w (rs2_value s i))
   where
-    go : (r : Result Contents BusFault) → ok_is (Prints s.bus) r → ok_is (Grows s) (after_store r s i next)
+    go : (r : Result BusContents BusFault) → ok_is (Prints s.bus) r → ok_is (Grows s) (after_store r s i next)
     go (Ok d) k = k
     go (Err e) k = tt
 

@@ -9,7 +9,7 @@ use Rattle.rv_trace.specs.Run.{run_of}
 use Rattle.rv_trace.specs.declared_ending.Ending.{Ending}
 use Rattle.rv_trace.specs.declared_ending.Ending.TheVariants.{Budget}
 use Rattle.rv_trace.specs.State.{State}
-use Rattle.rv_trace.specs.Bus.{Contents}
+use Rattle.rv_trace.specs.Bus.{BusContents}
 use Rattle.rv_trace.specs.Trace.{state_after}
 use Rattle.rv_history.specs.declared.bounds.Bounds.{Bounds}
 use Rattle.rv_history.specs.declared.bounds.Bounds.TheVariants as bounds
@@ -35,7 +35,7 @@ use Rattle.rv_history.proofs.Reaching.{by_step, comes_within, ends_by_budget, en
 no_break : (stops : Stops) (pc : ℕ) → AreEmpty stops → is_break stops pc ≡ false
 no_break stops pc none = ap (λ (breaks : List ℕ). list_any (λ address. address == pc) breaks) none.0
 
-no_bytes : (stops : Stops) (bus : Contents) → stops.watches ≡ [] → watched_bytes stops bus ≡ []
+no_bytes : (stops : Stops) (bus : BusContents) → stops.watches ≡ [] → watched_bytes stops bus ≡ []
 unfolding watched_bytes
 no_bytes stops bus none = ap (λ (watches : List Watch). flat_map (watch_bytes bus) watches) none
 

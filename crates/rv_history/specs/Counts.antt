@@ -1,14 +1,14 @@
 -- Counts that a run reaches.
 use Rattle.std.specs.Prelude.{ℕ, ◌≡◌, ◌≢◌, ◌<◌, ◌≤◌, ◌-◌, Option, Some, None, length}
 use Rattle.rv_trace.specs.State.{State}
-use Rattle.rv_trace.specs.Bus.{Contents}
+use Rattle.rv_trace.specs.Bus.{BusContents}
 use Rattle.rv_trace.specs.Trace.{state_after}
 use Rattle.rv_history.specs.Places.{last_step}
 use Rattle.rv_history.specs.declared.counts.Count.{Count}
 use Rattle.rv_history.specs.declared.counts.Count.TheVariants as count
 
 -- the value of a count: the number of bytes that were printed, or that were consumed from an input script of `script` bytes
-abbrev pub count_value : Count → ℕ → Contents → ℕ
+abbrev pub count_value : Count → ℕ → BusContents → ℕ
 count_value count.Printed script bus = length bus.output
 count_value count.Taken script bus = script - length bus.script
 

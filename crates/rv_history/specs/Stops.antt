@@ -3,7 +3,7 @@ use Rattle.std.specs.Prelude.{ℕ, List, [], ◌∷◌, ◌≡◌, ◌≢◌, �
 use Rattle.std.specs.Str.{bytes_eq}
 use Rattle.std.specs.FinMap as fin
 use Rattle.std.specs.List.{filter_map, find, flat_map, list_any, range_with_len}
-use Rattle.rv_trace.specs.Bus.{Contents}
+use Rattle.rv_trace.specs.Bus.{BusContents}
 use Rattle.rv_trace.specs.State.{State}
 use Rattle.rv_history.specs.Accesses.{access_at, is_hit}
 use Rattle.rv_history.specs.declared.access.Access.{Access}
@@ -36,15 +36,15 @@ abbrev pub halts_at : Stops → Bounds → ℕ → Bool
 halts_at stops bounds pc = is_break stops pc || is_outside bounds pc
 
 -- the bytes of a watchpoint's range, without bytes outside the regions
-abbrev pub watch_bytes : Contents → Watch → List ℕ
+abbrev pub watch_bytes : BusContents → Watch → List ℕ
 watch_bytes bus watch = filter_map (fin.get bus.memory) (range_with_len watch.address watch.count)
 
 -- the bytes that are watched for changes, in the order of the watchpoints, without bytes outside the regions
-unfoldable pub watched_bytes : Stops → Contents → List ℕ
+unfoldable pub watched_bytes : Stops → BusContents → List ℕ
 watched_bytes stops bus = flat_map (watch_bytes bus) stops.watches
 
 -- the address of the first watchpoint whose bytes differ between the two buses, or `None` if none differ
-unfoldable pub first_differing : List Watch → Contents → Contents → Option ℕ
+unfoldable pub first_differing : List Watch → BusContents → BusContents → Option ℕ
 first_differing [] one other = None
 first_differing (watch ∷ rest) one other =
     if bytes_eq (watch_bytes one watch) (watch_bytes other watch) then first_differing rest one other else Some watch.address

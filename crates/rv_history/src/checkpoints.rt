@@ -105,7 +105,7 @@ impl Checkpoints {
         ensures { IfOk result (λ at. IsAt self.now at × (at.place ≤ place)) }
     {
         if let Some(kept) = self.nearest(place) {
-            return kept.copied(alloc);
+            return kept.try_clone(alloc);
         }
         let machine = self.start.machine(alloc)?;
         Ok(MachineAt { place: 0, machine })
@@ -124,7 +124,7 @@ impl Checkpoints {
         ensures order { IfOk result (λ last. (at.place ≤ last.place) × (last.place ≤ place)) }
     {
         match self.nearest(place) {
-            Some(kept) if at.place < kept.place => kept.copied(alloc),
+            Some(kept) if at.place < kept.place => kept.try_clone(alloc),
             _ => Ok(at),
         }
     }
@@ -226,7 +226,7 @@ impl Checkpoints {
         requires { IsAt self.old at.now }
         ensures { self.new ≡ self.old }
     {
-        let kept = at.copied(alloc)?;
+        let kept = at.try_clone(alloc)?;
         if self.coarse.is_full() {
             self.interval = self.interval.saturating_mul(2);
             self.coarse.retain_multiples(self.interval);

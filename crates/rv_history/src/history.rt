@@ -103,7 +103,7 @@ impl History {
         ensures run { self.new ≡ record self.old { place = self.new.place } }
         ensures same { OnErr result (self.new ≡ self.old) }
     {
-        let machine = self.machine.copied(alloc)?;
+        let machine = self.machine.try_clone(alloc)?;
         let leg = ForwardMove {
             from: self.place,
             budget: self.budget,
@@ -129,7 +129,7 @@ impl History {
         if self.place == self.budget {
             return Ok(Found::End(Ending::Budget));
         }
-        let mut machine = self.machine.copied(alloc)?;
+        let mut machine = self.machine.try_clone(alloc)?;
         match step_watched(alloc, &mut machine, stops)? {
             Stepped::Ended(ending) => Ok(Found::End(ending)),
             Stepped::Changed => Ok(Found::Change),

@@ -18,11 +18,11 @@ pub(crate) struct MachineAt {
 
 impl MachineAt {
     /// Returns a copy of the machine with its own memory, which does not change when the original runs.
-    pub(crate) fn copied(&self, alloc: Global) -> Result<MachineAt, AllocError>
+    pub(crate) fn try_clone(&self, alloc: Global) -> Result<MachineAt, AllocError>
         ensures place { IfOk result (λ at. at.place ≡ self.now.place) }
         ensures state { IfOk result (λ at. state_of at.machine ≡ state_of self.now.machine) }
     {
-        let machine = self.machine.copied(alloc)?;
+        let machine = self.machine.try_clone(alloc)?;
         Ok(MachineAt {
             place: self.place,
             machine,

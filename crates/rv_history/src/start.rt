@@ -25,7 +25,7 @@ impl Start {
     pub(crate) fn machine(&self, alloc: Global) -> Result<Machine, AllocError>
         ensures { IfOk result (λ machine. state_of machine ≡ start_of self.now) }
     {
-        let bus = self.bus.copied(alloc)?;
+        let bus = self.bus.try_clone(alloc)?;
         Machine::new(alloc, bus, self.entry, self.isa)
     }
 }

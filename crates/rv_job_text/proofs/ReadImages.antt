@@ -10,7 +10,7 @@ use Rattle.rv_rows.specs.declared_symbol_search.SymbolAt.{SymbolAt}
 use Rattle.rv_rows.specs.Image.{image_of}
 use Rattle.rv_rows.specs.SymbolSearch.{symbol_at}
 use Rattle.rv_rows.specs.Symbols.{symbol_of}
-use Rattle.rv_rows.specs.declared_sets.Isa.{Isa}
+use Rattle.rv_rows.specs.declared_isa.Isa.{Isa}
 use Rattle.rv_rows.specs.declared_job.Symbols.{Symbols}
 use Rattle.rv_rows.specs.declared_row.RowEnd.{RowEnd}
 use Rattle.rv_rows.specs.Rows.{image_if_read}

@@ -16,7 +16,7 @@ use Rattle.rv_rows.specs.declared_job.Job.{Job}
 use Rattle.rv_rows.specs.declared_job.Symbols.{Symbols}
 use Rattle.rv_text.specs.Printable.{printable_text}
 use Rattle.rv_rows.specs.declared_map.Region.{Region}
-use Rattle.rv_rows.specs.Regions.{in_one}
+use Rattle.rv_rows.specs.Regions.{is_in_one_region}
 use Rattle.rv_text.specs.Words.{word_digits}
 
 -- ---- addresses
@@ -53,7 +53,7 @@ outside_segment_text false at segment =
 unfoldable pub unfit_segment_text : Job → Option Segment → List ℕ
 unfit_segment_text job None = codes "a segment does not fit in one region"
 unfit_segment_text job (Some segment) =
-    outside_segment_text (in_one job.regions (load_address job.load segment) segment.filesz)
+    outside_segment_text (is_in_one_region job.regions (load_address job.load segment) segment.filesz)
     job.load segment
     ++ codes ", do not fit in one region:" ++ regions_text job.regions
 

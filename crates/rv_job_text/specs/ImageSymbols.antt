@@ -5,7 +5,7 @@ use Rattle.rv_rows.specs.declared_image.Image.{Image}
 use Rattle.rv_rows.specs.Image.{image_of}
 use Rattle.rv_rows.specs.SymbolSearch.{symbol_at}
 use Rattle.rv_rows.specs.Symbols.{symbol_of}
-use Rattle.rv_rows.specs.declared_sets.Isa.{Isa}
+use Rattle.rv_rows.specs.declared_isa.Isa.{Isa}
 use Rattle.rv_rows.specs.declared_job.Symbols.{Symbols}
 use Rattle.rv_rows.specs.declared_row.RowEnd.{RowEnd}
 use Rattle.rv_rows.specs.declared_row.RowEnd.TheVariants as ending

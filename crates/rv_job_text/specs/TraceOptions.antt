@@ -3,7 +3,7 @@ use Rattle.std.specs.Prelude.{ℕ, List, [], Option, Some, None, Result, Ok, Err
 use Rattle.rv_rows.specs.declared_elf_error.ImageError.{ImageError}
 use Rattle.rv_rows.specs.declared_image.Image.{Image}
 use Rattle.rv_rows.specs.Image.{image_of}
-use Rattle.rv_rows.specs.declared_sets.Isa.{Isa}
+use Rattle.rv_rows.specs.declared_isa.Isa.{Isa}
 use Rattle.rv_calls.specs.declared.run.Calls.{Calls}
 use Rattle.rv_calls.specs.CallsLine.{calls_text}
 use Rattle.rv_rows.specs.declared_row.RowEnd.{RowEnd}

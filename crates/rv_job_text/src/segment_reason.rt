@@ -3,7 +3,7 @@
 ghost use Rattle.std.specs.Prelude.{◌≡◌, ◌+◌, ◌++◌, OnOk, codes, option_map};
 ghost use Rattle.std.specs.List.{find};
 ghost use Rattle.rv_rows.specs.Loading.{load_address, segments_overlap};
-ghost use Rattle.rv_rows.specs.Regions.{in_one};
+ghost use Rattle.rv_rows.specs.Regions.{is_in_one_region};
 ghost use Rattle.rv_text.specs.Spans.{span_text};
 ghost use Rattle.rv_job_text.specs.ImageReasons.{last_address_text, unfit_segment_text, outside_segment_text, segment_overlap_text, segment_pair_text, address_range_text};
 ghost use Rattle.rv_job_text.specs.ImageReasons.{regions_text, overlapping_segments};
@@ -35,7 +35,7 @@ pub(crate) fn push_unfit_segment(
 #[tactic(auto, unfolding(crate::specs::ImageReasons::outside_segment_text))]
 fn push_outside_segment(bytes: &mut Vec<u8>, job: &Job, segment: &Segment) -> Result<(), AllocError>
     ensures { OnOk result (bytes.new.items ≡ bytes.old.items
-        ++ (outside_segment_text (in_one job.now.regions (load_address job.now.load segment.now)
+        ++ (outside_segment_text (is_in_one_region job.now.regions (load_address job.now.load segment.now)
         segment.now.filesz) job.now.load segment.now ++ codes ", do not fit in one region:")) }
 {
     let behind = ", do not fit in one region:";

@@ -1,7 +1,7 @@
 -- A job behind its name, its image and its budget.
 use Rattle.std.proofs.Common.{◌≡◌, ◌∙◌, ℕ, false, List, Option, Result, Ok, Err, refl, is_some}
 use Rattle.toml.specs.Data.{Members}
-use Rattle.rv_machine.specs.declared_sets.Isa.{Isa}
+use Rattle.rv_machine.specs.declared_isa.Isa.{Isa}
 use Rattle.rv_machine.specs.declared_access.Misaligned.{Misaligned}
 use Rattle.rv_lists.specs.declared.error.What.{What}
 use Rattle.rv_lists.specs.declared.job.ExpectedEnd.{ExpectedEnd}

@@ -12,11 +12,11 @@ use Rattle.toml.specs.Data.{Data, Items, no_items, item, Members, table, array, 
 use Rattle.toml.specs.Data.{get_item, as_str}
 use Rattle.hex.specs.Hex.{decode_of}
 use Rattle.hex.specs.declared.error.FromHexError.{FromHexError}
-use Rattle.rv_machine.specs.declared_sets.Isa.{Isa}
-use Rattle.rv_machine.specs.declared_sets.Isa.TheVariants as isa
+use Rattle.rv_machine.specs.declared_isa.Isa.{Isa}
+use Rattle.rv_machine.specs.declared_isa.Isa.TheVariants as isa
 use Rattle.rv_machine.specs.declared_map.MapError.{MapError}
 use Rattle.rv_machine.specs.declared_map.Region.{Region}
-use Rattle.rv_machine.specs.declared_access.Misaligned.{Misaligned as Choice}
+use Rattle.rv_machine.specs.declared_access.Misaligned.{Misaligned as MisalignedPolicy}
 use Rattle.rv_machine.specs.declared_access.Misaligned.TheVariants.{Fault, Allow}
 use Rattle.rv_machine.specs.Maps.{map_error}
 use Rattle.rv_elf.specs.declared.loading.LoadAt.{LoadAt}
@@ -249,13 +249,13 @@ unfoldable pub isa_from_table : Members → Result Isa What
 isa_from_table ms = parsed_or_default isa_from_text isa.Imc (text_at_key (codes "isa") ms)
 
 -- what misaligned accesses do, from the value of `misaligned`: `fault` or `allow`; any other text is an error
-abbrev pub misaligned_from_text : List ℕ → Result Choice What
+abbrev pub misaligned_from_text : List ℕ → Result MisalignedPolicy What
 misaligned_from_text t = if bytes_eq t (codes "fault") then Ok Fault
     else if bytes_eq t (codes "allow") then Ok Allow
     else Err what.Misaligned
 
 -- what misaligned accesses do in a job's run: they are faults, unless `misaligned` allows them
-unfoldable pub misaligned_from_table : Members → Result Choice What
+unfoldable pub misaligned_from_table : Members → Result MisalignedPolicy What
 misaligned_from_table ms = parsed_or_default misaligned_from_text Fault (text_at_key (codes "misaligned") ms)
 
 -- ---- a job

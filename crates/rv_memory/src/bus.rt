@@ -1,7 +1,7 @@
 //! A bus and what a hart does with it (loads, stores, fetches and FENCE.I), and the writing of an image's bytes.
 ghost use Rattle.std.specs.Prelude.{◌≡◌, ◌+◌, ◌*◌, ◌/◌, ◌%◌, ◌^◌, ◌<◌, ◌⊎◌, IsTrue, IfOk, IfSome, MatchResult, Ok};
 ghost use Rattle.std.specs.Prelude.{None, length};
-ghost use Rattle.rv_memory.specs.Regions.{in_one};
+ghost use Rattle.rv_memory.specs.Regions.{is_in_one_region};
 ghost use Rattle.rv_memory.specs.Maps.{map_error};
 ghost use Rattle.rv_memory.specs.Inside.Places.{IsStoredAt};
 ghost use Rattle.rv_memory.specs.Bus.{size_of, load_from, store_to, fetch_half_from, fetch_word_from, is_clean_range};
@@ -11,7 +11,7 @@ use crate::access::{Misaligned, Width, read_value, read_word, write_value};
 use crate::faults::{BusFault, FetchFault};
 use crate::map::Map;
 use crate::marks::{has_mark, mark};
-use crate::place::Place;
+use crate::buffer_range::BufferRange;
 use std::marker::Model;
 
 /// The memory of a map, with marks on its stored bytes, and the console.
@@ -36,10 +36,10 @@ pub struct Bus {
 }
 
 impl Model for Bus {
-    ghost use Rattle.rv_memory.specs.Bus.{Contents};
+    ghost use Rattle.rv_memory.specs.Bus.{BusContents};
     ghost use Rattle.rv_memory.specs.Inside.Codes.{contents_code};
 
-    ghost Value = { Contents };
+    ghost Value = { BusContents };
 
     ghost coded = { contents_code };
 
@@ -54,7 +54,7 @@ impl Bus {
     /// Writes an image's bytes at an address and the following ones, even in read-only regions. None of these addresses counts as stored
     /// to.
     pub fn place(&mut self, addr: u32, bytes: &[u8])
-        requires { IsTrue (in_one self.old.regions addr (length bytes.now)) }
+        requires { IsTrue (is_in_one_region self.old.regions addr (length bytes.now)) }
         ensures { self.new ≡ with_bytes self.old addr bytes.now }
     {
         if bytes.is_empty() {
@@ -79,7 +79,7 @@ impl Bus {
                 return Ok(read_value(&self.bytes, place.at, width));
             }
         }
-        if self.misaligned.refuses(addr, width) {
+        if self.misaligned.rejects(addr, width) {
             return Err(BusFault::Misaligned);
         }
         let Some(place) = self.map.place(addr, width.size()) else {
@@ -104,7 +104,7 @@ impl Bus {
                 }
             }
         }
-        if self.misaligned.refuses(addr, width) {
+        if self.misaligned.rejects(addr, width) {
             return Err(BusFault::Misaligned);
         }
         let Some(place) = self.map.place(addr, width.size()) else {
@@ -119,7 +119,7 @@ impl Bus {
 
     // Writes the low bytes of a value at an address, whose bytes in memory are at `place`, and marks them as stored to.
     #[inline(always)]
-    fn put(&mut self, place: Place, addr: u32, width: Width, value: u32)
+    fn put(&mut self, place: BufferRange, addr: u32, width: Width, value: u32)
         requires { IsStoredAt self.old.regions addr (size_of width) place.at place.writable }
         ensures { self.new ≡ put self.old addr width value }
     {

@@ -1,6 +1,6 @@
 //! The console of a bus: its addresses, and word loads and stores.
 ghost use Rattle.std.specs.Prelude.{◌≡◌, ◌*◌, ◌^◌, ◌<◌, IfOk, MatchResult, Ok, drop};
-ghost use Rattle.rv_memory.specs.Bus.{size_of, console_load, console_store, next_of};
+ghost use Rattle.rv_memory.specs.Bus.{size_of, console_load, console_store, next_script_byte};
 
 use crate::access::Width;
 use crate::bus::Bus;
@@ -45,7 +45,7 @@ impl Bus {
     // Consumes the next byte of the script and returns it; at the end of the script, returns all ones.
     #[inline]
     fn take_script_byte(&mut self) -> u32
-        ensures value { result ≡ next_of self.old.script }
+        ensures value { result ≡ next_script_byte self.old.script }
         ensures rest { self.new ≡ record self.old { script = drop 1 self.old.script } }
     {
         if self.script_position == self.script.len() {

@@ -1,6 +1,6 @@
 //! The words of a memory range, such as a signature.
 ghost use Rattle.std.specs.Prelude.{◌≡◌, ◌↔◌, ◌-◌, ◌%◌, ◌<◌, ◌≤◌, IfOk, IsTrue};
-ghost use Rattle.rv_memory.specs.Regions.{in_one};
+ghost use Rattle.rv_memory.specs.Regions.{is_in_one_region};
 ghost use Rattle.rv_memory.specs.Bus.{word_at};
 ghost use Rattle.rv_memory.specs.SignatureWords.{words_of};
 
@@ -17,7 +17,7 @@ impl Bus {
         requires begin { begin % 4 ≡ 0 }
         requires end { end % 4 ≡ 0 }
         requires order { begin ≤ end }
-        requires within { IsTrue (in_one self.now.regions begin (end - begin)) }
+        requires within { IsTrue (is_in_one_region self.now.regions begin (end - begin)) }
         ensures { IfOk result (λ v. v.items ≡ words_of self.now.memory begin end) }
     {
         let count = (end - begin) / WORD;
@@ -33,7 +33,7 @@ impl Bus {
         requires begin { begin % 4 ≡ 0 }
         requires end { end % 4 ≡ 0 }
         requires order { begin ≤ end }
-        requires within { IsTrue (in_one self.now.regions begin (end - begin)) }
+        requires within { IsTrue (is_in_one_region self.now.regions begin (end - begin)) }
         ensures { IsTrue result ↔ (words.now ≡ words_of self.now.memory begin end) }
     {
         let count = (end - begin) / WORD;
@@ -50,7 +50,7 @@ impl Bus {
 
     // Returns the word at an address whose four bytes are in one region.
     fn word(&self, addr: u32) -> u32
-        requires { IsTrue (in_one self.now.regions addr 4) }
+        requires { IsTrue (is_in_one_region self.now.regions addr 4) }
         ensures { result ≡ word_at self.now.memory addr }
     {
         let Some(place) = self.map.place(addr, WORD) else {

@@ -4,9 +4,9 @@ use Rattle.std.proofs.Common.{List, [], ◌∷◌, length, refl, subst, arith, O
 use Rattle.std.proofs.Common.{Result, Ok, Err, nat_lt}
 use Rattle.std.specs.Prelude.{if◌then◌else◌}
 use Rattle.std.proofs.lemmas.Bool.{and_parts, or_parts, ltb-false}
-use Rattle.rv_rows.specs.declared_sets.Isa.{Isa}
+use Rattle.rv_rows.specs.declared_isa.Isa.{Isa}
 use Rattle.rv_rows.specs.declared_map.Region.{Region}
-use Rattle.rv_rows.specs.Regions.{in_one}
+use Rattle.rv_rows.specs.Regions.{is_in_one_region}
 use Rattle.rv_rows.specs.declared_elf_error.ImageError.{ImageError}
 use Rattle.rv_rows.specs.declared_elf_error.ImageError.TheVariants as image
 use Rattle.rv_rows.specs.declared_image.Segment.{Segment}
@@ -170,9 +170,9 @@ short_range begin end regions e =
     by_test (nat_lt begin end) refl last.1
   where
     by_test : (b : Bool) → nat_lt begin end ≡ b
-        → (b && (not (in_one regions begin (end - begin)) || nat_lt 0x4_0000 (end - begin))) ≡ false
+        → (b && (not (is_in_one_region regions begin (end - begin)) || nat_lt 0x4_0000 (end - begin))) ≡ false
         → end - begin ≤ 0x4_0000
-    by_test true is same = ltb-false _ _ (or_parts (not (in_one regions begin (end - begin))) _ same).1
+    by_test true is same = ltb-false _ _ (or_parts (not (is_in_one_region regions begin (end - begin))) _ same).1
     by_test false is same = let h = ltb-false begin end is in omega arith
 
 short_checked : (begin end : ℕ) (regions : List Region) (u : Unit {0}) → signature_check begin end regions ≡ Ok u

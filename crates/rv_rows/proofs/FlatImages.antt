@@ -8,16 +8,16 @@ use Rattle.std.specs.FinMap as fin
 use Rattle.std.specs.Ordering.{nat_cmp}
 use Rattle.rv_machine.proofs.Public.{among, get-tabulate}
 use Rattle.rv_machine.specs.declared_access.Misaligned.TheVariants.{Fault}
-use Rattle.rv_machine.specs.Bus.{Contents, byte_at, with_bytes_written, new_bus}
-use Rattle.rv_machine.specs.Regions.{addresses, in_one}
+use Rattle.rv_machine.specs.Bus.{BusContents, byte_at, with_bytes_written, new_bus}
+use Rattle.rv_machine.specs.Regions.{addresses, is_in_one_region}
 use Rattle.rv_rows.specs.Flat.{flat_byte, flat_contents, max_image_size}
 use Rattle.rv_jobs.specs.Jobs.{default_regions}
 
-same_regions : (bus : Contents) → bus ≡ new_bus default_regions [] Fault → bus.regions ≡ default_regions
+same_regions : (bus : BusContents) → bus ≡ new_bus default_regions [] Fault → bus.regions ≡ default_regions
 unfolding new_bus
 same_regions bus is = rw is refl
 
-fits : (count : ℕ) → count ≤ max_image_size → IsTrue (in_one default_regions 0x8000_0000 count)
+fits : (count : ℕ) → count ≤ max_image_size → IsTrue (is_in_one_region default_regions 0x8000_0000 count)
 fits count within =
     let inside : leb (0x8000_0000 + count) 0x8010_0000 ≡ true = le-leb _ _ (omega arith) in
     rw inside (go (eqb count 0))
@@ -27,8 +27,8 @@ fits count within =
     go false = refl
 
 -- an image that is no longer than the region fits it
-pub image_fits : (bus : Contents) (bytes : List ℕ) → bus ≡ new_bus default_regions [] Fault → length bytes ≤ max_image_size
-    → IsTrue (in_one bus.regions 0x8000_0000 (length bytes))
+pub image_fits : (bus : BusContents) (bytes : List ℕ) → bus ≡ new_bus default_regions [] Fault → length bytes ≤ max_image_size
+    → IsTrue (is_in_one_region bus.regions 0x8000_0000 (length bytes))
 image_fits bus bytes is within = rw (same_regions bus is) (fits (length bytes) within)
 
 inserted : (memory : fin.FinMap nat_cmp ℕ) (at byte q : ℕ)

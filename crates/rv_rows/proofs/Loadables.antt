@@ -2,7 +2,7 @@
 use Rattle.std.proofs.Common.{◌≡◌, ◌%◌, ◌==◌, ◌&&◌, ℕ, Bool, true, false, not, subst, List, Option, Some, None, IfSome}
 use Rattle.std.proofs.Common.{Result, Ok, Err, refl, sym, ap, ◌∙◌}
 use Rattle.std.specs.Result.{result_ok}
-use Rattle.rv_machine.specs.declared_sets.Isa.{Isa}
+use Rattle.rv_machine.specs.declared_isa.Isa.{Isa}
 use Rattle.rv_machine.specs.Extensions.{RV32C, has_extension}
 use Rattle.rv_elf.specs.declared.image.Image.{Image}
 use Rattle.rv_elf.specs.Image.{image_of}
@@ -14,8 +14,8 @@ use Rattle.rv_jobs.specs.declared_job.Symbols.{Symbols}
 use Rattle.rv_jobs.specs.declared.kept.Kept.{Kept}
 use Rattle.rv_jobs.specs.declared.kept.Kept.TheVariants as kept
 use Rattle.rv_machine.specs.declared_map.Region.{Region}
-use Rattle.rv_machine.specs.declared_access.Misaligned.{Misaligned as Choice}
-use Rattle.rv_machine.specs.Bus.{Contents, new_bus}
+use Rattle.rv_machine.specs.declared_access.Misaligned.{Misaligned as MisalignedPolicy}
+use Rattle.rv_machine.specs.Bus.{BusContents, new_bus}
 use Rattle.rv_machine.specs.Run.{Ran, run_of}
 use Rattle.rv_machine.specs.State.{State, reset_state, is_misaligned}
 use Rattle.rv_machine.proofs.Public.{run_keeps}
@@ -103,14 +103,14 @@ image_is_read isa kept reference console file image e found =
 -- ---- the machine
 
 -- a new bus
-pub new_bus_parts : (bus : Contents) (regions : List Region) (script : List ℕ) (misaligned : Choice)
+pub new_bus_parts : (bus : BusContents) (regions : List Region) (script : List ℕ) (misaligned : MisalignedPolicy)
     → bus ≡ new_bus regions script misaligned
     → (bus.regions ≡ regions) × (bus ≡ new_bus bus.regions bus.script bus.misaligned)
 unfolding new_bus
 new_bus_parts bus regions script misaligned is = rw is (refl, refl)
 
 -- what stands in the machine once the image is loaded
-pub loaded_is : (before after : Contents) (job : Job) (file : List ℕ) (image : Image) (script : List ℕ)
+pub loaded_is : (before after : BusContents) (job : Job) (file : List ℕ) (image : Image) (script : List ℕ)
     → before ≡ new_bus job.regions script job.misaligned
     → script ≡ job.script → after ≡ record before
     { memory = initial_memory before.regions image.segments file job.load }

@@ -3,7 +3,7 @@ use Rattle.std.proofs.Common.{◌≡◌, ◌-◌, ◌%◌, ◌≤◌, ◌==◌, 
 use Rattle.std.proofs.Common.{arith, eqb-true, nat_lt, ltb}
 use Rattle.std.proofs.lemmas.Bool.{ltb-false}
 use Rattle.rv_machine.specs.declared_map.Region.{Region}
-use Rattle.rv_machine.specs.Regions.{in_one}
+use Rattle.rv_machine.specs.Regions.{is_in_one_region}
 use Rattle.rv_elf.specs.declared.error.ImageError.{ImageError}
 use Rattle.rv_elf.specs.declared.error.ImageError.TheVariants.{SignatureRange}
 use Rattle.rv_elf.specs.Rows.{accepted}
@@ -14,7 +14,7 @@ pub record IsWords (begin end : ℕ) (regions : List Region) : Type 0 where
   pub begins : begin % 4 ≡ 0
   pub ends : end % 4 ≡ 0
   pub order : begin ≤ end
-  pub within : in_one regions begin (end - begin) ≡ true
+  pub within : is_in_one_region regions begin (end - begin) ≡ true
 
 or_parts : (x y : Bool) → (x || y) ≡ false → (x ≡ false) × (y ≡ false)
 or_parts true y e = cc
@@ -30,12 +30,12 @@ good false why e = refl
 
 -- of an empty range, or of one whose words are asked
 here : (begin end : ℕ) (regions : List Region) (most : Bool) → begin ≤ end
-    → (nat_lt begin end && (not (in_one regions begin (end - begin)) || most)) ≡ false
-    → in_one regions begin (end - begin) ≡ true
+    → (nat_lt begin end && (not (is_in_one_region regions begin (end - begin)) || most)) ≡ false
+    → is_in_one_region regions begin (end - begin) ≡ true
 here begin end regions most order e = go (ltb begin end) refl e
   where
-    go : (b : Bool) → ltb begin end ≡ b → (b && (not (in_one regions begin (end - begin)) || most)) ≡ false
-        → in_one regions begin (end - begin) ≡ true
+    go : (b : Bool) → ltb begin end ≡ b → (b && (not (is_in_one_region regions begin (end - begin)) || most)) ≡ false
+        → is_in_one_region regions begin (end - begin) ≡ true
     go true is k = not_false _ (or_parts _ most k).0
     go false is k = let none : end - begin ≡ 0 = omega (arith, ltb-false begin end is, order) in rw none refl
 

@@ -1,9 +1,9 @@
 -- The row of a flat image: bytes without a header, for the default map.
 use Rattle.std.specs.Prelude.{ℕ, ◌-◌, true, List, [], ◌∷◌, length, get_or, leb, codes, None, nat_lt}
 use Rattle.std.specs.Prelude.{if◌then◌else◌}
-use Rattle.rv_machine.specs.declared_sets.Isa.TheVariants.{Imc}
+use Rattle.rv_machine.specs.declared_isa.Isa.TheVariants.{Imc}
 use Rattle.rv_machine.specs.declared_access.Misaligned.TheVariants.{Fault}
-use Rattle.rv_machine.specs.Bus.{Contents, new_bus, with_bytes}
+use Rattle.rv_machine.specs.Bus.{BusContents, new_bus, with_bytes}
 use Rattle.rv_jobs.specs.Jobs.{default_regions}
 use Rattle.rv_machine.specs.Run.{run_of}
 use Rattle.rv_machine.specs.State.{State, reset_state}
@@ -20,7 +20,7 @@ max_image_size = 0x10_0000
 
 -- the contents of the bus for a flat image: its bytes are at 0x8000_0000 in memory that is otherwise zero, the script is empty, and
 -- misaligned accesses are rejected
-abbrev pub flat_contents : List ℕ → Contents
+abbrev pub flat_contents : List ℕ → BusContents
 flat_contents bytes = with_bytes (new_bus default_regions [] Fault) 0x8000_0000 bytes
 
 -- the byte at an address of a flat image's memory: byte `k` of the image is at 0x8000_0000 + `k`, and every other byte is 0

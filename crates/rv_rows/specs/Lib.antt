@@ -40,7 +40,7 @@ pub use Rattle.rv_machine.specs.State
 pub use Rattle.rv_machine.specs.contracts.ending as contracts_ending
 pub use Rattle.rv_machine.specs.declared.ending as declared_ending
 pub use Rattle.rv_machine.specs.declared_map
-pub use Rattle.rv_machine.specs.declared_sets
+pub use Rattle.rv_machine.specs.declared_isa
 pub use Rattle.rv_report.specs.Counts
 pub use Rattle.rv_report.specs.Differences
 pub use Rattle.rv_report.specs.LeastLine

@@ -12,7 +12,7 @@ use Rattle.rv_jobs.specs.Reading.{◌>>=◌}
 use Rattle.rv_jobs.specs.declared.kept.Kept.{Kept}
 use Rattle.rv_jobs.specs.declared.kept.Kept.TheVariants as kept
 use Rattle.rv_machine.specs.declared_map.Region.{Region}
-use Rattle.rv_machine.specs.Bus.{Contents, new_bus}
+use Rattle.rv_machine.specs.Bus.{BusContents, new_bus}
 use Rattle.rv_machine.specs.SignatureWords.{words_of}
 use Rattle.rv_machine.specs.declared.ending.Ending.{Ending}
 use Rattle.rv_machine.specs.declared.ending.Ending.TheVariants as machine
@@ -91,7 +91,7 @@ loadable_image job file = do
 -- ---- the run
 
 -- the contents of the bus in which the run of a job begins: its image is loaded, no byte counts as stored to, and its script is unread
-abbrev pub loaded_contents : Job → List ℕ → Image → Contents
+abbrev pub loaded_contents : Job → List ℕ → Image → BusContents
 loaded_contents job file image =
     record (new_bus job.regions job.script job.misaligned) {
       memory = initial_memory job.regions image.segments file job.load;
@@ -108,7 +108,7 @@ row_end (machine.Fault kind pc value) = ending.Fault kind pc value
 row_end machine.Budget = ending.Budget
 
 -- the words of memory in the range of a signature
-abbrev pub signature_words_between : Contents → SignatureRange → List ℕ
+abbrev pub signature_words_between : BusContents → SignatureRange → List ℕ
 signature_words_between bus range = words_of bus.memory range.begin range.end
 
 -- the outcome of a run, with the signature read from its final state if one is requested

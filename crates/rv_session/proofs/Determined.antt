@@ -12,7 +12,7 @@ use Rattle.rv_history.specs.declared.stops.Stops.{Stops}
 use Rattle.rv_history.specs.declared.stops.Watch.{Watch}
 use Rattle.rv_history.proofs.Public.{one_first_with, one_next_step, one_next_stop, one_step_before, one_stop_before}
 use Rattle.rv_history.specs.State.{State}
-use Rattle.rv_history.specs.Bus.{Contents}
+use Rattle.rv_history.specs.Bus.{BusContents}
 use Rattle.rv_gdb_protocol.specs.Frames.{state_after_byte, incoming_at}
 use Rattle.rv_gdb_protocol.specs.Packets.{request_of}
 use Rattle.rv_gdb_protocol.specs.Stops.{stop_text}
@@ -152,7 +152,7 @@ added_unless_one : (stops one other : Stops) (place : Stoppoint) (is : Bool) →
 added_unless_one stops one other place true first second = first ∙ sym second
 added_unless_one stops one other place false first second = added_one stops one other place first second
 
-trapped_one : (stops : Stops) (bus : Contents) (place : Stoppoint) (one other : Result Stops Refusal) → IsStoppointAdded stops bus place one
+trapped_one : (stops : Stops) (bus : BusContents) (place : Stoppoint) (one other : Result Stops Refusal) → IsStoppointAdded stops bus place one
     → IsStoppointAdded stops bus place other → one ≡ other
 trapped_one stops bus place (Ok one) (Ok other) first second =
     ap (λ (s : Stops). Ok s) (added_unless_one stops one other place (is_set stops place) first.1 second.1)

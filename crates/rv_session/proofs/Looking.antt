@@ -5,7 +5,7 @@ use Rattle.std.specs.FinMap as fin
 use Rattle.std.specs.List.{flat_map, list_any, range_with_len}
 use Rattle.std.proofs.lemmas.Bool.{cases_lt}
 use Rattle.std.proofs.lemmas.List.{at_drop_more, drop_all, flat_map_more, take_all, take_min}
-use Rattle.rv_history.specs.Bus.{Contents}
+use Rattle.rv_history.specs.Bus.{BusContents}
 use Rattle.rv_session.specs.Memory.{end_of_addresses, is_byte, leading, has_bytes_at}
 
 -- ---- reads
@@ -99,14 +99,14 @@ any_none byte_of a i n all done so_far =
 
 -- ---- bytes that stand somewhere
 
-abbrev pub has_byte_at : Contents → ℕ → ℕ → Bool
+abbrev pub has_byte_at : BusContents → ℕ → ℕ → Bool
 has_byte_at bus address byte = nat_lt address end_of_addresses && is_byte (fin.get bus.memory address) byte
 
 three : (x y z : Bool) → (x && (y && z)) ≡ ((x && y) && z)
 three true y z = refl
 three false y z = refl
 
-stand_more : (bus : Contents) (a i byte : ℕ) (bytes : List ℕ) → i < length bytes
+stand_more : (bus : BusContents) (a i byte : ℕ) (bytes : List ℕ) → i < length bytes
     → has_bytes_at bus (a + i) (drop i bytes)
     ≡ (has_byte_at bus (a + i) (get_or bytes i byte) && has_bytes_at bus (a + i + 1) (drop (i + 1) bytes))
 unfolding has_bytes_at
@@ -115,10 +115,10 @@ stand_more bus a i byte bytes within =
     ∙ three (nat_lt (a + i) end_of_addresses) (is_byte (fin.get bus.memory (a + i)) (get_or bytes i byte))
     (has_bytes_at bus (a + i + 1) (drop (i + 1) bytes))
 
-pub stand_start : (bus : Contents) (a : ℕ) (bytes : List ℕ) → has_bytes_at bus a bytes ≡ has_bytes_at bus (a + 0) (drop 0 bytes)
+pub stand_start : (bus : BusContents) (a : ℕ) (bytes : List ℕ) → has_bytes_at bus a bytes ≡ has_bytes_at bus (a + 0) (drop 0 bytes)
 stand_start bus a bytes = let at : a ≡ a + 0 = omega arith in ap (λ (k : ℕ). has_bytes_at bus k bytes) at
 
-pub stand_later : (bus : Contents) (a i byte : ℕ) (bytes : List ℕ) (all : Bool) → i < length bytes
+pub stand_later : (bus : BusContents) (a i byte : ℕ) (bytes : List ℕ) (all : Bool) → i < length bytes
     → has_byte_at bus (a + i) (get_or bytes i byte) ≡ true → all ≡ has_bytes_at bus (a + i) (drop i bytes)
     → all ≡ has_bytes_at bus (a + (i + 1)) (drop (i + 1) bytes)
 stand_later bus a i byte bytes all within here so_far =
@@ -127,17 +127,17 @@ stand_later bus a i byte bytes all within here so_far =
     ∙ ap (λ (is : Bool). is && has_bytes_at bus (a + i + 1) (drop (i + 1) bytes)) here
     ∙ ap (λ (k : ℕ). has_bytes_at bus k (drop (i + 1) bytes)) next
 
-pub stand_not : (bus : Contents) (a i byte : ℕ) (bytes : List ℕ) (all : Bool) → i < length bytes
+pub stand_not : (bus : BusContents) (a i byte : ℕ) (bytes : List ℕ) (all : Bool) → i < length bytes
     → has_byte_at bus (a + i) (get_or bytes i byte) ≡ false → all ≡ has_bytes_at bus (a + i) (drop i bytes) → false ≡ all
 stand_not bus a i byte bytes all within here so_far =
     sym (so_far ∙ stand_more bus a i byte bytes within
     ∙ ap (λ (is : Bool). is && has_bytes_at bus (a + i + 1) (drop (i + 1) bytes)) here)
 
-stand_none : (bus : Contents) (a : ℕ) → has_bytes_at bus a [] ≡ true
+stand_none : (bus : BusContents) (a : ℕ) → has_bytes_at bus a [] ≡ true
 unfolding has_bytes_at
 stand_none bus a = refl
 
-pub stand_all : (bus : Contents) (a i : ℕ) (bytes : List ℕ) (all : Bool) → length bytes ≤ i
+pub stand_all : (bus : BusContents) (a i : ℕ) (bytes : List ℕ) (all : Bool) → length bytes ≤ i
     → all ≡ has_bytes_at bus (a + i) (drop i bytes) → true ≡ all
 stand_all bus a i bytes all done so_far =
     sym (so_far ∙ ap (has_bytes_at bus (a + i)) (drop_all i bytes done) ∙ stand_none bus (a + i))

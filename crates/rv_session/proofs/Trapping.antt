@@ -4,25 +4,25 @@ use Rattle.std.specs.Prelude.{◌==◌}
 use Rattle.std.proofs.lemmas.Bool.{and_from}
 use Rattle.rv_history.specs.declared.stops.Stops.{Stops}
 use Rattle.rv_history.specs.declared.stops.Watch.{Watch}
-use Rattle.rv_history.specs.Bus.{Contents}
+use Rattle.rv_history.specs.Bus.{BusContents}
 use Rattle.rv_gdb_protocol.specs.declared.request.Range.{Range}
 use Rattle.rv_gdb_protocol.specs.declared.request.Refusal.TheVariants as refusal
 use Rattle.rv_gdb_protocol.specs.declared.request.Stoppoint.{Stoppoint}
 use Rattle.rv_session.specs.Stoppoints.{IsTableAdded, IsStoppointAdded, IsWatchAdded, can_be_set, is_full, is_set}
 
-pub cannot_be : (stops : Stops) (bus : Contents) (place : Stoppoint) → can_be_set bus place ≡ false
+pub cannot_be : (stops : Stops) (bus : BusContents) (place : Stoppoint) → can_be_set bus place ≡ false
     → IsStoppointAdded stops bus place (Err refusal.Malformed)
 cannot_be stops bus place can = rw can refl
 
-pub set_already : (stops next : Stops) (bus : Contents) (place : Stoppoint) → can_be_set bus place ≡ true → is_set stops place ≡ true
+pub set_already : (stops next : Stops) (bus : BusContents) (place : Stoppoint) → can_be_set bus place ≡ true → is_set stops place ≡ true
     → next ≡ stops → IsStoppointAdded stops bus place (Ok next)
 set_already stops next bus place can set same = (rw (can, set) refl, rw set same)
 
-pub too_many : (stops : Stops) (bus : Contents) (place : Stoppoint) → can_be_set bus place ≡ true → is_set stops place ≡ false
+pub too_many : (stops : Stops) (bus : BusContents) (place : Stoppoint) → can_be_set bus place ≡ true → is_set stops place ≡ false
     → is_full stops ≡ true → IsStoppointAdded stops bus place (Err refusal.TooManyStoppoints)
 too_many stops bus place can set full = rw (can, set, full) refl
 
-pub set_now : (stops next : Stops) (bus : Contents) (place : Stoppoint) → can_be_set bus place ≡ true → is_set stops place ≡ false
+pub set_now : (stops next : Stops) (bus : BusContents) (place : Stoppoint) → can_be_set bus place ≡ true → is_set stops place ≡ false
     → is_full stops ≡ false → IsTableAdded stops place next → IsStoppointAdded stops bus place (Ok next)
 set_now stops next bus place can set full added = (rw (can, set, full) refl, rw set added)
 

@@ -2,7 +2,7 @@
 use Rattle.std.specs.Prelude.{ℕ, List, [], ◌∷◌, ◌==◌, ◌&&◌, ◌+◌, ◌-◌, Bool, true, false, Option, Some, None, map, min, nat_lt}
 use Rattle.std.specs.FinMap as fin
 use Rattle.std.specs.List.{range_with_len}
-use Rattle.rv_history.specs.Bus.{Contents}
+use Rattle.rv_history.specs.Bus.{BusContents}
 use Rattle.rv_gdb_protocol.specs.declared.request.Range.{Range}
 
 -- the values before the first `None`
@@ -24,7 +24,7 @@ abbrev pub bytes_requested : Range → ℕ
 bytes_requested range = min (min range.count most_bytes) (end_of_addresses - range.address)
 
 -- the bytes of a range before the first address that is in no region
-unfoldable pub bytes_from : Contents → Range → List ℕ
+unfoldable pub bytes_from : BusContents → Range → List ℕ
 bytes_from bus range = leading (map (fin.get bus.memory) (range_with_len range.address (bytes_requested range)))
 
 -- whether the `Option` has a value, and the value is `byte`
@@ -33,7 +33,7 @@ is_byte (Some other) byte = other == byte
 is_byte None byte = false
 
 -- whether memory has these bytes at `address` and the following addresses, none of which is after the last address
-unfoldable pub has_bytes_at : Contents → ℕ → List ℕ → Bool
+unfoldable pub has_bytes_at : BusContents → ℕ → List ℕ → Bool
 has_bytes_at bus address [] = true
 has_bytes_at bus address (byte ∷ rest) =
     nat_lt address end_of_addresses && (is_byte (fin.get bus.memory address) byte && has_bytes_at bus (address + 1) rest)

@@ -4,7 +4,7 @@ use Rattle.std.specs.FinMap as fin
 use Rattle.std.specs.List.{filter, list_any, range_with_len}
 use Rattle.rv_history.specs.declared.stops.Stops.{Stops}
 use Rattle.rv_history.specs.declared.stops.Watch.{Watch}
-use Rattle.rv_history.specs.Bus.{Contents}
+use Rattle.rv_history.specs.Bus.{BusContents}
 use Rattle.rv_gdb_protocol.specs.declared.request.Range.{Range}
 use Rattle.rv_gdb_protocol.specs.declared.request.Refusal.{Refusal}
 use Rattle.rv_gdb_protocol.specs.declared.request.Refusal.TheVariants as refusal
@@ -39,12 +39,12 @@ is_set stops (trap.Break address) = list_any (λ other. other == address) stops.
 is_set stops (trap.Watch kind range) = list_any (is_on range) (watches_of stops kind)
 
 -- whether at least one byte of the range is in a region
-abbrev pub has_byte : Contents → Range → Bool
+abbrev pub has_byte : BusContents → Range → Bool
 has_byte bus range = list_any (λ address. is_some (fin.get bus.memory address)) (range_with_len range.address range.count)
 
 -- whether the stoppoint is valid: a breakpoint always is; a watchpoint must be within the address space and have at least one byte in a
 -- region
-abbrev pub can_be_set : Contents → Stoppoint → Bool
+abbrev pub can_be_set : BusContents → Stoppoint → Bool
 can_be_set bus (trap.Break address) = true
 can_be_set bus (trap.Watch kind range) = nat_le (range.address + range.count) 4294967296 && has_byte bus range
 
@@ -53,7 +53,7 @@ abbrev pub is_full : Stops → Bool
 is_full stops = nat_le max_stoppoints ((length stops.breaks + length stops.watches) + (length stops.reads + length stops.accesses))
 
 -- why the stoppoint cannot be set: it is invalid, or it is not set yet and the maximum number is reached; `None` if it can be set
-abbrev pub stoppoint_refusal : Stops → Contents → Stoppoint → Option Refusal
+abbrev pub stoppoint_refusal : Stops → BusContents → Stoppoint → Option Refusal
 stoppoint_refusal stops bus place =
     if not (can_be_set bus place) then Some refusal.Malformed
     else if is_set stops place then None
@@ -89,7 +89,7 @@ IsAddedUnless true stops place next = next ≡ stops
 IsAddedUnless false stops place next = IsTableAdded stops place next
 
 -- the result of a request to set the stoppoint `place`: the new stops, which are unchanged if it was already set, or the refusal
-abbrev pub IsStoppointAdded : Stops → Contents → Stoppoint → Result Stops Refusal → Type 0
+abbrev pub IsStoppointAdded : Stops → BusContents → Stoppoint → Result Stops Refusal → Type 0
 IsStoppointAdded stops bus place (Ok next) = (stoppoint_refusal stops bus place ≡ None)
     × IsAddedUnless (is_set stops place) stops place next
 IsStoppointAdded stops bus place (Err refusal) = stoppoint_refusal stops bus place ≡ Some refusal

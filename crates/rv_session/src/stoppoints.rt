@@ -2,7 +2,7 @@
 
 ghost use Rattle.std.specs.Prelude.{◌≡◌, ◌≤◌, ◌+◌, ◌^◌, IfOk};
 ghost use Rattle.rv_session.specs.Stoppoints.{IsStoppointAdded, has_byte, is_full, is_on, is_set, watches_of, with_watches, without_stoppoint};
-ghost use Rattle.rv_history.specs.Bus.{Contents};
+ghost use Rattle.rv_history.specs.Bus.{BusContents};
 ghost use Rattle.rv_gdb_protocol.specs.declared.request.Stoppoint.TheVariants as trap;
 
 use rv_gdb_protocol::{Range, Refusal, Sequence, Stoppoint, Watched};
@@ -58,7 +58,7 @@ fn with_break(
     stops: &Stops,
     address: u32,
 ) -> Result<Result<Stops, Refusal>, AllocError>
-    ensures { (bus : Contents) → IfOk result (IsStoppointAdded stops.now bus (trap.Break address)) }
+    ensures { (bus : BusContents) → IfOk result (IsStoppointAdded stops.now bus (trap.Break address)) }
 {
     if has_break(stops, address) {
         let same = copied(alloc, stops)?;

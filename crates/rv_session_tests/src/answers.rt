@@ -193,7 +193,7 @@ fn bus_of(alloc: Global, code: &str) -> Result<Bus, Fail> {
 // Returns a new session for the run of this code within a budget, with its end text.
 fn session_of(alloc: Global, code: &str, budget: u32) -> Result<Talk, Fail> {
     let bus = bus_of(alloc, code)?;
-    let copy = bus.copied(alloc)?;
+    let copy = bus.try_clone(alloc)?;
     let (entry, isa) = (0x8000_0000, Isa::Imc);
     let start = Start { bus, entry, isa };
     let again = Start {

@@ -8,7 +8,7 @@ use Rattle.std.specs.FinMap as fin
 use Rattle.rv_machine.specs.declared_instruction.Instr.{Instr}
 use Rattle.rv_machine.specs.declared_instruction.Op.{Op}
 use Rattle.rv_machine.specs.declared_instruction.Op.TheVariants as op
-use Rattle.rv_machine.specs.Bus.{Contents, byte_at, console_store, put, refuses, size_of, store_to, touches_console}
+use Rattle.rv_machine.specs.Bus.{BusContents, byte_at, console_store, put, rejects, size_of, store_to, touches_console}
 use Rattle.rv_machine.specs.Bus.{value_at}
 use Rattle.rv_machine.specs.Regions.{is_in_writable_region}
 use Rattle.rv_machine.specs.declared_access.Width.{Width}
@@ -46,7 +46,7 @@ word_parts : (v : ℕ) → v % 0x100 + 0x100 * (v / 0x100 % 0x100) + 0x1_0000 * 
 word_parts v = omega arith
 
 -- the bytes of a stored value, each at its address
-value_put : (c : Contents) (a : ℕ) (w : Width) (v : ℕ) → value_at (put c a w v).memory a w ≡ v % 2 ^ (8 * size_of w)
+value_put : (c : BusContents) (a : ℕ) (w : Width) (v : ℕ) → value_at (put c a w v).memory a w ≡ v % 2 ^ (8 * size_of w)
 value_put c a Byte v = byte_same c.memory a (v % 0x100)
 value_put c a Half v =
     let b0 = v % 0x100 in let b1 = v / 0x100 % 0x100 in
@@ -72,7 +72,7 @@ value_put c a Word v =
 
 -- ---- a store that completes
 
-by_tests : (refused console within : Bool) (other : Result Contents BusFault) (stored d : Contents) → console ≡ false
+by_tests : (refused console within : Bool) (other : Result BusContents BusFault) (stored d : BusContents) → console ≡ false
     → cond refused (Err bus.Misaligned) (cond console other (cond within (Ok stored) (Err bus.Access))) ≡ Ok d
     → d ≡ stored
 by_tests true console within other stored d h e = cc
@@ -80,9 +80,9 @@ by_tests false true within other stored d h e = cc
 by_tests false false true other stored d h e = cc
 by_tests false false false other stored d h e = cc
 
-store_leaves : (c d : Contents) (a : ℕ) (w : Width) (v : ℕ) → touches_console a (size_of w) ≡ false
+store_leaves : (c d : BusContents) (a : ℕ) (w : Width) (v : ℕ) → touches_console a (size_of w) ≡ false
     → store_to c a w v ≡ Ok d → d ≡ put c a w v
-store_leaves c d a w v outside e = by_tests (refuses c.misaligned a w) (touches_console a (size_of w))
+store_leaves c d a w v outside e = by_tests (rejects c.misaligned a w) (touches_console a (size_of w))
     (is_in_writable_region c.regions a (size_of w)) (console_store c a w v) (put c a w v) d outside e
 
 -- an instruction that aims at memory is a store
@@ -100,7 +100,7 @@ nothing_stored false n a w v t P e = cc
 
 module _ (s t : State) (i : Instr) (next a v : ℕ) (w : Width) where
   -- what a store leaves at its address
-  left_there : (r : Result Contents BusFault) → store_to s.bus (address s i) w (rs2_value s i) ≡ r
+  left_there : (r : Result BusContents BusFault) → store_to s.bus (address s i) w (rs2_value s i) ≡ r
       → after_store r s i next ≡ Ok t → touches_console (address s i) (size_of w) ≡ false
       → value_at t.bus.memory (address s i) w ≡ rs2_value s i % 2 ^ (8 * size_of w)
   left_there (Ok d) is e outside =

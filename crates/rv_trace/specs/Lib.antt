@@ -20,7 +20,7 @@ pub use Rattle.rv_machine.specs.declared.ending as declared_ending
 pub use Rattle.rv_machine.specs.declared_access
 pub use Rattle.rv_machine.specs.declared_faults
 pub use Rattle.rv_machine.specs.declared_instruction
-pub use Rattle.rv_machine.specs.declared_sets
+pub use Rattle.rv_machine.specs.declared_isa
 pub use Rattle.rv_rows.specs.Counts
 pub use Rattle.rv_rows.specs.Image
 pub use Rattle.rv_rows.specs.Jobs

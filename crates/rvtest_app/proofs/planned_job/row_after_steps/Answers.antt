@@ -12,7 +12,7 @@ row_from-requires-clause-way c =
       first = job_start_state end.plan end.place;
       starts = starts_there end.plan end.place d end.within (end.runs d);
       completed = c.requires.completed;
-      same = c.in_ok-copied.ensures ∙ c.requires.same;
+      same = c.in_ok-try_clone.ensures ∙ c.requires.same;
       within = subst (λ (one : Job). c.args.steps ≤ one.budget)
           (get_or_read end.plan.jobs end.place c.job.result.now end.within c.job.ensures.value d) (omega (arith));
     }

@@ -8,7 +8,7 @@ use std::alloc::{AllocError, Global};
 
 impl Bus {
     /// Returns a copy of the bus: changing one does not affect the other.
-    pub fn copied(&self, alloc: Global) -> Result<Bus, AllocError>
+    pub fn try_clone(&self, alloc: Global) -> Result<Bus, AllocError>
         ensures { IfOk result (λ bus. bus ≡ self.now) }
     {
         let bytes = Vec::from_slice(alloc, &self.bytes)?;

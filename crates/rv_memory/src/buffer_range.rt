@@ -3,7 +3,7 @@ ghost use Rattle.std.specs.Prelude.{◌≡◌, ◌+◌, ◌%◌, ◌<◌, ◌≤
 ghost use Rattle.std.specs.List.{list_any, list_all};
 ghost use Rattle.rv_memory.specs.Bus.{size_of};
 ghost use Rattle.rv_memory.specs.Inside.Places.{IsStoredAt, located};
-ghost use Rattle.rv_memory.specs.Maps.{is_aligned, is_sized};
+ghost use Rattle.rv_memory.specs.Maps.{is_aligned, has_valid_size};
 ghost use Rattle.rv_memory.specs.Regions.{covers, total_size};
 
 use crate::access::Width;
@@ -12,7 +12,7 @@ use crate::map::{Map, Region};
 
 /// Where the bytes of an access are in the concatenated bytes of all regions: the index of the first, and whether their region is writable.
 #[derive(Clone, Copy)]
-pub(crate) struct Place {
+pub(crate) struct BufferRange {
     pub(crate) at: usize,
     pub(crate) writable: bool,
 }
@@ -22,14 +22,14 @@ impl Map {
     ///
     /// Every access goes through here, so the first region is tried without a loop: most maps have only one.
     #[inline]
-    pub(crate) fn place(&self, addr: u32, len: u32) -> Option<Place>
+    pub(crate) fn place(&self, addr: u32, len: u32) -> Option<BufferRange>
         requires { 0 < len }
         ensures { MatchOption result (list_any (covers addr len) self.now ≡ false)
             (λ p. IsStoredAt self.now addr len p.at p.writable) }
     {
         let first = &self.regions[0];
         if let Some(offset) = first.offset_of(addr, len) {
-            return Some(Place {
+            return Some(BufferRange {
                 at: offset as usize,
                 writable: first.writable,
             });
@@ -40,13 +40,13 @@ impl Map {
     /// Returns where the bytes of an access are stored if they are in the first region. The address must be a multiple of the width:
     /// regions begin and end at multiples of 4, so one comparison decides.
     #[inline(always)]
-    pub(crate) fn locate_in_first_region(&self, addr: u32, width: Width) -> Option<Place>
+    pub(crate) fn locate_in_first_region(&self, addr: u32, width: Width) -> Option<BufferRange>
         requires { addr % size_of width ≡ 0 }
         ensures { IfSome result (λ p. IsStoredAt self.now addr (size_of width) p.at p.writable) }
     {
         let first = &self.regions[0];
         let offset = first.offset_of_aligned(addr, width)?;
-        Some(Place {
+        Some(BufferRange {
             at: offset as usize,
             writable: first.writable,
         })
@@ -56,16 +56,16 @@ impl Map {
 // Returns where the `len` bytes at an address are stored, or `None` if none of these regions has all of them. The bytes of the first region
 // begin at index `start`.
 #[inline]
-fn search_regions(regions: &[Region], start: usize, addr: u32, len: u32) -> Option<Place>
+fn search_regions(regions: &[Region], start: usize, addr: u32, len: u32) -> Option<BufferRange>
     requires some { 0 < len }
-    requires sized { list_all is_sized regions.now ≡ true }
+    requires sized { list_all has_valid_size regions.now ≡ true }
     requires room { start + total_size regions.now ≤ MAX_MAP_SIZE }
     ensures { result ≡ located regions.now start addr len }
 {
     let mut at = start;
     for region in regions {
         if let Some(offset) = region.offset_of(addr, len) {
-            return Some(Place {
+            return Some(BufferRange {
                 at: at + offset as usize,
                 writable: region.writable,
             });
@@ -81,7 +81,7 @@ impl Region {
     #[inline]
     fn offset_of(&self, addr: u32, len: u32) -> Option<u32>
         requires some { 0 < len }
-        requires sized { is_sized self.now ≡ true }
+        requires sized { has_valid_size self.now ≡ true }
         ensures { MatchOption result (covers addr len self.now ≡ false)
             (λ k. (covers addr len self.now ≡ true) × (self.now.base + k ≡ addr)) }
     {
@@ -98,7 +98,7 @@ impl Region {
     #[inline(always)]
     fn offset_of_aligned(&self, addr: u32, width: Width) -> Option<u32>
         requires aligned { is_aligned self.now ≡ true }
-        requires sized { is_sized self.now ≡ true }
+        requires sized { has_valid_size self.now ≡ true }
         requires multiple { addr % size_of width ≡ 0 }
         ensures { IfSome result (λ k. (covers addr (size_of width) self.now ≡ true)
             × (self.now.base + k ≡ addr)) }
